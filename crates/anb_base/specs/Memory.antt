@@ -1,0 +1,73 @@
+-- Wires and shelves in memory: what they hold, and which of their calls fail.
+use Rattle.std.specs.Prelude.{ℕ, ◌+◌, ◌-◌, ◌^◌, ◌==◌, ◌≢◌, Bool, List, min, position, slice_get, slice_index, slice_set, AllPairs, Option, Some, None, option_and_then}
+use Rattle.std.specs.List.{list_any}
+use Rattle.std.specs.Str.{bytes_eq}
+use Rattle.std.specs.Option.{option_map}
+
+-- a count after one more, which stands at the last value of a u64
+abbrev pub raised : ℕ → ℕ
+raised count = min (count + 1) (2 ^ 64 - 1)
+
+-- whether the call after so many fails
+abbrev pub fails_after : ℕ → List ℕ → Bool
+fails_after calls fails = list_any (λ number. number == raised calls) fails
+
+pub record MemoryWire : Type 0 where
+  -- the bytes that can still be read, and those that were written and reached
+  pub left : List ℕ
+  pub written : List ℕ
+  pub reached : List ℕ
+  -- how many bytes a call moves at most, and how many can be written, and reached, in all
+  pub piece : ℕ
+  pub room : ℕ
+  -- how many calls came, and the numbers from 1 of those that fail
+  pub calls : ℕ
+  pub fails : List ℕ
+  pub read_faults : ℕ
+  pub write_faults : ℕ
+  pub reach_faults : ℕ
+
+-- the wire after one more call
+abbrev pub called : MemoryWire → MemoryWire
+called wire = record wire { calls = raised wire.calls }
+
+pub record MemoryShelf : Type 0 where
+  -- names and contents, and the faults of each
+  pub files : List (List ℕ × List ℕ)
+  pub faults : List ℕ
+  pub calls : ℕ
+  pub fails : List ℕ
+
+-- the shelf after one more call
+abbrev pub fetched : MemoryShelf → MemoryShelf
+fetched shelf = record shelf { calls = raised shelf.calls }
+
+-- no two files have one name
+abbrev pub NamesDiffer : List (List ℕ × List ℕ) → Type 0
+NamesDiffer files = AllPairs (λ (one other : List ℕ × List ℕ). one.0 ≢ other.0) files
+
+-- where the file of this name stands
+abbrev pub place_of : MemoryShelf → List ℕ → Option ℕ
+place_of shelf name = position (λ (file : List ℕ × List ℕ). bytes_eq file.0 name) shelf.files
+
+abbrev pub content_at : MemoryShelf → ℕ → Option (List ℕ)
+content_at shelf place = option_map (λ (file : List ℕ × List ℕ). file.1) (slice_get shelf.files place)
+
+abbrev pub content_of : MemoryShelf → List ℕ → Option (List ℕ)
+content_of shelf name = option_and_then (content_at shelf) (place_of shelf name)
+
+-- the count of faults of a place, which for an absent name stands at the last value
+abbrev pub faults_at : MemoryShelf → Option ℕ → ℕ
+faults_at shelf None = 2 ^ 64 - 1
+faults_at shelf (Some place) = slice_index shelf.faults place
+
+abbrev pub faults_of : MemoryShelf → List ℕ → ℕ
+faults_of shelf name = faults_at shelf (place_of shelf name)
+
+-- the shelf after a fetch of this name that failed
+abbrev pub failed_at : MemoryShelf → Option ℕ → MemoryShelf
+failed_at shelf None = fetched shelf
+failed_at shelf (Some place) = record (fetched shelf) { faults = slice_set shelf.faults place (raised (slice_index shelf.faults place)) }
+
+abbrev pub failed_for : MemoryShelf → List ℕ → MemoryShelf
+failed_for shelf name = failed_at shelf (place_of shelf name)

@@ -1,0 +1,28 @@
+//! What every crate of anb stands on: bytes and texts, and the traits through which a role meets
+//! the outside, with their forms in memory and over the machine.
+//!
+//! A fault of the outside is answered by `Failed`, and only where a count of faults rose. So the
+//! cause of each fault can be told from the object that was handed in.
+#![tactic(auto)]
+
+mod content;
+mod memory;
+mod never;
+mod place;
+mod real;
+mod shelf;
+mod wire;
+
+pub use content::{Bytes, Failed, NoMemory, Sent, Suite, Text};
+
+
+pub use place::Place;
+
+pub use shelf::{Shelf, ShelfNo};
+pub use wire::{Sink, Source, Wire, read_full, write_whole};
+
+/// The most bytes that an arrival or an initial value has.
+pub const ARRIVAL: u32 = 262_144;
+
+/// The most bytes that a term's width allows.
+pub const WIDE: u32 = 67_108_864;

@@ -1,0 +1,6 @@
+mod calls;
+mod shelf;
+mod wire;
+
+
+
