@@ -1,5 +1,5 @@
 -- What the answers of `take` say: of the bytes that were taken, and of the cut of those that were left.
-use Rattle.std.specs.Prelude.{ℕ, ◌≡◌, ◌<◌, ◌≤◌, List, [], ◌∷◌, ◌++◌, length, take, Option, Result, Ok, Err}
+use Rattle.std.specs.Prelude.{ℕ, ◌≡◌, ◌<◌, ◌≤◌, List, [], ◌∷◌, take, Option, Result, Ok, Err}
 use Rattle.anb_base.specs.Moves.{Took, AtEnd}
 use Rattle.anb_frame.specs.Frames.{frame, length_bytes, IsPart}
 use Rattle.anb_frame.specs.Cuts.{Tail, End, Short, Long, Ends, CutLeft}

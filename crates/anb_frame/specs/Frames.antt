@@ -1,5 +1,6 @@
 -- Frames on a stream of bytes.
-use Rattle.std.specs.Prelude.{ℕ, ◌≡◌, ◌<◌, ◌≤◌, ◌+◌, ◌⊎◌, List, [], ◌∷◌, ◌++◌, length}
+use Rattle.std.specs.Prelude.{ℕ, ◌≡◌, ◌<◌, ◌≤◌, ◌+◌, ◌⊎◌, List, ◌++◌, length}
+use Rattle.std.specs.List.{flat_map}
 use Rattle.std.specs.Int.{w32, to_be_bytes}
 
 -- a length in four bytes, the most significant first
@@ -10,8 +11,7 @@ abbrev pub frame : List ℕ → List ℕ
 frame b = length_bytes (length b) ++ b
 
 abbrev pub frames : List (List ℕ) → List ℕ
-frames [] = []
-frames (b ∷ bs) = frame b ++ frames bs
+frames bs = flat_map frame bs
 
 -- less than a length, or a length of at most the limit and fewer bytes than it says; a whole frame
 -- that begins so has this many bytes, at the least

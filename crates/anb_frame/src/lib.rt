@@ -32,8 +32,7 @@ pub enum FrameNo {
 pub fn one_cut(limit: u32)
     ensures exists { HasCut limit }
     ensures unique { HasOneCut limit }
-{
-}
+{}
 
 /// The length that these four bytes say.
 fn read_length(head: &[u8; 4]) -> u32

@@ -1,4 +1,4 @@
-use Rattle.std.proofs.Common.{◌≡◌, ◌≤◌, ◌+◌, ℕ, List, length, take, arith, length-append}
+use Rattle.std.proofs.Common.{◌+◌, length, arith, length-append}
 use Rattle.anb_base.proofs.Joined.{Put-joined}
 use Rattle.anb_frame.specs.Frames.{length_bytes}
 use Rattle.anb_frame.proofs.Lengths.{take-length_bytes, length-length_bytes}
