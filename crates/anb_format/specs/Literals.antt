@@ -31,6 +31,24 @@ IsAllowed Quote = Unit {0}
 IsAllowed Backslash = Unit {0}
 IsAllowed (Hexadecimal high low) = IsSome (hex_digit_value high) × IsSome (hex_digit_value low)
 
+-- a text begins with a character that stands for this byte, and this follows the character
+pub record IsCharacterAt (text : List ℕ) (byte : ℕ) (rest : List ℕ) : Type 0 where
+  pub character : Character
+  pub allowed : IsAllowed character
+  pub stands : text ≡ spelling_of character ++ rest
+  pub means : byte ≡ byte_of character
+
+-- no character begins the text
+abbrev pub BeginsNoCharacter : List ℕ → Type 0
+BeginsNoCharacter text = (character : Character) (rest : List ℕ) → IsAllowed character → text ≡ spelling_of character ++ rest → ⊥
+
+-- a text begins with characters that stand for these bytes, and this follows them
+pub record AreCharactersAt (text bytes rest : List ℕ) : Type 0 where
+  pub characters : List Character
+  pub allowed : AllByRecursion IsAllowed characters
+  pub stands : text ≡ flat_map spelling_of characters ++ rest
+  pub means : bytes ≡ map byte_of characters
+
 -- this text is a literal of these bytes
 pub record IsLiteral (text bytes : List ℕ) : Type 0 where
   pub characters : List Character
