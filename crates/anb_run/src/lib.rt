@@ -1,0 +1,2 @@
+//! The top call: all that the program does.
+#![tactic(auto)]
