@@ -21,15 +21,23 @@ reserved_words =
     codes "Protocol" ∷ codes "Suite" ∷ codes "Types" ∷ codes "Formats" ∷ codes "Knowledge" ∷ codes "Actions" ∷ codes "Choice" ∷ codes "Goals"
     ∷ codes "Agent" ∷ codes "Number" ∷ codes "Key" ∷ codes "h" ∷ codes "mac" ∷ codes "scrypt" ∷ codes "wrap" ∷ []
 
+-- whether some item has this name
+abbrev pub some_named : {X : Type 0} → (X → List ℕ) → List X → List ℕ → Bool
+some_named name_of items name = list_any (λ item. bytes_eq (name_of item) name) items
+
+-- whether no two items have one name
+abbrev pub are_apart : {X : Type 0} → (X → List ℕ) → List X → Bool
+are_apart name_of [] = true
+are_apart name_of (item ∷ items) = not (some_named name_of items (name_of item)) && are_apart name_of items
+
 -- whether the name is one of these
 abbrev pub is_among : List (List ℕ) → List ℕ → Bool
-is_among names name = list_any (λ n. bytes_eq n name) names
+is_among names name = some_named (λ n. n) names name
 
 -- whether no name stands twice among these
 abbrev pub are_different : List (List ℕ) → Bool
-are_different [] = true
-are_different (name ∷ names) = not (is_among names name) && are_different names
+are_different names = are_apart (λ n. n) names
 
--- a name of the grammar, of at most 64 bytes
+-- whether this is a name of the grammar, of at most 64 bytes
 unfoldable pub is_name : List ℕ → Bool
 is_name bytes = is_word bytes && not (is_among reserved_words bytes) && nat_le (length bytes) 64

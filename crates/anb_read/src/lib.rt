@@ -2,21 +2,50 @@
 //! the other a number.
 #![tactic(auto)]
 
-ghost use Rattle.std.specs.Prelude.{◌≡◌, ◌↔◌, IfOk, Some};
+ghost use Rattle.std.specs.Prelude.{◌≡◌, ◌↔◌, IfOk, Some, IsTrue};
 ghost use Rattle.anb_read.specs.Narrations.{PlainNarration};
-ghost use Rattle.anb_read.specs.Plain.{IsPlainText};
+ghost use Rattle.anb_read.specs.Plain.{plain_text, IsPlain, IsPlainText};
 
+mod check;
+mod cursor;
+mod draft;
+mod names;
+mod piece;
 mod plain;
+mod unread;
+
+#[cfg(test)]
+mod tests;
 
 pub use plain::{Plain, PlainAction, PlainKnow};
 
+use crate::check::is_plain;
+use crate::draft::{Draft, read_draft, text_of};
+use crate::unread::Unread;
 use anb_base::NoMemory;
 use std::alloc::Global;
+
+/// Whether a narration that was read from the text is plain, and the text its canonical text.
+fn is_canonical(alloc: Global, draft: &Draft, text: &[u8]) -> Result<bool, NoMemory>
+    ensures { IfOk result (λ b. IsTrue b ↔ (IsPlain draft.now.name draft.now.numbers.items draft.now.plain × (text.now ≡ plain_text draft.now.name draft.now.numbers.items draft.now.plain))) }
+{
+    let canonical = text_of(alloc, draft)?;
+    Ok(is_plain(draft) && canonical.as_slice() == text)
+}
 
 /// Reads the canonical text of a plain narration. The answer is `None` at every other text.
 pub fn read_plain(alloc: Global, text: &[u8]) -> Result<Option<Plain>, NoMemory>
     ensures exact { IfOk result (λ found. (n : PlainNarration) → (found ≡ Some n) ↔ IsPlainText n text.now) }
 {
-    let _ = alloc;
-    Err(NoMemory)
+    // What is read is more than what is canonical, so the text is made again and compared.
+    let draft = match read_draft(alloc, text) {
+        Ok(draft) => draft,
+        Err(Unread::Malformed) => return Ok(None),
+        Err(Unread::Memory) => return Err(NoMemory),
+    };
+    if is_canonical(alloc, &draft, text)? {
+        Ok(Some(draft.plain))
+    } else {
+        Ok(None)
+    }
 }
