@@ -6,7 +6,7 @@ use Rattle.std.specs.List.{list_all, list_any, flat_map}
 use Rattle.std.proofs.Math.Seq.{take-append_seam, drop-append_seam}
 use Rattle.std.proofs.lemmas.Slice.Eq.{bytes_eq-Decides}
 use Rattle.anb_read.specs.declared.plain.PlainAction.{PlainAction}
-use Rattle.anb_read.specs.Names.{is_letter, is_name_byte, is_word, is_name, is_among, reserved_words}
+use Rattle.anb_read.specs.Names.{is_letter, is_name_byte, is_word, is_name, is_reserved}
 use Rattle.anb_read.specs.Narrations.{PlainKnowledge, PlainNarration}
 use Rattle.anb_read.specs.Plain.{line_feed, each_behind, names_text, known_text, know_text, knows_text, action_text, plain_text, is_plain_know, is_plain_action, IsPlain, IsPlainText}
 use Rattle.anb_read.specs.Reading.{◌>>=◌, after, word_len, name_at, many_within, many, with_front, names_at, known_at, know_at, knows_at, action_at, draft_at}
@@ -41,8 +41,8 @@ spelled : (name : List ℕ) → is_name name ≡ true → list_all is_name_byte 
 unfolding is_name
 spelled [] named = refl
 spelled (b ∷ name) named =
-    let g = both (is_word (b ∷ name) && not (is_among reserved_words (b ∷ name))) _ named in
-    let h = both (is_word (b ∷ name)) (not (is_among reserved_words (b ∷ name))) g.0 in
+    let g = both (is_word (b ∷ name) && not (is_reserved (b ∷ name))) _ named in
+    let h = both (is_word (b ∷ name)) (not (is_reserved (b ∷ name))) g.0 in
     let i = both (is_letter b) (list_all is_name_byte name) h.0 in
     both_true (first_of_three (is_letter b) _ _ i.0) i.1
 

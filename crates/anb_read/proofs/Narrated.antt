@@ -100,8 +100,8 @@ actions_again actions all =
     let rest : many (codes "  ") action_at items ≡ Some (actions, []) = subst (λ (t : List ℕ). many (codes "  ") action_at t ≡ Some (actions, [])) (append-nil items) whole in
     rw (after_again heading items) rest
 
-grouped : (a b c d e f g : List ℕ) → a ++ b ++ c ++ d ++ e ++ f ++ g ≡ a ++ (b ++ ((c ++ d) ++ (e ++ (f ++ g))))
-grouped a b c d e f g = simp append_assoc
+grouped : (a b c d e f g h : List ℕ) → a ++ (b ++ c ++ d) ++ (e ++ f ++ g) ++ h ≡ (a ++ b) ++ (c ++ ((d ++ e) ++ (f ++ (g ++ h))))
+grouped a b c d e f g h = simp append_assoc
 
 pub types_again : (agents numbers : List (List ℕ)) (rest : List ℕ) → 0 < length agents → 0 < length numbers → list_all is_name agents ≡ true → list_all is_name numbers ≡ true
     → types_at (types_text agents numbers ++ rest) ≡ Some (agents, numbers, rest)
@@ -111,7 +111,7 @@ types_again agents numbers rest some_agent some_number agents_named numbers_name
     let between = item_end ++ codes "  Number " in
     let behind = names_text numbers ++ (item_end ++ rest) in
     let regrouped : types_text agents numbers ++ rest ≡ heading ++ (names_text agents ++ (between ++ behind)) =
-      grouped heading (names_text agents) item_end (codes "  Number ") (names_text numbers) item_end rest in
+      grouped (codes "Types:" ++ line_feed) (codes "  Agent ") (names_text agents) item_end (codes "  Number ") (names_text numbers) item_end rest in
     rw (regrouped, after_again heading (names_text agents ++ (between ++ behind)), names_again agents (between ++ behind) some_agent agents_named refl (no_comma (codes "  Number " ++ behind)), after_again between behind, names_again numbers (item_end ++ rest) some_number numbers_named refl (no_comma rest), after_again item_end rest) refl
 
 -- each name of the narration is a name of the grammar

@@ -10,7 +10,7 @@ use Rattle.anb_read.specs.declared.plain.PlainAction.{PlainAction}
 use Rattle.anb_read.specs.Names.{is_name, is_among, are_apart, are_different}
 use Rattle.anb_read.specs.Narrations.{PlainKnowledge, PlainNarration}
 use Rattle.anb_read.specs.Plain.{plain_text, is_plain_know, is_plain_action, IsPlain, IsPlainText}
-use Rattle.anb_read.specs.Checks.{are_counts_plain, are_names_plain, are_items_plain}
+use Rattle.anb_read.specs.Checks.{are_counts_plain, are_names_plain, are_items_plain, is_plain, is_canonical}
 use Rattle.anb_read.specs.Reading.{draft_at}
 use Rattle.anb_read.proofs.Laws.{both}
 use Rattle.anb_read.proofs.Narrated.{is_named_know, is_named_action, Named, draft_again}
@@ -73,6 +73,48 @@ Named-IsPlain name numbers n plain =
 pub plain_again : (name : List ℕ) (numbers : List (List ℕ)) (n : PlainNarration) → IsPlain name numbers n → draft_at (plain_text name numbers n) ≡ Some (name, numbers, n)
 plain_again name numbers n plain = draft_again name numbers n (Named-IsPlain name numbers n plain)
 
+-- ---- the tests
+
+plain_passes : (name : List ℕ) (numbers : List (List ℕ)) (n : PlainNarration) → IsPlain name numbers n → is_plain name numbers n ≡ true
+plain_passes name numbers n plain =
+    let number_test : nat_le (length numbers) 1000 ≡ true = let h = plain.number_limit in grind (arith, nat_tests) in
+    let some_test : not (length numbers == 0) ≡ true = let h = plain.some_number in grind (arith, nat_tests) in
+    let action_test : nat_le (length n.actions) 256 ≡ true = let h = plain.action_limit in grind (arith, nat_tests) in
+    both_true
+      (both_true (both_true (both_true (both_true (eq-eqb (length n.agents) 2 plain.two_agents) some_test) number_test) action_test)
+        (both_true (both_true (both_true (both_true (both_true plain.protocol plain.agent_names) plain.number_names) plain.agents_differ) plain.numbers_differ) plain.no_agent_is_number))
+      (both_true (both_true plain.knows plain.roles_differ) plain.actions)
+
+passes_plain : (name : List ℕ) (numbers : List (List ℕ)) (n : PlainNarration) → is_plain name numbers n ≡ true → IsPlain name numbers n
+passes_plain name numbers n passes =
+    let all = both (are_counts_plain numbers n && are_names_plain name numbers n) (are_items_plain numbers n) passes in
+    let front = both (are_counts_plain numbers n) (are_names_plain name numbers n) all.0 in
+    let c3 = both (length n.agents == 2 && not (length numbers == 0) && nat_le (length numbers) 1000) (nat_le (length n.actions) 256) front.0 in
+    let c2 = both (length n.agents == 2 && not (length numbers == 0)) (nat_le (length numbers) 1000) c3.0 in
+    let c1 = both (length n.agents == 2) (not (length numbers == 0)) c2.0 in
+    let n5 = both (is_name name && list_all is_name n.agents && list_all is_name numbers && are_different n.agents && are_different numbers) _ front.1 in
+    let n4 = both (is_name name && list_all is_name n.agents && list_all is_name numbers && are_different n.agents) (are_different numbers) n5.0 in
+    let n3 = both (is_name name && list_all is_name n.agents && list_all is_name numbers) (are_different n.agents) n4.0 in
+    let n2 = both (is_name name && list_all is_name n.agents) (list_all is_name numbers) n3.0 in
+    let n1 = both (is_name name) (list_all is_name n.agents) n2.0 in
+    let i2 = both (list_all (is_plain_know n.agents numbers) n.knows && are_apart (λ (k : PlainKnowledge). k.role) n.knows) _ all.1 in
+    let i1 = both (list_all (is_plain_know n.agents numbers) n.knows) (are_apart (λ (k : PlainKnowledge). k.role) n.knows) i2.0 in
+    record {
+      protocol = n1.0;
+      two_agents = eqb-true (length n.agents) 2 c1.0;
+      some_number = let h = c1.1 in grind (arith, nat_tests);
+      number_limit = leb-true (length numbers) 1000 c2.1;
+      agent_names = n1.1;
+      number_names = n2.1;
+      agents_differ = n3.1;
+      numbers_differ = n4.1;
+      no_agent_is_number = n5.1;
+      knows = i1.0;
+      roles_differ = i1.1;
+      action_limit = leb-true (length n.actions) 256 c3.1;
+      actions = i2.1;
+    }
+
 -- ---- what the call answers
 
 -- where no draft is read the text is none of a plain narration
@@ -92,3 +134,21 @@ is_draft text d n drafted (name, numbers, plain, is) =
     let same : (name, numbers, n) ≡ d = some_is (name, numbers, n) d (sym again ∙ drafted) in
     let P : List ℕ × List (List ℕ) × PlainNarration → Type 0 = λ x. IsPlain x.0 x.1 x.2 × (text ≡ plain_text x.0 x.1 x.2) × (x.2 ≡ n) in
     subst P same (plain, is, refl)
+
+pub malformed : (text : List ℕ) → draft_at text ≡ None → (m : PlainNarration) → (None ≡ Some m) ↔ IsPlainText m text
+malformed text none m = (λ e. absurd cc, λ is. absurd (no_draft text m none is))
+
+pub refused : (text name : List ℕ) (numbers : List (List ℕ)) (n : PlainNarration) → draft_at text ≡ Some (name, numbers, n) → is_canonical name numbers n text ≡ false → (m : PlainNarration) → (None ≡ Some m) ↔ IsPlainText m text
+refused text name numbers n drafted fails m =
+    (λ e. absurd cc,
+     λ is.
+       let d = is_draft text (name, numbers, n) m drafted is in
+       let passes : is_canonical name numbers n text ≡ true = both_true (plain_passes name numbers n d.0) ((bytes_eq-Decides (plain_text name numbers n) text).1 (sym d.1)) in
+       absurd (cc (fails, passes)))
+
+pub found : (text name : List ℕ) (numbers : List (List ℕ)) (n : PlainNarration) → draft_at text ≡ Some (name, numbers, n) → is_canonical name numbers n text ≡ true → (m : PlainNarration) → (Some n ≡ Some m) ↔ IsPlainText m text
+found text name numbers n drafted passes m =
+    let g = both (is_plain name numbers n) (bytes_eq (plain_text name numbers n) text) passes in
+    let plain : IsPlainText n text = (name, numbers, passes_plain name numbers n g.0, sym ((bytes_eq-Decides (plain_text name numbers n) text).0 g.1)) in
+    let P : PlainNarration → Type 0 = λ x. IsPlainText x text in
+    (λ e. subst P (some_is n m e) plain, λ is. ap some_of (is_draft text (name, numbers, n) m drafted is).2)

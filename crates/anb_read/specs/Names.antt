@@ -15,12 +15,6 @@ abbrev pub is_word : List ℕ → Bool
 is_word [] = false
 is_word (b ∷ bs) = is_letter b && list_all is_name_byte bs
 
--- the words that are no names
-abbrev pub reserved_words : List (List ℕ)
-reserved_words =
-    codes "Protocol" ∷ codes "Suite" ∷ codes "Types" ∷ codes "Formats" ∷ codes "Knowledge" ∷ codes "Actions" ∷ codes "Choice" ∷ codes "Goals"
-    ∷ codes "Agent" ∷ codes "Number" ∷ codes "Key" ∷ codes "h" ∷ codes "mac" ∷ codes "scrypt" ∷ codes "wrap" ∷ []
-
 -- whether some item has this name
 abbrev pub some_named : {X : Type 0} → (X → List ℕ) → List X → List ℕ → Bool
 some_named name_of items name = list_any (λ item. bytes_eq (name_of item) name) items
@@ -38,6 +32,23 @@ is_among names name = some_named (λ n. n) names name
 abbrev pub are_different : List (List ℕ) → Bool
 are_different names = are_apart (λ n. n) names
 
+-- the words that begin a section
+abbrev pub section_words : List (List ℕ)
+section_words =
+    codes "Protocol" ∷ codes "Suite" ∷ codes "Types" ∷ codes "Formats" ∷ codes "Knowledge" ∷ codes "Actions" ∷ codes "Choice" ∷ codes "Goals" ∷ []
+
+-- the sorts of the names
+abbrev pub sort_words : List (List ℕ)
+sort_words = codes "Agent" ∷ codes "Number" ∷ codes "Key" ∷ []
+
+-- the operators of terms
+abbrev pub operator_words : List (List ℕ)
+operator_words = codes "h" ∷ codes "mac" ∷ codes "scrypt" ∷ codes "wrap" ∷ []
+
+-- whether the grammar keeps the word for itself
+abbrev pub is_reserved : List ℕ → Bool
+is_reserved word = is_among section_words word || is_among sort_words word || is_among operator_words word
+
 -- whether this is a name of the grammar, of at most 64 bytes
 unfoldable pub is_name : List ℕ → Bool
-is_name bytes = is_word bytes && not (is_among reserved_words bytes) && nat_le (length bytes) 64
+is_name bytes = is_word bytes && not (is_reserved bytes) && nat_le (length bytes) 64

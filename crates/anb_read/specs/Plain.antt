@@ -44,10 +44,14 @@ action_text a = a.from ++ codes " -> " ++ a.to ++ codes ": " ++ a.name ++ item_e
 abbrev pub actions_text : List PlainAction → List ℕ
 actions_text actions = codes "Actions:" ++ line_feed ++ each_behind (codes "  ") action_text actions
 
+-- the line of a type item, which begins with its sort
+abbrev pub type_text : List ℕ → List (List ℕ) → List ℕ
+type_text sort names = sort ++ names_text names ++ item_end
+
 -- the section of the types
 abbrev pub types_text : List (List ℕ) → List (List ℕ) → List ℕ
 types_text agents numbers =
-    codes "Types:" ++ line_feed ++ codes "  Agent " ++ names_text agents ++ item_end ++ codes "  Number " ++ names_text numbers ++ item_end
+    codes "Types:" ++ line_feed ++ type_text (codes "  Agent ") agents ++ type_text (codes "  Number ") numbers
 
 -- the canonical text of the narration of this name with these numbers
 abbrev pub plain_text : List ℕ → List (List ℕ) → PlainNarration → List ℕ

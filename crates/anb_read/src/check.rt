@@ -1,10 +1,10 @@
 //! Whether what was read is plain.
 
-ghost use Rattle.std.specs.Prelude.{◌≡◌, ◌↔◌, List, ℕ, IsTrue, bytes_eq, not};
+ghost use Rattle.std.specs.Prelude.{◌≡◌, List, ℕ, bytes_eq, not};
 ghost use Rattle.std.specs.List.{list_all, list_any};
 ghost use Rattle.anb_read.specs.Names.{is_name, is_among, some_named, are_apart, are_different};
-ghost use Rattle.anb_read.specs.Checks.{are_counts_plain, are_names_plain, are_items_plain};
-ghost use Rattle.anb_read.specs.Plain.{is_plain_know, is_plain_action, IsPlain};
+ghost use Rattle.anb_read.specs.Checks.{are_counts_plain, are_names_plain, are_items_plain, is_plain};
+ghost use Rattle.anb_read.specs.Plain.{is_plain_know, is_plain_action};
 
 use crate::draft::Draft;
 use crate::names::{is_name, is_same};
@@ -45,12 +45,7 @@ impl Named for PlainKnow {
 fn some_named<T: Named>(items: &[T], name: &[u8]) -> bool
     ensures { result ≡ some_named T.name_of items.now name.now }
 {
-    for item in items {
-        if is_same(item.name(), name) {
-            return true;
-        }
-    }
-    false
+    items.iter().any(|item| is_same(item.name(), name))
 }
 
 /// Whether no two items have one name.
@@ -165,7 +160,7 @@ fn are_items_plain(draft: &Draft) -> bool
 
 /// Whether a narration that was read is plain.
 pub(crate) fn is_plain(draft: &Draft) -> bool
-    ensures { IsTrue result ↔ IsPlain draft.now.name draft.now.numbers.items draft.now.plain }
+    ensures { result ≡ is_plain draft.now.name draft.now.numbers.items draft.now.plain }
 {
     are_counts_plain(draft) && are_names_plain(draft) && are_items_plain(draft)
 }

@@ -2,7 +2,7 @@
 
 ghost use Rattle.std.specs.Prelude.{◌≡◌, ◌++◌, OnOk, IfOk};
 ghost use Rattle.anb_read.specs.Answers.{Gives};
-ghost use Rattle.anb_read.specs.Plain.{names_text, known_text, know_text, knows_text, action_text, actions_text, types_text, plain_text};
+ghost use Rattle.anb_read.specs.Plain.{names_text, known_text, know_text, knows_text, action_text, actions_text, type_text, types_text, plain_text};
 ghost use Rattle.anb_read.specs.Reading.{name_at, names_at, known_at, know_at, knows_at, action_at, actions_at, types_at, draft_at};
 
 use crate::cursor::{after, expect, word_len};
@@ -177,15 +177,24 @@ fn types(alloc: Global, text: &[u8]) -> Result<(Vec<Text>, Vec<Text>, &[u8]), Un
     Ok((agents, numbers, rest))
 }
 
+/// Puts the line of a type item.
+fn put_type(out: &mut Vec<u8>, sort: &[u8], names: &[Text]) -> Result<(), AllocError>
+    ensures { OnOk result (out.new.items ≡ out.old.items ++ type_text sort.now names.now) }
+{
+    out.extend_from_slice(sort)?;
+    put_names(out, names)?;
+    out.extend_from_slice(b";\n")?;
+    Ok(())
+}
+
 /// Puts the section of the types.
 fn put_types(out: &mut Vec<u8>, agents: &[Text], numbers: &[Text]) -> Result<(), AllocError>
     ensures { OnOk result (out.new.items ≡ out.old.items ++ types_text agents.now numbers.now) }
 {
-    out.extend_from_slice(b"Types:\n  Agent ")?;
-    put_names(out, agents)?;
-    out.extend_from_slice(b";\n  Number ")?;
-    put_names(out, numbers)?;
-    out.extend_from_slice(b";\n")
+    out.extend_from_slice(b"Types:\n")?;
+    put_type(out, b"  Agent ", agents)?;
+    put_type(out, b"  Number ", numbers)?;
+    Ok(())
 }
 
 /// Reads a narration, and leaves what follows it unread.

@@ -2,9 +2,10 @@
 //! the other a number.
 #![tactic(auto)]
 
-ghost use Rattle.std.specs.Prelude.{◌≡◌, ◌↔◌, IfOk, Some, IsTrue};
+ghost use Rattle.std.specs.Prelude.{◌≡◌, ◌↔◌, IfOk, Some};
 ghost use Rattle.anb_read.specs.Narrations.{PlainNarration};
-ghost use Rattle.anb_read.specs.Plain.{plain_text, IsPlain, IsPlainText};
+ghost use Rattle.anb_read.specs.Checks.{is_canonical};
+ghost use Rattle.anb_read.specs.Plain.{IsPlainText};
 
 mod check;
 mod cursor;
@@ -21,16 +22,17 @@ pub use plain::{Plain, PlainAction, PlainKnow};
 
 use crate::check::is_plain;
 use crate::draft::{Draft, read_draft, text_of};
+use crate::names::is_same;
 use crate::unread::Unread;
 use anb_base::NoMemory;
 use std::alloc::Global;
 
 /// Whether a narration that was read from the text is plain, and the text its canonical text.
 fn is_canonical(alloc: Global, draft: &Draft, text: &[u8]) -> Result<bool, NoMemory>
-    ensures { IfOk result (λ b. IsTrue b ↔ (IsPlain draft.now.name draft.now.numbers.items draft.now.plain × (text.now ≡ plain_text draft.now.name draft.now.numbers.items draft.now.plain))) }
+    ensures { IfOk result (λ b. b ≡ is_canonical draft.now.name draft.now.numbers.items draft.now.plain text.now) }
 {
     let canonical = text_of(alloc, draft)?;
-    Ok(is_plain(draft) && canonical.as_slice() == text)
+    Ok(is_plain(draft) && is_same(canonical.as_slice(), text))
 }
 
 /// Reads the canonical text of a plain narration. The answer is `None` at every other text.

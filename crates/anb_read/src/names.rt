@@ -2,7 +2,7 @@
 
 ghost use Rattle.std.specs.Prelude.{◌≡◌, bytes_eq};
 ghost use Rattle.std.specs.List.{list_all};
-ghost use Rattle.anb_read.specs.Names.{is_letter, is_name_byte, is_word, is_among, reserved_words, is_name};
+ghost use Rattle.anb_read.specs.Names.{is_letter, is_name_byte, is_word, is_among, section_words, sort_words, operator_words, is_reserved, is_name};
 
 /// The most bytes of a name.
 const LONGEST: usize = 64;
@@ -42,9 +42,8 @@ pub(crate) fn is_same(a: &[u8], b: &[u8]) -> bool
     a == b
 }
 
-/// Whether the grammar keeps the word for itself.
-fn is_reserved(word: &[u8]) -> bool
-    ensures { result ≡ is_among reserved_words word.now }
+fn is_section(word: &[u8]) -> bool
+    ensures { result ≡ is_among section_words word.now }
 {
     is_same(b"Protocol", word)
         || is_same(b"Suite", word)
@@ -54,13 +53,28 @@ fn is_reserved(word: &[u8]) -> bool
         || is_same(b"Actions", word)
         || is_same(b"Choice", word)
         || is_same(b"Goals", word)
-        || is_same(b"Agent", word)
-        || is_same(b"Number", word)
-        || is_same(b"Key", word)
-        || is_same(b"h", word)
+}
+
+fn is_sort(word: &[u8]) -> bool
+    ensures { result ≡ is_among sort_words word.now }
+{
+    is_same(b"Agent", word) || is_same(b"Number", word) || is_same(b"Key", word)
+}
+
+fn is_operator(word: &[u8]) -> bool
+    ensures { result ≡ is_among operator_words word.now }
+{
+    is_same(b"h", word)
         || is_same(b"mac", word)
         || is_same(b"scrypt", word)
         || is_same(b"wrap", word)
+}
+
+/// Whether the grammar keeps the word for itself.
+fn is_reserved(word: &[u8]) -> bool
+    ensures { result ≡ is_reserved word.now }
+{
+    is_section(word) || is_sort(word) || is_operator(word)
 }
 
 /// Whether this is a name of the grammar, of at most 64 bytes.
