@@ -1,15 +1,13 @@
 -- What is read of what was put.
-use Rattle.std.proofs.Common.{◌≡◌, ℕ, zero, suc, ◌+◌, ◌<◌, ◌≤◌, Bool, true, false, not, ◌&&◌, ◌||◌, List, [], ◌∷◌, ◌++◌, length, take, drop, Option, Some, None, refl, sym, ap, subst, ◌∙◌, append_assoc, length-append, arith}
-use Rattle.std.specs.Prelude.{codes, bytes_eq}
+use Rattle.std.proofs.Common.{◌≡◌, ℕ, zero, suc, ◌<◌, ◌≤◌, Bool, true, false, not, ◌&&◌, ◌||◌, List, [], ◌∷◌, ◌++◌, length, Option, Some, None, refl, sym, subst, append_assoc, length-append, arith}
+use Rattle.std.specs.Prelude.{bytes_eq}
 use Rattle.std.specs.Cmp.Derive.{both_true}
-use Rattle.std.specs.List.{list_all, list_any, flat_map}
+use Rattle.std.specs.List.{list_all}
 use Rattle.std.proofs.Math.Seq.{take-append_seam, drop-append_seam}
 use Rattle.std.proofs.lemmas.Slice.Eq.{bytes_eq-Decides}
-use Rattle.anb_read.specs.declared.plain.PlainAction.{PlainAction}
 use Rattle.anb_read.specs.Names.{is_letter, is_name_byte, is_word, is_name, is_reserved}
-use Rattle.anb_read.specs.Narrations.{PlainKnowledge, PlainNarration}
-use Rattle.anb_read.specs.Plain.{line_feed, each_behind, names_text, known_text, know_text, knows_text, action_text, plain_text, is_plain_know, is_plain_action, IsPlain, IsPlainText}
-use Rattle.anb_read.specs.Reading.{◌>>=◌, after, word_len, name_at, many_within, many, with_front, names_at, known_at, know_at, knows_at, action_at, draft_at}
+use Rattle.anb_read.specs.Plain.{each_behind}
+use Rattle.anb_read.specs.Reading.{after, name_at, many_within, many}
 use Rattle.anb_read.proofs.Words.{word_len-name}
 
 pub both : (a b : Bool) → (a && b) ≡ true → (a ≡ true) × (b ≡ true)

@@ -1,10 +1,10 @@
 -- Reading pieces one after the other, as a loop does.
-use Rattle.std.proofs.Common.{◌≡◌, ℕ, zero, suc, ◌-◌, ◌+◌, ◌≤◌, ◌<◌, List, [], ◌∷◌, ◌++◌, length, Option, Some, None, refl, sym, ap, ◌∙◌, append_assoc, arith}
+use Rattle.std.proofs.Common.{◌≡◌, ℕ, zero, suc, ◌-◌, ◌+◌, ◌<◌, List, [], ◌∷◌, ◌++◌, Option, Some, None, refl, sym, ap, ◌∙◌, append_assoc, arith}
 use Rattle.std.proofs.lemmas.List.{append-nil}
 use Rattle.anb_read.specs.declared.unread.Unread.{Unread}
 use Rattle.anb_read.specs.declared.unread.Unread.TheVariants.{Malformed, Memory}
 use Rattle.anb_read.specs.Answers.{Refuses}
-use Rattle.anb_read.specs.Reading.{◌>>=◌, after, many_within, with_front}
+use Rattle.anb_read.specs.Reading.{after, many_within, with_front}
 
 regroup : {X : Type 0} (front : List X) (x : X) (read : Option (List X × List ℕ)) → with_front front (with_front (x ∷ []) read) ≡ with_front (front ++ x ∷ []) read
 regroup {X} front x (Some r) = ap (λ (xs : List X). Some (xs, r.1)) (simp append_assoc)
@@ -21,7 +21,7 @@ pub goes_on : {X : Type 0} (mark : List ℕ) (item_at : List ℕ → Option (X �
 goes_on mark item_at front count i bytes next x rest total lt marked item so_far =
     let k : count - i ≡ suc (count - (i + 1)) = omega arith in
     let one : with_front front (many_within (count - i) mark item_at bytes) ≡ with_front (front ++ x ∷ []) (many_within (count - (i + 1)) mark item_at rest) =
-      rw (k, many_within, ← marked, item) (regroup front x (many_within (count - (i + 1)) mark item_at rest)) in
+    rw (k, many_within, ← marked, item) (regroup front x (many_within (count - (i + 1)) mark item_at rest)) in
     sym one ∙ so_far
 
 pub ends : {X : Type 0} (e : Unread) (mark : List ℕ) (item_at : List ℕ → Option (X × List ℕ)) (front : List X) (count i : ℕ) (bytes next : List ℕ) (total : Option (List X × List ℕ)) → i < count

@@ -1,12 +1,12 @@
 -- What is read of a canonical text: its narration.
-use Rattle.std.proofs.Common.{◌≡◌, ℕ, zero, suc, ◌+◌, ◌<◌, ◌≤◌, Bool, true, false, not, ◌&&◌, ◌||◌, List, [], ◌∷◌, ◌++◌, length, Option, Some, None, refl, sym, ap, subst, ◌∙◌, append_assoc, append-nil, arith}
-use Rattle.std.specs.Prelude.{codes, bytes_eq}
-use Rattle.std.specs.List.{list_all, list_any}
+use Rattle.std.proofs.Common.{◌≡◌, ℕ, ◌<◌, Bool, true, ◌&&◌, List, [], ◌∷◌, ◌++◌, length, Some, None, refl, subst, append_assoc, append-nil, arith}
+use Rattle.std.specs.Prelude.{codes}
+use Rattle.std.specs.List.{list_all}
 use Rattle.anb_read.specs.declared.plain.PlainAction.{PlainAction}
-use Rattle.anb_read.specs.Names.{is_name, is_among}
+use Rattle.anb_read.specs.Names.{is_name}
 use Rattle.anb_read.specs.Narrations.{PlainKnowledge, PlainNarration}
 use Rattle.anb_read.specs.Plain.{line_feed, item_end, each_behind, names_text, known_text, know_text, knows_text, action_text, actions_text, types_text, plain_text}
-use Rattle.anb_read.specs.Reading.{◌>>=◌, after, name_at, many, with_front, names_at, known_at, know_at, knows_at, action_at, actions_at, types_at, draft_at}
+use Rattle.anb_read.specs.Reading.{after, name_at, many, names_at, known_at, know_at, knows_at, action_at, actions_at, types_at, draft_at}
 use Rattle.anb_read.proofs.Laws.{after_again, Stops, name_again, Again, many_again, follow, both}
 
 names_are_again : Again (codes ", ") name_at (λ (name : List ℕ). name) is_name Stops
@@ -111,7 +111,7 @@ types_again agents numbers rest some_agent some_number agents_named numbers_name
     let between = item_end ++ codes "  Number " in
     let behind = names_text numbers ++ (item_end ++ rest) in
     let regrouped : types_text agents numbers ++ rest ≡ heading ++ (names_text agents ++ (between ++ behind)) =
-      grouped (codes "Types:" ++ line_feed) (codes "  Agent ") (names_text agents) item_end (codes "  Number ") (names_text numbers) item_end rest in
+    grouped (codes "Types:" ++ line_feed) (codes "  Agent ") (names_text agents) item_end (codes "  Number ") (names_text numbers) item_end rest in
     rw (regrouped, after_again heading (names_text agents ++ (between ++ behind)), names_again agents (between ++ behind) some_agent agents_named refl (no_comma (codes "  Number " ++ behind)), after_again between behind, names_again numbers (item_end ++ rest) some_number numbers_named refl (no_comma rest), after_again item_end rest) refl
 
 -- each name of the narration is a name of the grammar
@@ -133,6 +133,13 @@ draft_again name numbers n named =
     let behind = knows_text n.knows ++ actions_text n.actions in
     let sections = types_text n.agents numbers ++ behind in
     let regrouped : plain_text name numbers n ≡ codes "Protocol: " ++ (name ++ (item_end ++ sections)) =
-      grouped_six (codes "Protocol: ") name item_end (types_text n.agents numbers) (knows_text n.knows) (actions_text n.actions) in
-    rw (regrouped, after_again (codes "Protocol: ") (name ++ (item_end ++ sections)), name_again name (item_end ++ sections) named.protocol refl, after_again item_end sections, types_again n.agents numbers behind named.some_agent named.some_number named.agent_names named.number_names,
-      knows_again n.knows (line_feed ++ each_behind (codes "  ") action_text n.actions) named.knows, actions_again n.actions named.actions) refl
+    grouped_six (codes "Protocol: ") name item_end (types_text n.agents numbers) (knows_text n.knows) (actions_text n.actions) in
+    rw (
+      regrouped,
+      after_again (codes "Protocol: ") (name ++ (item_end ++ sections)),
+      name_again name (item_end ++ sections) named.protocol refl,
+      after_again item_end sections,
+      types_again n.agents numbers behind named.some_agent named.some_number named.agent_names named.number_names,
+      knows_again n.knows (line_feed ++ each_behind (codes "  ") action_text n.actions) named.knows,
+      actions_again n.actions named.actions,
+    ) refl

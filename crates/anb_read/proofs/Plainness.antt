@@ -1,9 +1,9 @@
 -- The conditions of a plain narration, and what is read of one.
-use Rattle.std.proofs.Common.{◌≡◌, ◌==◌, ℕ, suc, ◌+◌, ◌<◌, ◌≤◌, Bool, true, false, not, ◌&&◌, ◌||◌, List, [], ◌∷◌, ◌++◌, length, Option, Some, None, refl, sym, ap, subst, ◌∙◌, arith, ◌⊎◌, inl, inr, eq-eqb}
-use Rattle.std.specs.Prelude.{◌↔◌, bytes_eq, nat_le, IsTrue}
+use Rattle.std.proofs.Common.{◌≡◌, ◌==◌, ℕ, Bool, true, false, not, ◌&&◌, ◌||◌, List, [], ◌∷◌, length, Option, Some, None, refl, sym, ap, subst, ◌∙◌, arith, ◌⊎◌, inl, inr, eq-eqb}
+use Rattle.std.specs.Prelude.{◌↔◌, bytes_eq, nat_le}
 use Rattle.std.specs.List.{list_all, list_any}
 use Rattle.std.specs.Cmp.Derive.{both_true}
-use Rattle.std.proofs.lemmas.Bool.{eqb-true, leb-true, not-true}
+use Rattle.std.proofs.lemmas.Bool.{eqb-true, leb-true}
 use Rattle.std.proofs.lemmas.Bool.Decides.{nat_tests}
 use Rattle.std.proofs.lemmas.Slice.Eq.{bytes_eq-Decides}
 use Rattle.anb_read.specs.declared.plain.PlainAction.{PlainAction}
@@ -81,9 +81,9 @@ plain_passes name numbers n plain =
     let some_test : not (length numbers == 0) ≡ true = let h = plain.some_number in grind (arith, nat_tests) in
     let action_test : nat_le (length n.actions) 256 ≡ true = let h = plain.action_limit in grind (arith, nat_tests) in
     both_true
-      (both_true (both_true (both_true (both_true (eq-eqb (length n.agents) 2 plain.two_agents) some_test) number_test) action_test)
-        (both_true (both_true (both_true (both_true (both_true plain.protocol plain.agent_names) plain.number_names) plain.agents_differ) plain.numbers_differ) plain.no_agent_is_number))
-      (both_true (both_true plain.knows plain.roles_differ) plain.actions)
+    (both_true (both_true (both_true (both_true (eq-eqb (length n.agents) 2 plain.two_agents) some_test) number_test) action_test)
+    (both_true (both_true (both_true (both_true (both_true plain.protocol plain.agent_names) plain.number_names) plain.agents_differ) plain.numbers_differ) plain.no_agent_is_number))
+    (both_true (both_true plain.knows plain.roles_differ) plain.actions)
 
 passes_plain : (name : List ℕ) (numbers : List (List ℕ)) (n : PlainNarration) → is_plain name numbers n ≡ true → IsPlain name numbers n
 passes_plain name numbers n passes =
@@ -139,12 +139,13 @@ pub malformed : (text : List ℕ) → draft_at text ≡ None → (m : PlainNarra
 malformed text none m = (λ e. absurd cc, λ is. absurd (no_draft text m none is))
 
 pub refused : (text name : List ℕ) (numbers : List (List ℕ)) (n : PlainNarration) → draft_at text ≡ Some (name, numbers, n) → is_canonical name numbers n text ≡ false → (m : PlainNarration) → (None ≡ Some m) ↔ IsPlainText m text
-refused text name numbers n drafted fails m =
-    (λ e. absurd cc,
-     λ is.
-       let d = is_draft text (name, numbers, n) m drafted is in
-       let passes : is_canonical name numbers n text ≡ true = both_true (plain_passes name numbers n d.0) ((bytes_eq-Decides (plain_text name numbers n) text).1 (sym d.1)) in
-       absurd (cc (fails, passes)))
+refused text name numbers n drafted fails m = (
+  λ e. absurd cc,
+  λ is.
+      let d = is_draft text (name, numbers, n) m drafted is in
+      let passes : is_canonical name numbers n text ≡ true = both_true (plain_passes name numbers n d.0) ((bytes_eq-Decides (plain_text name numbers n) text).1 (sym d.1)) in
+      absurd (cc (fails, passes)),
+)
 
 pub found : (text name : List ℕ) (numbers : List (List ℕ)) (n : PlainNarration) → draft_at text ≡ Some (name, numbers, n) → is_canonical name numbers n text ≡ true → (m : PlainNarration) → (Some n ≡ Some m) ↔ IsPlainText m text
 found text name numbers n drafted passes m =

@@ -1,12 +1,11 @@
 -- The word at the front of a text.
-use Rattle.std.proofs.Common.{◌≡◌, ℕ, zero, suc, ◌+◌, ◌<◌, ◌≤◌, Bool, true, false, not, List, [], ◌∷◌, ◌++◌, length, take, drop, get_or, Option, Some, refl, sym, ap, ◌∙◌, arith, inl, inr, ◌⊎◌}
+use Rattle.std.proofs.Common.{◌≡◌, ℕ, zero, suc, ◌+◌, ◌<◌, ◌≤◌, Bool, true, false, not, List, [], ◌∷◌, ◌++◌, length, take, refl, ◌∙◌, arith}
 use Rattle.std.specs.List.{list_all, prefix_len, position_or_len}
 use Rattle.std.specs.Str.{IsAscii, IsUtf8}
 use Rattle.std.proofs.lemmas.Str.{IsUtf8-from_ascii}
 use Rattle.std.proofs.lemmas.Bool.Decides.{nat_tests}
-use Rattle.std.proofs.lemmas.Bool.{not-false}
-use Rattle.anb_read.specs.Names.{is_letter, is_name_byte}
-use Rattle.anb_read.specs.Reading.{word_len, name_at}
+use Rattle.anb_read.specs.Names.{is_name_byte}
+use Rattle.anb_read.specs.Reading.{word_len}
 
 -- where a word ends
 abbrev pub end_of : List ℕ → ℕ

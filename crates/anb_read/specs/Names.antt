@@ -1,5 +1,5 @@
 -- The names of the narration grammar.
-use Rattle.std.specs.Prelude.{◌≡◌, ℕ, ◌≤◌, ◌==◌, Bool, true, false, not, ◌&&◌, ◌||◌, nat_le, bytes_eq, List, [], ◌∷◌, length, codes}
+use Rattle.std.specs.Prelude.{ℕ, ◌==◌, Bool, true, false, not, ◌&&◌, ◌||◌, nat_le, bytes_eq, List, [], ◌∷◌, length, codes}
 use Rattle.std.specs.List.{list_all, list_any}
 
 -- `A` to `Z` or `a` to `z`

@@ -1,5 +1,5 @@
 -- The canonical text of a plain narration, and which narrations are plain.
-use Rattle.std.specs.Prelude.{◌≡◌, ℕ, ◌<◌, ◌≤◌, Bool, true, not, ◌&&◌, List, [], ◌∷◌, ◌++◌, length, codes, bytes_eq, IsTrue}
+use Rattle.std.specs.Prelude.{◌≡◌, ℕ, ◌<◌, ◌≤◌, Bool, not, ◌&&◌, List, [], ◌∷◌, ◌++◌, length, codes, bytes_eq, IsTrue}
 use Rattle.std.specs.List.{list_all, list_any, flat_map}
 use Rattle.anb_read.specs.declared.plain.PlainAction.{PlainAction}
 use Rattle.anb_read.specs.Names.{is_name, is_among, are_apart, are_different}

@@ -22,6 +22,7 @@ pub(crate) struct Draft {
 
 impl Piece for Text {
     ghost piece_at = { name_at };
+
     ghost printed = { λ name. name };
 
     #[tactic(auto, unfolding(crate::specs::Reading::name_at))]
@@ -81,6 +82,7 @@ fn put_known(out: &mut Vec<u8>, names: &[Text]) -> Result<(), AllocError>
 
 impl Piece for PlainKnow {
     ghost piece_at = { know_at };
+
     ghost printed = { know_text };
 
     #[tactic(auto, unfolding(crate::specs::Reading::know_at))]
@@ -124,6 +126,7 @@ fn put_knows(out: &mut Vec<u8>, knows: &[PlainKnow]) -> Result<(), AllocError>
 
 impl Piece for PlainAction {
     ghost piece_at = { action_at };
+
     ghost printed = { action_text };
 
     #[tactic(auto, unfolding(crate::specs::Reading::action_at))]
@@ -228,7 +231,11 @@ pub(crate) fn text_of(alloc: Global, draft: &Draft) -> Result<Vec<u8>, AllocErro
     out.extend_from_slice(b"Protocol: ")?;
     draft.name.put(&mut out)?;
     out.extend_from_slice(b";\n")?;
-    put_types(&mut out, draft.plain.agents.as_slice(), draft.numbers.as_slice())?;
+    put_types(
+        &mut out,
+        draft.plain.agents.as_slice(),
+        draft.numbers.as_slice(),
+    )?;
     put_knows(&mut out, draft.plain.knows.as_slice())?;
     put_actions(&mut out, draft.plain.actions.as_slice())?;
     Ok(out)

@@ -13,18 +13,16 @@ mod draft;
 mod names;
 mod piece;
 mod plain;
-mod unread;
-
 #[cfg(test)]
 mod tests;
-
-pub use plain::{Plain, PlainAction, PlainKnow};
+mod unread;
 
 use crate::check::is_plain;
 use crate::draft::{Draft, read_draft, text_of};
 use crate::names::is_same;
 use crate::unread::Unread;
 use anb_base::NoMemory;
+pub use plain::{Plain, PlainAction, PlainKnow};
 use std::alloc::Global;
 
 /// Whether a narration that was read from the text is plain, and the text its canonical text.

@@ -12,6 +12,7 @@ use std::alloc::{AllocError, Global};
 /// What can be read and put.
 pub(crate) trait Piece: Sized {
     ghost piece_at: { List ℕ → Option (Self × List ℕ) };
+
     ghost printed: { Self → List ℕ };
 
     /// Reads one from the front, and leaves what follows it.
@@ -46,7 +47,11 @@ pub(crate) fn many<'t, T: Piece + Drop>(
 }
 
 /// Puts the pieces, each behind the mark.
-pub(crate) fn put_many<T: Piece>(out: &mut Vec<u8>, mark: &[u8], items: &[T]) -> Result<(), AllocError>
+pub(crate) fn put_many<T: Piece>(
+    out: &mut Vec<u8>,
+    mark: &[u8],
+    items: &[T],
+) -> Result<(), AllocError>
     ensures { OnOk result (out.new.items ≡ out.old.items ++ each_behind mark.now T.printed items.now) }
 {
     for item in items {

@@ -42,8 +42,12 @@ fn read(alloc: Global, text: &str) -> Result<Vec<u8>, NoMemory> {
 
 #[test]
 fn ping_is_read(rt: HostRuntime) -> Result<(), Fail> {
-    let ping = "Protocol: Ping;\nTypes:\n  Agent A, B;\n  Number N;\nKnowledge:\n  A: N;\n  B: N;\nActions:\n  A -> B: N;\n  B -> A: N;\n";
-    assert_eq!(rt; read(rt.alloc(), ping)?.as_slice(), b"A B | A: N | B: N | A-B N| B-A N".as_slice());
+    let ping =
+        "Protocol: Ping;\nTypes:\n  Agent A, B;\n  Number N;\nKnowledge:\n  A: N;\n  B: N;\nActions:\n  A -> B: N;\n  B -> A: N;\n";
+    assert_eq!(rt;
+        read(rt.alloc(), ping)?.as_slice(),
+        b"A B | A: N | B: N | A-B N| B-A N".as_slice()
+    );
     Ok(())
 }
 
@@ -56,8 +60,12 @@ fn ping_without_its_spaces_is_not_read(rt: HostRuntime) -> Result<(), Fail> {
 
 #[test]
 fn a_role_may_know_nothing(rt: HostRuntime) -> Result<(), Fail> {
-    let text = "Protocol: P;\nTypes:\n  Agent A, B;\n  Number N, M;\nKnowledge:\n  A:;\n  B: M, N;\nActions:\n  B -> A: M;\n";
-    assert_eq!(rt; read(rt.alloc(), text)?.as_slice(), b"A B | A: | B: M N | B-A M".as_slice());
+    let text =
+        "Protocol: P;\nTypes:\n  Agent A, B;\n  Number N, M;\nKnowledge:\n  A:;\n  B: M, N;\nActions:\n  B -> A: M;\n";
+    assert_eq!(rt;
+        read(rt.alloc(), text)?.as_slice(),
+        b"A B | A: | B: M N | B-A M".as_slice()
+    );
     Ok(())
 }
 
@@ -72,7 +80,8 @@ fn the_knowledge_may_be_missing(rt: HostRuntime) -> Result<(), Fail> {
 fn what_is_not_plain_is_not_read(rt: HostRuntime) -> Result<(), Fail> {
     let twice = "Protocol: P;\nTypes:\n  Agent A, B;\n  Number A;\nActions:\n";
     let reserved = "Protocol: P;\nTypes:\n  Agent A, B;\n  Number mac;\nActions:\n";
-    let itself = "Protocol: P;\nTypes:\n  Agent A, B;\n  Number N;\nKnowledge:\n  A: N;\nActions:\n  A -> A: N;\n";
+    let itself =
+        "Protocol: P;\nTypes:\n  Agent A, B;\n  Number N;\nKnowledge:\n  A: N;\nActions:\n  A -> A: N;\n";
     let unknown = "Protocol: P;\nTypes:\n  Agent A, B;\n  Number N;\nActions:\n  A -> B: N;\n";
     for text in [twice, reserved, itself, unknown] {
         assert_eq!(rt; read(rt.alloc(), text)?.as_slice(), b"none".as_slice());

@@ -1,5 +1,5 @@
-use Rattle.std.proofs.Common.{◌≡◌, Some, take, drop, ap, sym, ◌∙◌, refl}
-use Rattle.anb_read.specs.Reading.{name_at, word_len}
+use Rattle.std.proofs.Common.{refl}
+use Rattle.anb_read.specs.Reading.{name_at}
 use Rattle.anb_read.proofs.Words.{IsUtf8-word}
 use Rattle.anb_read.proofs.draft.TextPiece.read.Goals as goal
 
