@@ -1,0 +1,5 @@
+pub mod Laws
+pub mod Loop
+pub mod Narrated
+pub mod Plainness
+pub mod Words
