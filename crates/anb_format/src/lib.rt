@@ -5,6 +5,7 @@
 //! reading accepts one form alone: lengths are minimal, digits are lower-case, nothing is left over.
 #![tactic(auto)]
 
+mod fields;
 mod formats;
 mod laws;
 mod literals;
