@@ -32,6 +32,12 @@ pub record IsParts (pieces : List Piece) (bytes : List ℕ) (arguments : List (L
   pub strings : AllByRecursion IsBytes arguments
   pub built : format_bytes pieces arguments ≡ bytes
 
+-- what follows these arguments in the whole list builds these bytes
+pub record HasParts (pieces : List Piece) (bytes : List ℕ) (arguments whole : List (List ℕ)) : Type 0 where
+  pub others : List (List ℕ)
+  pub parts : IsParts pieces bytes others
+  pub joined : whole ≡ arguments ++ others
+
 -- the literals before the first field
 abbrev pub head : List Piece → List ℕ
 head [] = []
