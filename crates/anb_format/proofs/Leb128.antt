@@ -17,7 +17,7 @@ within_same (suc m) (suc k) n p q = elim (cases_lt n 128) [
   | inr large ↦
       let absent : nat_lt n 128 ≡ false = grind (arith, nat_tests) in
       rw absent (ap (λ (t : List ℕ). (128 + n % 128) ∷ t) (within_same m k (n / 128) (omega arith) (omega arith)))
-  ]
+]
 
 pub leb128_small : (n : ℕ) → n < 128 → leb128 n ≡ n ∷ []
 unfolding leb128_within
@@ -69,7 +69,7 @@ pub leb128_nonempty : (n : ℕ) (rest : List ℕ) → 0 < length (leb128 n ++ re
 leb128_nonempty n rest = elim (cases_lt n 128) [
   | inl small ↦ rw (leb128_small n small) (omega arith)
   | inr large ↦ rw (leb128_large n large) (omega arith)
-  ]
+]
 
 -- a first byte below 128 is the only one
 pub only_byte : (n first : ℕ) (rest bytes after : List ℕ) → bytes ≡ leb128 n ++ rest → bytes ≡ first ∷ after → first < 128 → (first ≡ n) × (after ≡ rest)
@@ -83,7 +83,7 @@ only_byte n first rest bytes after e f small = elim (cases_lt n 128) [
       let both : first ∷ after ≡ (128 + n % 128) ∷ (leb128 (n / 128) ++ rest) = sym f ∙ e ∙ ap (λ (t : List ℕ). t ++ rest) step in
       let same : first ≡ 128 + n % 128 = cc in
       absurd (omega arith)
-  ]
+]
 
 -- a first byte from 128 on is the first of several
 pub first_of : (n first : ℕ) (rest bytes after : List ℕ) → bytes ≡ leb128 n ++ rest → bytes ≡ first ∷ after → 128 ≤ first
@@ -98,7 +98,7 @@ first_of n first rest bytes after e f large = elim (cases_lt n 128) [
       let step = leb128_large n here in
       let both : first ∷ after ≡ (128 + n % 128) ∷ (leb128 (n / 128) ++ rest) = sym f ∙ e ∙ ap (λ (t : List ℕ). t ++ rest) step in
       (here, cc, cc)
-  ]
+]
 
 -- what is written is read
 again_below : (bound n : ℕ) (rest : List ℕ) → n < bound → leb128_at (leb128 n ++ rest) ≡ (n, rest)
@@ -109,7 +109,7 @@ again_below (suc bound) n rest below = elim (cases_lt n 128) [
       let absent : nat_lt (128 + n % 128) 128 ≡ false = grind (arith, nat_tests) in
       let value : 128 + n % 128 - 128 + 128 * (n / 128) ≡ n = omega arith in
       rw (leb128_large n large, absent, again_below bound (n / 128) rest (omega arith), value) refl
-  ]
+]
 
 pub leb128_again : (n : ℕ) (rest : List ℕ) → leb128_at (leb128 n ++ rest) ≡ (n, rest)
 leb128_again n rest = again_below (suc n) n rest (omega arith)

@@ -185,8 +185,8 @@ field_taken kind pieces bytes argument after arguments wanted h e = record {
   others = h.others;
   parts = record { count = h.parts.count; strings = h.parts.strings; built = sym e.1 };
   joined =
-    ap (λ (t : List (List ℕ)). arguments ++ t) (h.whole ∙ ap (λ (b : List ℕ). b ∷ h.others) (sym e.0))
-    ∙ sym (append_assoc arguments (argument ∷ []) h.others);
+      ap (λ (t : List (List ℕ)). arguments ++ t) (h.whole ∙ ap (λ (b : List ℕ). b ∷ h.others) (sym e.0))
+      ∙ sym (append_assoc arguments (argument ∷ []) h.others);
 }
 
 -- where no byte strings build the bytes, the computation gives none

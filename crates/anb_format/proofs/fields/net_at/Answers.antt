@@ -32,7 +32,8 @@ returns c = record {
       let small : length b < 2 ^ 64 = omega (arith, short_in_net b rest c.args.bytes.now e) in
       let parts = c.in_ok-digits.ensures.again _ _ (no_colon (length b)) (e ∙ net_regrouped b rest) in
       let found = c.in_ok-n.ensures.again (length b) small parts.0 in
-      let n : c.in_ok-n.n ≡ length b = cc found in
-      (rw parts.1 (take_at b (44 ∷ rest) c.in_ok-n.n (sym n)),
-        take_rest c.in_ok-digits.after.now (c.in_ok-n.n + 1) ∙ rw (n, parts.1) (after_one b rest 44));
+      let n : c.in_ok-n.n ≡ length b = cc found in (
+        rw parts.1 (take_at b (44 ∷ rest) c.in_ok-n.n (sym n)),
+        take_rest c.in_ok-digits.after.now (c.in_ok-n.n + 1) ∙ rw (n, parts.1) (after_one b rest 44),
+      );
 }

@@ -14,9 +14,10 @@ pub returns : goal.returns
 returns c = record {
   again = λ front rest all e.
       let there = first_place c.args.separator front rest c.args.bytes.now all e in
-      let at : c.in_ok-at.at ≡ length front = let found = c.in_ok-at.ensures in cc (found, there) in
-      (rw e (take_at front (c.args.separator ∷ rest) c.in_ok-at.at (sym at)),
+      let at : c.in_ok-at.at ≡ length front = let found = c.in_ok-at.ensures in cc (found, there) in (
+        rw e (take_at front (c.args.separator ∷ rest) c.in_ok-at.at (sym at)),
         take_rest c.args.bytes.now (c.in_ok-at.at + 1)
-          ∙ rw e (ap (λ (t : List ℕ). drop (c.in_ok-at.at + 1) t) (sym (append_assoc front (c.args.separator ∷ []) rest))
-            ∙ drop_at (front ++ c.args.separator ∷ []) rest (c.in_ok-at.at + 1) (omega (arith, at, length-append front (c.args.separator ∷ [])))));
+            ∙ rw e (ap (λ (t : List ℕ). drop (c.in_ok-at.at + 1) t) (sym (append_assoc front (c.args.separator ∷ []) rest))
+            ∙ drop_at (front ++ c.args.separator ∷ []) rest (c.in_ok-at.at + 1) (omega (arith, at, length-append front (c.args.separator ∷ [])))),
+      );
 }
