@@ -1,4 +1,4 @@
-ghost use Rattle.std.specs.Prelude.{◌≡◌, ◌<◌, ◌≤◌, All, IfOk, length};
+ghost use Rattle.std.specs.Prelude.{◌≡◌, IfOk, length, vec_len};
 ghost use Rattle.anb_format.specs.Formats.{field_count};
 
 use super::*;
@@ -51,30 +51,56 @@ fn checked(rt: &impl Abort, alloc: Global, pieces: Vec<Piece>) -> Format
     Format::new(Text::new(String::new(alloc)), pieces)
 }
 
-/// That the one argument builds these bytes, and that they have it as their part.
+fn table(alloc: Global, arguments: &[&[u8]]) -> Result<Vec<Bytes>, Fail>
+    ensures { IfOk result (λ table. vec_len table ≡ length arguments.now) }
+{
+    let mut table = Vec::new(alloc);
+    for argument in arguments {
+        table.push(bytes(alloc, argument)?)?;
+    }
+    Ok(table)
+}
+
+/// That the arguments build these bytes, and that these have them as their parts.
 fn goes_both_ways(
     rt: &impl Abort,
     alloc: Global,
+    format: &Format,
+    arguments: &[&[u8]],
+    want: &[u8],
+) -> Result<(), Fail>
+    requires { field_count format.now.pieces ≡ length arguments.now }
+{
+    assert!(rt; arguments.len() < 100);
+    let table = table(alloc, arguments)?;
+    let places = every_place(alloc, &table)?;
+    let built = format.build(alloc, table.as_slice(), places.as_slice())?;
+    assert_eq!(rt; built.as_slice(), want);
+    let Some(parts) = format.parts(alloc, want)? else {
+        panic!(rt; "no parts");
+    };
+    assert_eq!(rt; parts.len(), arguments.len());
+    for (part, argument) in parts.iter().zip(arguments) {
+        assert_eq!(rt; part.as_slice(), *argument);
+    }
+    Ok(())
+}
+
+/// The same of a format of one field, where these bytes stand before and after the argument.
+fn one_goes_both_ways(
+    rt: &impl Abort,
+    alloc: Global,
     kind: FieldKind,
-    argument: &[u8],
     front: &[u8],
+    argument: &[u8],
     back: &[u8],
 ) -> Result<(), Fail> {
     let format = one_field(rt, alloc, kind)?;
-    let mut table = Vec::new(alloc);
-    table.push(bytes(alloc, argument)?)?;
-    let built = format.build(alloc, table.as_slice(), &[0])?;
     let mut want = Vec::from_slice(alloc, b"M")?;
     want.extend_from_slice(front)?;
     want.extend_from_slice(argument)?;
     want.extend_from_slice(back)?;
-    assert_eq!(rt; built.as_slice(), want.as_slice());
-    let Some(parts) = format.parts(alloc, built.as_slice())? else {
-        panic!(rt; "no parts");
-    };
-    assert_eq!(rt; parts.len(), 1);
-    assert_eq!(rt; parts[0].as_slice(), argument);
-    Ok(())
+    goes_both_ways(rt, alloc, &format, &[argument], want.as_slice())
 }
 
 fn has_no_parts(rt: &impl Abort, alloc: Global, kind: FieldKind, bytes: &[u8]) -> Result<(), Fail> {
@@ -85,25 +111,11 @@ fn has_no_parts(rt: &impl Abort, alloc: Global, kind: FieldKind, bytes: &[u8]) -
 
 #[test]
 fn a_field_of_each_kind(rt: HostRuntime) -> Result<(), Fail> {
-    let alloc = rt.alloc();
-    let format = all_kinds(&rt, alloc)?;
+    let format = all_kinds(&rt, rt.alloc())?;
     assert_eq!(rt; format.arity(), 4);
-    let mut table = Vec::new(alloc);
-    table.push(bytes(alloc, b"a")?)?;
-    table.push(bytes(alloc, b"")?)?;
-    table.push(bytes(alloc, &[0xff])?)?;
-    table.push(bytes(alloc, b"z")?)?;
-    let built = format.build(alloc, table.as_slice(), &[0, 1, 2, 3])?;
-    assert_eq!(rt; built.as_slice(), b"M\x01a0:,ff;z".as_slice());
-    let Some(parts) = format.parts(alloc, built.as_slice())? else {
-        panic!(rt; "no parts");
-    };
-    assert_eq!(rt; parts.len(), 4);
-    assert_eq!(rt; parts[0].as_slice(), b"a".as_slice());
-    assert_eq!(rt; parts[1].as_slice(), b"".as_slice());
-    assert_eq!(rt; parts[2].as_slice(), [0xff].as_slice());
-    assert_eq!(rt; parts[3].as_slice(), b"z".as_slice());
-    let upper = format.parts(alloc, b"M\x01a0:,Ff;z")?;
+    let arguments: [&[u8]; 4] = [b"a", b"", &[0xff], b"z"];
+    goes_both_ways(&rt, rt.alloc(), &format, &arguments, b"M\x01a0:,ff;z")?;
+    let upper = format.parts(rt.alloc(), b"M\x01a0:,Ff;z")?;
     assert!(rt; upper.is_none());
     Ok(())
 }
@@ -119,12 +131,12 @@ fn lengths_in_leb128(rt: HostRuntime) -> Result<(), Fail> {
     ];
     for (length, front) in lengths {
         let argument = vec![in rt.alloc(); 0xa5u8; length]?;
-        goes_both_ways(
+        one_goes_both_ways(
             &rt,
             rt.alloc(),
             FieldKind::Len,
-            argument.as_slice(),
             front,
+            argument.as_slice(),
             b"",
         )?;
     }
@@ -142,12 +154,12 @@ fn lengths_in_decimal(rt: HostRuntime) -> Result<(), Fail> {
     ];
     for (length, front) in lengths {
         let argument = vec![in rt.alloc(); b':'; length]?;
-        goes_both_ways(
+        one_goes_both_ways(
             &rt,
             rt.alloc(),
             FieldKind::Net,
-            argument.as_slice(),
             front,
+            argument.as_slice(),
             b",",
         )?;
     }
