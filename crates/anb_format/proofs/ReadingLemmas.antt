@@ -1,8 +1,8 @@
 -- What pieces build is read as its arguments.
-use Rattle.std.proofs.Common.{◌≡◌, ◌≢◌, ◌<◌, ◌≤◌, ◌+◌, ◌-◌, ◌&&◌, ℕ, zero, suc, List, [], ◌∷◌, ◌++◌, length, take, drop, get_or, Bor, MatchOption, IsSomeAnd, Option, Some, true, false, Bool, nat_lt, refl, ap, sym, ◌∙◌, arith, rules, append_assoc, append-nil, length-append, None, if◌then◌else◌, inl, inr}
+use Rattle.std.proofs.Common.{◌≡◌, ◌<◌, ◌≤◌, ◌+◌, ◌-◌, ◌&&◌, ℕ, zero, suc, List, [], ◌∷◌, ◌++◌, length, take, drop, get_or, Bor, MatchOption, IsSomeAnd, Option, Some, true, false, Bool, nat_lt, refl, ap, sym, ◌∙◌, arith, append_assoc, append-nil, length-append, None, if◌then◌else◌}
 use Rattle.std.proofs.lemmas.List.{append_cancel_left, drop_all, drop_at, drop_more, take_all, take_at}
 use Rattle.std.specs.Str.{bytes_eq}
-use Rattle.std.proofs.lemmas.Bool.{and_parts, and_from}
+use Rattle.std.proofs.lemmas.Bool.{and_parts}
 use Rattle.std.proofs.lemmas.Bool.Decides.{nat_tests}
 use Rattle.std.proofs.lemmas.Slice.Eq.{bytes_eq-Decides}
 use Rattle.std.specs.List.{AllByRecursion, list_all}
@@ -12,7 +12,7 @@ use Rattle.anb_format.specs.declared.pieces.FieldKind.TheVariants.{Len, Net, Hex
 use Rattle.anb_format.specs.declared.pieces.Piece.{Piece}
 use Rattle.anb_format.specs.declared.pieces.Piece.TheVariants.{Lit, Field}
 use Rattle.anb_format.specs.Fields.{decimal_digits, field_bytes, leb128}
-use Rattle.anb_format.specs.Formats.{HasParts, IsParts, IsSound, IsEarlyRest, field_count, format_bytes}
+use Rattle.anb_format.specs.Formats.{HasParts, IsParts, IsEarlyRest, field_count, format_bytes}
 use Rattle.anb_format.specs.Reading.{arguments_at, decimal_at, field_at, leb128_at, parts_of}
 use Rattle.anb_format.proofs.Leb128.{leb128_again}
 use Rattle.anb_format.proofs.Decimals.{decimal_again}

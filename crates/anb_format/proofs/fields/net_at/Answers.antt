@@ -1,6 +1,5 @@
-use Rattle.std.proofs.Common.{◌≡◌, ◌<◌, ◌^◌, ◌++◌, ◌∷◌, ◌+◌, ℕ, List, ap, drop, arith, length, length-append, sym, ◌∙◌}
-use Rattle.std.proofs.lemmas.List.{drop_at, take_at, take_rest}
-use Rattle.anb_format.specs.Fields.{decimal_digits}
+use Rattle.std.proofs.Common.{◌≡◌, ◌<◌, ◌^◌, ◌∷◌, ◌+◌, ap, arith, length, length-append, sym, ◌∙◌}
+use Rattle.std.proofs.lemmas.List.{take_at, take_rest}
 use Rattle.anb_format.proofs.Decimals.{no_colon}
 use Rattle.anb_format.proofs.ReadingLemmas.{after_one, net_regrouped, short_in_net}
 use Rattle.anb_format.proofs.fields.net_at.Goals as goal

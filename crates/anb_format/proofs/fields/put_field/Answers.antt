@@ -1,4 +1,4 @@
-use Rattle.std.proofs.Common.{◌∙◌, sym, append_assoc, ◌<◌, ◌^◌, length, arith}
+use Rattle.std.proofs.Common.{append_assoc, ◌<◌, ◌^◌, length, arith}
 use Rattle.anb_format.proofs.Decimals.{as_std}
 use Rattle.anb_format.proofs.fields.put_field.Goals as goal
 

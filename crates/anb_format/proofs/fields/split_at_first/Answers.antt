@@ -1,4 +1,4 @@
-use Rattle.std.proofs.Common.{◌≡◌, ◌∷◌, ◌++◌, ◌+◌, [], ℕ, List, Some, drop, length, ap, arith, sym, ◌∙◌, append_assoc, length-append}
+use Rattle.std.proofs.Common.{◌≡◌, ◌∷◌, ◌++◌, ◌+◌, [], ℕ, List, drop, length, ap, arith, sym, ◌∙◌, append_assoc, length-append}
 use Rattle.std.proofs.lemmas.List.{drop_at, take_at, take_rest}
 use Rattle.anb_format.proofs.Splitting.{first_place}
 use Rattle.anb_format.proofs.fields.split_at_first.Goals as goal

@@ -1,5 +1,5 @@
-use Rattle.std.proofs.Common.{◌≡◌, ◌∷◌, ◌∙◌, ◌+◌, ◌<◌, ℕ, List, drop, length, arith}
-use Rattle.anb_format.specs.Formats.{HasParts, IsParts, field_count}
+use Rattle.std.proofs.Common.{◌∷◌, ◌∙◌, ◌+◌, drop, arith}
+use Rattle.anb_format.specs.Formats.{HasParts}
 use Rattle.anb_format.proofs.ReadingLemmas.{RestIsLast, field_count-cons, next_piece, nothing_after, rest_last}
 use Rattle.anb_format.proofs.formats.arguments_at.Goals as goal
 

@@ -1,7 +1,5 @@
-use Rattle.std.proofs.Common.{◌≡◌, ◌∙◌, ℕ, List, ap, arith, length, rules, sym}
-use Rattle.anb_format.specs.declared.pieces.Piece.{Piece}
-use Rattle.anb_format.specs.Formats.{IsParts, IsSound, field_count}
-use Rattle.anb_format.specs.Reading.{parts_of}
+use Rattle.std.proofs.Common.{ℕ, List, arith, rules, sym}
+use Rattle.anb_format.specs.Formats.{IsParts, IsSound}
 use Rattle.anb_format.proofs.ReadingLemmas.{field_count_le, parts_of-built, parts_of-none}
 use Rattle.anb_format.proofs.formats.Format.parts.Goals as goal
 
