@@ -1,18 +1,18 @@
 -- What pieces build is read as its arguments.
 use Rattle.std.proofs.Common.{◌≡◌, ◌<◌, ◌≤◌, ◌+◌, ◌-◌, ◌&&◌, ℕ, zero, suc, List, [], ◌∷◌, ◌++◌, length, take, drop, get_or, Bor, MatchOption, IsSomeAnd, Option, Some, true, false, Bool, nat_lt, refl, ap, sym, ◌∙◌, arith, append_assoc, append-nil, length-append, None, if◌then◌else◌}
-use Rattle.std.proofs.lemmas.List.{append_cancel_left, drop_all, drop_at, drop_more, take_all, take_at}
+use Rattle.std.proofs.lemmas.List.{append_cancel_left, drop_all, drop_at, drop_more, take_all, take_at, take_more}
 use Rattle.std.specs.Str.{bytes_eq}
 use Rattle.std.proofs.lemmas.Bool.{and_parts}
 use Rattle.std.proofs.lemmas.Bool.Decides.{nat_tests}
 use Rattle.std.proofs.lemmas.Slice.Eq.{bytes_eq-Decides}
 use Rattle.std.specs.List.{AllByRecursion, list_all}
-use Rattle.anb_base.specs.Bytes.{IsBytes, is_bytes}
+use Rattle.anb_base.specs.Bytes.{IsBytes, IsBytes-pass, is_bytes, is_bytes-IsBytes}
 use Rattle.anb_format.specs.declared.pieces.FieldKind.{FieldKind}
 use Rattle.anb_format.specs.declared.pieces.FieldKind.TheVariants.{Len, Net, Hex, Rest}
 use Rattle.anb_format.specs.declared.pieces.Piece.{Piece}
 use Rattle.anb_format.specs.declared.pieces.Piece.TheVariants.{Lit, Field}
 use Rattle.anb_format.specs.Fields.{decimal_digits, field_bytes, leb128}
-use Rattle.anb_format.specs.Formats.{HasParts, IsParts, IsEarlyRest, field_count, format_bytes}
+use Rattle.anb_format.specs.Formats.{HasParts, IsBytesPiece, IsParts, IsEarlyRest, field_count, format_bytes}
 use Rattle.anb_format.specs.Reading.{arguments_at, decimal_at, field_at, leb128_at, parts_of}
 use Rattle.anb_format.proofs.Leb128.{leb128_again}
 use Rattle.anb_format.proofs.Decimals.{decimal_again}
@@ -75,23 +75,13 @@ length-arguments_at [] bytes = refl
 length-arguments_at (Lit text ∷ pieces) bytes = length-arguments_at pieces (drop (length text) bytes)
 length-arguments_at (Field kind ∷ pieces) bytes = omega (arith, length-arguments_at pieces (field_at kind bytes).1)
 
--- the test of bytes
-pub bytes_pass : (xs : List ℕ) → IsBytes xs → is_bytes xs ≡ true
-bytes_pass [] small = refl
-bytes_pass (x ∷ xs) small = let here = small 0 in let first : nat_lt x 256 ≡ true = grind (arith, nat_tests) in rw (first, bytes_pass xs (λ i. small (suc i))) refl
-
-pub passed_bytes : (xs : List ℕ) → is_bytes xs ≡ true → IsBytes xs
-passed_bytes [] passed i = omega arith
-passed_bytes (x ∷ xs) passed zero = let first = (and_parts (nat_lt x 256) (is_bytes xs) passed).0 in grind (arith, nat_tests)
-passed_bytes (x ∷ xs) passed (suc i) = passed_bytes xs (and_parts (nat_lt x 256) (is_bytes xs) passed).1 i
-
 all_pass : (bs : List (List ℕ)) → AllByRecursion IsBytes bs → list_all is_bytes bs ≡ true
 all_pass [] strings = refl
-all_pass (b ∷ bs) strings = rw (bytes_pass b strings.0, all_pass bs strings.1) refl
+all_pass (b ∷ bs) strings = rw (is_bytes-IsBytes b strings.0, all_pass bs strings.1) refl
 
 passed_all : (bs : List (List ℕ)) → list_all is_bytes bs ≡ true → AllByRecursion IsBytes bs
 passed_all [] passed = tt
-passed_all (b ∷ bs) passed = let parts = and_parts (is_bytes b) (list_all is_bytes bs) passed in (passed_bytes b parts.0, passed_all bs parts.1)
+passed_all (b ∷ bs) passed = let parts = and_parts (is_bytes b) (list_all is_bytes bs) passed in (IsBytes-pass b parts.0, passed_all bs parts.1)
 
 chosen : (test : Bool) (x y : List (List ℕ)) → (if test then Some x else None) ≡ Some y → (test ≡ true) × (x ≡ y)
 chosen true x y e = (refl, cc)
@@ -131,6 +121,10 @@ short_in_len b rest bytes e = omega (arith, ap length e, length-append (field_by
 pub all_of_it : (bytes b rest : List ℕ) → bytes ≡ b ++ rest → rest ≡ [] → (bytes ≡ b) × (take (length bytes - length bytes) (drop (length bytes) bytes) ≡ rest)
 all_of_it bytes b rest e last =
     (e ∙ ap (λ (t : List ℕ). b ++ t) last ∙ append-nil b, rw (drop_all (length bytes) bytes (omega arith), last) (take_all (length bytes - length bytes) [] (omega arith)))
+
+with_last : (pieces : List Piece) (piece : Piece) → AllByRecursion IsBytesPiece pieces → IsBytesPiece piece → AllByRecursion IsBytesPiece (pieces ++ piece ∷ [])
+with_last [] piece all one = (one, tt)
+with_last (p ∷ pieces) piece all one = (all.0, with_last pieces piece all.1 one)
 
 -- the piece at i stands at the front of those from i on
 pub next_piece : (pieces : List Piece) (i : ℕ) (piece : Piece) → i < length pieces → piece ≡ get_or pieces i piece → drop i pieces ≡ piece ∷ drop (i + 1) pieces
@@ -207,3 +201,10 @@ stripped text bytes pieces arguments wanted None cases h =
 stripped text bytes pieces arguments wanted (Some after) cases h =
     let rest : after.now ≡ format_bytes pieces wanted = cases.1 ∙ rw (sym h.built) (drop_at text (format_bytes pieces wanted) (length text) refl) in
     literal_taken text bytes after.now pieces arguments wanted h (sym h.built ∙ ap (λ (t : List ℕ). text ++ t) (sym rest))
+
+-- what holds of the pieces before i and of the one there holds of one more
+pub one_piece_more : (pieces : List Piece) (i : ℕ) (piece : Piece) → i < length pieces → piece ≡ get_or pieces i piece → IsBytesPiece piece → AllByRecursion IsBytesPiece (take i pieces)
+    → AllByRecursion IsBytesPiece (take (i + 1) pieces)
+one_piece_more pieces i piece within at one before =
+    let same : take (i + 1) pieces ≡ take i pieces ++ piece ∷ [] = take_more pieces i piece within ∙ ap (λ (p : Piece). take i pieces ++ p ∷ []) (sym at) in
+    rw same (with_last (take i pieces) piece before one)

@@ -171,9 +171,14 @@ fn string(bytes: Vec<u8>) -> Bytes
     ensures value { result ≡ bytes.items }
     ensures strings { IsBytes result }
 {
-    let _ = bytes.as_slice();
+    tell_bytes(bytes.as_slice());
     Bytes::new(bytes)
 }
+
+/// Does nothing. Contracts then know that these are bytes.
+pub(crate) fn tell_bytes(_bytes: &[u8])
+    ensures { IsBytes _bytes.now }
+{}
 
 /// What stands before the first such byte, and what follows it.
 fn split_at_first(bytes: &[u8], separator: u8) -> Option<(&[u8], &[u8])>

@@ -2,11 +2,11 @@ ghost use Rattle.std.specs.Prelude.{◌≡◌, ◌≢◌, ◌↔◌, ◌≤◌, 
 ghost use Rattle.std.specs.Option.{option_map};
 ghost use Rattle.std.specs.List.{AllByRecursion};
 ghost use Rattle.anb_base.specs.Bytes.{IsBytes};
-ghost use Rattle.anb_format.specs.Formats.{AreApart, HasParts, IsEarlyRest, IsFirstEarlyRest, IsParts, IsSound, field_count, format_bytes, head};
+ghost use Rattle.anb_format.specs.Formats.{AreApart, HasParts, IsBytesPiece, IsEarlyRest, IsFirstEarlyRest, IsParts, IsSound, field_count, format_bytes, head};
 ghost use Rattle.anb_format.specs.Reading.{parts_of};
 ghost use Rattle.anb_format.specs.declared.pieces.Piece.{Piece};
 
-use crate::fields::{field_at, put_field};
+use crate::fields::{field_at, put_field, tell_bytes};
 use crate::heads::Head;
 use crate::{FieldKind, FormatNo, Piece};
 use anb_base::{Bytes, NoMemory, Text};
@@ -42,6 +42,7 @@ impl Format {
         if Head::new(pieces).next().is_none() {
             return Err(FormatNo::NoHead);
         }
+        tell_literals(pieces);
         match early_rest(pieces) {
             Some(i) => Err(FormatNo::RestNotLast(i)),
             None => Ok(()),
@@ -133,6 +134,23 @@ pub fn apart(f: &Format, g: &Format) -> bool
         }
     }
     false
+}
+
+/// Does nothing. Contracts then know that each literal is a string of bytes.
+fn tell_literals(pieces: &[Piece])
+    ensures { AllByRecursion IsBytesPiece pieces.now }
+{
+    for piece in pieces {
+        tell_literal(piece);
+    }
+}
+
+fn tell_literal(piece: &Piece)
+    ensures { IsBytesPiece piece.now }
+{
+    if let Piece::Lit(text) = piece {
+        tell_bytes(text.as_slice());
+    }
 }
 
 /// The place of the first `rest` that a piece follows.
