@@ -89,6 +89,7 @@ fn copied<'a>(
     Ok(Some((string(Vec::from_slice(alloc, argument)?), rest)))
 }
 
+/// The argument after its length in LEB128, and what follows it.
 fn len_at(bytes: &[u8]) -> Option<(&[u8], &[u8])>
     ensures again { (b rest : List ℕ) → bytes.now ≡ len_bytes b ++ rest → IsSomeAnd result (λ x. (x.0.now ≡ b) × (x.1.now ≡ rest)) }
 {
@@ -118,6 +119,7 @@ fn leb128_at(bytes: &[u8], more: u8) -> Option<(u64, &[u8])>
     Some((high * 128 + u64::from(*first - 128), rest))
 }
 
+/// The argument of a netstring, and what follows the netstring.
 fn net_at(bytes: &[u8]) -> Option<(&[u8], &[u8])>
     ensures again { (b rest : List ℕ) → bytes.now ≡ net_bytes b ++ rest → IsSomeAnd result (λ x. (x.0.now ≡ b) × (x.1.now ≡ rest)) }
 {
@@ -139,6 +141,7 @@ fn number(digits: &[u8]) -> Option<usize>
     }
 }
 
+/// The argument in hexadecimal before the first `;`, and what follows that.
 fn hex_at(alloc: Global, bytes: &[u8]) -> Result<Option<(Bytes, &[u8])>, NoMemory>
     ensures strings { IfOk result (λ r. IfSome r (λ x. IsBytes x.0)) }
     ensures again { IfOk result (λ r. (b rest : List ℕ) → IsBytes b → bytes.now ≡ hex_bytes b ++ rest → IsSomeAnd r (λ x. (x.0 ≡ b) × (x.1.now ≡ rest))) }

@@ -27,6 +27,7 @@ impl<'a> Head<'a> {
         Head { text: &[], pieces }
     }
 
+    /// Takes the next byte.
     pub(crate) fn next(&mut self) -> Option<u8>
         ensures { MatchOption result (self.old ≡ []) (λ byte. self.old ≡ byte ∷ self.new) }
     {
