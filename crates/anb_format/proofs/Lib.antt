@@ -1,3 +1,11 @@
+pub mod ApartLemmas
+pub mod BuiltLemmas
 pub mod Canonical
 pub mod Characters
+pub mod Decimals
+pub mod Facts
+pub mod Hexadecimals
+pub mod Leb128
 pub mod LiteralLemmas
+pub mod ReadingLemmas
+pub mod Splitting

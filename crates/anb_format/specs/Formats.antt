@@ -1,10 +1,9 @@
 -- Formats: which lists of pieces are sound, what they build, and when two are apart.
-use Rattle.std.specs.Prelude.{◌≡◌, ◌≢◌, ℕ, ◌+◌, ◌<◌, ◌^◌, ◌↔◌, List, [], ◌∷◌, ◌++◌, length, slice_get, Option, Some, None}
-use Rattle.std.specs.List.{AllByRecursion}
-use Rattle.anb_base.specs.Bytes.{IsBytes}
+use Rattle.std.specs.Prelude.{◌≡◌, ◌≢◌, ℕ, ◌+◌, ◌<◌, List, [], ◌∷◌, ◌++◌, length, slice_get, Some, Bool, true, false, nat_lt, ◌&&◌}
+use Rattle.std.specs.List.{AllByRecursion, list_all}
+use Rattle.anb_base.specs.Bytes.{IsBytes, is_bytes}
 use Rattle.anb_format.specs.Fields.{field_bytes}
-use Rattle.anb_format.specs.declared.pieces.FieldKind.{FieldKind}
-use Rattle.anb_format.specs.declared.pieces.FieldKind.TheVariants.{Rest}
+use Rattle.anb_format.specs.declared.pieces.FieldKind.TheVariants.{Len, Net, Hex, Rest}
 use Rattle.anb_format.specs.declared.pieces.Piece.{Piece}
 use Rattle.anb_format.specs.declared.pieces.Piece.TheVariants.{Lit, Field}
 
@@ -32,6 +31,12 @@ pub record IsParts (pieces : List Piece) (bytes : List ℕ) (arguments : List (L
   pub strings : AllByRecursion IsBytes arguments
   pub built : format_bytes pieces arguments ≡ bytes
 
+-- what follows these arguments in the whole list builds these bytes
+pub record HasParts (pieces : List Piece) (bytes : List ℕ) (arguments whole : List (List ℕ)) : Type 0 where
+  pub others : List (List ℕ)
+  pub parts : IsParts pieces bytes others
+  pub joined : whole ≡ arguments ++ others
+
 -- the literals before the first field
 abbrev pub head : List Piece → List ℕ
 head [] = []
@@ -56,7 +61,31 @@ pub record IsFirstEarlyRest (pieces : List Piece) (i : ℕ) : Type 0 where
   pub here : IsEarlyRest pieces i
   pub none_before : (k : ℕ) → k < i → IsEarlyRest pieces k → ⊥
 
+-- a literal is a string of bytes, as what every `Bytes` holds is
+abbrev pub IsBytesPiece : Piece → Type 0
+IsBytesPiece (Lit text) = IsBytes text
+IsBytesPiece (Field kind) = Unit {0}
+
 -- the head isn't empty, and nothing follows a `rest`
 pub record IsSound (pieces : List Piece) : Type 0 where
   pub head_stands : head pieces ≢ []
   pub rest_is_last : (i : ℕ) → IsEarlyRest pieces i → ⊥
+  pub literals : AllByRecursion IsBytesPiece pieces
+
+-- whether nothing follows a `rest`
+abbrev pub ends_at_rest : List Piece → Bool
+ends_at_rest [] = true
+ends_at_rest (Lit text ∷ pieces) = ends_at_rest pieces
+ends_at_rest (Field kind ∷ []) = true
+ends_at_rest (Field Rest ∷ piece ∷ pieces) = false
+ends_at_rest (Field Len ∷ piece ∷ pieces) = ends_at_rest (piece ∷ pieces)
+ends_at_rest (Field Net ∷ piece ∷ pieces) = ends_at_rest (piece ∷ pieces)
+ends_at_rest (Field Hex ∷ piece ∷ pieces) = ends_at_rest (piece ∷ pieces)
+
+abbrev pub is_bytes_piece : Piece → Bool
+is_bytes_piece (Lit text) = is_bytes text
+is_bytes_piece (Field kind) = true
+
+-- `IsSound` as a test
+abbrev pub is_sound : List Piece → Bool
+is_sound pieces = nat_lt 0 (length (head pieces)) && ends_at_rest pieces && list_all is_bytes_piece pieces

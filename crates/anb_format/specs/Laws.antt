@@ -1,5 +1,6 @@
 -- What holds of formats and literals whatever they are.
 use Rattle.std.specs.Prelude.{◌≡◌, ◌≢◌, ◌↔◌, ℕ, List, Some}
+use Rattle.std.specs.List.{AllByRecursion}
 use Rattle.anb_base.specs.Bytes.{IsBytes}
 use Rattle.anb_format.specs.Formats.{AreApart, IsParts, IsSound, format_bytes}
 use Rattle.anb_format.specs.Literals.{IsLiteral, IsLiteralAt, canonical_literal}
@@ -15,6 +16,10 @@ PartsAreUnique = (pieces : List Piece) → IsSound pieces → (bytes : List ℕ)
 abbrev pub PartsAreExact : Type 0
 PartsAreExact = (pieces : List Piece) → IsSound pieces → (bytes : List ℕ) (arguments : List (List ℕ))
     → (parts_of pieces bytes ≡ Some arguments) ↔ IsParts pieces bytes arguments
+
+-- what is built of byte strings is a byte string
+abbrev pub BuiltIsBytes : Type 0
+BuiltIsBytes = (pieces : List Piece) → IsSound pieces → (arguments : List (List ℕ)) → AllByRecursion IsBytes arguments → IsBytes (format_bytes pieces arguments)
 
 -- formats that are apart build no bytes in common
 abbrev pub ApartSharesNothing : Type 0

@@ -1,4 +1,4 @@
-ghost use Rattle.anb_format.specs.Laws.{ApartSharesNothing, CanonicalIsLiteral, LiteralsAreUnique, PartsAreExact, PartsAreUnique};
+ghost use Rattle.anb_format.specs.Laws.{ApartSharesNothing, BuiltIsBytes, CanonicalIsLiteral, LiteralsAreUnique, PartsAreExact, PartsAreUnique};
 
 /// A law: some bytes are built from one list of arguments at most.
 pub fn parts_are_unique()
@@ -9,6 +9,11 @@ pub fn parts_are_unique()
 /// exactly where there are any.
 pub fn parts_are_exact()
     ensures { PartsAreExact }
+{}
+
+/// A law: what a format builds of byte strings is a byte string.
+pub fn built_is_bytes()
+    ensures { BuiltIsBytes }
 {}
 
 /// A law: formats that are apart build no bytes in common.

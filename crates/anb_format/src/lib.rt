@@ -5,15 +5,17 @@
 //! reading accepts one form alone: lengths are minimal, digits are lower-case, nothing is left over.
 #![tactic(auto)]
 
+mod fields;
 mod formats;
+mod heads;
 mod laws;
 mod literals;
 mod pieces;
 
 pub use formats::{Format, apart};
 pub use laws::{
-    apart_shares_nothing, canonical_is_literal, literals_are_unique, parts_are_exact,
-    parts_are_unique,
+    apart_shares_nothing, built_is_bytes, canonical_is_literal, literals_are_unique,
+    parts_are_exact, parts_are_unique,
 };
 pub use literals::{Literal, literal_text, read_literal};
 pub use pieces::{FieldKind, FormatNo, Piece};
