@@ -1,16 +1,15 @@
-ghost use Rattle.std.specs.Prelude.{◌<◌};
-
 use super::*;
-use anb_base::{ARRIVAL, Bytes, MemWire, NoMemory};
+use anb_base::{Bytes, MemWire, NoMemory};
 use std::alloc::Global;
 use std::test::Fail;
 
-/// A wire with this input, which moves so many bytes in a call and fails at one call.
-fn wire(alloc: Global, input: &[u8], piece: u32, fails: u32) -> Result<MemWire, NoMemory>
-    requires { 0 < piece }
-{
+type Answer = Result<Taken, FrameNo>;
+
+/// A wire with this input, which moves so many bytes in a call, one at least, and fails at one
+/// call.
+fn wire(alloc: Global, input: &[u8], piece: u32, fails: u32) -> Result<MemWire, NoMemory> {
     let input = Bytes::new(Vec::from_slice(alloc, input)?);
-    MemWire::new(alloc, input, piece, 16, vec![in alloc; fails]?)
+    MemWire::new(alloc, input, piece.max(1), 16, vec![in alloc; fails]?)
 }
 
 /// A frame of so many zero bytes.
@@ -20,22 +19,25 @@ fn frame_of(alloc: Global, len: u32) -> Result<Vec<u8>, NoMemory> {
     Ok(frame)
 }
 
+/// What the first two calls answer.
+fn two_answers(alloc: Global, input: &[u8], piece: u32) -> Result<(Answer, Answer), NoMemory> {
+    let mut wire = wire(alloc, input, piece, 0)?;
+    let mut buf = vec![in alloc; 0u8; 262_144]?;
+    let first = take(&mut wire, &mut buf);
+    let second = take(&mut wire, &mut buf);
+    Ok((first, second))
+}
+
 #[test]
 fn lengths_up_to_the_buffer_are_taken(rt: HostRuntime) -> Result<(), Fail> {
     let alloc = rt.alloc();
-    let mut buf = vec![in alloc; 0u8; ARRIVAL as usize]?;
     for piece in [1, 1_000_000] {
         for len in [0, 65_537, 262_144] {
-            let mut wire = wire(alloc, &frame_of(alloc, len)?, piece, 0)?;
+            let answers = two_answers(alloc, &frame_of(alloc, len)?, piece)?;
             assert_eq!(rt;
-                take(&mut wire, &mut buf),
-                Ok(Taken::Frame(len)),
+                answers,
+                (Ok(Taken::Frame(len)), Ok(Taken::End)),
                 "{len} by {piece}"
-            );
-            assert_eq!(rt;
-                take(&mut wire, &mut buf),
-                Ok(Taken::End),
-                "after {len} by {piece}"
             );
         }
     }
@@ -45,10 +47,10 @@ fn lengths_up_to_the_buffer_are_taken(rt: HostRuntime) -> Result<(), Fail> {
 #[test]
 fn a_longer_frame_leaves_its_bytes(rt: HostRuntime) -> Result<(), Fail> {
     let alloc = rt.alloc();
-    let mut buf = vec![in alloc; 0u8; ARRIVAL as usize]?;
-    let mut rest = vec![in alloc; 0u8; 300_000]?;
     let mut wire = wire(alloc, &frame_of(alloc, 262_145)?, 1_000, 0)?;
+    let mut buf = vec![in alloc; 0u8; 262_144]?;
     assert_eq!(rt; take(&mut wire, &mut buf), Err(FrameNo::TooLarge(262_145)));
+    let mut rest = vec![in alloc; 0u8; 300_000]?;
     assert_eq!(rt; read_full(&mut wire, &mut rest), Ok(262_145));
     Ok(())
 }
@@ -56,25 +58,16 @@ fn a_longer_frame_leaves_its_bytes(rt: HostRuntime) -> Result<(), Fail> {
 #[test]
 fn an_input_ends_at_a_border_or_within_a_frame(rt: HostRuntime) -> Result<(), Fail> {
     let alloc = rt.alloc();
-    let mut buf = [0u8; 8];
     for piece in [1, 16] {
-        let mut short = wire(alloc, b"\0\0", piece, 0)?;
-        assert_eq!(rt;
-            take(&mut short, &mut buf),
-            Err(FrameNo::Truncated { have: 2, need: 4 })
-        );
+        let short = two_answers(alloc, b"\0\0", piece)?;
+        assert_eq!(rt; short.0, Err(FrameNo::Truncated { have: 2, need: 4 }));
 
-        let mut whole = wire(alloc, b"\0\0\0\x01a", piece, 0)?;
-        assert_eq!(rt; take(&mut whole, &mut buf), Ok(Taken::Frame(1)));
-        assert_eq!(rt; buf[0], b'a');
-        assert_eq!(rt; take(&mut whole, &mut buf), Ok(Taken::End));
+        let whole = two_answers(alloc, b"\0\0\0\x01a", piece)?;
+        assert_eq!(rt; whole, (Ok(Taken::Frame(1)), Ok(Taken::End)));
 
-        let mut within = wire(alloc, b"\0\0\0\x01a\0\0\0\x03b", piece, 0)?;
-        assert_eq!(rt; take(&mut within, &mut buf), Ok(Taken::Frame(1)));
-        assert_eq!(rt;
-            take(&mut within, &mut buf),
-            Err(FrameNo::Truncated { have: 5, need: 7 })
-        );
+        let within = two_answers(alloc, b"\0\0\0\x01a\0\0\0\x03b", piece)?;
+        assert_eq!(rt; within.0, Ok(Taken::Frame(1)));
+        assert_eq!(rt; within.1, Err(FrameNo::Truncated { have: 5, need: 7 }));
     }
     Ok(())
 }
