@@ -5,7 +5,7 @@ use Rattle.std.specs.List.{list_any, find}
 use Rattle.std.specs.Option.{option_map, is_some}
 use Rattle.std.specs.Str.{bytes_eq}
 use Rattle.std.proofs.lemmas.Bool.{cases_Bool}
-use Rattle.std.proofs.lemmas.List.{drop_more, map_push, map_more}
+use Rattle.std.proofs.lemmas.List.{drop_more, map_push, map_more, length-map, length-take, length-drop}
 use Rattle.std.proofs.lemmas.List.Elements.{All-head, All-tail}
 use Rattle.std.proofs.lemmas.Slice.Eq.{bytes_eq-Decides}
 use Rattle.anb_values.specs.declared.lines.Entry.{Entry}

@@ -10,8 +10,7 @@ use Rattle.anb_values.proofs.lines.entries.Goals.{In-Some}
 -- the line of this turn is the next one of the text
 turned : (c : In-Some) → (c.loop-line.number < length (lines_of c.args.text.now)) × (c.in-Some.line.now ≡ get_or (lines_of c.args.text.now) c.loop-line.number c.in-Some.line.now)
 turned c =
-    let lines = YieldsList-from_slice_split _ (λ b. b == 10) c.args.text.now c.split-line-items.ensures.rest c.split-line-items.ensures.done c.split-line-items.ensures.closure (λ x b q k. search (rules, tests, k) fits 20000) in
-    let turn = YieldsList-turn (YieldsList-at c.into_iter-line-iterator.ensures lines) c.loop-line.yielded _ c.loop-line.yielded_by _ _ c.in-Some.line c.in-Some.is c.next.ensures.steps in
+    let turn = YieldsList-turn (YieldsList-at c.into_iter-line-iterator.ensures.into_iter_gives (YieldsList-from_slice_split _ (λ b. b == 10) c.args.text.now c.split-line-items.ensures.rest c.split-line-items.ensures.done c.split-line-items.ensures.closure (λ x b q k. search (rules, tests)))) c.loop-line.yielded _ c.loop-line.yielded_by _ _ c.in-Some.line c.in-Some.is c.next.ensures.steps in
     (omega (arith, turn.0, c.loop-line.invariant.number), rw (sym c.loop-line.invariant.number) at turn.1)
 
 pub loop-line-preserved-in-PassedOver : goal.loop-line-preserved-in-PassedOver
@@ -30,12 +29,11 @@ loop-line-preserved c =
 
 pub returns-in-Faulty-clause-refused : goal.returns-in-Faulty-clause-refused
 returns-in-Faulty-clause-refused c =
-    let here = turned (goal.at.returns-in-Faulty c).In-Some in
+    let here = turned (goal.at.returns-in-Faulty-clause-refused c).In-Some in
     faulty_here (lines_of c.args.text.now) c.loop-line.number c.in-Some.line.now c.loop-line.entries.items here.0 here.1 c.loop-line.invariant.said (rw c.in-Faulty.is at c.in_ok-read_line.ensures)
 
 pub returns-clause-said : goal.returns-clause-said
 returns-clause-said c =
-    let lines = YieldsList-from_slice_split _ (λ b. b == 10) c.args.text.now c.split-line-items.ensures.rest c.split-line-items.ensures.done c.split-line-items.ensures.closure (λ x b q k. search (rules, tests, k) fits 20000) in
-    let end = YieldsList-end (YieldsList-at c.into_iter-line-iterator.ensures lines) c.loop-line.yielded _ c.loop-line.yielded_by _ _ c.in-None.is c.next.ensures.steps in
+    let end = YieldsList-end (YieldsList-at c.into_iter-line-iterator.ensures.into_iter_gives (YieldsList-from_slice_split _ (λ b. b == 10) c.args.text.now c.split-line-items.ensures.rest c.split-line-items.ensures.done c.split-line-items.ensures.closure (λ x b q k. search (rules, tests)))) c.loop-line.yielded _ c.loop-line.yielded_by _ _ c.in-None.is c.next.ensures.steps in
     let all : take c.loop-line.number (lines_of c.args.text.now) ≡ lines_of c.args.text.now = take_all _ _ (omega (arith, end.1, c.loop-line.invariant.number)) in
     rw all at c.loop-line.invariant.said
