@@ -32,9 +32,9 @@ pub is_some-value_of : (entries : List Entry) (label : List ℕ) → is_some (va
 is_some-value_of [] label = refl
 is_some-value_of (entry ∷ entries) label =
     elim (bytes_eq entry.label label) as (λ b. is_some (option_map (λ (e : Entry). e.value) (cond b (Some entry) (find (λ (e : Entry). bytes_eq e.label label) entries))) ≡ (b || has_line entries label)) [
-        true ↦ refl
+      | true ↦ refl
       | false ↦ is_some-value_of entries label
-      ]
+    ]
 
 pub missing_here : (name : List ℕ) (names : List (List ℕ)) (entries : List Entry) → value_of entries name ≡ None → missing (name ∷ names) entries ≡ Missing name ∷ missing names entries
 missing_here name names entries none = let h : has_line entries name ≡ false = sym (is_some-value_of entries name) ∙ ap is_some none in rw h refl
@@ -61,12 +61,12 @@ values_push names entries i name values value h e some so_far =
 pub seed_value : (entries : List Entry) (value : List ℕ) → All (λ (entry : Entry). entry.label ≡ seed_label → length entry.value ≡ 32) entries → value_of entries seed_label ≡ Some value → length value ≡ 32
 seed_value [] value all some = cc
 seed_value (entry ∷ entries) value all some = elim (cases_Bool (bytes_eq entry.label seed_label)) [
-    inl here ↦
-        let found : Some entry.value ≡ Some value = rw here at some in
-        let same : entry.value ≡ value = cc in
-        rw (sym same) (All-head (λ (e : Entry). e.label ≡ seed_label → length e.value ≡ 32) entry entries all (bytes_eq-true entry.label seed_label here))
+  | inl here ↦
+      let found : Some entry.value ≡ Some value = rw here at some in
+      let same : entry.value ≡ value = cc in
+      rw (sym same) (All-head (λ (e : Entry). e.label ≡ seed_label → length e.value ≡ 32) entry entries all (bytes_eq-true entry.label seed_label here))
   | inr other ↦ seed_value entries value (All-tail (λ (e : Entry). e.label ≡ seed_label → length e.value ≡ 32) entry entries all) (rw other at some)
-  ]
+]
 
 -- which refusals are the first fault of a text
 pub refused_by_line : (text : List ℕ) (names : List (List ℕ)) (refused : ValuesNo) → IsFaulty text refused → UnlessNoMemory refused (Fit text names (Err refused))

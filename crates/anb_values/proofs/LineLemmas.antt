@@ -38,9 +38,9 @@ label_byte_is_ascii b = or_small _ _ b (or_small _ _ b (or_small _ _ b (or_small
 
 label_is_ascii : (label : List ℕ) → IsLabel label → IsAscii label
 label_is_ascii label l i = elim (cases_lt i (length label)) [
-    inl h ↦ label_byte_is_ascii (get_or label i 0) (All-get_or (λ b. is_label_byte b ≡ true) label i 0 h l.1)
+  | inl h ↦ label_byte_is_ascii (get_or label i 0) (All-get_or (λ b. is_label_byte b ≡ true) label i 0 h l.1)
   | inr h ↦ rw (get_or_past label i 0 h) (lit< tt)
-  ]
+]
 
 seed_is_ascii : IsAscii seed_label
 seed_is_ascii zero = lit< tt
@@ -56,15 +56,15 @@ line_label_is_ascii label l = elim l [ inl h ↦ label_is_ascii label h | inr e 
 -- where the first `=` stands, by what `position` answers
 pub no_equals : (bytes : List ℕ) (r : Option ℕ) → r ≡ cond (ltb (position_or_len (λ b. b == 61) bytes) (length bytes)) (Some (position_or_len (λ b. b == 61) bytes)) None → r ≡ None → value_text bytes ≡ []
 no_equals bytes r e none = elim (cases_lt (position_or_len (λ b. b == 61) bytes) (length bytes)) [
-    inl h ↦ let some = cond_below (position_or_len (λ b. b == 61) bytes) (length bytes) (Some (position_or_len (λ b. b == 61) bytes)) None h in cc
+  | inl h ↦ let some = cond_below (position_or_len (λ b. b == 61) bytes) (length bytes) (Some (position_or_len (λ b. b == 61) bytes)) None h in cc
   | inr h ↦ let rest : drop (position_or_len (λ b. b == 61) bytes + 1) bytes ≡ [] = drop_all _ bytes (omega arith) in rw rest refl
-  ]
+]
 
 pub at_equals : (bytes : List ℕ) (r : Option ℕ) (n : ℕ) → r ≡ cond (ltb (position_or_len (λ b. b == 61) bytes) (length bytes)) (Some (position_or_len (λ b. b == 61) bytes)) None → r ≡ Some n → n ≡ position_or_len (λ b. b == 61) bytes
 at_equals bytes r n e some = elim (cases_lt (position_or_len (λ b. b == 61) bytes) (length bytes)) [
-    inl h ↦ let is = cond_below (position_or_len (λ b. b == 61) bytes) (length bytes) (Some (position_or_len (λ b. b == 61) bytes)) None h in cc
+  | inl h ↦ let is = cond_below (position_or_len (λ b. b == 61) bytes) (length bytes) (Some (position_or_len (λ b. b == 61) bytes)) None h in cc
   | inr h ↦ let none : None ≡ cond (ltb (position_or_len (λ b. b == 61) bytes) (length bytes)) (Some (position_or_len (λ b. b == 61) bytes)) None = cond_above _ _ _ None None h refl in cc
-  ]
+]
 
 zip_push : {X Y : Type 0} (R : X → Y → Type 0) (xs : List X) (ys : List Y) (x : X) (y : Y) → AllZip R xs ys → R x y → AllZip R (xs ++ x ∷ []) (ys ++ y ∷ [])
 zip_push R [] [] x y all r = (r, tt)
@@ -128,6 +128,6 @@ onto_fits b (x ∷ xs) = omega (arith, sum_by-cons {X = List ℕ} length (b ∷ 
 pub parts_fit : (p : ℕ → Bool) (bytes : List ℕ) → sum_by length (slice_split p bytes) ≤ length bytes
 parts_fit p [] = omega arith
 parts_fit p (b ∷ bytes) = elim (p b) as (λ t. sum_by (length {A = ℕ}) (cond t ([] ∷ slice_split p bytes) (onto_first b (slice_split p bytes))) ≤ suc (length bytes)) [
-    true ↦ omega (arith, sum_by-cons {X = List ℕ} length [] (slice_split p bytes), parts_fit p bytes)
+  | true ↦ omega (arith, sum_by-cons {X = List ℕ} length [] (slice_split p bytes), parts_fit p bytes)
   | false ↦ omega (arith, onto_fits b (slice_split p bytes), parts_fit p bytes)
-  ]
+]

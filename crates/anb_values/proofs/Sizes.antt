@@ -32,9 +32,9 @@ hex_fits text bytes h = let l = (decode_of-ok h.0 bytes h.2).2 in omega (arith, 
 
 value_fits : (label text bytes : List ℕ) → IsGiven label text bytes → length bytes ≤ length text
 value_fits label text bytes g = elim g [
-    inl l ↦ elim (l.1) [ inl x ↦ literal_fits text bytes x | inr x ↦ hex_fits text bytes x ]
+  | inl l ↦ elim (l.1) [ inl x ↦ literal_fits text bytes x | inr x ↦ hex_fits text bytes x ]
   | inr x ↦ hex_fits text bytes x.1
-  ]
+]
 
 leading_fits : (drops : ℕ → Bool) (bytes : List ℕ) → length (after_leading drops bytes) ≤ length bytes
 leading_fits drops bytes = simp length-drop (omega arith)
@@ -85,16 +85,16 @@ later name names all i j d h k = all (suc i) (suc j) d (omega arith) (omega arit
 once_here : (label : List ℕ) (size : ℕ) (names : List (List ℕ)) → AllPairs (λ (one other : List ℕ). one ≢ other) names → sum_by (λ name. cond (bytes_eq label name) size 0) names ≤ size
 once_here label size [] all = omega arith
 once_here label size (name ∷ names) all = elim (cases_Bool (bytes_eq label name)) [
-    inl same ↦
-        let is : label ≡ name = (bytes_eq-Decides label name).0 same in
-        let rest = none_here label size names (rw is (others name names all)) in
-        let here : cond (bytes_eq label name) size 0 ≡ size = rw same refl in
-        omega (arith, sum_by-cons (λ (n : List ℕ). cond (bytes_eq label n) size 0) name names, here, rest)
+  | inl same ↦
+      let is : label ≡ name = (bytes_eq-Decides label name).0 same in
+      let rest = none_here label size names (rw is (others name names all)) in
+      let here : cond (bytes_eq label name) size 0 ≡ size = rw same refl in
+      omega (arith, sum_by-cons (λ (n : List ℕ). cond (bytes_eq label n) size 0) name names, here, rest)
   | inr other ↦
-        let rest = once_here label size names (later name names all) in
-        let here : cond (bytes_eq label name) size 0 ≡ 0 = rw other refl in
-        omega (arith, sum_by-cons (λ (n : List ℕ). cond (bytes_eq label n) size 0) name names, here, rest)
-  ]
+      let rest = once_here label size names (later name names all) in
+      let here : cond (bytes_eq label name) size 0 ≡ 0 = rw other refl in
+      omega (arith, sum_by-cons (λ (n : List ℕ). cond (bytes_eq label n) size 0) name names, here, rest)
+]
 
 zeros : (names : List (List ℕ)) → sum_by (λ (name : List ℕ). 0) names ≡ 0
 zeros [] = refl
@@ -107,9 +107,9 @@ sum_by-add f g (name ∷ names) = omega (arith, sum_by-cons (λ n. f n + g n) na
 value_grows : (entry : Entry) (entries : List Entry) (name : List ℕ) → size_of (value_of (entry ∷ entries) name) ≤ cond (bytes_eq entry.label name) (length entry.value) 0 + size_of (value_of entries name)
 value_grows entry entries name =
     elim (bytes_eq entry.label name) as (λ b. size_of (option_map (λ (e : Entry). e.value) (cond b (Some entry) (find (λ (e : Entry). bytes_eq e.label name) entries))) ≤ cond b (length entry.value) 0 + size_of (value_of entries name)) [
-        true ↦ omega arith
+      | true ↦ omega arith
       | false ↦ omega arith
-      ]
+    ]
 
 names_fit : (names : List (List ℕ)) (entries : List Entry) → AllPairs (λ (one other : List ℕ). one ≢ other) names → sum_by (λ name. size_of (value_of entries name)) names ≤ sum_by (λ (entry : Entry). length entry.value) entries
 names_fit names [] all = omega (arith, zeros names)

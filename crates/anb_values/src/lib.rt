@@ -13,10 +13,9 @@ mod fitted;
 mod lines;
 mod refusal;
 
+use anb_base::Text;
 pub use fitted::{Fitted, ValueList};
 pub use refusal::ValuesNo;
-
-use anb_base::Text;
 use std::alloc::Global;
 
 /// Reads the values of these names, and the seed.
@@ -36,3 +35,6 @@ pub fn values(alloc: Global, text: &[u8], names: &[Text]) -> Result<Fitted, Valu
         seed,
     })
 }
+
+#[cfg(test)]
+mod tests;

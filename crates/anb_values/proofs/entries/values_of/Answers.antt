@@ -5,9 +5,10 @@ use Rattle.anb_values.proofs.entries.values_of.Goals as goal
 
 pub returns-in_default-clause-refused : goal.returns-in_default-clause-refused
 returns-in_default-clause-refused c =
-    let none : value_of c.args.entries.now c.name-item.result ≡ None = rw c.as_str.ensures at (sym c.in_default.ensures) in
-    (missing (drop (c.loop-name.name-index + 1) c.args.names.now) c.args.entries.now,
-     rw c.in_ok-copy.ensures (sym c.loop-name.invariant.missing ∙ missing_at c.args.names.now c.args.entries.now c.loop-name.name-index c.name-item.result c.loop-name-test.true c.name-item.is none))
+    let none : value_of c.args.entries.now c.name-item.result ≡ None = rw c.as_str.ensures at (sym c.in_default.ensures) in (
+      missing (drop (c.loop-name.name-index + 1) c.args.names.now) c.args.entries.now,
+      rw c.in_ok-copy.ensures (sym c.loop-name.invariant.missing ∙ missing_at c.args.names.now c.args.entries.now c.loop-name.name-index c.name-item.result c.loop-name-test.true c.name-item.is none),
+    )
 
 pub loop-name-preserved : goal.loop-name-preserved
 loop-name-preserved c =
