@@ -1,9 +1,9 @@
 -- Canonical literals: each byte is spelled as a character that stands for it.
-use Rattle.std.proofs.Common.{◌≡◌, ◌≢◌, ◌≤◌, ◌<◌, ◌+◌, ◌-◌, ◌*◌, ◌/◌, ◌%◌, ◌==◌, ◌&&◌, ◌⊎◌, inl, inr, nat_le, true, false, ℕ, suc, List, [], ◌∷◌, ◌++◌, map, slice_index, Some, unwrap_or, refl, ap, sym, ◌∙◌, arith, rules, append_assoc}
+use Rattle.std.proofs.Common.{◌≡◌, ◌≢◌, ◌≤◌, ◌<◌, ◌/◌, ◌%◌, ◌==◌, ◌&&◌, ◌⊎◌, inl, inr, nat_le, true, false, ℕ, suc, List, [], ◌∷◌, map, slice_index, Some, refl, ap, ◌∙◌, arith}
 use Rattle.std.proofs.lemmas.Bool.{cases_eq, cases_lt}
 use Rattle.std.proofs.lemmas.Bool.Decides.{nat_tests}
 use Rattle.std.specs.List.{AllByRecursion, flat_map}
-use Rattle.hex.specs.Hex.{encode_lower, encode_with, hex_digit_value, lower_digits}
+use Rattle.hex.specs.Hex.{encode_with, hex_digit_value, lower_digits}
 use Rattle.hex.proofs.HexLemmas.{IsDigits-lower_digits}
 use Rattle.anb_base.specs.Bytes.{IsBytes}
 use Rattle.anb_format.specs.Literals.{Character, Plain, Quote, Backslash, Hexadecimal, IsAllowed, IsLiteral, byte_of, canonical_literal, canonical_spelling, spelling_of}

@@ -1,10 +1,10 @@
 -- Characters of a literal: what stands at the front of a text, and that it is read in one way.
-use Rattle.std.proofs.Common.{◌≡◌, ◌≢◌, ◌≤◌, ◌<◌, ◌+◌, ◌-◌, ◌*◌, ℕ, List, [], ◌∷◌, ◌++◌, length, take, drop, map, get_or, Some, None, unwrap_or, refl, ap, sym, ◌∙◌, arith, rules, append_assoc, append-nil, length-append}
+use Rattle.std.proofs.Common.{◌≡◌, ◌≢◌, ◌≤◌, ◌<◌, ◌+◌, ◌-◌, ◌*◌, ℕ, List, [], ◌∷◌, ◌++◌, length, take, drop, get_or, Some, refl, ap, sym, ◌∙◌, arith, append_assoc, append-nil, length-append}
 use Rattle.std.proofs.lemmas.List.{map-append, take_all}
 use Rattle.std.proofs.lemmas.Grind.{flat_map-append}
 use Rattle.std.specs.List.{AllByRecursion, flat_map}
 use Rattle.hex.specs.Hex.{hex_digit_value}
-use Rattle.anb_format.specs.Literals.{AreCharactersAt, BeginsNoCharacter, Character, Plain, Quote, Backslash, Hexadecimal, IsAllowed, IsCharacterAt, byte_of, spelling_of}
+use Rattle.anb_format.specs.Literals.{AreCharactersAt, Character, Plain, Quote, Backslash, Hexadecimal, IsAllowed, IsCharacterAt, byte_of, spelling_of}
 
 -- a byte that stands for itself
 pub plain : (text : List ℕ) → 1 ≤ length text → 0x20 ≤ get_or text 0 0 → get_or text 0 0 ≤ 0x7e → get_or text 0 0 ≢ 34 → get_or text 0 0 ≢ 92

@@ -1,10 +1,10 @@
 -- Decimal digits: what they are, and that they are read as their number.
-use Rattle.std.proofs.Common.{◌≡◌, ◌≢◌, ◌==◌, ◌<◌, ◌≤◌, ◌+◌, ◌-◌, ◌*◌, ◌/◌, ◌%◌, ◌^◌, ℕ, zero, suc, List, [], ◌∷◌, ◌++◌, length, true, false, nat_lt, refl, ap, sym, ◌∙◌, arith, rules, add-one, append_assoc, inl, inr}
+use Rattle.std.proofs.Common.{◌≡◌, ◌≢◌, ◌==◌, ◌<◌, ◌≤◌, ◌+◌, ◌-◌, ◌*◌, ◌/◌, ◌%◌, ◌^◌, ℕ, zero, suc, List, [], ◌∷◌, ◌++◌, true, false, nat_lt, refl, ◌∙◌, arith, append_assoc, inl, inr}
 use Rattle.std.specs.List.{AllByRecursion}
 use Rattle.std.specs.Fmt.{decimal}
 use Rattle.std.specs.Str.{IsUtf8}
 use Rattle.std.proofs.lemmas.Str.{IsUtf8-from_ascii}
-use Rattle.std.proofs.lemmas.Fmt.{AppendsLastDigit, IsAscii-decimal, decimal_from_appends, length-decimal-le_succ}
+use Rattle.std.proofs.lemmas.Fmt.{IsAscii-decimal, decimal_from_appends, length-decimal-le_succ}
 use Rattle.std.proofs.lemmas.Bool.{cases_lt}
 use Rattle.std.proofs.lemmas.Bool.Decides.{nat_tests}
 use Rattle.anb_format.specs.Fields.{decimal_digits, digits_within}
@@ -33,7 +33,7 @@ none_within zero n = tt
 none_within (suc more) n = elim (cases_lt n 10) [
   | inl small ↦ rw (one_digit more n small) ((λ e. omega arith), tt)
   | inr large ↦ rw (more_digits more n large) (all_of_both 58 (digits_within more (n / 10)) _ (none_within more (n / 10)) ((λ e. omega arith), tt))
-  ]
+]
 
 pub no_colon : (n : ℕ) → AllByRecursion (λ b. b ≢ 58) (decimal_digits n)
 no_colon n = none_within (suc n) n
@@ -51,7 +51,7 @@ number_within (suc more) n rest below = elim (cases_lt n 10) [
       let value : n / 10 * 10 + (48 + n % 10 - 48) ≡ n = omega arith in
       let last : decimal_at (n / 10) ((48 + n % 10) ∷ rest) ≡ decimal_at n rest = rw (absent, value) refl in
       rw (more_digits more n large, append_assoc) (number_within more (n / 10) ((48 + n % 10) ∷ rest) (omega arith) ∙ last)
-  ]
+]
 
 pub decimal_again : (n : ℕ) (rest : List ℕ) → decimal_at 0 (decimal_digits n ++ 58 ∷ rest) ≡ (n, rest)
 decimal_again n rest = number_within (suc n) n (58 ∷ rest) (omega arith)

@@ -1,8 +1,8 @@
 -- A literal is read in one way.
-use Rattle.std.proofs.Common.{◌≡◌, ◌≤◌, ◌<◌, ◌+◌, ◌-◌, ℕ, List, [], ◌∷◌, ◌++◌, length, drop, map, refl, ap, sym, ◌∙◌, arith, rules, append_assoc, length-append, length-drop}
+use Rattle.std.proofs.Common.{◌≡◌, ◌≤◌, ◌+◌, ◌-◌, ℕ, List, [], ◌∷◌, ◌++◌, length, drop, map, refl, ap, sym, ◌∙◌, arith, append_assoc, length-append, length-drop}
 use Rattle.std.specs.List.{AllByRecursion, flat_map}
 use Rattle.anb_base.specs.Bytes.{IsBytes}
-use Rattle.anb_format.specs.Literals.{AreCharactersAt, BeginsNoCharacter, Character, Plain, Quote, Backslash, Hexadecimal, IsAllowed, IsLiteral, IsLiteralAt, byte_of, canonical_literal, spelling_of}
+use Rattle.anb_format.specs.Literals.{AreCharactersAt, BeginsNoCharacter, Character, Plain, Quote, Backslash, Hexadecimal, IsAllowed, IsLiteralAt, byte_of, canonical_literal, spelling_of}
 use Rattle.anb_format.proofs.Canonical.{canonical}
 
 -- a character that begins with `\` isn't one that stands for itself

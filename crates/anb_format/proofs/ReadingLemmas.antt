@@ -1,8 +1,8 @@
 -- What pieces build is read as its arguments.
-use Rattle.std.proofs.Common.{◌≡◌, ◌≢◌, ◌<◌, ◌≤◌, ◌+◌, ◌&&◌, ℕ, zero, suc, List, [], ◌∷◌, ◌++◌, length, take, drop, Some, true, false, Bool, nat_lt, refl, ap, sym, ◌∙◌, arith, rules, append_assoc, append-nil, length-append, None, if◌then◌else◌, inl, inr}
-use Rattle.std.proofs.lemmas.List.{take_at, drop_at}
+use Rattle.std.proofs.Common.{◌≡◌, ◌<◌, ◌≤◌, ◌+◌, ◌-◌, ◌&&◌, ℕ, zero, suc, List, [], ◌∷◌, ◌++◌, length, take, drop, get_or, Bor, MatchOption, IsSomeAnd, Option, Some, true, false, Bool, nat_lt, refl, ap, sym, ◌∙◌, arith, append_assoc, append-nil, length-append, None, if◌then◌else◌}
+use Rattle.std.proofs.lemmas.List.{append_cancel_left, drop_all, drop_at, drop_more, take_all, take_at}
 use Rattle.std.specs.Str.{bytes_eq}
-use Rattle.std.proofs.lemmas.Bool.{and_parts, and_from}
+use Rattle.std.proofs.lemmas.Bool.{and_parts}
 use Rattle.std.proofs.lemmas.Bool.Decides.{nat_tests}
 use Rattle.std.proofs.lemmas.Slice.Eq.{bytes_eq-Decides}
 use Rattle.std.specs.List.{AllByRecursion, list_all}
@@ -12,7 +12,7 @@ use Rattle.anb_format.specs.declared.pieces.FieldKind.TheVariants.{Len, Net, Hex
 use Rattle.anb_format.specs.declared.pieces.Piece.{Piece}
 use Rattle.anb_format.specs.declared.pieces.Piece.TheVariants.{Lit, Field}
 use Rattle.anb_format.specs.Fields.{decimal_digits, field_bytes, leb128}
-use Rattle.anb_format.specs.Formats.{IsParts, IsSound, IsEarlyRest, field_count, format_bytes}
+use Rattle.anb_format.specs.Formats.{HasParts, IsParts, IsEarlyRest, field_count, format_bytes}
 use Rattle.anb_format.specs.Reading.{arguments_at, decimal_at, field_at, leb128_at, parts_of}
 use Rattle.anb_format.proofs.Leb128.{leb128_again}
 use Rattle.anb_format.proofs.Decimals.{decimal_again}
@@ -25,6 +25,12 @@ net_regrouped b rest = simp append_assoc
 pub hex_regrouped : (b rest : List ℕ) → field_bytes Hex b ++ rest ≡ encode_lower b ++ 59 ∷ rest
 hex_regrouped b rest = simp append_assoc
 
+-- what follows an argument and one byte
+pub after_one : (b rest : List ℕ) (last : ℕ) → drop (length b + 1) (b ++ last ∷ rest) ≡ rest
+after_one b rest last =
+    ap (λ (t : List ℕ). drop (length b + 1) t) (sym (append_assoc b (last ∷ []) rest))
+    ∙ drop_at (b ++ last ∷ []) rest (length b + 1) (omega (arith, length-append b (last ∷ [])))
+
 -- a field is read as its argument
 pub field_again : (kind : FieldKind) (b rest : List ℕ) → IsBytes b → (kind ≡ Rest → rest ≡ []) → field_at kind (field_bytes kind b ++ rest) ≡ (b, rest)
 field_again Len b rest small last =
@@ -32,8 +38,7 @@ field_again Len b rest small last =
     rw (read, take_at b rest (length b) refl, drop_at b rest (length b) refl) refl
 field_again Net b rest small last =
     let read : decimal_at 0 (field_bytes Net b ++ rest) ≡ (length b, b ++ 44 ∷ rest) = rw net_regrouped (decimal_again (length b) (b ++ 44 ∷ rest)) in
-    let after : drop (length b + 1) (b ++ 44 ∷ rest) ≡ rest =
-      ap (λ (t : List ℕ). drop (length b + 1) t) (sym (append_assoc b (44 ∷ []) rest)) ∙ drop_at (b ++ 44 ∷ []) rest (length b + 1) (omega (arith, length-append b (44 ∷ []))) in
+    let after : drop (length b + 1) (b ++ 44 ∷ rest) ≡ rest = after_one b rest 44 in
     rw (read, take_at b (44 ∷ rest) (length b) refl, after) refl
 field_again Hex b rest small last = rw hex_regrouped (hex_again b rest small)
 field_again Rest b rest small last = rw (last refl, append-nil) refl
@@ -114,3 +119,91 @@ pub parts_unique : (pieces : List Piece) (bytes : List ℕ) (arguments others : 
 parts_unique pieces bytes arguments others last g h =
     let one = parts_of-built pieces bytes arguments last g in
     let other = parts_of-built pieces bytes others last h in cc
+
+-- an argument is shorter than what it stands in
+pub short_in_net : (b rest bytes : List ℕ) → bytes ≡ field_bytes Net b ++ rest → length b < length bytes
+short_in_net b rest bytes e = omega (arith, ap length e, length-append (field_bytes Net b) rest, length-append (decimal_digits (length b) ++ 58 ∷ b) (44 ∷ []), length-append (decimal_digits (length b)) (58 ∷ b))
+
+pub short_in_len : (b rest bytes : List ℕ) → bytes ≡ field_bytes Len b ++ rest → length b ≤ length bytes
+short_in_len b rest bytes e = omega (arith, ap length e, length-append (field_bytes Len b) rest, length-append (leb128 (length b)) b)
+
+-- a `rest` is all that is left
+pub all_of_it : (bytes b rest : List ℕ) → bytes ≡ b ++ rest → rest ≡ [] → (bytes ≡ b) × (take (length bytes - length bytes) (drop (length bytes) bytes) ≡ rest)
+all_of_it bytes b rest e last =
+    (e ∙ ap (λ (t : List ℕ). b ++ t) last ∙ append-nil b, rw (drop_all (length bytes) bytes (omega arith), last) (take_all (length bytes - length bytes) [] (omega arith)))
+
+-- the piece at i stands at the front of those from i on
+pub next_piece : (pieces : List Piece) (i : ℕ) (piece : Piece) → i < length pieces → piece ≡ get_or pieces i piece → drop i pieces ≡ piece ∷ drop (i + 1) pieces
+next_piece pieces i piece within at = drop_more pieces i piece within ∙ ap (λ (p : Piece). p ∷ drop (i + 1) pieces) (sym at)
+
+pub nothing_after : (piece : Piece) (pieces : List Piece) → RestIsLast (piece ∷ pieces) → piece ≡ Field Rest → pieces ≡ []
+nothing_after piece [] h e = refl
+nothing_after piece (p ∷ pieces) h e = absurd (h 0 (ap (λ (q : Piece). Some q) e, omega arith))
+
+pub field_count-cons : (piece : Piece) (pieces : List Piece) → field_count (piece ∷ pieces) ≡ field_count (piece ∷ []) + field_count pieces
+field_count-cons (Lit text) pieces = omega arith
+field_count-cons (Field kind) pieces = omega arith
+
+pub field_count_le : (pieces : List Piece) → field_count pieces ≤ length pieces
+field_count_le [] = omega arith
+field_count_le (Lit text ∷ pieces) = omega (arith, field_count_le pieces)
+field_count_le (Field kind ∷ pieces) = omega (arith, field_count_le pieces)
+
+-- a literal was taken from the front
+pub literal_taken : (text bytes after : List ℕ) (pieces : List Piece) (arguments wanted : List (List ℕ)) → IsParts (Lit text ∷ pieces) bytes wanted → bytes ≡ text ++ after
+    → HasParts pieces after arguments (arguments ++ wanted)
+literal_taken text bytes after pieces arguments wanted h e = record {
+  others = wanted;
+  parts = record { count = h.count; strings = h.strings; built = append_cancel_left text _ _ (h.built ∙ e) };
+  joined = refl;
+}
+
+-- the first of the arguments is that of the field
+pub record FieldFirst (kind : FieldKind) (pieces : List Piece) (bytes : List ℕ) (wanted : List (List ℕ)) : Type 0 where
+  pub first : List ℕ
+  pub others : List (List ℕ)
+  pub whole : wanted ≡ first ∷ others
+  pub small : IsBytes first
+  pub front : bytes ≡ field_bytes kind first ++ format_bytes pieces others
+  pub parts : IsParts pieces (format_bytes pieces others) others
+
+pub field_first : (kind : FieldKind) (pieces : List Piece) (bytes : List ℕ) (wanted : List (List ℕ)) → IsParts (Field kind ∷ pieces) bytes wanted → FieldFirst kind pieces bytes wanted
+field_first kind pieces bytes [] h = absurd (omega (arith, h.count))
+field_first kind pieces bytes (b ∷ others) h = record {
+  first = b;
+  others = others;
+  whole = refl;
+  small = h.strings.0;
+  front = sym h.built;
+  parts = record { count = omega (arith, h.count); strings = h.strings.1; built = refl };
+}
+
+-- a field was taken from the front
+pub field_taken : (kind : FieldKind) (pieces : List Piece) (bytes argument after : List ℕ) (arguments wanted : List (List ℕ)) (h : FieldFirst kind pieces bytes wanted)
+    → (argument ≡ h.first) × (after ≡ format_bytes pieces h.others) → HasParts pieces after (arguments ++ argument ∷ []) (arguments ++ wanted)
+field_taken kind pieces bytes argument after arguments wanted h e = record {
+  others = h.others;
+  parts = record { count = h.parts.count; strings = h.parts.strings; built = sym e.1 };
+  joined =
+      ap (λ (t : List (List ℕ)). arguments ++ t) (h.whole ∙ ap (λ (b : List ℕ). b ∷ h.others) (sym e.0))
+      ∙ sym (append_assoc arguments (argument ∷ []) h.others);
+}
+
+-- where no byte strings build the bytes, the computation gives none
+from_none : (o : Option (List (List ℕ))) → ((x : List (List ℕ)) → o ≡ Some x → ⊥) → o ≡ None
+from_none None h = refl
+from_none (Some x) h = absurd (h x refl)
+
+pub parts_of-none : (pieces : List Piece) (bytes : List ℕ) → ((arguments : List (List ℕ)) → IsParts pieces bytes arguments → ⊥) → parts_of pieces bytes ≡ None
+parts_of-none pieces bytes h = from_none (parts_of pieces bytes) (λ arguments e. h arguments (parts_of-builds pieces bytes arguments e))
+
+-- the same of what std's `strip_prefix` answers
+pub stripped : (text bytes : List ℕ) (pieces : List Piece) (arguments wanted : List (List ℕ)) (r : Option (Bor (List ℕ)))
+    → MatchOption r (bytes_eq (take (length text) bytes) text ≡ false) (λ x. (bytes_eq (take (length text) bytes) text ≡ true) × (x.now ≡ drop (length text) bytes) × (length x.now + length text ≡ length bytes))
+    → IsParts (Lit text ∷ pieces) bytes wanted → IsSomeAnd r (λ after. HasParts pieces after.now arguments (arguments ++ wanted))
+stripped text bytes pieces arguments wanted None cases h =
+    let front : take (length text) bytes ≡ text = rw (sym h.built) (take_at text (format_bytes pieces wanted) (length text) refl) in
+    let equal = (bytes_eq-Decides (take (length text) bytes) text).1 front in absurd (cc (cases, equal))
+stripped text bytes pieces arguments wanted (Some after) cases h =
+    let rest : after.now ≡ format_bytes pieces wanted = cases.1 ∙ rw (sym h.built) (drop_at text (format_bytes pieces wanted) (length text) refl) in
+    literal_taken text bytes after.now pieces arguments wanted h (sym h.built ∙ ap (λ (t : List ℕ). text ++ t) (sym rest))

@@ -1,9 +1,8 @@
 -- Formats: which lists of pieces are sound, what they build, and when two are apart.
-use Rattle.std.specs.Prelude.{◌≡◌, ◌≢◌, ℕ, ◌+◌, ◌<◌, ◌^◌, ◌↔◌, List, [], ◌∷◌, ◌++◌, length, slice_get, Option, Some, None}
+use Rattle.std.specs.Prelude.{◌≡◌, ◌≢◌, ℕ, ◌+◌, ◌<◌, List, [], ◌∷◌, ◌++◌, length, slice_get, Some}
 use Rattle.std.specs.List.{AllByRecursion}
 use Rattle.anb_base.specs.Bytes.{IsBytes}
 use Rattle.anb_format.specs.Fields.{field_bytes}
-use Rattle.anb_format.specs.declared.pieces.FieldKind.{FieldKind}
 use Rattle.anb_format.specs.declared.pieces.FieldKind.TheVariants.{Rest}
 use Rattle.anb_format.specs.declared.pieces.Piece.{Piece}
 use Rattle.anb_format.specs.declared.pieces.Piece.TheVariants.{Lit, Field}
@@ -31,6 +30,12 @@ pub record IsParts (pieces : List Piece) (bytes : List ℕ) (arguments : List (L
   pub count : length arguments ≡ field_count pieces
   pub strings : AllByRecursion IsBytes arguments
   pub built : format_bytes pieces arguments ≡ bytes
+
+-- what follows these arguments in the whole list builds these bytes
+pub record HasParts (pieces : List Piece) (bytes : List ℕ) (arguments whole : List (List ℕ)) : Type 0 where
+  pub others : List (List ℕ)
+  pub parts : IsParts pieces bytes others
+  pub joined : whole ≡ arguments ++ others
 
 -- the literals before the first field
 abbrev pub head : List Piece → List ℕ

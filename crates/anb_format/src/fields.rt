@@ -1,4 +1,4 @@
-ghost use Rattle.std.specs.Prelude.{◌≡◌, ◌≢◌, ◌≤◌, ◌<◌, ◌+◌, ◌^◌, ◌++◌, ◌∷◌, [], ℕ, List, length, IfOk, OnOk, IfSome, IsSomeAnd, Some};
+ghost use Rattle.std.specs.Prelude.{◌≡◌, ◌≢◌, ◌≤◌, ◌<◌, ◌+◌, ◌^◌, ◌++◌, ◌∷◌, [], ℕ, List, length, IfOk, OnOk, IfSome, IsSomeAnd, Some, ◌==◌, position};
 ghost use Rattle.std.specs.List.{AllByRecursion};
 ghost use Rattle.std.specs.Fmt.{decimal};
 ghost use Rattle.anb_base.specs.Bytes.{IsBytes};
@@ -68,7 +68,10 @@ pub(crate) fn field_at(
         FieldKind::Len => copied(alloc, len_at(bytes)),
         FieldKind::Net => copied(alloc, net_at(bytes)),
         FieldKind::Hex => hex_at(alloc, bytes),
-        FieldKind::Rest => copied(alloc, Some((bytes, &bytes[bytes.len()..]))),
+        FieldKind::Rest => {
+            let argument = string(Vec::from_slice(alloc, bytes)?);
+            Ok(Some((argument, &bytes[bytes.len()..])))
+        }
     }
 }
 
@@ -76,17 +79,20 @@ pub(crate) fn field_at(
 fn copied<'a>(
     alloc: Global,
     found: Option<(&[u8], &'a [u8])>,
-) -> Result<Option<(Bytes, &'a [u8])>, NoMemory> {
+) -> Result<Option<(Bytes, &'a [u8])>, NoMemory>
+    ensures strings { IfOk result (λ r. IfSome r (λ x. IsBytes x.0)) }
+    ensures same { IfOk result (λ r. (b rest : List ℕ) → IsSomeAnd found.entry (λ x. (x.0.now ≡ b) × (x.1.now ≡ rest)) → IsSomeAnd r (λ x. (x.0 ≡ b) × (x.1.now ≡ rest))) }
+{
     let Some((argument, rest)) = found else {
         return Ok(None);
     };
-    Ok(Some((Bytes::new(argument.to_vec(alloc)?), rest)))
+    Ok(Some((string(Vec::from_slice(alloc, argument)?), rest)))
 }
 
 fn len_at(bytes: &[u8]) -> Option<(&[u8], &[u8])>
     ensures again { (b rest : List ℕ) → bytes.now ≡ len_bytes b ++ rest → IsSomeAnd result (λ x. (x.0.now ≡ b) × (x.1.now ≡ rest)) }
 {
-    let (n, after) = leb128_at(bytes, 9)?;
+    let (n, after) = leb128_at(bytes, 8)?;
     let n = usize::try_from(n).ok()?;
     if after.len() < n {
         return None;
@@ -95,9 +101,11 @@ fn len_at(bytes: &[u8]) -> Option<(&[u8], &[u8])>
 }
 
 /// The number in LEB128 at the front, which may take this many bytes more than one, and what
-/// follows it.
+/// follows it. A length is below 2^63, so it takes nine bytes at most.
 fn leb128_at(bytes: &[u8], more: u8) -> Option<(u64, &[u8])>
-    ensures again { (n : ℕ) (rest : List ℕ) → n < 2 ^ 64 → n < 128 ^ (more + 1) → bytes.now ≡ leb128 n ++ rest → IsSomeAnd result (λ x. (x.0 ≡ n) × (x.1.now ≡ rest)) }
+    requires { more ≤ 8 }
+    ensures bound { IfSome result (λ x. x.0 < 128 ^ (more + 1)) }
+    ensures again { (n : ℕ) (rest : List ℕ) → n < 128 ^ (more + 1) → bytes.now ≡ leb128 n ++ rest → IsSomeAnd result (λ x. (x.0 ≡ n) × (x.1.now ≡ rest)) }
 {
     let (first, rest) = bytes.split_first()?;
     if *first < 128 {
@@ -107,8 +115,7 @@ fn leb128_at(bytes: &[u8], more: u8) -> Option<(u64, &[u8])>
         return None;
     }
     let (high, rest) = leb128_at(rest, more - 1)?;
-    let n = high.checked_mul(128)?.checked_add(u64::from(*first - 128))?;
-    Some((n, rest))
+    Some((high * 128 + u64::from(*first - 128), rest))
 }
 
 fn net_at(bytes: &[u8]) -> Option<(&[u8], &[u8])>
@@ -151,7 +158,7 @@ fn decoded(alloc: Global, digits: &[u8]) -> Result<Option<Bytes>, NoMemory>
     ensures again { IfOk result (λ r. (b : List ℕ) → IsBytes b → digits.now ≡ encode_lower b → IsSomeAnd r (λ x. x ≡ b)) }
 {
     match hex::decode(alloc, digits) {
-        Ok(bytes) => Ok(Some(Bytes::new(bytes))),
+        Ok(bytes) => Ok(Some(string(bytes))),
         Err(hex::FromHexError::OutOfMemory) => Err(NoMemory),
         Err(hex::FromHexError::InvalidHexCharacter { .. }) => Ok(None),
         Err(hex::FromHexError::OddLength) => Ok(None),
@@ -159,11 +166,26 @@ fn decoded(alloc: Global, digits: &[u8]) -> Result<Option<Bytes>, NoMemory>
     }
 }
 
+/// These bytes, of which contracts then know that they are bytes.
+fn string(bytes: Vec<u8>) -> Bytes
+    ensures value { result ≡ bytes.items }
+    ensures strings { IsBytes result }
+{
+    let _ = bytes.as_slice();
+    Bytes::new(bytes)
+}
+
 /// What stands before the first such byte, and what follows it.
 fn split_at_first(bytes: &[u8], separator: u8) -> Option<(&[u8], &[u8])>
     ensures again { (front rest : List ℕ) → AllByRecursion (λ b. b ≢ separator) front → bytes.now ≡ front ++ separator ∷ rest
         → IsSomeAnd result (λ x. (x.0.now ≡ front) × (x.1.now ≡ rest)) }
 {
-    let at = bytes.iter().position(|b| *b == separator)?;
+    let at = first_place(bytes, separator)?;
     Some((&bytes[..at], &bytes[at + 1..]))
+}
+
+fn first_place(bytes: &[u8], wanted: u8) -> Option<usize>
+    ensures { result ≡ position (λ b. b == wanted) bytes.now }
+{
+    bytes.iter().position(|b| *b == wanted)
 }

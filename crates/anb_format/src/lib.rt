@@ -7,6 +7,7 @@
 
 mod fields;
 mod formats;
+mod heads;
 mod laws;
 mod literals;
 mod pieces;

@@ -1,6 +1,5 @@
-use Rattle.std.proofs.Common.{◌≡◌, ◌∷◌, drop, sym, ◌∙◌, ap, rules}
+use Rattle.std.proofs.Common.{sym, ◌∙◌}
 use Rattle.std.proofs.lemmas.List.{take_rest}
-use Rattle.anb_format.specs.Literals.{IsLiteralAt}
 use Rattle.anb_format.proofs.LiteralLemmas.{canonical_at, closed, made, unique}
 use Rattle.anb_format.proofs.literals.read_literal.Goals as goal
 
