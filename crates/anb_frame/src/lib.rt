@@ -97,8 +97,9 @@ pub fn put<K: Sink>(snk: &mut K, bytes: &[u8]) -> Result<(), Failed>
     ensures kept { K.kept snk.new ≡ K.kept snk.old }
 {
     write_whole(snk, &written_length(bytes.len() as u32))?;
-    match write_whole(snk, bytes) {
-        Ok(()) => Ok(()),
-        Err(Failed) => Err(Failed),
-    }
+    write_whole(snk, bytes)?;
+    Ok(())
 }
+
+#[cfg(test)]
+mod tests;

@@ -1,0 +1,40 @@
+//! Values files: the values that a role starts with, and the seed of its draws, each on a line with
+//! its label.
+//!
+//! A line is a label, `=` and a value, which is a literal, or `x` and hexadecimal digits. Lines that
+//! are empty or begin with `#` are passed over. The label `@seed` has the seed: `x` and 64 digits.
+#![tactic(auto)]
+
+ghost use Rattle.std.specs.Prelude.{◌≡◌, ◌≢◌, ◌≤◌, ℕ, List, length, sum_by, AllPairs, IfOk, IfErr, Ok, Err};
+ghost use Rattle.anb_values.specs.Fit.{Fit, UnlessNoMemory};
+
+mod entries;
+mod fitted;
+mod lines;
+mod refusal;
+
+use anb_base::Text;
+pub use fitted::{Fitted, ValueList};
+pub use refusal::ValuesNo;
+use std::alloc::Global;
+
+/// Reads the values of these names, and the seed.
+pub fn values(alloc: Global, text: &[u8], names: &[Text]) -> Result<Fitted, ValuesNo>
+    requires size { length text.now ≤ 1048576 }
+    requires differ { AllPairs (λ (one other : List ℕ). one ≢ other) names.now }
+    ensures fits { IfOk result (λ fitted. Fit text.now names.now (Ok fitted)) }
+    ensures refused { IfErr result (λ no. UnlessNoMemory no (Fit text.now names.now (Err no))) }
+    ensures total { IfOk result (λ fitted. sum_by length fitted.values ≤ length text.now) }
+{
+    let entries = lines::entries(alloc, text)?;
+    entries::check(alloc, &entries, names)?;
+    let values = entries::values_of(alloc, &entries, names)?;
+    let seed = entries::seed_of(&entries);
+    Ok(Fitted {
+        values: ValueList::new(values),
+        seed,
+    })
+}
+
+#[cfg(test)]
+mod tests;
