@@ -24,7 +24,7 @@ abbrev pub short_key : Suite → List ℕ → List ℕ
 short_key suite k = if nat_lt (block_of suite) (length k) then hash_of suite k else k
 
 -- zeros are appended up to a block
-abbrev pub block_key : Suite → List ℕ → List ℕ
+unfoldable pub block_key : Suite → List ℕ → List ℕ
 block_key suite k = short_key suite k ++ replicate (block_of suite - length (short_key suite k)) 0
 
 -- the key xor a block of one byte

@@ -13,7 +13,7 @@ abbrev pub stream_bytes : List ℕ → ℕ → ℕ → ℕ → List ℕ
 stream_bytes key stream i n = flat_map (word_bytes key stream) (range_with_len i n)
 
 -- the first n bytes of stream 0
-abbrev pub key_stream : List ℕ → ℕ → List ℕ
+unfoldable pub key_stream : List ℕ → ℕ → List ℕ
 key_stream key n = take n (stream_bytes key 0 0 (div_ceil n 4))
 
 -- number i of a session's draws: eight words of the stream that has the session's number

@@ -18,9 +18,12 @@ const OUTER: u8 = 0x5c;
 pub(crate) fn mac_with<H: SuiteHash>(k: &[u8], head: &[u8], m: &[u8]) -> H::Bytes
     ensures { H.Bytes.items result ≡ mac_of H.suite k.now (head.now ++ m.now) }
 {
-    let key = block_key::<H>(k);
-    let inner = H::hash(&xor_each(key, INNER)[..H::block()], head, m);
-    H::hash(&xor_each(key, OUTER)[..H::block()], inner.as_slice(), &[])
+    let mut inner_key = block_key::<H>(k);
+    let mut outer_key = inner_key;
+    xor_each(&mut inner_key, INNER);
+    xor_each(&mut outer_key, OUTER);
+    let inner = H::hash(&inner_key[..H::block()], head, m);
+    H::hash(&outer_key[..H::block()], inner.as_slice(), &[])
 }
 
 /// The key that HMAC takes, a block long, in the front of the array.
@@ -43,11 +46,10 @@ fn put_front(block: &mut [u8], bytes: &[u8])
     block[..bytes.len()].copy_from_slice(bytes);
 }
 
-fn xor_each(mut block: [u8; LONGEST_BLOCK], pad: u8) -> [u8; LONGEST_BLOCK]
-    ensures { result ≡ map (λ b. bit_xor b pad) block }
+fn xor_each(block: &mut [u8], pad: u8)
+    ensures { block.new ≡ map (λ b. bit_xor b pad) block.old }
 {
     for b in block.iter_mut() {
         *b ^= pad;
     }
-    block
 }

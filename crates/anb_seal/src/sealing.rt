@@ -1,7 +1,7 @@
 // Sealing and wrapping over the hash function of a suite.
 ghost use Rattle.std.specs.Prelude.{◌≡◌, ◌≢◌, ◌≤◌, ℕ, ◌-◌, List, [], ◌++◌, length, take, drop, IfOk, IfSome, IfNone};
 ghost use Rattle.anb_seal.specs.Streams.{key_stream, xored};
-ghost use Rattle.anb_seal.specs.Primitives.{cut, tag_of, closed, key_for, sealed, wrapped};
+ghost use Rattle.anb_seal.specs.Primitives.{cut, tag_of, masked, closed, key_for, sealed, wrapped};
 
 use crate::digest::SuiteHash;
 use crate::hmac::mac_with;
@@ -89,13 +89,21 @@ fn open<H: SuiteHash>(alloc: Global, stream_key: &[u8], tag_key: &[u8], head: &[
         return Ok(None);
     }
     let (tag, body) = c.split_at(TAG);
-    let mut m = Vec::from_slice(alloc, body)?;
-    stream::mask(&short_mac::<H>(stream_key, &[], tag), 0, 0, &mut m);
+    let m = masked::<H>(alloc, stream_key, tag, body)?;
     if short_mac::<H>(tag_key, head, &m).as_slice() == tag {
         Ok(Some(Bytes::new(m)))
     } else {
         Ok(None)
     }
+}
+
+/// The bytes xor the stream of a tag.
+fn masked<H: SuiteHash>(alloc: Global, stream_key: &[u8], tag: &[u8], bytes: &[u8]) -> Result<Vec<u8>, NoMemory>
+    ensures { IfOk result (λ v. v.items ≡ masked H.suite stream_key.now tag.now bytes.now) }
+{
+    let mut masked = Vec::from_slice(alloc, bytes)?;
+    stream::mask(&short_mac::<H>(stream_key, &[], tag), 0, 0, &mut masked);
+    Ok(masked)
 }
 
 /// The first 32 bytes of a mac.
@@ -117,7 +125,7 @@ fn front(bytes: &[u8]) -> [u8; 32]
 /// What follows the tag xor a stream.
 fn mask_after_tag(key: &[u8; 32], bytes: &mut [u8])
     requires { 32 ≤ length bytes.old }
-    ensures { bytes.new ≡ take 32 bytes.old ++ xored (drop 32 bytes.old) (key_stream key.now (length bytes.old - 32)) }
+    ensures { bytes.new ≡ take 32 bytes.old ++ xored (drop 32 bytes.old) (key_stream key.now (length (drop 32 bytes.old))) }
 {
     stream::mask(key, 0, 0, &mut bytes[TAG..]);
 }

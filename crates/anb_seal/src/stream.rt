@@ -15,7 +15,7 @@ pub(crate) fn mask(key: &[u8; 32], stream: u32, first: u64, bytes: &mut [u8])
 {
     let mut words = words_from(key, stream, first);
     for i in 0..bytes.len().div_ceil(4) {
-        mask_word(bytes, 4 * i, words.next_word());
+        mask_word(&mut bytes[4 * i..], words.next_word());
     }
 }
 
@@ -29,18 +29,19 @@ fn words_from(key: &[u8; 32], stream: u32, first: u64) -> ChaCha20Rng
     words
 }
 
-/// The four bytes from `at` on xor a word's, or those of them that there are.
-fn mask_word(bytes: &mut [u8], at: usize, word: u32)
-    requires { at < length bytes.old }
-    ensures { bytes.new ≡ take at bytes.old ++ xored (drop at bytes.old) (to_le_bytes w32 word) }
+/// The first four bytes xor a word's, or all of them where there are fewer.
+fn mask_word(bytes: &mut [u8], word: u32)
+    ensures { bytes.new ≡ xored bytes.old (to_le_bytes w32 word) }
 {
-    if bytes.len() - at >= 4 {
-        let here = u32::from_le_bytes([bytes[at], bytes[at + 1], bytes[at + 2], bytes[at + 3]]);
-        bytes[at..at + 4].copy_from_slice(&(here ^ word).to_le_bytes());
+    let pad = word.to_le_bytes();
+    if bytes.len() >= 4 {
+        bytes[0] ^= pad[0];
+        bytes[1] ^= pad[1];
+        bytes[2] ^= pad[2];
+        bytes[3] ^= pad[3];
         return;
     }
-    let pad = word.to_le_bytes();
-    for i in at..bytes.len() {
-        bytes[i] ^= pad[i - at];
+    for i in 0..bytes.len() {
+        bytes[i] ^= pad[i];
     }
 }

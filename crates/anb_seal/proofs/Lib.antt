@@ -1,0 +1,4 @@
+pub mod Xored
+pub mod Words
+pub mod Macs
+pub mod Closed
