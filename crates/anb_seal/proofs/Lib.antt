@@ -2,3 +2,4 @@ pub mod Xored
 pub mod Words
 pub mod Macs
 pub mod Closed
+pub mod Masked

@@ -1,8 +1,8 @@
 // ChaCha20 (RFC 8439) as a source of bytes.
-ghost use Rattle.std.specs.Prelude.{◌≡◌, ◌<◌, ◌+◌, ◌^◌, ◌%◌, ◌++◌, length, take, drop};
+ghost use Rattle.std.specs.Prelude.{◌≡◌, ◌≤◌, ◌<◌, ◌^◌, length};
 ghost use Rattle.std.specs.Int.{w32, to_le_bytes, div_ceil};
 ghost use Rattle.rand_chacha.specs.ChaCha.{key_of};
-ghost use Rattle.anb_seal.specs.Streams.{word_bytes, stream_bytes, xored};
+ghost use Rattle.anb_seal.specs.Streams.{stream_bytes, xored};
 
 use rand_chacha::ChaCha20Rng;
 use rand_core::SeedableRng;
@@ -14,8 +14,12 @@ pub(crate) fn mask(key: &[u8; 32], stream: u32, first: u64, bytes: &mut [u8])
     ensures { bytes.new ≡ xored bytes.old (stream_bytes key.now stream first (div_ceil (length bytes.old) 4)) }
 {
     let mut words = words_from(key, stream, first);
-    for i in 0..bytes.len().div_ceil(4) {
+    let whole = bytes.len() / 4;
+    for i in 0..whole {
         mask_word(&mut bytes[4 * i..], words.next_word());
+    }
+    if bytes.len() % 4 > 0 {
+        mask_tail(&mut bytes[4 * whole..], words.next_word());
     }
 }
 
@@ -29,18 +33,24 @@ fn words_from(key: &[u8; 32], stream: u32, first: u64) -> ChaCha20Rng
     words
 }
 
-/// The first four bytes xor a word's, or all of them where there are fewer.
+/// The first four bytes xor a word's.
 fn mask_word(bytes: &mut [u8], word: u32)
+    requires { 4 ≤ length bytes.old }
     ensures { bytes.new ≡ xored bytes.old (to_le_bytes w32 word) }
 {
     let pad = word.to_le_bytes();
-    if bytes.len() >= 4 {
-        bytes[0] ^= pad[0];
-        bytes[1] ^= pad[1];
-        bytes[2] ^= pad[2];
-        bytes[3] ^= pad[3];
-        return;
-    }
+    bytes[0] ^= pad[0];
+    bytes[1] ^= pad[1];
+    bytes[2] ^= pad[2];
+    bytes[3] ^= pad[3];
+}
+
+/// All bytes, which are fewer than four, xor the first of a word's.
+fn mask_tail(bytes: &mut [u8], word: u32)
+    requires { length bytes.old < 4 }
+    ensures { bytes.new ≡ xored bytes.old (to_le_bytes w32 word) }
+{
+    let pad = word.to_le_bytes();
     for i in 0..bytes.len() {
         bytes[i] ^= pad[i];
     }

@@ -4,23 +4,9 @@ use Rattle.rand_chacha.specs.ChaCha.{key_of}
 use Rattle.anb_seal.specs.Streams.{word_bytes, stream_bytes, key_stream, draw_of, xored}
 use Rattle.anb_seal.specs.Primitives.{hash_of, block_of, short_key, block_key, key_xor, mac_of, cut, tag_of, masked, closed, opened}
 use Rattle.anb_seal.proofs.stream.mask_word.Goals as goal
-use Rattle.anb_seal.proofs.Xored.{xored_four, xored_next, xored_nothing, xored-take}
-
-pub returns-then-bytes-ge4 : goal.returns-then-bytes-ge4
-returns-then-bytes-ge4 c =
-    xored_four c.args.bytes.now c.to_le_bytes-pad.result c.if-bytes-ge4.true (ap length c.to_le_bytes-pad.ensures)
-    ∙ ap (xored c.args.bytes.now) c.to_le_bytes-pad.ensures
-
-pub loop-i-init : goal.loop-i-init
-loop-i-init c = sym (xored_nothing c.args.bytes.now)
-
-pub loop-i-preserved : goal.loop-i-preserved
-loop-i-preserved c =
-    let size : length c.to_le_bytes-pad.result ≡ 4 = ap length c.to_le_bytes-pad.ensures in
-    rw (c.loop-i.invariant, add-one) (xored_next c.args.bytes.now c.to_le_bytes-pad.result c.loop-i.i (omega arith) (omega arith))
+use Rattle.anb_seal.proofs.Xored.{xored_four}
 
 pub returns : goal.returns
 returns c =
-    let size : length c.to_le_bytes-pad.result ≡ 4 = ap length c.to_le_bytes-pad.ensures in
-    let all : c.loop-i.i ≡ length c.args.bytes.now = omega arith in
-    c.loop-i.invariant ∙ rw all (xored-take c.args.bytes.now c.to_le_bytes-pad.result) ∙ ap (xored c.args.bytes.now) c.to_le_bytes-pad.ensures
+    xored_four c.args.bytes.now c.to_le_bytes-pad.result c.requires (ap length c.to_le_bytes-pad.ensures)
+    ∙ ap (xored c.args.bytes.now) c.to_le_bytes-pad.ensures
