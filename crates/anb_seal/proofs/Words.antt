@@ -14,26 +14,30 @@ pub length-stream_bytes : (key : List ℕ) (stream i n : ℕ) → length (stream
 length-stream_bytes key stream i zero = refl
 length-stream_bytes key stream i (suc n) = omega (arith, length-append (word_bytes key stream i) (stream_bytes key stream (i + 1) n), length-word_bytes key stream i, length-stream_bytes key stream (i + 1) n)
 
--- one word more
-pub stream_bytes-more : (key : List ℕ) (stream i n : ℕ) → stream_bytes key stream i (suc n) ≡ stream_bytes key stream i n ++ word_bytes key stream (i + n)
-stream_bytes-more key stream i zero = append-nil _ ∙ ap (word_bytes key stream) (omega arith)
-stream_bytes-more key stream i (suc n) =
-    let next : i + 1 + n ≡ i + suc n = omega arith in
-    let rest : stream_bytes key stream (i + 1) (suc n) ≡ stream_bytes key stream (i + 1) n ++ word_bytes key stream (i + suc n) = rw (← next) (stream_bytes-more key stream (i + 1) n) in
-    ap (λ t. word_bytes key stream i ++ t) rest ∙ sym (append_assoc (word_bytes key stream i) (stream_bytes key stream (i + 1) n) (word_bytes key stream (i + suc n)))
+-- the words up to a place, and those from there on
+pub stream_bytes-add : (key : List ℕ) (stream i m n : ℕ) → stream_bytes key stream i (m + n) ≡ stream_bytes key stream i m ++ stream_bytes key stream (i + m) n
+stream_bytes-add key stream i zero n = ap (λ (k : ℕ). stream_bytes key stream i k) zero_n ∙ ap (λ (k : ℕ). stream_bytes key stream k n) i_zero
+  where
+    zero_n : zero + n ≡ n
+    zero_n = omega arith
+    i_zero : i ≡ i + zero
+    i_zero = omega arith
+stream_bytes-add key stream i (suc m) n =
+    let size : suc m + n ≡ suc (m + n) = omega arith in
+    let place : i + 1 + m ≡ i + suc m = omega arith in
+    ap (λ (k : ℕ). stream_bytes key stream i k) size
+    ∙ ap (λ t. word_bytes key stream i ++ t) (stream_bytes-add key stream (i + 1) m n)
+    ∙ sym (append_assoc (word_bytes key stream i) (stream_bytes key stream (i + 1) m) (stream_bytes key stream (i + 1 + m) n))
+    ∙ ap (λ (k : ℕ). stream_bytes key stream i (suc m) ++ stream_bytes key stream k n) place
 
--- the next word, and the place after it
-pub next_bytes : (before after : ChaCha) (word : ℕ) (key : List ℕ) (stream place : ℕ)
-    → (word, after) ≡ next_word 10 before → before ≡ record { key = key_of key; stream = stream; word_pos = place }
-    → to_le_bytes w32 word ≡ word_bytes key stream place
+-- the next word of a generator, and the place after it
+pub next_bytes : (before after : ChaCha) (word : ℕ) → (word, after) ≡ next_word 10 before
+    → to_le_bytes w32 word ≡ stream_bytes before.key before.stream before.word_pos 1
 unfolding word_bytes
-next_bytes before after word key stream place step at =
-    ap (to_le_bytes w32) (ap (λ (p : ℕ × ChaCha). p.0) step ∙ ap (λ (g : ChaCha). (next_word 10 g).0) at)
+next_bytes before after word step = ap (to_le_bytes w32) (ap (λ (p : ℕ × ChaCha). p.0) step)
 
-pub next_place : (before after : ChaCha) (word : ℕ) (key : List ℕ) (stream place next : ℕ)
-    → (word, after) ≡ next_word 10 before → before ≡ record { key = key_of key; stream = stream; word_pos = place }
-    → next ≡ place + 1 → next < 2 ^ 68
-    → after ≡ record { key = key_of key; stream = stream; word_pos = next }
-next_place before after word key stream place next step at one far =
-    let same : (place + 1) % 2 ^ 68 ≡ next = omega arith in
-    ap (λ (p : ℕ × ChaCha). p.1) step ∙ ap (λ (g : ChaCha). (next_word 10 g).1) at ∙ ap (λ (n : ℕ). record { key = key_of key; stream = stream; word_pos = n }) same
+pub next_place : (before after : ChaCha) (word : ℕ) → (word, after) ≡ next_word 10 before → before.word_pos + 1 < 2 ^ 68
+    → after ≡ record before { word_pos = before.word_pos + 1 }
+next_place before after word step near =
+    let same : (before.word_pos + 1) % 2 ^ 68 ≡ before.word_pos + 1 = omega arith in
+    ap (λ (p : ℕ × ChaCha). p.1) step ∙ ap (λ (n : ℕ). record before { word_pos = n }) same

@@ -1,5 +1,5 @@
 // ChaCha20 (RFC 8439) as a source of bytes.
-ghost use Rattle.std.specs.Prelude.{◌≡◌, ◌≤◌, ◌<◌, ◌^◌, length};
+ghost use Rattle.std.specs.Prelude.{◌≡◌, ◌+◌, ◌*◌, ◌^◌, ◌<◌, ◌≤◌, length};
 ghost use Rattle.std.specs.Int.{w32, to_le_bytes, div_ceil};
 ghost use Rattle.rand_chacha.specs.ChaCha.{key_of};
 ghost use Rattle.anb_seal.specs.Streams.{stream_bytes, xored};
@@ -8,19 +8,20 @@ use rand_chacha::ChaCha20Rng;
 use rand_core::SeedableRng;
 use rand_core::utils::NextWord;
 
+/// The words that are taken at a time: a loop over single words is slower.
+const STRIDE: usize = 4;
+
 /// The bytes xor those of a stream, from word `first` of the stream on.
 pub(crate) fn mask(key: &[u8; 32], stream: u32, first: u64, bytes: &mut [u8])
     requires { first < 2 ^ 40 }
-    ensures { bytes.new ≡ xored bytes.old (stream_bytes key.now stream first (div_ceil (length bytes.old) 4)) }
+    ensures { bytes.new ≡ xored bytes.old (stream_bytes (key_of key.now) stream first (div_ceil (length bytes.old) 4)) }
 {
     let mut words = words_from(key, stream, first);
-    let whole = bytes.len() / 4;
-    for i in 0..whole {
-        mask_word(&mut bytes[4 * i..], words.next_word());
+    let strides = bytes.len() / (4 * STRIDE);
+    for i in 0..strides {
+        mask_words(&mut words, STRIDE, &mut bytes[4 * STRIDE * i..]);
     }
-    if bytes.len() % 4 > 0 {
-        mask_tail(&mut bytes[4 * whole..], words.next_word());
-    }
+    mask_rest(&mut words, &mut bytes[4 * STRIDE * strides..]);
 }
 
 fn words_from(key: &[u8; 32], stream: u32, first: u64) -> ChaCha20Rng
@@ -31,6 +32,31 @@ fn words_from(key: &[u8; 32], stream: u32, first: u64) -> ChaCha20Rng
     words.set_stream(u64::from(stream));
     words.set_word_pos(u128::from(first));
     words
+}
+
+/// The first bytes xor the next words.
+#[inline(always)]
+fn mask_words(words: &mut ChaCha20Rng, count: usize, bytes: &mut [u8])
+    requires room { 4 * count ≤ length bytes.old }
+    requires near { words.old.word_pos + count < 2 ^ 68 }
+    ensures bytes { bytes.new ≡ xored bytes.old (stream_bytes words.old.key words.old.stream words.old.word_pos count) }
+    ensures words { words.new ≡ record words.old { word_pos = words.old.word_pos + count } }
+{
+    for i in 0..count {
+        mask_word(&mut bytes[4 * i..], words.next_word());
+    }
+}
+
+/// All bytes xor the next words, the last of which may reach past them.
+fn mask_rest(words: &mut ChaCha20Rng, bytes: &mut [u8])
+    requires { words.old.word_pos < 2 ^ 67 }
+    ensures { bytes.new ≡ xored bytes.old (stream_bytes words.old.key words.old.stream words.old.word_pos (div_ceil (length bytes.old) 4)) }
+{
+    let whole = bytes.len() / 4;
+    mask_words(words, whole, bytes);
+    if bytes.len() % 4 > 0 {
+        mask_tail(&mut bytes[4 * whole..], words.next_word());
+    }
 }
 
 /// The first four bytes xor a word's.

@@ -9,7 +9,7 @@ use Rattle.anb_seal.proofs.Words.{length-stream_bytes}
 
 pub returns : goal.returns
 returns c =
-    let words = stream_bytes c.args.seed.now c.args.session (8 * c.args.i) 8 in
-    let size : 32 ≡ length words = sym (length-stream_bytes c.args.seed.now c.args.session (8 * c.args.i) 8) in
+    let words = stream_bytes (key_of c.args.seed.now) c.args.session (8 * c.args.i) 8 in
+    let size : 32 ≡ length words = sym (length-stream_bytes (key_of c.args.seed.now) c.args.session (8 * c.args.i) 8) in
     let zeros : xored (replicate 32 0) words ≡ words = ap (λ (n : ℕ). xored (replicate n 0) words) size ∙ xored_zeros words in
-    c.mask.ensures ∙ ap (λ (n : ℕ). xored (replicate 32 0) (stream_bytes c.args.seed.now c.args.session (8 * n) 8)) c.from.ensures ∙ zeros
+    c.mask.ensures ∙ ap (λ (n : ℕ). xored (replicate 32 0) (stream_bytes (key_of c.args.seed.now) c.args.session (8 * n) 8)) c.from.ensures ∙ zeros

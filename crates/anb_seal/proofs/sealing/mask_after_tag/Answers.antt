@@ -13,4 +13,4 @@ returns c =
     let rest = take_rest c.args.bytes.now 32 in
     put_rest c.args.bytes.now c.mask.new.bytes 32
     ∙ ap (λ (t : List ℕ). take 32 c.args.bytes.now ++ t)
-      (c.mask.ensures ∙ ap (λ (t : List ℕ). xored t (stream_bytes c.args.key.now 0 0 (div_ceil (length t) 4))) rest ∙ sym (xored-take (drop 32 c.args.bytes.now) (stream_bytes c.args.key.now 0 0 (div_ceil (length (drop 32 c.args.bytes.now)) 4))))
+      (c.mask.ensures ∙ ap (λ (t : List ℕ). xored t (stream_bytes (key_of c.args.key.now) 0 0 (div_ceil (length t) 4))) rest ∙ sym (xored-take (drop 32 c.args.bytes.now) (stream_bytes (key_of c.args.key.now) 0 0 (div_ceil (length (drop 32 c.args.bytes.now)) 4))))

@@ -13,6 +13,6 @@ returns g c =
     let same : c.deref_mut.result.now ≡ c.args.bytes.now = c.deref_mut.ensures.value ∙ c.in_ok-masked.ensures.items in
     take_at c.mask.new.bytes _ c.in_ok-masked.masked.len (omega (arith, c.mask.auto.bytes, c.deref_mut.ensures.len))
     ∙ c.mask.ensures
-    ∙ ap (λ (t : List ℕ). xored t (stream_bytes c.short_mac.result 0 0 (div_ceil (length t) 4))) same
-    ∙ sym (xored-take c.args.bytes.now (stream_bytes c.short_mac.result 0 0 (div_ceil (length c.args.bytes.now) 4)))
+    ∙ ap (λ (t : List ℕ). xored t (stream_bytes (key_of c.short_mac.result) 0 0 (div_ceil (length t) 4))) same
+    ∙ sym (xored-take c.args.bytes.now (stream_bytes (key_of c.short_mac.result) 0 0 (div_ceil (length c.args.bytes.now) 4)))
     ∙ ap (λ (key : List ℕ). xored c.args.bytes.now (key_stream key (length c.args.bytes.now))) c.short_mac.ensures
