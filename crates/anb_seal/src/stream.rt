@@ -1,5 +1,5 @@
 // ChaCha20 (RFC 8439) as a source of bytes.
-ghost use Rattle.std.specs.Prelude.{◌≡◌, ◌+◌, ◌*◌, ◌^◌, ◌<◌, ◌≤◌, length};
+ghost use Rattle.std.specs.Prelude.{◌≡◌, ◌+◌, ◌^◌, ◌<◌, ◌≤◌, length};
 ghost use Rattle.std.specs.Int.{w32, to_le_bytes, div_ceil};
 ghost use Rattle.rand_chacha.specs.ChaCha.{key_of};
 ghost use Rattle.anb_seal.specs.Streams.{stream_bytes, xored};
@@ -8,8 +8,8 @@ use rand_chacha::ChaCha20Rng;
 use rand_core::SeedableRng;
 use rand_core::utils::NextWord;
 
-/// The words that are taken at a time: a loop over single words is slower.
-const STRIDE: usize = 4;
+/// The bytes that are masked at a time, by four words: one word at a time is slower.
+const STRIDE: usize = 16;
 
 /// The bytes xor those of a stream, from word `first` of the stream on.
 pub(crate) fn mask(key: &[u8; 32], stream: u32, first: u64, bytes: &mut [u8])
@@ -17,11 +17,11 @@ pub(crate) fn mask(key: &[u8; 32], stream: u32, first: u64, bytes: &mut [u8])
     ensures { bytes.new ≡ xored bytes.old (stream_bytes (key_of key.now) stream first (div_ceil (length bytes.old) 4)) }
 {
     let mut words = words_from(key, stream, first);
-    let strides = bytes.len() / (4 * STRIDE);
+    let strides = bytes.len() / STRIDE;
     for i in 0..strides {
-        mask_words(&mut words, STRIDE, &mut bytes[4 * STRIDE * i..]);
+        mask_stride(&mut words, &mut bytes[STRIDE * i..]);
     }
-    mask_rest(&mut words, &mut bytes[4 * STRIDE * strides..]);
+    mask_rest(&mut words, &mut bytes[STRIDE * strides..]);
 }
 
 fn words_from(key: &[u8; 32], stream: u32, first: u64) -> ChaCha20Rng
@@ -34,15 +34,14 @@ fn words_from(key: &[u8; 32], stream: u32, first: u64) -> ChaCha20Rng
     words
 }
 
-/// The first bytes xor the next words.
-#[inline(always)]
-fn mask_words(words: &mut ChaCha20Rng, count: usize, bytes: &mut [u8])
-    requires room { 4 * count ≤ length bytes.old }
-    requires near { words.old.word_pos + count < 2 ^ 68 }
-    ensures bytes { bytes.new ≡ xored bytes.old (stream_bytes words.old.key words.old.stream words.old.word_pos count) }
-    ensures words { words.new ≡ record words.old { word_pos = words.old.word_pos + count } }
+/// The bytes of a stride xor the next four words.
+fn mask_stride(words: &mut ChaCha20Rng, bytes: &mut [u8])
+    requires room { 16 ≤ length bytes.old }
+    requires near { words.old.word_pos < 2 ^ 67 }
+    ensures bytes { bytes.new ≡ xored bytes.old (stream_bytes words.old.key words.old.stream words.old.word_pos 4) }
+    ensures words { words.new ≡ record words.old { word_pos = words.old.word_pos + 4 } }
 {
-    for i in 0..count {
+    for i in 0..STRIDE / 4 {
         mask_word(&mut bytes[4 * i..], words.next_word());
     }
 }
@@ -53,9 +52,11 @@ fn mask_rest(words: &mut ChaCha20Rng, bytes: &mut [u8])
     ensures { bytes.new ≡ xored bytes.old (stream_bytes words.old.key words.old.stream words.old.word_pos (div_ceil (length bytes.old) 4)) }
 {
     let whole = bytes.len() / 4;
-    mask_words(words, whole, bytes);
+    for i in 0..whole {
+        mask_word(&mut bytes[4 * i..], words.next_word());
+    }
     if bytes.len() % 4 > 0 {
-        mask_tail(&mut bytes[4 * whole..], words.next_word());
+        mask_part(&mut bytes[4 * whole..], words.next_word());
     }
 }
 
@@ -72,7 +73,7 @@ fn mask_word(bytes: &mut [u8], word: u32)
 }
 
 /// All bytes, which are fewer than four, xor the first of a word's.
-fn mask_tail(bytes: &mut [u8], word: u32)
+fn mask_part(bytes: &mut [u8], word: u32)
     requires { length bytes.old < 4 }
     ensures { bytes.new ≡ xored bytes.old (to_le_bytes w32 word) }
 {

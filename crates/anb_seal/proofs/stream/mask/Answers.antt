@@ -24,10 +24,10 @@ loop-i-preserved c =
     let place : c.args.first + 4 * i + 4 ≡ c.args.first + 4 * (i + 1) = omega arith in
     let count : 4 * i + 4 ≡ 4 * (i + 1) = omega arith in
     record {
-      words = c.mask_words.ensures.words ∙ ap (λ (g : ChaCha). record g { word_pos = g.word_pos + 4 }) at
+      words = c.mask_stride.ensures.words ∙ ap (λ (g : ChaCha). record g { word_pos = g.word_pos + 4 }) at
       ∙ ap (λ (n : ℕ). record { key = key; stream = c.args.stream; word_pos = n }) place;
-      bytes = more_masked key c.args.stream c.args.first (4 * i) 4 (16 * i) c.args.bytes.now c.loop-i.bytes c.mask_words.new.bytes (omega arith) c.loop-i.invariant.bytes
-      (c.mask_words.ensures.bytes ∙ ap (λ (g : ChaCha). xored here (stream_bytes g.key g.stream g.word_pos 4)) at)
+      bytes = more_masked key c.args.stream c.args.first (4 * i) 4 (16 * i) c.args.bytes.now c.loop-i.bytes c.mask_stride.new.bytes (omega arith) c.loop-i.invariant.bytes
+      (c.mask_stride.ensures.bytes ∙ ap (λ (g : ChaCha). xored here (stream_bytes g.key g.stream g.word_pos 4)) at)
       ∙ ap (λ (n : ℕ). xored c.args.bytes.now (stream_bytes key c.args.stream c.args.first n)) count;
     }
 

@@ -1,6 +1,6 @@
 use Rattle.std.proofs.Common.{◌≡◌, ◌+◌}
 use Rattle.anb_seal.specs.Streams.{stream_bytes, xored}
-use Rattle.anb_seal.proofs.stream.mask_words.Given as goal
+use Rattle.anb_seal.proofs.stream.mask_rest.Given as goal
 
 abbrev pub invariant-loop-i : goal.invariant-loop-i
 invariant-loop-i l = record {
