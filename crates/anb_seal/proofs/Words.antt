@@ -1,9 +1,8 @@
 -- The bytes of the words of a stream.
-use Rattle.std.proofs.Common.{◌≡◌, ◌+◌, ◌*◌, ◌%◌, ◌^◌, ◌<◌, ℕ, zero, suc, List, [], ◌∷◌, ◌++◌, length, refl, ap, sym, ◌∙◌, arith, length-append}
-use Rattle.std.proofs.lemmas.List.{append-nil, append_assoc}
+use Rattle.std.proofs.Common.{◌≡◌, ◌+◌, ◌*◌, ◌%◌, ◌^◌, ◌<◌, ℕ, zero, suc, List, ◌++◌, length, refl, ap, sym, ◌∙◌, arith, length-append}
+use Rattle.std.proofs.lemmas.List.{append_assoc}
 use Rattle.std.specs.Int.{w32, to_le_bytes}
-use Rattle.rand_chacha.specs.ChaCha.{ChaCha, key_of, next_word}
-use Rattle.std.specs.List.{range_with_len, flat_map}
+use Rattle.rand_chacha.specs.ChaCha.{ChaCha, next_word}
 use Rattle.anb_seal.specs.Streams.{word_bytes, stream_bytes}
 
 pub length-word_bytes : (key : List ℕ) (stream i : ℕ) → length (word_bytes key stream i) ≡ 4
@@ -20,6 +19,7 @@ stream_bytes-add key stream i zero n = ap (λ (k : ℕ). stream_bytes key stream
   where
     zero_n : zero + n ≡ n
     zero_n = omega arith
+
     i_zero : i ≡ i + zero
     i_zero = omega arith
 stream_bytes-add key stream i (suc m) n =

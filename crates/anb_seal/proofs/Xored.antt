@@ -1,5 +1,5 @@
 -- Lists xor one another.
-use Rattle.std.proofs.Common.{◌≡◌, ◌≤◌, ◌<◌, ◌+◌, ◌-◌, ℕ, zero, suc, List, [], ◌∷◌, ◌++◌, length, take, drop, set, get_or, bit_xor, map, replicate, refl, ap, sym, ◌∙◌, arith}
+use Rattle.std.proofs.Common.{◌≡◌, ◌≤◌, ◌<◌, ◌-◌, ℕ, zero, suc, List, [], ◌∷◌, ◌++◌, length, take, drop, set, get_or, bit_xor, map, replicate, refl, ap, sym, ◌∙◌, arith}
 use Rattle.std.specs.Int.Bits.{xor_assoc, xor_self, xor_zero_l, xor_zero_r}
 use Rattle.std.proofs.lemmas.List.{drop_all, length-drop, append-nil}
 use borrow.Rule.Slice.PartMut.{put_mid}

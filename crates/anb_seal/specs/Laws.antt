@@ -1,5 +1,5 @@
 -- What holds of sealing and wrapping, for all lists of numbers.
-use Rattle.std.specs.Prelude.{◌≡◌, ◌↔◌, ℕ, ◌+◌, List, length, Option, Some}
+use Rattle.std.specs.Prelude.{◌≡◌, ◌↔◌, ℕ, ◌+◌, List, length, Some}
 use Rattle.anb_base.specs.declared.content.Suite.{Suite}
 use Rattle.anb_seal.specs.Primitives.{sealed, unsealed, wrapped, unwrapped}
 

@@ -17,10 +17,11 @@ mod laws;
 mod sealing;
 mod stream;
 
-pub use laws::{seals_apart, seals_longer, unseals_exactly, unwraps_exactly, wraps_apart, wraps_longer};
-
 use anb_base::{Bytes, NoMemory, Suite};
 use hmac::mac_with;
+pub use laws::{
+    seals_apart, seals_longer, unseals_exactly, unwraps_exactly, wraps_apart, wraps_longer,
+};
 use sealing::{seal_with, unseal_with, unwrap_with, wrap_with};
 use sha2::{Digest, Sha256, Sha512};
 use std::alloc::Global;
@@ -123,3 +124,6 @@ pub fn draw(seed: &[u8; 32], session: u32, i: u32) -> [u8; 32]
     stream::mask(seed, session, 8 * u64::from(i), &mut bytes);
     bytes
 }
+
+#[cfg(test)]
+mod tests;

@@ -32,7 +32,11 @@ pub(crate) fn seal_with<H: SuiteHash>(alloc: Global, k: &[u8], m: &[u8]) -> Resu
 }
 
 #[tactic(auto, unfolding(crate::specs::Primitives::sealed))]
-pub(crate) fn unseal_with<H: SuiteHash>(alloc: Global, k: &[u8], c: &[u8]) -> Result<Option<Bytes>, NoMemory>
+pub(crate) fn unseal_with<H: SuiteHash>(
+    alloc: Global,
+    k: &[u8],
+    c: &[u8],
+) -> Result<Option<Bytes>, NoMemory>
     ensures some { IfOk result (λ r. IfSome r (λ m. sealed H.suite k.now m ≡ c.now)) }
     ensures none { IfOk result (λ r. IfNone r ((m : List ℕ) → sealed H.suite k.now m ≢ c.now)) }
 {
@@ -42,24 +46,46 @@ pub(crate) fn unseal_with<H: SuiteHash>(alloc: Global, k: &[u8], c: &[u8]) -> Re
 }
 
 #[tactic(auto, unfolding(crate::specs::Primitives::wrapped))]
-pub(crate) fn wrap_with<H: SuiteHash>(alloc: Global, k: &[u8], d: &[u8], m: &[u8]) -> Result<Bytes, NoMemory>
+pub(crate) fn wrap_with<H: SuiteHash>(
+    alloc: Global,
+    k: &[u8],
+    d: &[u8],
+    m: &[u8],
+) -> Result<Bytes, NoMemory>
     ensures { IfOk result (λ c. c ≡ wrapped H.suite k.now d.now m.now) }
 {
     let stream_key = key_for::<H>(WRAP_STREAM, k);
     let tag_key = key_for::<H>(WRAP_TAG, k);
     let head = H::hash(d, &[], &[]);
-    close::<H>(alloc, stream_key.as_slice(), tag_key.as_slice(), head.as_slice(), m)
+    close::<H>(
+        alloc,
+        stream_key.as_slice(),
+        tag_key.as_slice(),
+        head.as_slice(),
+        m,
+    )
 }
 
 #[tactic(auto, unfolding(crate::specs::Primitives::wrapped))]
-pub(crate) fn unwrap_with<H: SuiteHash>(alloc: Global, k: &[u8], d: &[u8], c: &[u8]) -> Result<Option<Bytes>, NoMemory>
+pub(crate) fn unwrap_with<H: SuiteHash>(
+    alloc: Global,
+    k: &[u8],
+    d: &[u8],
+    c: &[u8],
+) -> Result<Option<Bytes>, NoMemory>
     ensures some { IfOk result (λ r. IfSome r (λ m. wrapped H.suite k.now d.now m ≡ c.now)) }
     ensures none { IfOk result (λ r. IfNone r ((m : List ℕ) → wrapped H.suite k.now d.now m ≢ c.now)) }
 {
     let stream_key = key_for::<H>(WRAP_STREAM, k);
     let tag_key = key_for::<H>(WRAP_TAG, k);
     let head = H::hash(d, &[], &[]);
-    open::<H>(alloc, stream_key.as_slice(), tag_key.as_slice(), head.as_slice(), c)
+    open::<H>(
+        alloc,
+        stream_key.as_slice(),
+        tag_key.as_slice(),
+        head.as_slice(),
+        c,
+    )
 }
 
 fn key_for<H: SuiteHash>(purpose: u8, k: &[u8]) -> H::Bytes
@@ -69,7 +95,13 @@ fn key_for<H: SuiteHash>(purpose: u8, k: &[u8]) -> H::Bytes
 }
 
 /// The sealed bytes of a message, of which the tag covers a head too.
-fn close<H: SuiteHash>(alloc: Global, stream_key: &[u8], tag_key: &[u8], head: &[u8], m: &[u8]) -> Result<Bytes, NoMemory>
+fn close<H: SuiteHash>(
+    alloc: Global,
+    stream_key: &[u8],
+    tag_key: &[u8],
+    head: &[u8],
+    m: &[u8],
+) -> Result<Bytes, NoMemory>
     ensures { IfOk result (λ c. c ≡ closed H.suite stream_key.now tag_key.now head.now m.now) }
 {
     let tag = short_mac::<H>(tag_key, head, m);
@@ -81,7 +113,13 @@ fn close<H: SuiteHash>(alloc: Global, stream_key: &[u8], tag_key: &[u8], head: &
 }
 
 /// The message that is closed to these bytes, where there is one.
-fn open<H: SuiteHash>(alloc: Global, stream_key: &[u8], tag_key: &[u8], head: &[u8], c: &[u8]) -> Result<Option<Bytes>, NoMemory>
+fn open<H: SuiteHash>(
+    alloc: Global,
+    stream_key: &[u8],
+    tag_key: &[u8],
+    head: &[u8],
+    c: &[u8],
+) -> Result<Option<Bytes>, NoMemory>
     ensures some { IfOk result (λ r. IfSome r (λ m. closed H.suite stream_key.now tag_key.now head.now m ≡ c.now)) }
     ensures none { IfOk result (λ r. IfNone r ((m : List ℕ) → closed H.suite stream_key.now tag_key.now head.now m ≢ c.now)) }
 {
@@ -98,7 +136,12 @@ fn open<H: SuiteHash>(alloc: Global, stream_key: &[u8], tag_key: &[u8], head: &[
 }
 
 /// The bytes xor the stream of a tag.
-fn masked<H: SuiteHash>(alloc: Global, stream_key: &[u8], tag: &[u8], bytes: &[u8]) -> Result<Vec<u8>, NoMemory>
+fn masked<H: SuiteHash>(
+    alloc: Global,
+    stream_key: &[u8],
+    tag: &[u8],
+    bytes: &[u8],
+) -> Result<Vec<u8>, NoMemory>
     ensures { IfOk result (λ v. v.items ≡ masked H.suite stream_key.now tag.now bytes.now) }
 {
     let mut masked = Vec::from_slice(alloc, bytes)?;

@@ -1,8 +1,5 @@
-use Rattle.std.proofs.Common.{rules, ◌≡◌, ◌<◌, ◌≤◌, ◌+◌, ◌*◌, ◌^◌, ◌%◌, ◌++◌, length, take, drop, ℕ, ◌-◌, Bool, true, false, List, [], ◌∷◌, set, get_or, bit_xor, map, replicate, refl, ap, sym, ◌∙◌, arith, add-one}
-use Rattle.std.specs.Int.{w32, to_le_bytes, div_ceil}
-use Rattle.rand_chacha.specs.ChaCha.{key_of}
-use Rattle.anb_seal.specs.Streams.{word_bytes, stream_bytes, key_stream, draw_of, xored}
-use Rattle.anb_seal.specs.Primitives.{hash_of, block_of, short_key, block_key, key_xor, mac_of, cut, tag_of, masked, closed, opened}
+use Rattle.std.proofs.Common.{◌≡◌, ◌<◌, ◌≤◌, ◌++◌, length, take, ℕ, ◌-◌, List, [], replicate, ap, sym, ◌∙◌, arith}
+use Rattle.anb_seal.specs.Primitives.{hash_of, block_of, block_key}
 use Rattle.anb_seal.proofs.hmac.block_key.Goals as goal
 use Rattle.std.proofs.lemmas.List.{append-nil}
 use Rattle.anb_seal.proofs.Macs.{hash_of-within_block, block_of-longest, short_key-long, short_key-short, front_padded}

@@ -1,6 +1,6 @@
 use Rattle.std.proofs.Common.{[]}
-use Rattle.anb_seal.specs.Primitives.{sealed, unsealed, wrapped, unwrapped, hash_of, key_for}
-use Rattle.anb_seal.proofs.Closed.{length-closed, opens, opened_closes, closed_apart}
+use Rattle.anb_seal.specs.Primitives.{sealed, key_for}
+use Rattle.anb_seal.proofs.Closed.{length-closed}
 use Rattle.anb_seal.proofs.laws.seals_longer.Goals as goal
 
 pub returns : goal.returns

@@ -1,8 +1,7 @@
-use Rattle.std.proofs.Common.{rules, ◌≡◌, ◌<◌, ◌≤◌, ◌+◌, ◌*◌, ◌/◌, ◌^◌, ◌%◌, ◌++◌, length, take, drop, ℕ, ◌-◌, Bool, true, false, List, [], ◌∷◌, set, get_or, bit_xor, map, replicate, refl, ap, sym, ◌∙◌, arith, add-one, add-zero}
-use Rattle.std.specs.Int.{w32, to_le_bytes, div_ceil}
+use Rattle.std.proofs.Common.{◌≡◌, ◌+◌, ◌*◌, ◌/◌, length, take, drop, ℕ, ◌-◌, refl, ap, sym, ◌∙◌, arith, add-zero}
+use Rattle.std.specs.Int.{div_ceil}
 use Rattle.rand_chacha.specs.ChaCha.{key_of}
-use Rattle.anb_seal.specs.Streams.{word_bytes, stream_bytes, key_stream, draw_of, xored}
-use Rattle.anb_seal.specs.Primitives.{hash_of, block_of, short_key, block_key, key_xor, mac_of, cut, tag_of, masked, closed, opened}
+use Rattle.anb_seal.specs.Streams.{stream_bytes, xored}
 use Rattle.anb_seal.proofs.stream.mask.Goals as goal
 use Rattle.std.proofs.lemmas.List.{take_rest, length-drop}
 use Rattle.rand_chacha.specs.ChaCha.{ChaCha}
@@ -11,9 +10,9 @@ use Rattle.anb_seal.proofs.Xored.{xored_nothing}
 
 pub loop-i-init : goal.loop-i-init
 loop-i-init c = record {
-      words = c.words_from-words.ensures ∙ rw add-zero refl;
-      bytes = sym (xored_nothing c.args.bytes.now);
-    }
+  words = c.words_from-words.ensures ∙ rw add-zero refl;
+  bytes = sym (xored_nothing c.args.bytes.now);
+}
 
 pub loop-i-preserved : goal.loop-i-preserved
 loop-i-preserved c =
@@ -25,10 +24,10 @@ loop-i-preserved c =
     let count : 4 * i + 4 ≡ 4 * (i + 1) = omega arith in
     record {
       words = c.mask_stride.ensures.words ∙ ap (λ (g : ChaCha). record g { word_pos = g.word_pos + 4 }) at
-      ∙ ap (λ (n : ℕ). record { key = key; stream = c.args.stream; word_pos = n }) place;
+          ∙ ap (λ (n : ℕ). record { key = key; stream = c.args.stream; word_pos = n }) place;
       bytes = more_masked key c.args.stream c.args.first (4 * i) 4 (16 * i) c.args.bytes.now c.loop-i.bytes c.mask_stride.new.bytes (omega arith) c.loop-i.invariant.bytes
-      (c.mask_stride.ensures.bytes ∙ ap (λ (g : ChaCha). xored here (stream_bytes g.key g.stream g.word_pos 4)) at)
-      ∙ ap (λ (n : ℕ). xored c.args.bytes.now (stream_bytes key c.args.stream c.args.first n)) count;
+          (c.mask_stride.ensures.bytes ∙ ap (λ (g : ChaCha). xored here (stream_bytes g.key g.stream g.word_pos 4)) at)
+          ∙ ap (λ (n : ℕ). xored c.args.bytes.now (stream_bytes key c.args.stream c.args.first n)) count;
     }
 
 pub returns : goal.returns

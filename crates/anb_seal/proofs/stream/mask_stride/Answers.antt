@@ -1,17 +1,13 @@
-use Rattle.std.proofs.Common.{rules, ◌≡◌, ◌<◌, ◌≤◌, ◌+◌, ◌*◌, ◌/◌, ◌^◌, ◌%◌, ◌++◌, length, take, drop, ℕ, ◌-◌, Bool, true, false, List, [], ◌∷◌, set, get_or, bit_xor, map, replicate, refl, ap, sym, ◌∙◌, arith, add-one, add-zero}
-use Rattle.std.specs.Int.{w32, to_le_bytes, div_ceil}
-use Rattle.rand_chacha.specs.ChaCha.{key_of}
-use Rattle.anb_seal.specs.Streams.{word_bytes, stream_bytes, key_stream, draw_of, xored}
-use Rattle.anb_seal.specs.Primitives.{hash_of, block_of, short_key, block_key, key_xor, mac_of, cut, tag_of, masked, closed, opened}
+use Rattle.std.proofs.Common.{◌*◌, refl, sym, arith, add-zero}
 use Rattle.anb_seal.proofs.stream.mask_stride.Goals as goal
 use Rattle.anb_seal.proofs.Masked.{one_word_more, one_word_on}
 use Rattle.anb_seal.proofs.Xored.{xored_nothing}
 
 pub loop-i-init : goal.loop-i-init
 loop-i-init c = record {
-      words = rw add-zero refl;
-      bytes = sym (xored_nothing c.args.bytes.now);
-    }
+  words = rw add-zero refl;
+  bytes = sym (xored_nothing c.args.bytes.now);
+}
 
 pub loop-i-preserved : goal.loop-i-preserved
 loop-i-preserved c =
