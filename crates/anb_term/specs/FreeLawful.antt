@@ -15,7 +15,7 @@ use Rattle.anb_term.specs.TreeSame.{list_of-trees_of, trees_of-list_of, term_of-
 use Rattle.anb_term.specs.Lawful.{Lawful}
 use Rattle.anb_term.specs.FreeAlgebra.{parts_of, terms_over, term_meaning}
 
-map-append : {A B : Type 0} (f : A → B) (xs ys : List A) → map f (xs ++ ys) ≡ map f xs ++ map f ys
+pub map-append : {A B : Type 0} (f : A → B) (xs ys : List A) → map f (xs ++ ys) ≡ map f xs ++ map f ys
 map-append f [] ys = refl
 map-append f (x ∷ xs) ys = ap (λ l. f x ∷ l) (map-append f xs ys)
 
