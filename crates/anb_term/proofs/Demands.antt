@@ -82,7 +82,7 @@ module _ {A : Type 0} (m : Meaning A) (lawful : Lawful m) (frame : List Tree) (v
         let is_built : m.built o g.0 ≡ b.0 = cc in
         let count : length g.0 ≡ keys o = sym (ap length same) ∙ kv.2 ∙ n in
         let u = lawful.undone_of o g.0 [] p.0 h count (ap length (append_nil g.0) ∙ eqb-true _ _ c.1)
-            (All-from_recursion (λ x. IsTrue (m.is_value x)) g.0 (values_are m lawful vs valued ks g.0 g.1)) (All-from_recursion (λ x. IsTrue (m.is_value x)) [] tt) in
+        (All-from_recursion (λ x. IsTrue (m.is_value x)) g.0 (values_are m lawful vs valued ks g.0 g.1)) (All-from_recursion (λ x. IsTrue (m.is_value x)) [] tt) in
         (g.0, b.0, [], g.1, b.2, count, ap (m.undone o g.0) (sym is_built ∙ ap (m.built o) (sym (append_nil g.0))) ∙ u)
     undone_too (p ∷ ps) e =
         let first : value (terms_over m.has) frame (part o 0 ks r) ≡ Some p = rw (et, er, h, eq-eqb (length kts) (keys o) n, e) in

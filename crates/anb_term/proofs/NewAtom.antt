@@ -113,14 +113,17 @@ module _ {A : Type 0} (m : Meaning A) (lawful : Lawful m) (frame : List Tree) (v
   -- what the new atom doesn't occur in has a recipe without it
   mutual
     unfolding Has HaveAll Known
+
     without : (t : Tree) (b : A) → Avoids a t → Has t b → Known t b
     without (leaf n) b av (inl k) = k
     without (leaf n) b av (inr h) = absurd (av h.0)
     without (node o ts) b av (inl k) = k
     without (node o ts) b av (inr h) =
-        let rs = all_without ts h.0 av h.3 in
-        (build o rs.0, rw (rs.1, h.1, eq-eqb (length (list_of ts)) (arity o) h.2, trees_of-list_of ts),
-          rw (rs.2, h.1, eq-eqb (length h.0) (arity o) (all_length ts h.0 h.3 ∙ h.2)) (ap Some (sym h.4)))
+        let rs = all_without ts h.0 av h.3 in (
+          build o rs.0,
+          rw (rs.1, h.1, eq-eqb (length (list_of ts)) (arity o) h.2, trees_of-list_of ts),
+          rw (rs.2, h.1, eq-eqb (length h.0) (arity o) (all_length ts h.0 h.3 ∙ h.2)) (ap Some (sym h.4)),
+        )
 
     all_without : (ts : Trees) (bs : List A) → AvoidsAll a ts → HaveAll ts bs → (rs : RecipeTrees) × (values (terms_over m.has) frame rs ≡ Some (list_of ts)) × (values m vs rs ≡ Some bs)
     all_without none [] av h = (no_recipes, refl, refl)
@@ -137,6 +140,7 @@ module _ {A : Type 0} (m : Meaning A) (lawful : Lawful m) (frame : List Tree) (v
 
   mutual
     unfolding Has HaveAll
+
     one : (t : Tree) (b c : A) → Has t b → Has t c → b ≡ c
     one (leaf n) b c (inl k) h = known_one (leaf n) b c k (without (leaf n) c (known_avoids (leaf n) b k) h)
     one (leaf n) b c (inr h) (inl k) = absurd (known_avoids (leaf n) c k h.0)
@@ -155,6 +159,7 @@ module _ {A : Type 0} (m : Meaning A) (lawful : Lawful m) (frame : List Tree) (v
 
   mutual
     unfolding Has HaveAll Known
+
     has_value : (t : Tree) (b : A) → Has t b → IsTrue (m.is_value b)
     has_value (leaf n) b (inl k) = value_is m lawful vs vv k.0 b k.2
     has_value (leaf n) b (inr h) = subst (λ y. IsTrue (m.is_value y)) (sym h.1) vx
@@ -230,8 +235,8 @@ module _ {A : Type 0} (m : Meaning A) (lawful : Lawful m) (frame : List Tree) (v
       let u = undone_parts m lawful o kv w.2 v h long_keys (have_values (trees_of ks) kv (to_all ks kv hk)) (value_is m lawful vs vv k.0 v k.2) undone in
       let count : length w.2 ≡ length ps = counted kv w.2 ks ps (u.2 ∙ sym is.2) (long_keys ∙ sym n) in
       (w.2, undone, known_parts ps w.2 count (known_part o rs.0 k.0 ks ps t kv w.2 v h n ek k.1 e rs.2 k.2 long_keys undone)) where
-    counted : (xs ys : List A) (us ws : List Tree) → length (xs ++ ys) ≡ length (us ++ ws) → length xs ≡ length us → length ys ≡ length ws
-    counted xs ys us ws e f = omega (arith, length-append xs ys, length-append us ws)
+        counted : (xs ys : List A) (us ws : List Tree) → length (xs ++ ys) ≡ length (us ++ ws) → length xs ≡ length us → length ys ≡ length ws
+        counted xs ys us ws e f = omega (arith, length-append xs ys, length-append us ws)
 
   built_opens : (o : Op) (ks ps : List Tree) (kv bs : List A) (v : A) → m.has o ≡ true → IsTrue (undoable o) → length ks ≡ keys o → length (ks ++ ps) ≡ arity o → Pairs Has ks kv
       → HaveAll (trees_of (ks ++ ps)) bs → v ≡ m.built o bs → (qs : List A) × (m.undone o kv v ≡ Some qs) × Pairs Has ps qs
@@ -241,8 +246,8 @@ module _ {A : Type 0} (m : Meaning A) (lawful : Lawful m) (frame : List Tree) (v
       let whole : bs ≡ kv ++ s.1 = s.2 ∙ ap (λ l. l ++ s.1) same in
       let count : length (kv ++ s.1) ≡ arity o = sym (ap length whole) ∙ all_length (trees_of (ks ++ ps)) bs all ∙ ap length (list_of-trees_of (ks ++ ps)) ∙ long in
       let law = lawful.undone_of o kv s.1 u h (pairs_length Has ks kv hk ∙ n) count
-          (All-from_recursion (λ x. IsTrue (m.is_value x)) kv (have_values (trees_of ks) kv (to_all ks kv hk)))
-          (All-from_recursion (λ x. IsTrue (m.is_value x)) s.1 (have_values (trees_of ps) s.1 (to_all ps s.1 s.4))) in
+      (All-from_recursion (λ x. IsTrue (m.is_value x)) kv (have_values (trees_of ks) kv (to_all ks kv hk)))
+      (All-from_recursion (λ x. IsTrue (m.is_value x)) s.1 (have_values (trees_of ps) s.1 (to_all ps s.1 s.4))) in
       (s.1, ap (m.undone o kv) (is ∙ ap (m.built o) whole) ∙ law, s.4)
 
   opens : (o : Op) (ks ps : List Tree) (t : Tree) (kv : List A) (v : A) → m.has o ≡ true → length ks ≡ keys o → Pairs Has ks kv → Has t v → parts_of o ks t ≡ Some ps
@@ -252,11 +257,11 @@ module _ {A : Type 0} (m : Meaning A) (lawful : Lawful m) (frame : List Tree) (v
       let is = parts_are o ks t ps e in
       let P : Tree → Type 0 = λ u. Has u v in
       by_cases is (subst P is.1 hv) where
-    by_cases : (IsTrue (undoable o)) × (t ≡ node o (trees_of (ks ++ ps))) × (length (ks ++ ps) ≡ arity o)
-        → Known (node o (trees_of (ks ++ ps))) v ⊎ ((bs : List A) × (m.has o ≡ true) × (length (list_of (trees_of (ks ++ ps))) ≡ arity o) × HaveAll (trees_of (ks ++ ps)) bs × (v ≡ m.built o bs))
-        → (qs : List A) × (m.undone o kv v ≡ Some qs) × Pairs Has ps qs
-    by_cases is (inl k) = known_opens o ks ps t kv v h n hk (let P : Tree → Type 0 = λ u. Known u v in subst P (sym is.1) k) e
-    by_cases is (inr b) = built_opens o ks ps kv b.0 v h is.0 n is.2 hk b.3 b.4
+        by_cases : (IsTrue (undoable o)) × (t ≡ node o (trees_of (ks ++ ps))) × (length (ks ++ ps) ≡ arity o)
+            → Known (node o (trees_of (ks ++ ps))) v ⊎ ((bs : List A) × (m.has o ≡ true) × (length (list_of (trees_of (ks ++ ps))) ≡ arity o) × HaveAll (trees_of (ks ++ ps)) bs × (v ≡ m.built o bs))
+            → (qs : List A) × (m.undone o kv v ≡ Some qs) × Pairs Has ps qs
+        by_cases is (inl k) = known_opens o ks ps t kv v h n hk (let P : Tree → Type 0 = λ u. Known u v in subst P (sym is.1) k) e
+        by_cases is (inr b) = built_opens o ks ps kv b.0 v h is.0 n is.2 hk b.3 b.4
 
   facts : Facts m (frame ++ leaf a ∷ []) (vs ++ x ∷ []) Has
   unfolding Has HaveAll

@@ -52,7 +52,7 @@ module _ (vs : List Term) where
         ∙ ap (option_and_then (build_if terms o)) (all_translated rs)
     translated (part o j ks r) =
         led (map tree_of) tree_of (λ kv. option_and_then (part_if term_meaning o j kv) (value term_meaning vs r)) (λ kv. option_and_then (part_if terms o j kv) (option_map tree_of (value term_meaning vs r)))
-            (values term_meaning vs ks) (λ kv. led tree_of tree_of (part_if term_meaning o j kv) (part_if terms o j (map tree_of kv)) (value term_meaning vs r) (part_led o j kv))
+        (values term_meaning vs ks) (λ kv. led tree_of tree_of (part_if term_meaning o j kv) (part_if terms o j (map tree_of kv)) (value term_meaning vs r) (part_led o j kv))
         ∙ ap (option_and_then (λ kv. option_and_then (part_if terms o j kv) (option_map tree_of (value term_meaning vs r)))) (all_translated ks)
         ∙ ap (λ (x : Option Tree). option_and_then (λ kv. option_and_then (part_if terms o j kv) x) (values terms (map tree_of vs) ks)) (translated r)
 

@@ -16,7 +16,7 @@ abbrev pub PartInTerms : Type 0
 PartInTerms = (has : Op → Bool) (frame : List Tree) (o : Op) (j : ℕ) (ks : RecipeTrees) (r : RecipeTree) (t : Tree)
     → value (terms_over has) frame (part o j ks r) ≡ Some t
     → (ts : List Tree) × IsTrue (has o) × IsTrue (undoable o) × (length ts ≡ arity o) × (value (terms_over has) frame r ≡ Some (node o (trees_of ts)))
-      × (values (terms_over has) frame ks ≡ Some (take (keys o) ts)) × (slice_get (drop (keys o) ts) j ≡ Some t)
+    × (values (terms_over has) frame ks ≡ Some (take (keys o) ts)) × (slice_get (drop (keys o) ts) j ≡ Some t)
 
 -- over terms a recipe has the value that it has over their trees
 abbrev pub TermsAreTrees : Type 0
@@ -36,7 +36,7 @@ module _ {A : Type 0} (m : Meaning A) where
   abbrev pub UndoesByOwn : Type 0
   UndoesByOwn = (vs : List A) (o : Op) (j : ℕ) (ks : RecipeTrees) (r : RecipeTree) (b : A) → value m vs (part o j ks r) ≡ Some b
       → (kv : List A) × (v : A) × (ps : List A) × IsTrue (m.has o) × IsTrue (undoable o) × (length kv ≡ keys o) × (values m vs ks ≡ Some kv)
-        × (value m vs r ≡ Some v) × (m.undone o kv v ≡ Some ps) × (slice_get ps j ≡ Some b)
+      × (value m vs r ≡ Some v) × (m.undone o kv v ≡ Some ps) × (slice_get ps j ≡ Some b)
 
   -- from values recipes give values
   abbrev pub GiveValues : Type 0

@@ -15,6 +15,9 @@ pub mod trees;
 
 pub use algebra::Algebra;
 pub use memory::NoMemory;
-pub use recipe::{eval, Recipe};
+pub use recipe::{Recipe, eval};
 pub use term::{Op, Term, Terms};
 pub use trees::TermAlgebra;
+
+#[cfg(test)]
+mod tests;
