@@ -1,10 +1,10 @@
 -- Demands that hold go on holding, and those that hold of terms hold of values where labels agree.
-use Rattle.std.proofs.Common.{◌≡◌, ℕ, suc, List, [], ◌∷◌, ◌++◌, length, Bool, true, false, ◌&&◌, IsTrue, Option, Some, None, refl, sym, ap, ◌∙◌}
+use Rattle.std.proofs.Common.{◌≡◌, suc, List, [], ◌∷◌, ◌++◌, length, true, IsTrue, Option, Some, None, refl, sym, ap, ◌∙◌}
 use Rattle.std.specs.Prelude.{slice_get, option_and_then, ◌==◌}
 use Rattle.std.proofs.lemmas.Bool.{eqb-true, eq-eqb}
 use Rattle.std.proofs.lemmas.List.Elements.{All-from_recursion, recursion_from_All}
 use Rattle.anb_term.specs.declared.term.Op.{Op}
-use Rattle.anb_term.specs.Operator.{arity, keys, undoable}
+use Rattle.anb_term.specs.Operator.{arity, keys}
 use Rattle.anb_term.specs.Tree.{Tree, node, trees_of}
 use Rattle.anb_term.specs.TreeSame.{tree_same}
 use Rattle.anb_term.specs.Lawful.{Lawful}

@@ -4,6 +4,7 @@ pub mod Values
 pub mod Frames
 pub mod Demands
 pub mod Related
+pub mod Every
 mod NewAtom
 mod Translate
 mod Places

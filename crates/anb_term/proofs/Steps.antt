@@ -1,6 +1,6 @@
 -- Values of recipes taken apart and put together, step by step.
-use Rattle.std.proofs.Common.{◌≡◌, ℕ, List, [], ◌∷◌, length, Bool, true, false, ◌&&◌, cond, Option, Some, None, refl}
-use Rattle.std.specs.Prelude.{slice_get, option_and_then, ◌==◌}
+use Rattle.std.proofs.Common.{◌≡◌, ℕ, List, ◌∷◌, length, Bool, true, false, ◌&&◌, cond, Option, Some, None, refl}
+use Rattle.std.specs.Prelude.{slice_get, option_and_then}
 use Rattle.std.proofs.lemmas.Bool.{eq-eqb}
 use Rattle.anb_term.specs.declared.term.Op.{Op}
 use Rattle.anb_term.specs.Operator.{arity, keys}

@@ -1,5 +1,5 @@
 -- Recipes have the same values over terms as over trees.
-use Rattle.std.proofs.Common.{◌≡◌, ℕ, zero, suc, List, [], ◌∷◌, length, map, Bool, true, false, ◌&&◌, cond, Option, Some, None, refl, sym, ap, ◌∙◌}
+use Rattle.std.proofs.Common.{◌≡◌, ℕ, zero, suc, List, [], ◌∷◌, length, map, Bool, true, false, cond, Option, Some, None, refl, ap, ◌∙◌}
 use Rattle.std.specs.Prelude.{slice_get, option_and_then, option_map, ◌==◌}
 use Rattle.std.proofs.lemmas.List.{length-map}
 use Rattle.anb_term.specs.declared.term.Op.{Op}

@@ -1,5 +1,5 @@
 -- What the value of a recipe is: by operators of the algebra alone, and a value where the labels have values.
-use Rattle.std.proofs.Common.{◌≡◌, ℕ, List, [], ◌∷◌, ◌++◌, length, take, drop, map, Bool, true, false, IsTrue, Option, Some, None, refl, sym, ap, ◌∙◌, subst}
+use Rattle.std.proofs.Common.{◌≡◌, ℕ, List, [], ◌++◌, length, take, drop, Bool, true, false, IsTrue, Some, refl, sym, ap, ◌∙◌, subst}
 use Rattle.std.specs.Prelude.{slice_get, option_and_then, ◌==◌}
 use Rattle.std.specs.List.{AllByRecursion}
 use Rattle.std.proofs.lemmas.Bool.{eqb-true}
@@ -7,12 +7,10 @@ use Rattle.std.proofs.lemmas.List.Elements.{All-from_recursion, recursion_from_A
 use Rattle.std.proofs.Math.Seq.{take-append_seam, drop-append_seam}
 use Rattle.anb_term.specs.declared.term.Op.{Op}
 use Rattle.anb_term.specs.Operator.{arity, keys, undoable}
-use Rattle.anb_term.specs.Tree.{Tree, node, trees_of}
-use Rattle.anb_term.specs.Lawful.{Lawful, AreValues}
+use Rattle.anb_term.specs.Lawful.{Lawful}
 use Rattle.anb_term.specs.Value.{Meaning, RecipeTree, label, build, part, RecipeTrees, no_recipes, more_recipes, value, values, build_if, part_if}
-use Rattle.anb_term.specs.FreeAlgebra.{parts_of, terms_over}
+use Rattle.anb_term.specs.FreeAlgebra.{terms_over}
 use Rattle.anb_term.specs.FreeLawful.{parts_are}
-use Rattle.anb_term.specs.Agree.{Agree}
 use Rattle.anb_term.specs.Statements.{PartInTerms, OneValue, BuildsByOwn, UndoesByOwn, GiveValues, GivesOne}
 use Rattle.anb_term.proofs.Lists.{all_at}
 use Rattle.anb_term.proofs.Steps.{guarded, bound, consed}

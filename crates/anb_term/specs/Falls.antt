@@ -1,11 +1,11 @@
 -- Each operand is smaller than the term.
-use Rattle.std.specs.Prelude.{◌≡◌, ℕ, ◌+◌, ◌≤◌, List, [], ◌∷◌, map}
+use Rattle.std.specs.Prelude.{◌≤◌, List, [], ◌∷◌, map}
 use Rattle.std.proofs.Common.{arith}
 use denote.Param.Weighed.{most}
 use Rattle.anb_term.specs.declared.term.Term.{Term}
 use Rattle.anb_term.specs.declared.term.Term.TheVariants.{Atom, Node}
 use Rattle.anb_term.specs.declared.term.Terms.TheDeep.{deep-Term}
-use Rattle.anb_term.specs.Tree.{Tree, leaf, node, trees_of, tree_size, trees_size}
+use Rattle.anb_term.specs.Tree.{trees_of, tree_size, trees_size}
 use Rattle.anb_term.specs.View.{tree_of}
 
 deep_term : (t : Term) → deep-Term t ≤ tree_size (tree_of t)

@@ -1,12 +1,12 @@
 -- Laws on values of recipes, on Agree and on demands.
-use Rattle.std.specs.Prelude.{◌≡◌, ℕ, List, [], ◌∷◌, ◌++◌, length, map, take, drop, Bool, true, IsTrue, Some, option_map, slice_get}
+use Rattle.std.specs.Prelude.{◌≡◌, ℕ, List, [], ◌∷◌, ◌++◌, length, map, take, drop, Bool, IsTrue, Some, option_map, slice_get}
 use Rattle.anb_term.specs.declared.term.Op.{Op}
 use Rattle.anb_term.specs.declared.term.Term.{Term}
 use Rattle.anb_term.specs.Operator.{arity, keys, undoable}
 use Rattle.anb_term.specs.Tree.{Tree, leaf, node, trees_of, AvoidsEach}
 use Rattle.anb_term.specs.View.{tree_of}
 use Rattle.anb_term.specs.Value.{Meaning, RecipeTree, RecipeTrees, build, part, value, values}
-use Rattle.anb_term.specs.Lawful.{Lawful, AreValues}
+use Rattle.anb_term.specs.Lawful.{AreValues}
 use Rattle.anb_term.specs.FreeAlgebra.{terms, terms_over, term_meaning}
 use Rattle.anb_term.specs.Agree.{HasRecipe, Agree, Gives}
 use Rattle.anb_term.specs.Demand.{Demand, all_hold}

@@ -1,5 +1,5 @@
 -- Trees and terms told apart, and led into one another.
-use Rattle.std.specs.Prelude.{◌≡◌, List, [], ◌∷◌, ◌++◌, map, true, ◌==◌, refl}
+use Rattle.std.specs.Prelude.{◌≡◌, List, [], ◌∷◌, map, true, ◌==◌, refl}
 use Rattle.std.proofs.Common.{ap}
 use Rattle.std.proofs.lemmas.Bool.{eqb-true, eq-eqb, and_parts, and_from}
 use Rattle.anb_term.specs.declared.term.Op.{Op}

@@ -1,5 +1,7 @@
 // Recipes and terms by example.
 
+ghost use Rattle.std.specs.Prelude.{◌≡◌, length, IfOk};
+
 use crate::algebra::Algebra;
 use crate::memory::NoMemory;
 use crate::recipe::{Recipe, eval};
@@ -20,7 +22,9 @@ fn shared_key(alloc: Global) -> Result<Term, NoMemory> {
 }
 
 /// NA, NB and M, which is atom 2, sealed under the shared key.
-fn frame(alloc: Global) -> Result<Vec<Term>, NoMemory> {
+fn frame(alloc: Global) -> Result<Vec<Term>, NoMemory>
+    ensures { IfOk result (λ v. length v.items ≡ 3) }
+{
     let key = shared_key(alloc)?;
     let sealed = node(Op::Seal, vec![in alloc; key, Term::Atom(2)]?);
     Ok(vec![in alloc; Term::Atom(0), Term::Atom(1), sealed]?)
