@@ -1,0 +1,11 @@
+mod FromFacts
+mod Chosen
+mod Enough
+mod Meeting
+mod Worths
+mod Sound
+mod Comparing
+mod Marks
+mod All
+mod Frames
+mod Laws
