@@ -8,4 +8,4 @@ mod Comparing
 mod Marks
 mod All
 mod Frames
-mod Laws
+mod Exact

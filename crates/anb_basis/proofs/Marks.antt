@@ -54,9 +54,9 @@ given_more es cs cs' ms at c g fits of free is =
           (λ (a, b). let n : at ≡ entry_of d = sym of ∙ ap entry_of b in subst (λ i. slice_get (set ms at true) i ≡ Some true) n (set-same ms at true false free))
           (slice_get-last cs c d k e);
       of_mark = λ i e. ⊎_elim
-          (λ a. (length cs, c, at_seam cs [] c, of ∙ sym a))
+          (λ (a, v). (length cs, c, at_seam cs [] c, of ∙ sym a))
           (λ old. let m = g.of_mark i old in (m.0, m.1, slice_get-append cs (c ∷ []) m.0 m.1 m.2, m.3))
-          (set-at ms at i e);
+          (set-at ms at i true true e);
       once = λ k j d f a b same. ⊎_elim
           (λ old. ⊎_elim
           (λ old'. g.once k j d f old old' same)

@@ -76,7 +76,7 @@ fn compared_with(
     i: u32,
     term: &Term,
 ) -> Result<Option<Made>, NoMemory>
-    requires here { slice_get (terms_of closure.now) i ≡ Some (tree_of term.now) }
+    requires { slice_get (terms_of closure.now) i ≡ Some (tree_of term.now) }
     ensures { IfOk result (λ r. MatchOption r ((c : Tree) → IsComparedWith closure.now i c → ⊥) (λ m. IsComparedWith closure.now i (made_tree m))) }
 {
     let _ = closure.entries();

@@ -73,6 +73,7 @@ impl Closure {
         requires formed { IsFormed (λ o. true) (tree_of t.now) }
         requires few { nodes (labels_of self.old) + tree_size (tree_of t.now) < 4294967295 }
         ensures ok { IfOk result (λ s. HasAdded self.old t.now self.new) }
+        ensures grows { IfOk result (λ s. nodes (labels_of self.new) ≡ nodes (labels_of self.old) + tree_size (tree_of t.now)) }
         ensures label { IfOk result (λ s. s.label ≡ length self.old) }
         ensures opened { IfOk result (λ s. s.opened ≡ openings_from (length self.old) (drop (length self.old) self.new)) }
         ensures err { OnErr result (self.new ≡ self.old) }
@@ -99,7 +100,7 @@ impl Closure {
     /// A composition of the term over the entries. It takes the entry that is no double wherever the
     /// term, or an operand on the way, has one, and builds only where there is none.
     pub fn compose(&self, alloc: Global, t: &Term) -> Result<Option<Made>, NoMemory>
-        requires formed { IsFormed (λ o. true) (tree_of t.now) }
+        requires { IsFormed (λ o. true) (tree_of t.now) }
         ensures chosen { IfOk result (λ r. option_map made_tree r ≡ made_for (rows self.now) (tree_of t.now)) }
         ensures refused { (has : Op → Bool) → IfOk result (λ r. MatchOption r (HasRecipe has (labels_of self.now) (tree_of t.now) → ⊥) (λ m. Unit {0})) }
         ensures given { (has : Op → Bool) → AreFormed has (trees_of (labels_of self.now)) → IsFormed has (tree_of t.now)

@@ -17,3 +17,6 @@ pub use closure::Closure;
 pub use entry::{Entry, Opening, Origin};
 pub use made::{Compositions, Made};
 pub use step::{Openings, Step};
+
+#[cfg(test)]
+mod tests;

@@ -10,4 +10,4 @@ pub next-requires-clause-few : goal.next-requires-clause-few
 next-requires-clause-few c = omega (arith, room_left c.args.frame.now c.loop-t.t-index c.t-item.result (omega arith) c.t-item.is, c.requires.few, ap nodes c.loop-t.invariant)
 
 pub loop-t-preserved : goal.loop-t-preserved
-loop-t-preserved c = one_label _ _ c.args.frame.now c.loop-t.t-index c.t-item.result c.in_ok-next.ensures.ok.0 c.loop-t.invariant (omega arith) c.t-item.is
+loop-t-preserved c = one_label _ _ c.args.frame.now c.loop-t.t-index c.t-item.result c.in_ok-next.ensures.added c.loop-t.invariant (omega arith) c.t-item.is

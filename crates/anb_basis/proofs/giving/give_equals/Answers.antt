@@ -15,8 +15,8 @@ loop-i-preserved-then-index c =
       equals = equals_next c.args.closure.now c.loop-i.marks.items c.loop-i.marks.items c.loop-i.i i.equals (λ k e. e) (λ d k. marked);
     }
 
-pub compared_with-requires-clause-here : goal.compared_with-requires-clause-here
-compared_with-requires-clause-here c =
+pub compared_with-requires : goal.compared_with-requires
+compared_with-requires c =
     let x = term_here c.args.closure.now c.entries-entries.result.now c.loop-i.i c.index-entries-i.result c.entries-entries.ensures.same (omega (arith, ap length c.entries-entries.ensures.same)) c.index-entries-i.is in
     rw (← c.index-entries-i.is) x
 

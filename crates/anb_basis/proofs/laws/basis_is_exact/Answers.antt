@@ -1,4 +1,4 @@
-use Rattle.anb_basis.proofs.Laws.{in_terms, enough, justified}
+use Rattle.anb_basis.proofs.Exact.{in_terms, enough, justified}
 use Rattle.anb_basis.proofs.laws.basis_is_exact.Goals as goal
 
 pub returns-clause-in_terms : goal.returns-clause-in_terms

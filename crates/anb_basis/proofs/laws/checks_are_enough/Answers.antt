@@ -1,4 +1,4 @@
-use Rattle.anb_basis.proofs.Laws.{enough}
+use Rattle.anb_basis.proofs.Exact.{enough}
 use Rattle.anb_basis.proofs.laws.checks_are_enough.Goals as goal
 
 pub returns : goal.returns

@@ -1,4 +1,4 @@
-use Rattle.anb_basis.proofs.Laws.{in_terms, justified}
+use Rattle.anb_basis.proofs.Exact.{in_terms, justified}
 use Rattle.anb_basis.proofs.laws.checks_are_justified.Goals as goal
 
 pub returns-clause-in_terms : goal.returns-clause-in_terms
