@@ -1,12 +1,12 @@
 -- Whatever has a value composes.
-use Rattle.std.proofs.Common.{◌≡◌, ℕ, zero, suc, List, [], ◌∷◌, length, Bool, true, false, ◌&&◌, cond, IsTrue, Option, Some, None, take, drop, refl, sym, ap, ◌∙◌, subst, inl, inr, ◌⊎◌}
+use Rattle.std.proofs.Common.{◌≡◌, ℕ, List, [], ◌∷◌, length, Bool, true, false, ◌&&◌, cond, IsTrue, Option, Some, None, take, drop, refl, sym, ap, ◌∙◌, subst, inl, inr, ◌⊎◌}
 use Rattle.std.specs.Prelude.{slice_get, option_and_then, ◌==◌}
 use Rattle.std.specs.List.{AllByRecursion}
 use Rattle.std.proofs.lemmas.Bool.{eqb-true}
 use Rattle.anb_term.specs.declared.term.Op.{Op}
 use Rattle.anb_term.specs.Tree.{Tree, leaf, node, Trees, none, more, trees_of, list_of, trees_eqb}
 use Rattle.anb_term.specs.Operator.{op_eqb, arity, keys, undoable}
-use Rattle.anb_term.specs.Value.{RecipeTree, label, build, part, RecipeTrees, no_recipes, more_recipes, value, values, build_if, part_if, cons_both}
+use Rattle.anb_term.specs.Value.{RecipeTree, label, build, part, RecipeTrees, no_recipes, more_recipes, value, values, build_if, part_if}
 use Rattle.anb_term.specs.TreeSame.{list_of-trees_of, op_same, trees_same}
 use Rattle.anb_term.specs.FreeAlgebra.{terms, parts_of}
 use Rattle.anb_term.specs.Composes.{Among, Composes, ComposeAll}

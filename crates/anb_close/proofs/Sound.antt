@@ -9,7 +9,7 @@ use Rattle.anb_term.specs.Tree.{Tree, leaf, node, Trees, trees_of, list_of, IsFo
 use Rattle.anb_term.specs.TreeSame.{op_itself, trees_itself, list_of-trees_of, trees_of-list_of}
 use Rattle.anb_term.specs.Value.{RecipeTree, RecipeTrees, label, part, value, values, part_if}
 use Rattle.anb_term.specs.Operator.{arity, keys, undoable}
-use Rattle.anb_term.specs.FreeAlgebra.{terms_over, terms, parts_of}
+use Rattle.anb_term.specs.FreeAlgebra.{terms_over, parts_of}
 use Rattle.anb_term.specs.Composes.{Composes}
 use Rattle.anb_close.specs.Rows.{place, made_for, mades_for, seen, made_recipe, mades_recipes}
 use Rattle.anb_close.proofs.Rows.{place_at, row_term, made_worth, mades_worth, composes_made}

@@ -1,8 +1,7 @@
 -- Each entry's recipe over the labels.
-use Rattle.std.specs.Prelude.{◌≡◌, List, [], ◌∷◌, ◌++◌, Some, unwrap_or, slice_get}
-use Rattle.anb_term.specs.Tree.{Tree, trees_of}
-use Rattle.anb_term.specs.Value.{RecipeTree, label, part, value}
-use Rattle.anb_term.specs.FreeAlgebra.{terms}
+use Rattle.std.specs.Prelude.{List, [], ◌∷◌, ◌++◌, unwrap_or, slice_get}
+use Rattle.anb_term.specs.Tree.{trees_of}
+use Rattle.anb_term.specs.Value.{RecipeTree, label, part}
 use Rattle.anb_close.specs.Rows.{mades_recipes}
 use Rattle.anb_close.specs.declared.entry.Entry.{Entry}
 use Rattle.anb_close.specs.declared.entry.Origin.{Origin}

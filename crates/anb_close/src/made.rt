@@ -2,9 +2,9 @@
 
 ghost use Rattle.std.specs.Prelude.{◌≡◌, ◌↔◌, IsTrue, IfOk};
 
+use anb_term::{NoMemory, Op};
 use std::alloc::Global;
 use std::marker::Model;
-use anb_term::{NoMemory, Op};
 
 /// A composition over entries: an entry by its number, or an operator on compositions.
 #[derive(Drop)]

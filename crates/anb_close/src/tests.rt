@@ -34,8 +34,18 @@ fn a_late_key_opens_a_kept_entry(rt: HostRuntime) -> Result<(), NoMemory> {
     assert!(rt; opening.op == Op::Seal && opening.of == 1 && opening.first == 3);
     assert!(rt; matches!(opening.keys.as_slice(), [Made::Entry(2)]));
     assert!(rt; closure.entries().len() == 4);
-    assert!(rt; matches!(closure.entries()[3].origin, Origin::Part { part: 0, of: 1, .. }));
-    assert!(rt; matches!(closure.compose(alloc, &Term::Atom(0))?, Some(Made::Entry(0))));
+    assert!(rt;
+        matches!(
+            closure.entries()[3].origin,
+            Origin::Part { part: 0, of: 1, .. }
+        )
+    );
+    assert!(rt;
+        matches!(
+            closure.compose(alloc, &Term::Atom(0))?,
+            Some(Made::Entry(0))
+        )
+    );
     Ok(())
 }
 

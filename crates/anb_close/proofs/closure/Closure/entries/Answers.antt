@@ -13,4 +13,4 @@ pub returns-clause-before : goal.returns-clause-before
 returns-clause-before c =
     let kept = c.self.invariant in
     subst (λ es. (b : ℕ) (e : Entry) → slice_get es b ≡ Some e → IsTrue (is_label e.origin) → IsKnown (take b es)) c.self.view_is
-        (λ b e at l. known _ _ (kept.before b e at l) (omega (arith, kept.few, nodes_less c.self.inside.growth.entries.items b)))
+    (λ b e at l. known _ _ (kept.before b e at l) (omega (arith, kept.few, nodes_less c.self.inside.growth.entries.items b)))
