@@ -9,3 +9,4 @@ mod Marks
 mod All
 mod Frames
 mod Exact
+mod Counting

@@ -14,3 +14,6 @@ pub mod laws;
 
 pub use basis::{all_checks, Basis};
 pub use check::Check;
+
+#[cfg(test)]
+mod tests;
