@@ -47,7 +47,7 @@ module _ (has : Op → Bool) (es : List Entry) (known : IsKnown es) (labels_form
   compared i c (inr (o, us, ms, row, u, made, is)) =
       let at = row_term (terms_of es) i (node o us) row in
       subst (λ x. holds (terms_over has) (labels_of es) (equals (entry_recipe es i) (made_recipe (recipes es) x)) ≡ true) is
-          (alike (entry_recipe es i) (build o (mades_recipes (recipes es) ms)) (node o us) (gives i (node o us) at) (rebuilt o us ms (formed_at has (terms_of es) i (node o us) formed at) made))
+      (alike (entry_recipe es i) (build o (mades_recipes (recipes es) ms)) (node o us) (gives i (node o us) at) (rebuilt o us ms (formed_at has (terms_of es) i (node o us) formed at) made))
 
   undone : (o : Op) (rs : RecipeTrees) (r : RecipeTree) (kv : List Tree) (v : Tree) (ps : List Tree) → has o ≡ true → length kv ≡ keys o → values (terms_over has) (labels_of es) rs ≡ Some kv
       → value (terms_over has) (labels_of es) r ≡ Some v → parts_of o kv v ≡ Some ps → holds (terms_over has) (labels_of es) (opens o rs r) ≡ true

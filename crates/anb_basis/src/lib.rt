@@ -12,7 +12,7 @@ pub mod check;
 mod giving;
 pub mod laws;
 
-pub use basis::{all_checks, Basis};
+pub use basis::{Basis, all_checks};
 pub use check::Check;
 
 #[cfg(test)]

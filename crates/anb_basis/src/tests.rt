@@ -4,14 +4,16 @@ ghost use Rattle.std.specs.Prelude.{◌≡◌, ◌<◌, map, true, IfSome};
 ghost use Rattle.anb_term.specs.Tree.{nodes, tree_size, trees_of, IsFormed, AreFormed};
 ghost use Rattle.anb_term.specs.View.{tree_of};
 
-use crate::basis::{all_checks, Basis};
+use crate::basis::{Basis, all_checks};
 use crate::check::Check;
 use anb_close::Made;
 use anb_term::{NoMemory, Op, Term, Terms};
 use std::alloc::Global;
 
 const PAIR: Op = Op::Format { index: 0, arity: 2 };
+
 const OK: Op = Op::Format { index: 1, arity: 0 };
+
 const REPLY: Op = Op::Format { index: 2, arity: 1 };
 
 /// How many nodes a term has, where it is well formed and not deep.
@@ -95,7 +97,10 @@ fn each_entry_has_at_most_one_check(rt: HostRuntime) -> Result<(), NoMemory> {
     let pair = two(alloc, PAIR, Term::Atom(0), Term::Atom(1))?;
     let shared = one(alloc, Op::Hash, pair)?;
     let composed = two(alloc, Op::Seal, shared, Term::Atom(2))?;
-    let wrapped = node(Op::Wrap, vec![in alloc; Term::Atom(0), Term::Atom(1), Term::Atom(2)]?);
+    let wrapped = node(
+        Op::Wrap,
+        vec![in alloc; Term::Atom(0), Term::Atom(1), Term::Atom(2)]?,
+    );
     let again = vec![in alloc; Term::Atom(0), Term::Atom(0), Term::Atom(0), Term::Atom(0)]?;
     let table = vec![in alloc;
         (vec![in alloc; Term::Atom(0), known]?, 2, 1),
@@ -104,10 +109,14 @@ fn each_entry_has_at_most_one_check(rt: HostRuntime) -> Result<(), NoMemory> {
         (vec![in alloc; late_hash, Term::Atom(0)]?, 2, 1),
         (vec![in alloc; Term::Atom(0), hash]?, 2, 1),
         (vec![in alloc; under_itself]?, 1, 0),
-        (vec![in alloc; Term::Atom(0), Term::Atom(1), composed]?, 4, 1),
+        (
+            vec![in alloc; Term::Atom(0), Term::Atom(1), composed]?,
+            4,
+            1
+        ),
         (vec![in alloc; Term::Atom(0), wrapped, Term::Atom(1)]?, 4, 1),
         (vec![in alloc; node(OK, Vec::new(alloc))]?, 1, 1),
-        (again, 4, 3)
+        (again, 4, 3),
     ]?;
     for (frame, entries, checks) in &table {
         let basis = basis_of(alloc, frame)?;
@@ -135,7 +144,12 @@ fn a_term_is_taken_or_built_or_refused(rt: HostRuntime) -> Result<(), NoMemory> 
     let basis = basis_of(alloc, &frame)?;
     let built = composed(alloc, &basis, &shared)?;
     assert!(rt; matches!(built, Some(Made::Build(Op::Hash, _))));
-    assert!(rt; matches!(composed(alloc, &basis, &Term::Atom(2))?, Some(Made::Entry(3))));
+    assert!(rt;
+        matches!(
+            composed(alloc, &basis, &Term::Atom(2))?,
+            Some(Made::Entry(3))
+        )
+    );
     assert!(rt; matches!(basis.given(), [Check::Open(_)]));
 
     let own_key = two(alloc, Op::Seal, Term::Atom(0), Term::Atom(0))?;

@@ -23,6 +23,14 @@ recipes_more rcs (e ∷ es) =
     let h = recipes_more (rcs ++ r ∷ []) es in
     (r ∷ h.0, h.1 ∙ append_assoc rcs (r ∷ []) h.0)
 
+recipes_append : (rcs : List RecipeTree) (es fs : List Entry) → recipes_from rcs (es ++ fs) ≡ recipes_from (recipes_from rcs es) fs
+recipes_append rcs [] fs = refl
+recipes_append rcs (e ∷ es) fs = recipes_append (rcs ++ recipe_for rcs e.origin ∷ []) es fs
+
+-- entries that come later change no recipe
+pub recipes_stay : (es later : List Entry) → (xs : List RecipeTree) × (recipes (es ++ later) ≡ recipes es ++ xs)
+recipes_stay es later = let h = recipes_more (recipes es) later in (h.0, recipes_append [] es later ∙ h.1)
+
 pub recipes_length : (rcs : List RecipeTree) (es : List Entry) → length (recipes_from rcs es) ≡ length rcs + length es
 recipes_length rcs [] = omega arith
 recipes_length rcs (e ∷ es) = omega (arith, recipes_length (rcs ++ recipe_for rcs e.origin ∷ []) es, length-append rcs (recipe_for rcs e.origin ∷ []))
