@@ -1,5 +1,5 @@
 -- What the checks of entries say, put together.
-use Rattle.std.proofs.Common.{List, ◌≡◌, true}
+use Rattle.std.proofs.Common.{List}
 use Rattle.anb_term.specs.Value.{Meaning}
 use Rattle.anb_term.specs.Lawful.{Lawful}
 use Rattle.anb_term.proofs.Demands.{agree_holds_all}

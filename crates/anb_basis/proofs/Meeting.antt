@@ -1,11 +1,11 @@
 -- What it means for an algebra's values that a check holds.
-use Rattle.std.proofs.Common.{◌≡◌, ℕ, zero, suc, List, [], ◌∷◌, map, Bool, true, ◌&&◌, Option, Some, None, IsTrue, refl, sym, ap, ◌∙◌, subst}
+use Rattle.std.proofs.Common.{◌≡◌, ℕ, zero, suc, List, [], ◌∷◌, true, Option, Some, None, refl, sym, ap, ◌∙◌, subst}
 use Rattle.std.specs.Prelude.{slice_get, option_and_then}
 use Rattle.anb_term.specs.declared.term.Op.{Op}
-use Rattle.anb_term.specs.Tree.{Tree, trees_of}
+use Rattle.anb_term.specs.Tree.{trees_of}
 use Rattle.anb_term.specs.Value.{Meaning, RecipeTree, RecipeTrees, value, values}
 use Rattle.anb_term.specs.Lawful.{Lawful}
-use Rattle.anb_term.specs.Demand.{Demand, opens, equals, holds, all_hold, undone_if, undoing, is_there}
+use Rattle.anb_term.specs.Demand.{holds, all_hold, undone_if, undoing, is_there}
 use Rattle.anb_term.proofs.Steps.{both, bound}
 use Rattle.anb_term.proofs.Demands.{alike_are, undone_is}
 use Rattle.anb_close.specs.declared.entry.Entry.{Entry}

@@ -1,12 +1,12 @@
 -- The checks of entries hold of the labels' terms.
-use Rattle.std.proofs.Common.{◌≡◌, ℕ, suc, List, [], ◌∷◌, length, Bool, true, ◌&&◌, Option, Some, None, refl, sym, ap, ◌∙◌, subst, inl, inr}
-use Rattle.std.specs.Prelude.{slice_get, option_and_then, ◌==◌}
+use Rattle.std.proofs.Common.{◌≡◌, ℕ, suc, List, [], ◌∷◌, length, Bool, true, Some, refl, sym, ap, ◌∙◌, subst, inl, inr}
+use Rattle.std.specs.Prelude.{slice_get}
 use Rattle.std.proofs.lemmas.Bool.{eq-eqb}
 use Rattle.anb_term.specs.declared.term.Op.{Op}
 use Rattle.anb_term.specs.Operator.{arity, keys}
 use Rattle.anb_term.specs.Tree.{Tree, node, Trees, trees_of, list_of, IsFormed, AreFormed}
 use Rattle.anb_term.specs.TreeSame.{trees_of-list_of, tree_itself}
-use Rattle.anb_term.specs.Value.{RecipeTree, RecipeTrees, build, part, value, values, part_if}
+use Rattle.anb_term.specs.Value.{RecipeTree, RecipeTrees, build, part, value, values}
 use Rattle.anb_term.specs.FreeAlgebra.{parts_of, terms_over}
 use Rattle.anb_term.specs.Demand.{holds, all_hold, opens, equals}
 use Rattle.anb_term.specs.View.{tree_of}

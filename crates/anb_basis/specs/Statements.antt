@@ -1,6 +1,6 @@
 -- What the checks of entries say, in any algebra.
-use Rattle.std.specs.Prelude.{◌≡◌, List, IsTrue}
-use Rattle.anb_term.specs.Tree.{Tree, trees_of, AreFormed}
+use Rattle.std.specs.Prelude.{List, IsTrue}
+use Rattle.anb_term.specs.Tree.{trees_of, AreFormed}
 use Rattle.anb_term.specs.Value.{Meaning}
 use Rattle.anb_term.specs.Lawful.{AreValues}
 use Rattle.anb_term.specs.FreeAlgebra.{terms_over}
