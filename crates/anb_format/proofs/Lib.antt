@@ -1,0 +1,9 @@
+pub mod ApartLemmas
+pub mod Canonical
+pub mod Characters
+pub mod Decimals
+pub mod Hexadecimals
+pub mod Leb128
+pub mod LiteralLemmas
+pub mod ReadingLemmas
+pub mod Splitting

@@ -1,0 +1,5 @@
+pub mod Fields
+pub mod Formats
+pub mod Laws
+pub mod Literals
+pub mod Reading

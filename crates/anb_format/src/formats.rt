@@ -1,0 +1,243 @@
+ghost use Rattle.std.specs.Prelude.{◌≡◌, ◌≢◌, ◌↔◌, ◌≤◌, ◌<◌, ◌^◌, ◌+◌, ◌++◌, ◌∷◌, ℕ, List, [], length, drop, IsSomeAnd, OnSome, vec_len, slice_get, filter_map, All, IsTrue, IsOk, IfOk, IfSome, IfNone, Some};
+ghost use Rattle.std.specs.Option.{option_map};
+ghost use Rattle.std.specs.List.{AllByRecursion};
+ghost use Rattle.anb_base.specs.Bytes.{IsBytes};
+ghost use Rattle.anb_format.specs.Formats.{AreApart, HasParts, IsEarlyRest, IsFirstEarlyRest, IsParts, IsSound, field_count, format_bytes, head};
+ghost use Rattle.anb_format.specs.Reading.{parts_of};
+ghost use Rattle.anb_format.specs.declared.pieces.Piece.{Piece};
+
+use crate::fields::{field_at, put_field};
+use crate::heads::Head;
+use crate::{FieldKind, FormatNo, Piece};
+use anb_base::{Bytes, NoMemory, Text};
+use std::alloc::Global;
+use std::marker::Model;
+
+/// A format that was checked: a name, and the pieces in order.
+#[derive(Debug, Drop)]
+pub struct Format {
+    name: Text,
+    pieces: Vec<Piece>,
+}
+
+impl Model for Format {
+    ghost use Rattle.std.specs.Prelude.{◌<◌, ◌^◌, vec_len};
+    ghost use Rattle.anb_format.specs.Formats.{FormatValue, IsSound};
+
+    ghost Value = { FormatValue };
+
+    ghost view = { λ f. record { name = f.name; pieces = f.pieces.items } };
+
+    ghost invariant = { λ f. (vec_len f.pieces < 2 ^ 32) × IsSound f.pieces.items };
+}
+
+impl Format {
+    /// Says whether these pieces make a format.
+    pub fn check(pieces: &[Piece]) -> Result<(), FormatNo>
+        requires { length pieces.now < 2 ^ 32 }
+        ensures sound { IsOk result ↔ IsSound pieces.now }
+        ensures no_head { (result ≡ Err FormatNo.NoHead) ↔ (head pieces.now ≡ []) }
+        ensures rest_not_last { (i : ℕ) → (result ≡ Err (FormatNo.RestNotLast i)) ↔ ((head pieces.now ≢ []) × IsFirstEarlyRest pieces.now i) }
+    {
+        if Head::new(pieces).next().is_none() {
+            return Err(FormatNo::NoHead);
+        }
+        match early_rest(pieces) {
+            Some(i) => Err(FormatNo::RestNotLast(i)),
+            None => Ok(()),
+        }
+    }
+
+    /// A format of pieces for which `check` says Ok.
+    pub fn new(name: Text, pieces: Vec<Piece>) -> Self
+        requires few { vec_len pieces < 2 ^ 32 }
+        requires sound { IsSound pieces.items }
+        ensures name { result.name ≡ name }
+        ensures pieces { result.pieces ≡ pieces.items }
+    {
+        Format { name, pieces }
+    }
+
+    pub fn name(&self) -> &Text
+        ensures { result.now ≡ self.now.name }
+    {
+        &self.name
+    }
+
+    /// The pieces, for which `check` says Ok.
+    pub fn pieces(&self) -> &[Piece]
+        ensures pieces { result.now ≡ self.now.pieces }
+        ensures few { length self.now.pieces < 2 ^ 32 }
+        ensures sound { IsSound self.now.pieces }
+    {
+        self.pieces.as_slice()
+    }
+
+    /// How many arguments the format takes.
+    pub fn arity(&self) -> u16
+        requires { field_count self.now.pieces ≤ 32 }
+        ensures { result ≡ field_count self.now.pieces }
+    {
+        let mut count = 0;
+        for piece in &self.pieces {
+            if matches!(piece, Piece::Field(_)) {
+                count += 1;
+            }
+        }
+        count
+    }
+
+    /// The bytes of the arguments that stand at these places of the table.
+    pub fn build(&self, alloc: Global, table: &[Bytes], at: &[u32]) -> Result<Bytes, NoMemory>
+        requires within { All (λ i. i < length table.now) at.now }
+        requires count { length at.now ≡ field_count self.now.pieces }
+        ensures { IfOk result (λ bytes. bytes ≡ format_bytes self.now.pieces (filter_map (slice_get table.now) at.now)) }
+    {
+        let mut out = Vec::new(alloc);
+        let mut left = at;
+        for piece in &self.pieces {
+            left = put_piece(alloc, &mut out, piece, table, left)?;
+        }
+        Ok(Bytes::new(out))
+    }
+
+    /// The arguments that build these bytes, where there are any.
+    pub fn parts(&self, alloc: Global, bytes: &[u8]) -> Result<Option<Vec<Bytes>>, NoMemory>
+        ensures some { IfOk result (λ r. IfSome r (λ parts. IsParts self.now.pieces bytes.now parts.items)) }
+        ensures none { IfOk result (λ r. IfNone r ((arguments : List (List ℕ)) → IsParts self.now.pieces bytes.now arguments → ⊥)) }
+        ensures computed { IfOk result (λ r. option_map (λ parts. parts.items) r ≡ parts_of self.now.pieces bytes.now) }
+    {
+        let Some(parts) = arguments_at(alloc, self.pieces.as_slice(), bytes)? else {
+            return Ok(None);
+        };
+        let places = every_place(alloc, &parts)?;
+        let again = self.build(alloc, parts.as_slice(), places.as_slice())?;
+        if again.as_slice() == bytes {
+            Ok(Some(parts))
+        } else {
+            Ok(None)
+        }
+    }
+}
+
+/// Says whether neither format's head, which is what its literals before the first field spell, is a
+/// prefix of the other's. No bytes then belong to both.
+pub fn apart(f: &Format, g: &Format) -> bool
+    ensures { IsTrue result ↔ AreApart f.now.pieces g.now.pieces }
+{
+    let mut ours = Head::new(f.pieces());
+    let mut theirs = Head::new(g.pieces());
+    while let (Some(a), Some(b)) = (ours.next(), theirs.next()) {
+        if a != b {
+            return true;
+        }
+    }
+    false
+}
+
+/// The place of the first `rest` that a piece follows.
+fn early_rest(pieces: &[Piece]) -> Option<u32>
+    requires { length pieces.now < 2 ^ 32 }
+    ensures some { IfSome result (IsFirstEarlyRest pieces.now) }
+    ensures none { IfNone result ((i : ℕ) → IsEarlyRest pieces.now i → ⊥) }
+{
+    for (i, piece) in pieces.iter().enumerate() {
+        if matches!(piece, Piece::Field(FieldKind::Rest)) && i + 1 < pieces.len() {
+            return Some(i as u32);
+        }
+    }
+    None
+}
+
+/// Appends what the piece writes, where a field takes the argument at the first of these places, and
+/// gives the places that are left.
+fn put_piece<'a>(
+    alloc: Global,
+    out: &mut Vec<u8>,
+    piece: &Piece,
+    table: &[Bytes],
+    at: &'a [u32],
+) -> Result<&'a [u32], NoMemory>
+    requires within { All (λ i. i < length table.now) at.now }
+    requires some { field_count (piece.now ∷ []) ≤ length at.now }
+    ensures left { IfOk result (λ left. left.now ≡ drop (field_count (piece.now ∷ [])) at.now) }
+    ensures put { IfOk result (λ left. (pieces : List Piece) → out.new.items ++ format_bytes pieces (filter_map (slice_get table.now) left.now)
+        ≡ out.old.items ++ format_bytes (piece.now ∷ pieces) (filter_map (slice_get table.now) at.now)) }
+{
+    match piece {
+        Piece::Lit(text) => {
+            out.extend_from_slice(text.as_slice())?;
+            Ok(at)
+        }
+        Piece::Field(kind) => {
+            put_field(alloc, out, *kind, table[at[0] as usize].as_slice())?;
+            Ok(&at[1..])
+        }
+    }
+}
+
+/// The arguments that these pieces seem to have in the bytes. Where there are arguments that build
+/// these bytes, they are found; whether these do, building again shows.
+fn arguments_at(
+    alloc: Global,
+    pieces: &[Piece],
+    bytes: &[u8],
+) -> Result<Option<Vec<Bytes>>, NoMemory>
+    requires { (i : ℕ) → IsEarlyRest pieces.now i → ⊥ }
+    ensures count { IfOk result (λ r. IfSome r (λ arguments. length arguments.items ≡ field_count pieces.now)) }
+    ensures strings { IfOk result (λ r. IfSome r (λ arguments. AllByRecursion IsBytes arguments.items)) }
+    ensures again { IfOk result (λ r. (wanted : List (List ℕ)) → IsParts pieces.now bytes.now wanted → IsSomeAnd r (λ arguments. arguments.items ≡ wanted)) }
+{
+    let mut arguments = Vec::new(alloc);
+    let mut rest = bytes;
+    for piece in pieces {
+        let Some(after) = take_piece(alloc, &mut arguments, piece, rest)? else {
+            return Ok(None);
+        };
+        rest = after;
+    }
+    Ok(Some(arguments))
+}
+
+/// Takes the piece from the front of the bytes, where it seems to stand there: appends the argument
+/// of a field, and gives what follows the piece.
+fn take_piece<'a>(
+    alloc: Global,
+    arguments: &mut Vec<Bytes>,
+    piece: &Piece,
+    bytes: &'a [u8],
+) -> Result<Option<&'a [u8]>, NoMemory>
+    ensures count { IfOk result (λ r. OnSome r (length arguments.new.items ≡ length arguments.old.items + field_count (piece.now ∷ []))) }
+    ensures strings { IfOk result (λ r. OnSome r (AllByRecursion IsBytes arguments.old.items → AllByRecursion IsBytes arguments.new.items)) }
+    ensures again { IfOk result (λ r. (pieces : List Piece) (wanted : List (List ℕ)) → (piece.now ≡ Piece.Field FieldKind.Rest → pieces ≡ [])
+        → IsParts (piece.now ∷ pieces) bytes.now wanted
+        → IsSomeAnd r (λ after. HasParts pieces after.now arguments.new.items (arguments.old.items ++ wanted))) }
+{
+    match piece {
+        Piece::Lit(text) => Ok(bytes.strip_prefix(text.as_slice())),
+        Piece::Field(kind) => {
+            let Some((argument, after)) = field_at(alloc, *kind, bytes)? else {
+                return Ok(None);
+            };
+            arguments.push(argument)?;
+            Ok(Some(after))
+        }
+    }
+}
+
+/// The numbers of all places of the table, in order.
+fn every_place(alloc: Global, table: &Vec<Bytes>) -> Result<Vec<u32>, NoMemory>
+    requires { vec_len table.now < 2 ^ 32 }
+    ensures within { IfOk result (λ places. All (λ i. i < vec_len table.now) places.items) }
+    ensures count { IfOk result (λ places. length places.items ≡ vec_len table.now) }
+    ensures whole { IfOk result (λ places. filter_map (slice_get table.now.items) places.items ≡ table.now.items) }
+{
+    let mut places = Vec::new(alloc);
+    for i in 0..table.len() as u32 {
+        places.push(i)?;
+    }
+    Ok(places)
+}
+
+#[cfg(test)]
+mod tests;
