@@ -3,3 +3,4 @@ pub mod Words
 pub mod Macs
 pub mod Closed
 pub mod Masked
+pub mod ByteLemmas

@@ -1,5 +1,5 @@
 // What holds of sealing and wrapping: each function below is empty, and its contract is the law.
-ghost use Rattle.anb_seal.specs.Laws.{UnsealsExactly, UnwrapsExactly, SealsApart, WrapsApart, SealsLonger, WrapsLonger};
+ghost use Rattle.anb_seal.specs.Laws.{UnsealsExactly, UnwrapsExactly, SealsApart, WrapsApart, SealsLonger, WrapsLonger, GivesBytes};
 
 /// Sealed bytes hold exactly the message that is sealed to them.
 pub fn unseals_exactly()
@@ -29,4 +29,9 @@ pub fn seals_longer()
 /// Wrapped bytes are 32 longer than the message.
 pub fn wraps_longer()
     ensures { WrapsLonger }
+{}
+
+/// What the operations give is bytes.
+pub fn gives_bytes()
+    ensures { GivesBytes }
 {}

@@ -20,7 +20,8 @@ mod stream;
 use anb_base::{Bytes, NoMemory, Suite};
 use hmac::mac_with;
 pub use laws::{
-    seals_apart, seals_longer, unseals_exactly, unwraps_exactly, wraps_apart, wraps_longer,
+    gives_bytes, seals_apart, seals_longer, unseals_exactly, unwraps_exactly, wraps_apart,
+    wraps_longer,
 };
 use sealing::{seal_with, unseal_with, unwrap_with, wrap_with};
 use sha2::{Digest, Sha256, Sha512};

@@ -1,0 +1,2 @@
+//! The algebra of byte strings.
+#![tactic(auto)]
