@@ -1,5 +1,5 @@
 -- Wires and shelves in memory: what they hold, and which of their calls fail.
-use Rattle.std.specs.Prelude.{ℕ, ◌+◌, ◌-◌, ◌^◌, ◌==◌, ◌≢◌, Bool, List, min, position, slice_get, slice_index, slice_set, AllPairs, Option, Some, None, option_and_then}
+use Rattle.std.specs.Prelude.{ℕ, ◌+◌, ◌-◌, ◌^◌, ◌==◌, ◌≢◌, ◌<◌, ◌≤◌, Bool, List, [], length, min, replicate, position, slice_get, slice_index, slice_set, AllPairs, Option, Some, None, option_and_then}
 use Rattle.std.specs.List.{list_any}
 use Rattle.std.specs.Str.{bytes_eq}
 use Rattle.std.specs.Option.{option_map}
@@ -31,12 +31,25 @@ pub record MemoryWire : Type 0 where
 abbrev pub called : MemoryWire → MemoryWire
 called wire = record wire { calls = raised wire.calls }
 
+-- a wire on which nothing was read, written or reached
+abbrev pub fresh_wire : List ℕ → ℕ → ℕ → List ℕ → MemoryWire
+fresh_wire input piece room fails =
+    record { left = input; written = []; reached = []; piece = piece; room = room; calls = 0; fails = fails; read_faults = 0; write_faults = 0; reach_faults = 0 }
+
+-- bytes are to be written, and none can be
+abbrev pub HasNoRoom : MemoryWire → List ℕ → Type 0
+HasNoRoom wire piece = (0 < length piece) × (wire.room ≤ length wire.written)
+
 pub record MemoryShelf : Type 0 where
   -- names and contents, and the faults of each
   pub files : List (List ℕ × List ℕ)
   pub faults : List ℕ
   pub calls : ℕ
   pub fails : List ℕ
+
+-- a shelf from which nothing was fetched
+abbrev pub fresh_shelf : List (List ℕ × List ℕ) → List ℕ → MemoryShelf
+fresh_shelf files fails = record { files = files; faults = replicate (length files) 0; calls = 0; fails = fails }
 
 -- the shelf after one more call
 abbrev pub fetched : MemoryShelf → MemoryShelf
@@ -47,8 +60,11 @@ abbrev pub NamesDiffer : List (List ℕ × List ℕ) → Type 0
 NamesDiffer files = AllPairs (λ (one other : List ℕ × List ℕ). one.0 ≢ other.0) files
 
 -- where the file of this name stands
+abbrev pub place_among : List (List ℕ × List ℕ) → List ℕ → Option ℕ
+place_among files name = position (λ (file : List ℕ × List ℕ). bytes_eq file.0 name) files
+
 abbrev pub place_of : MemoryShelf → List ℕ → Option ℕ
-place_of shelf name = position (λ (file : List ℕ × List ℕ). bytes_eq file.0 name) shelf.files
+place_of shelf name = place_among shelf.files name
 
 abbrev pub content_at : MemoryShelf → ℕ → Option (List ℕ)
 content_at shelf place = option_map (λ (file : List ℕ × List ℕ). file.1) (slice_get shelf.files place)
@@ -64,10 +80,11 @@ faults_at shelf (Some place) = slice_index shelf.faults place
 abbrev pub faults_of : MemoryShelf → List ℕ → ℕ
 faults_of shelf name = faults_at shelf (place_of shelf name)
 
--- the shelf after a fetch of this name that failed
+-- the shelf with one more fault of a place
 abbrev pub failed_at : MemoryShelf → Option ℕ → MemoryShelf
-failed_at shelf None = fetched shelf
-failed_at shelf (Some place) = record (fetched shelf) { faults = slice_set shelf.faults place (raised (slice_index shelf.faults place)) }
+failed_at shelf None = shelf
+failed_at shelf (Some place) = record shelf { faults = slice_set shelf.faults place (raised (slice_index shelf.faults place)) }
 
+-- the shelf after a fetch of this name that failed
 abbrev pub failed_for : MemoryShelf → List ℕ → MemoryShelf
-failed_for shelf name = failed_at shelf (place_of shelf name)
+failed_for shelf name = failed_at (fetched shelf) (place_of shelf name)

@@ -14,10 +14,10 @@ mod shelf;
 mod wire;
 
 pub use content::{Bytes, Failed, NoMemory, Sent, Suite, Text};
-
-
+pub use memory::{MemShelf, MemWire};
+pub use never::NeverFails;
 pub use place::Place;
-
+pub use real::{RealShelf, RealWire};
 pub use shelf::{Shelf, ShelfNo};
 pub use wire::{Sink, Source, Wire, read_full, write_whole};
 
@@ -26,3 +26,6 @@ pub const ARRIVAL: u32 = 262_144;
 
 /// The most bytes that a term's width allows.
 pub const WIDE: u32 = 67_108_864;
+
+#[cfg(test)]
+mod tests;

@@ -1,6 +1,7 @@
-mod calls;
+pub(crate) mod calls;
 mod shelf;
 mod wire;
 
-
-
+pub(crate) use calls::one_more;
+pub use shelf::MemShelf;
+pub use wire::MemWire;

@@ -14,6 +14,11 @@ pub enum ShelfNo {
 }
 
 impl From<NoMemory> for ShelfNo {
+    ghost use Rattle.anb_base.specs.declared.shelf.ShelfNo.TheVariants.{NoMemory};
+    ghost use Rattle.std.specs.Prelude.{◌≡◌};
+
+    ghost from_gives = { λ _ no. no ≡ NoMemory };
+
     fn from(_none: NoMemory) -> Self {
         ShelfNo::NoMemory
     }

@@ -1,5 +1,5 @@
 ghost use Rattle.std.specs.Prelude.{◌≡◌, ◌<◌, ◌≤◌, ◌+◌, ◌-◌, ◌↔◌, ◌⊎◌, ℕ, List, [], ◌∷◌, ◌++◌, length, take, drop, min, Some, IsTrue, IsErr, IfOk, OnOk, OnErr, vec_len, vec_capacity, refl};
-ghost use Rattle.anb_base.specs.Memory.{MemoryWire, raised, called, fails_after};
+ghost use Rattle.anb_base.specs.Memory.{raised, called, fails_after, HasNoRoom, fresh_wire};
 ghost use Rattle.anb_base.specs.Places.{line_of};
 
 use super::calls::{Calls, one_more};
@@ -40,6 +40,14 @@ impl Room {
     {
         self.bytes.extend_from_slice(bytes).unwrap();
     }
+
+    /// Whether the two words and a line feed fit.
+    fn has_room_for_line(&self, word: &str, at: &str) -> bool
+        ensures { IsTrue result ↔ (length self.now.bytes.items + (length word.now + length at.now + 1) ≤ self.now.limit) }
+    {
+        let length = word.len().saturating_add(at.len()).saturating_add(1);
+        length <= self.left()
+    }
 }
 
 /// A wire in memory. What can be read stands in it from the start, reads and writes move a piece
@@ -55,4 +63,141 @@ pub struct MemWire {
     read_faults: u64,
     write_faults: u64,
     reach_faults: u64,
+}
+
+impl Model for MemWire {
+    ghost use Rattle.std.specs.Prelude.{◌≡◌, ◌≤◌, ◌<◌, length, drop};
+    ghost use Rattle.anb_base.specs.Memory.{MemoryWire};
+
+    ghost Value = { MemoryWire };
+
+    ghost use Rattle.anb_base.specs.MemoryViews.{wire_of, IsWithin};
+
+    ghost view = { wire_of };
+
+    ghost invariant = { IsWithin };
+}
+
+impl MemWire {
+    /// A wire on which nothing was read, written or reached. It has room for `room` bytes written
+    /// and for as many bytes of lines reached, and takes its memory here. The calls whose numbers
+    /// from 1 stand in `fails` answer `Failed`.
+    pub fn new(
+        alloc: Global,
+        input: Bytes,
+        piece: u32,
+        room: u32,
+        fails: Vec<u32>,
+    ) -> Result<Self, NoMemory>
+        requires { 0 < piece }
+        ensures { IfOk result (λ wire. wire ≡ fresh_wire input piece room fails.items) }
+    {
+        Ok(MemWire {
+            input,
+            read: 0,
+            piece,
+            written: Room::new(alloc, room)?,
+            reached: Room::new(alloc, room)?,
+            calls: Calls::new(fails),
+            read_faults: 0,
+            write_faults: 0,
+            reach_faults: 0,
+        })
+    }
+
+    pub fn written(&self) -> &[u8]
+        ensures { result.now ≡ self.now.written }
+    {
+        &self.written.bytes
+    }
+
+    /// The lines of the places that were reached.
+    pub fn reached(&self) -> &[u8]
+        ensures { result.now ≡ self.now.reached }
+    {
+        &self.reached.bytes
+    }
+}
+
+impl Source for MemWire {
+    ghost left = { λ wire. Some wire.left };
+
+    ghost faults = { λ wire. wire.read_faults };
+
+    ghost kept = { λ wire. (Some wire.written, wire.write_faults) ∷ (Some wire.reached, wire.reach_faults) ∷ [] };
+
+    fn read(&mut self, buf: &mut [u8]) -> Result<usize, Failed>
+        ensures fails { IsErr result ↔ IsTrue (fails_after self.old.calls self.old.fails) }
+        ensures failed { OnErr result (self.new ≡ record (called self.old) { read_faults = raised self.old.read_faults }) }
+        ensures count { IfOk result (λ n. n ≡ min self.old.piece (min (length buf.old) (length self.old.left))) }
+        ensures bytes { IfOk result (λ n. buf.new ≡ take n self.old.left ++ drop n buf.old) }
+        ensures moved { IfOk result (λ n. self.new ≡ record (called self.old) { left = drop n self.old.left }) }
+        ensures end { IfOk result (λ n. 0 < length buf.new → n ≡ 0 → self.old.left ≡ []) }
+        ensures never_falls { self.old.read_faults ≤ self.new.read_faults }
+    {
+        if self.calls.next_fails() {
+            self.read_faults = one_more(self.read_faults);
+            return Err(Failed);
+        }
+        let left = &self.input.as_slice()[self.read..];
+        let n = (self.piece as usize).min(buf.len().min(left.len()));
+        buf[..n].copy_from_slice(&left[..n]);
+        self.read += n;
+        Ok(n)
+    }
+}
+
+impl Sink for MemWire {
+    ghost written = { λ wire. Some wire.written };
+
+    ghost faults = { λ wire. wire.write_faults };
+
+    ghost kept = { λ wire. (Some wire.left, wire.read_faults) ∷ (Some wire.reached, wire.reach_faults) ∷ [] };
+
+    fn write(&mut self, piece: &[u8]) -> Result<usize, Failed>
+        ensures fails { IsErr result ↔ (IsTrue (fails_after self.old.calls self.old.fails) ⊎ HasNoRoom self.old piece.now) }
+        ensures failed { OnErr result (self.new ≡ record (called self.old) { write_faults = raised self.old.write_faults }) }
+        ensures count { IfOk result (λ n. n ≡ min self.old.piece (min (length piece.now) (self.old.room - length self.old.written))) }
+        ensures moved { IfOk result (λ n. self.new ≡ record (called self.old) { written = self.old.written ++ take n piece.now }) }
+        ensures some { IfOk result (λ n. 0 < length piece.now → 0 < n) }
+        ensures never_falls { self.old.write_faults ≤ self.new.write_faults }
+    {
+        let fails = self.calls.next_fails();
+        let left = self.written.left();
+        if fails || (!piece.is_empty() && left == 0) {
+            self.write_faults = one_more(self.write_faults);
+            return Err(Failed);
+        }
+        let n = (self.piece as usize).min(piece.len().min(left));
+        self.written.put(&piece[..n]);
+        Ok(n)
+    }
+}
+
+impl Wire for MemWire {
+    ghost reached = { λ wire. Some wire.reached };
+
+    ghost reach_faults = { λ wire. wire.reach_faults };
+
+    ghost beside_source = { λ wire. refl };
+
+    ghost beside_sink = { λ wire. refl };
+
+    fn reach(&mut self, place: &Place) -> Result<(), Failed>
+        ensures fails { IsErr result ↔ (IsTrue (fails_after self.old.calls self.old.fails) ⊎ (self.old.room < length self.old.reached + length (line_of place.now))) }
+        ensures failed { OnErr result (self.new ≡ record (called self.old) { reach_faults = raised self.old.reach_faults }) }
+        ensures reached { OnOk result (self.new ≡ record (called self.old) { reached = self.old.reached ++ line_of place.now }) }
+        ensures never_falls { self.old.reach_faults ≤ self.new.reach_faults }
+    {
+        let fails = self.calls.next_fails();
+        let (word, at) = place.words();
+        if fails || !self.reached.has_room_for_line(word, at) {
+            self.reach_faults = one_more(self.reach_faults);
+            return Err(Failed);
+        }
+        self.reached.put(word.as_bytes());
+        self.reached.put(at.as_bytes());
+        self.reached.put(b"\n");
+        Ok(())
+    }
 }

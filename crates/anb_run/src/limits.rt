@@ -1,0 +1,5 @@
+/// The most bytes of a narration file.
+pub const NARRATION_LIMIT: u32 = 1_048_576;
+
+/// The most bytes of a values file.
+pub const VALUES_LIMIT: u32 = 1_048_576;
