@@ -1,0 +1,2 @@
+pub mod ByteMeaning
+pub mod AlgebraValue

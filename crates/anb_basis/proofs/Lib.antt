@@ -1,0 +1,12 @@
+mod FromFacts
+mod Chosen
+mod Enough
+mod Meeting
+mod Worths
+mod Sound
+mod Comparing
+mod Marks
+mod All
+mod Frames
+mod Exact
+mod Counting

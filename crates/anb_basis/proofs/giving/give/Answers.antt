@@ -1,0 +1,9 @@
+use Rattle.std.proofs.Common.{false}
+use Rattle.anb_basis.proofs.Marks.{given_more, marked_now}
+use Rattle.anb_basis.proofs.giving.give.Goals as goal
+
+pub returns-clause-ok : goal.returns-clause-ok
+returns-clause-ok c es given fits = given_more es _ _ c.args.marks.now.items c.args.at c.args.check given fits c.requires.of c.requires.unmarked c.in_ok-push.ensures.items
+
+pub returns-clause-marked : goal.returns-clause-marked
+returns-clause-marked c = marked_now c.args.marks.now.items c.args.at false c.requires.unmarked

@@ -1,0 +1,50 @@
+use Rattle.std.proofs.Common.{◌≡◌, length, Some, true, false, arith, ap}
+use Rattle.std.specs.Prelude.{slice_get}
+use Rattle.anb_basis.proofs.Comparing.{term_here}
+use Rattle.anb_basis.proofs.Marks.{after_more, equals_next, mark_is}
+use Rattle.anb_basis.proofs.giving.give_equals.Goals as goal
+
+pub loop-i-preserved-then-index : goal.loop-i-preserved-then-index
+loop-i-preserved-then-index c =
+    let i = c.loop-i.invariant in
+    let marked : slice_get c.loop-i.marks.items c.loop-i.i ≡ Some true = mark_is c.loop-i.marks.items c.loop-i.i c.index.result.now true (omega (arith, i.given.long, ap length c.entries-entries.ensures.same)) c.index.ensures c.if-index.true in
+    record {
+      more = i.more;
+      stay = i.stay;
+      given = i.given;
+      equals = equals_next c.args.closure.now c.loop-i.marks.items c.loop-i.marks.items c.loop-i.i i.equals (λ k e. e) (λ d k. marked);
+    }
+
+pub compared_with-requires : goal.compared_with-requires
+compared_with-requires c =
+    let x = term_here c.args.closure.now c.entries-entries.result.now c.loop-i.i c.index-entries-i.result c.entries-entries.ensures.same (omega (arith, ap length c.entries-entries.ensures.same)) c.index-entries-i.is in
+    rw (← c.index-entries-i.is) x
+
+pub give-requires-clause-unmarked : goal.give-requires-clause-unmarked
+give-requires-clause-unmarked c = mark_is c.loop-i.marks.items c.loop-i.i c.index.result.now false (omega (arith, c.loop-i.invariant.given.long, ap length c.entries-entries.ensures.same)) c.index.ensures c.if-index.false
+
+pub loop-i-preserved-in-None : goal.loop-i-preserved-in-None
+loop-i-preserved-in-None c =
+    let i = c.loop-i.invariant in
+    let never = rw c.in-None.is at c.in_ok-compared_with.ensures in
+    record {
+      more = i.more;
+      stay = i.stay;
+      given = i.given;
+      equals = equals_next c.args.closure.now c.loop-i.marks.items c.loop-i.marks.items c.loop-i.i i.equals (λ k e. e) (λ d k. absurd (never d k));
+    }
+
+pub loop-i-preserved : goal.loop-i-preserved
+loop-i-preserved c =
+    let i = c.loop-i.invariant in
+    let fits = rw c.in-Some.is at c.in_ok-compared_with.ensures in
+    let e = c.in_ok-give-in-Some.ensures in
+    record {
+      more = after_more c.args.given.now.items c.loop-i.given.items _ i.more e.more;
+      stay = λ k h. e.stay k (i.stay k h);
+      given = e.ok c.args.closure.now i.given fits;
+      equals = equals_next c.args.closure.now c.loop-i.marks.items _ c.loop-i.i i.equals e.stay (λ d k. e.marked);
+    }
+
+pub returns-clause-equals : goal.returns-clause-equals
+returns-clause-equals c i d h k = c.loop-i.invariant.equals i d (omega (arith, ap length c.entries-entries.ensures.same)) k

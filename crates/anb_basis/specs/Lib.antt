@@ -1,0 +1,4 @@
+pub mod Facts
+pub mod Chosen
+pub mod Checks
+pub mod Statements

@@ -1,0 +1,161 @@
+// Giving checks.
+
+ghost use Rattle.std.specs.Prelude.{◌≡◌, ◌+◌, ◌++◌, ◌∷◌, [], ◌<◌, ◌≤◌, ◌^◌, ℕ, List, length, map, Bool, true, false, Option, IfOk, MatchOption, OnOk, OnErr, Some, slice_get, replicate, ◌-◌};
+ghost use Rattle.anb_term.specs.Tree.{Tree};
+ghost use Rattle.anb_close.specs.MadeView.{made_tree};
+ghost use Rattle.anb_close.specs.Entries.{terms_of, IsKnown};
+ghost use Rattle.anb_term.specs.View.{tree_of};
+ghost use Rattle.anb_basis.specs.Checks.{IsComparedWith, Fits, entry_of, IsGiven, OpensMarked, EqualsMarked, MarksStay, After, IsBasis};
+
+use crate::check::Check;
+use anb_close::{Closure, Entry, Made, Opening, Origin};
+use anb_term::{NoMemory, Term};
+use std::alloc::Global;
+
+/// Gives a check of an entry that has none yet.
+fn give(
+    given: &mut Vec<Check>,
+    marks: &mut Vec<bool>,
+    at: u32,
+    check: Check,
+) -> Result<(), NoMemory>
+    requires within { at < length marks.old.items }
+    requires unmarked { slice_get marks.old.items at ≡ Some false }
+    requires of { entry_of check ≡ at }
+    ensures more { After given.old.items given.new.items }
+    ensures stay { MarksStay marks.old.items marks.new.items }
+    ensures ok { OnOk result ((es : List Entry) → IsGiven es given.old.items marks.old.items → Fits es check → IsGiven es given.new.items marks.new.items) }
+    ensures marked { OnOk result (slice_get marks.new.items at ≡ Some true) }
+{
+    given.push(check)?;
+    marks[at as usize] = true;
+    Ok(())
+}
+
+/// Gives the checks of openings.
+fn give_opens(
+    alloc: Global,
+    entries: &[Entry],
+    given: &mut Vec<Check>,
+    marks: &mut Vec<bool>,
+) -> Result<(), NoMemory>
+    requires known { IsKnown entries.now }
+    requires few { length entries.now < 2 ^ 32 }
+    requires given { IsGiven entries.now given.old.items marks.old.items }
+    ensures more { After given.old.items given.new.items }
+    ensures ok { OnOk result (IsGiven entries.now given.new.items marks.new.items) }
+    ensures opens { OnOk result (OpensMarked entries.now marks.new.items (length entries.now)) }
+{
+    for f in 0..entries.len() {
+        match &entries[f].origin {
+            Origin::Label(_) => continue,
+            Origin::Part { op, part, keys, of } => {
+                if *part != 0 {
+                    continue;
+                }
+                if marks[*of as usize] {
+                    continue;
+                }
+                let opening = Opening {
+                    op: *op,
+                    keys: keys.copy(alloc)?,
+                    of: *of,
+                    first: f as u32,
+                };
+                give(given, marks, *of, Check::Open(opening))?;
+            }
+        }
+    }
+    Ok(())
+}
+
+/// The composition with which an entry is compared, where there is one.
+fn compared_with(
+    alloc: Global,
+    closure: &Closure,
+    i: u32,
+    term: &Term,
+) -> Result<Option<Made>, NoMemory>
+    requires { slice_get (terms_of closure.now) i ≡ Some (tree_of term.now) }
+    ensures { IfOk result (λ r. MatchOption r ((c : Tree) → IsComparedWith closure.now i c → ⊥) (λ m. IsComparedWith closure.now i (made_tree m))) }
+{
+    let _ = closure.entries();
+    match closure.compose(alloc, term)? {
+        None => return Ok(None),
+        Some(Made::Build(op, made)) => return Ok(Some(Made::Build(op, made))),
+        Some(Made::Entry(j)) => {
+            if i != j {
+                return Ok(Some(Made::Entry(j)));
+            }
+        }
+    }
+    match term {
+        Term::Atom(_) => Ok(None),
+        Term::Node(op, operands) => {
+            if op.undoes() {
+                return Ok(None);
+            }
+            match closure.compose_all(alloc, operands.as_slice())? {
+                None => Ok(None),
+                Some(made) => Ok(Some(Made::Build(*op, made))),
+            }
+        }
+    }
+}
+
+/// Gives the checks of comparing.
+fn give_equals(
+    alloc: Global,
+    closure: &Closure,
+    given: &mut Vec<Check>,
+    marks: &mut Vec<bool>,
+) -> Result<(), NoMemory>
+    requires given { IsGiven closure.now given.old.items marks.old.items }
+    ensures more { After given.old.items given.new.items }
+    ensures stay { MarksStay marks.old.items marks.new.items }
+    ensures ok { OnOk result (IsGiven closure.now given.new.items marks.new.items) }
+    ensures equals { OnOk result (EqualsMarked closure.now marks.new.items (length closure.now)) }
+{
+    let entries = closure.entries();
+    for i in 0..entries.len() {
+        if marks[i] {
+            continue;
+        }
+        match compared_with(alloc, closure, i as u32, &entries[i].term)? {
+            None => continue,
+            Some(made) => give(given, marks, i as u32, Check::Equal(i as u32, made))?,
+        }
+    }
+    Ok(())
+}
+
+/// These marks, and none for the entries after.
+fn extended(alloc: Global, marks: &[bool], count: usize) -> Result<Vec<bool>, NoMemory>
+    requires { length marks.now ≤ count }
+    ensures { IfOk result (λ v. v.items ≡ marks.now ++ replicate (count - length marks.now) false) }
+{
+    let mut all = marks.to_vec(alloc)?;
+    for k in marks.len()..count {
+        let _ = k;
+        all.push(false)?;
+    }
+    Ok(all)
+}
+
+/// Gives all checks that have become possible.
+pub fn give_all(
+    alloc: Global,
+    closure: &Closure,
+    given: &mut Vec<Check>,
+    marks: &[bool],
+) -> Result<Vec<bool>, NoMemory>
+    requires given { (before : List Entry) × After before closure.now × IsBasis before given.old.items marks.now }
+    ensures more { After given.old.items given.new.items }
+    ensures ok { IfOk result (λ m. IsBasis closure.now given.new.items m.items) }
+{
+    let entries = closure.entries();
+    let mut all = extended(alloc, marks, entries.len())?;
+    give_opens(alloc, entries, given, &mut all)?;
+    give_equals(alloc, closure, given, &mut all)?;
+    Ok(all)
+}

@@ -1,0 +1,11 @@
+pub mod Rows
+pub mod Composing
+pub mod Wider
+pub mod Finding
+pub mod Openable
+pub mod Growing
+pub mod Pushing
+pub mod Keeping
+pub mod Closing
+pub mod Origins
+pub mod Sound

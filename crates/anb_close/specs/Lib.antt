@@ -1,0 +1,7 @@
+pub mod Closed
+pub mod Rows
+pub mod MadeView
+pub mod MadeFalls
+pub mod Joined
+pub mod Entries
+pub mod Recipes

@@ -1,0 +1,8 @@
+use Rattle.std.proofs.Common.{[]}
+use Rattle.anb_seal.specs.Primitives.{sealed, key_for}
+use Rattle.anb_seal.proofs.Closed.{closed_apart}
+use Rattle.anb_seal.proofs.laws.seals_apart.Goals as goal
+
+pub returns : goal.returns
+unfolding sealed
+returns c suite k m n e = closed_apart suite (key_for suite 1 k) (key_for suite 2 k) [] m n e

@@ -1,0 +1,15 @@
+pub mod Operator
+pub mod Tree
+pub mod TreeCode
+pub mod View
+pub mod TreeSame
+pub mod Falls
+pub mod Value
+pub mod Lawful
+pub mod FreeAlgebra
+pub mod FreeLawful
+pub mod RecipeView
+pub mod Agree
+pub mod Composes
+pub mod Demand
+pub mod Statements
