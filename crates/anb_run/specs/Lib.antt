@@ -1,7 +1,10 @@
 pub mod Commands
+pub mod Exchanges
+pub mod Fetches
 pub mod Lines
 pub mod PlayCommand
 pub mod Plays
+pub mod Prepared
 pub mod Statuses
 pub mod Values
 pub mod Words

@@ -1,11 +1,12 @@
 -- What `play` does: the play of a role, on a wire.
-use Rattle.std.specs.Prelude.{◌≡◌, ℕ, ◌≤◌, ◌⊎◌, ◌↔◌, Bool, true, false, List, [], ◌∷◌, ◌++◌, length, take, bytes_eq, Option, Some, None, Contains, if◌then◌else◌}
+use Rattle.std.specs.Prelude.{◌≡◌, ℕ, ◌≤◌, ◌⊎◌, ◌↔◌, Bool, true, false, List, [], ◌∷◌, ◌++◌, length, take, bytes_eq, Option, Some, None, IsTrue, ◌&&◌, if◌then◌else◌}
 use Rattle.anb_base.specs.declared.TheConstants.{ARRIVAL}
 use Rattle.anb_frame.specs.Frames.{frames, length_bytes}
 use Rattle.anb_frame.specs.Cuts.{Tail, Short, Long, Cut}
 use Rattle.anb_frame.specs.Cuts.{End as Whole}
 use Rattle.anb_read.specs.declared.plain.PlainAction.{PlainAction}
 use Rattle.anb_read.specs.Narrations.{PlainKnowledge, PlainNarration}
+use Rattle.anb_read.specs.Names.{is_among}
 use Rattle.anb_read.specs.Plain.{IsPlainText}
 use Rattle.anb_run.specs.declared.limits.TheConstants.{NARRATION_LIMIT, VALUES_LIMIT}
 use Rattle.anb_run.specs.declared.status.Status.{Status}
@@ -20,8 +21,11 @@ abbrev pub names_known : List PlainKnowledge → List ℕ → List (List ℕ)
 names_known [] role = []
 names_known (item ∷ items) role = if bytes_eq item.role role then item.names else names_known items role
 
--- a role sends the first of two messages and receives the second, and both agents know both
-pub record IsExchange (narration : PlainNarration) (role : List ℕ) (sent received : List ℕ) : Type 0 where
+abbrev pub knows_both : List PlainKnowledge → List ℕ → List ℕ → List ℕ → Bool
+knows_both items role sent received = is_among (names_known items role) sent && is_among (names_known items role) received
+
+-- a role sends the first of two messages and receives the second, and both ends know both
+pub record IsExchange (narration : PlainNarration) (role sent received : List ℕ) : Type 0 where
   pub first : PlainAction
   pub second : PlainAction
   pub two : narration.actions ≡ first ∷ second ∷ []
@@ -29,8 +33,8 @@ pub record IsExchange (narration : PlainNarration) (role : List ℕ) (sent recei
   pub receives : second.to ≡ role
   pub first_name : first.name ≡ sent
   pub second_name : second.name ≡ received
-  pub known : (agent : List ℕ) → Contains narration.agents agent
-    → Contains (names_known narration.knows agent) sent × Contains (names_known narration.knows agent) received
+  pub sender_knows : IsTrue (knows_both narration.knows first.from sent received)
+  pub receiver_knows : IsTrue (knows_both narration.knows first.to sent received)
 
 -- the plan of a role: what it knows, and then its actions in order
 abbrev pub steps_of : List PlainAction → List ℕ → List Event
@@ -52,23 +56,25 @@ pub record HasFile (files : List ℕ → Option (List ℕ)) (name : List ℕ) (l
   pub holds : files name ≡ Some text
   pub short : length text ≤ limit
 
+-- the file is the canonical text of this plain narration
+abbrev pub HasPlain : (List ℕ → Option (List ℕ)) → List ℕ → PlainNarration → Type 0
+HasPlain files name narration = (text : List ℕ) × HasFile files name NARRATION_LIMIT text × IsPlainText narration text
+
+-- the file gives these values to the names
+abbrev pub HasValues : (List ℕ → Option (List ℕ)) → List ℕ → List (List ℕ) → List (List ℕ) → Type 0
+HasValues files name names values = (text : List ℕ) × HasFile files name VALUES_LIMIT text × IsValuesText names values text
+
 -- the narration file is of the form that is built for the role
-pub record IsBuiltNarration (files : List ℕ → Option (List ℕ)) (name role : List ℕ) (narration : PlainNarration) : Type 0 where
-  pub text : List ℕ
-  pub file : HasFile files name NARRATION_LIMIT text
-  pub plain : IsPlainText narration text
-  pub sent : List ℕ
-  pub received : List ℕ
-  pub exchange : IsExchange narration role sent received
+abbrev pub IsBuiltNarration : (List ℕ → Option (List ℕ)) → List ℕ → List ℕ → PlainNarration → Type 0
+IsBuiltNarration files name role narration =
+  HasPlain files name narration × ((sent : List ℕ) × (received : List ℕ) × IsExchange narration role sent received)
 
 -- and the values file gives the initial values of the role's plan
 pub record IsBuilt (files : List ℕ → Option (List ℕ)) (name role values : List ℕ) (plan : List Event) (initial : List (List ℕ)) : Type 0 where
   pub narration : PlainNarration
   pub built : IsBuiltNarration files name role narration
   pub plan_is : plan ≡ plan_of narration role
-  pub text : List ℕ
-  pub file : HasFile files values VALUES_LIMIT text
-  pub fit : IsValuesText (names_known narration.knows role) initial text
+  pub fit : HasValues files values (names_known narration.knows role) initial
 
 -- what is left of the input after the frames that a play used and, where it waits, the tail, of which
 -- a long one is read up to the end of its length
@@ -110,6 +116,10 @@ Outcome files name role values left arrivals tail status out rest =
   IsRefused files name role values left status out rest
   ⊎ ((plan : List Event) × (initial : List (List ℕ)) × IsBuilt files name role values plan initial × IsPlayed plan initial left arrivals tail status out rest)
 
+-- the fault lies in the narration file, or in the values file of a narration that is built
+abbrev pub IsAtFault : (List ℕ → Option (List ℕ)) → List ℕ → List ℕ → List ℕ → List ℕ → Type 0
+IsAtFault files name role values file = (file ≡ name) ⊎ ((file ≡ values) × ((narration : PlainNarration) × IsBuiltNarration files name role narration))
+
 -- what is written where the play comes to a fault or to want of memory
 abbrev pub CutShort : (List ℕ → Option (List ℕ)) → List ℕ → List ℕ → List ℕ → List ℕ → List (List ℕ) → Status → List ℕ → List ℕ → Type 0
 -- a prefix of the frames that are due
@@ -128,7 +138,7 @@ CutShort files name role values left arrivals NoMemory out rest =
      → (k : ℕ) × (out ≡ frames (take k play.sent)))
 -- the file of the words
 CutShort files name role values left arrivals (FileFault file) out rest =
-  (file ≡ name) ⊎ ((file ≡ values) × ((narration : PlainNarration) × IsBuiltNarration files name role narration))
+  IsAtFault files name role values file
 CutShort files name role values left arrivals status out rest = Unit {0}
 
 -- the play of the role over an input with this cut, in both directions

@@ -36,3 +36,14 @@ is_fault ReadFault = true
 is_fault WriteFault = true
 is_fault NoMemory = true
 is_fault status = false
+
+-- a fact for the file that couldn't be read
+abbrev pub OnFileFault : Status → (List ℕ → Type 0) → Type 0
+OnFileFault (FileFault name) P = P name
+OnFileFault status P = Unit {0}
+
+-- the wire wasn't touched yet
+abbrev pub is_before_wire : Status → Bool
+is_before_wire Usage = true
+is_before_wire (FileFault name) = true
+is_before_wire status = false

@@ -16,5 +16,6 @@ asked_of (command ∷ narration ∷ role ∷ values ∷ []) =
 asked_of words = None
 
 -- the files that are asked for, in the order in which they are fetched
-abbrev pub files_of : Asked → List (List ℕ)
-files_of (play narration role values) = narration ∷ values ∷ []
+abbrev pub files_of : Option Asked → List (List ℕ)
+files_of None = []
+files_of (Some (play narration role values)) = narration ∷ values ∷ []

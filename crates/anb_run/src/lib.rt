@@ -1,9 +1,86 @@
 //! The top call: all that the program does.
+//!
+//! [`run`] reads the words, does what they ask for over a shelf of files and a wire, and tells on an
+//! error sink why it didn't. What holds of every command stands in clauses of its own; each command
+//! has one clause more, which says what it does.
 #![tactic(auto)]
 
+ghost use Rattle.std.specs.Prelude.{◌≡◌, ◌≤◌, ◌↔◌, true, None};
+ghost use Rattle.anb_base.specs.Moves.{Rose};
+ghost use Rattle.anb_run.specs.Fetches.{Fetches, IsOneOf};
+ghost use Rattle.anb_run.specs.Lines.{Tells};
+ghost use Rattle.anb_run.specs.PlayCommand.{DoesPlay};
+ghost use Rattle.anb_run.specs.Statuses.{OnFileFault, is_before_wire, line_of};
+ghost use Rattle.anb_run.specs.Words.{asked_of, files_of};
+ghost use Rattle.anb_run.specs.declared.status.Status.TheVariants.{Usage, ReadFault, WriteFault};
+
+mod converse;
+mod exchange;
+mod files;
 mod limits;
+mod line;
+mod play;
+mod prepare;
 mod status;
+mod values;
 mod words;
+
+use anb_base::{Shelf, Sink, Text, Wire};
+use line::tell;
+use std::alloc::Global;
+use words::Command;
 
 pub use limits::{NARRATION_LIMIT, VALUES_LIMIT};
 pub use status::{Halt, Status};
+
+/// Does what the words ask for. The words are those after the program's name. The files are fetched
+/// from the shelf, what a role sends and receives goes over the wire, and the line of a status other
+/// than Done goes to the error sink, whose faults don't change the status. The seed is for fresh
+/// names; `None` where the machine has drawn none.
+pub fn run<F: Shelf, W: Wire, E: Sink>(
+    alloc: Global,
+    words: &[Text],
+    shelf: &mut F,
+    wire: &mut W,
+    err: &mut E,
+    seed: Option<[u8; 32]>,
+) -> Status
+    ensures play { DoesPlay (asked_of words.now) (F.files shelf.old) (W.left wire.old) (W.left wire.new) (W.written wire.old) (W.written wire.new) result }
+
+    // When each fault may come.
+    ensures usage { (result ≡ Usage) ↔ (asked_of words.now ≡ None) }
+    ensures file_fault { OnFileFault result (λ file. IsOneOf (files_of (asked_of words.now)) file × Rose (F.faults shelf.old file) (F.faults shelf.new file)) }
+    ensures read_fault { result ≡ ReadFault → Rose (W.Source.faults wire.old) (W.Source.faults wire.new) }
+    ensures write_fault { result ≡ WriteFault → Rose (W.Sink.faults wire.old) (W.Sink.faults wire.new) }
+
+    // What is told, and what else is touched.
+    ensures line { Tells (E.written err.old) (E.written err.new) (E.faults err.old) (E.faults err.new) (line_of result) }
+    ensures fetches { Fetches (files_of (asked_of words.now)) (F.files shelf.old) (F.files shelf.new) (F.faults shelf.old) (F.faults shelf.new) }
+    ensures reached { W.reached wire.new ≡ W.reached wire.old }
+    ensures reach_faults { W.reach_faults wire.new ≡ W.reach_faults wire.old }
+    ensures reading_never_falls { W.Source.faults wire.old ≤ W.Source.faults wire.new }
+    ensures writing_never_falls { W.Sink.faults wire.old ≤ W.Sink.faults wire.new }
+    ensures telling_never_falls { E.faults err.old ≤ E.faults err.new }
+    ensures beside_line { E.kept err.new ≡ E.kept err.old }
+
+    // Before the wire is touched it is as it was.
+    ensures left { is_before_wire result ≡ true → W.left wire.new ≡ W.left wire.old }
+    ensures written { is_before_wire result ≡ true → W.written wire.new ≡ W.written wire.old }
+    ensures read_faults { is_before_wire result ≡ true → W.Source.faults wire.new ≡ W.Source.faults wire.old }
+    ensures write_faults { is_before_wire result ≡ true → W.Sink.faults wire.new ≡ W.Sink.faults wire.old }
+{
+    let _ = seed;
+    let status = match Command::read(words) {
+        None => Status::Usage,
+        Some(Command::Play {
+            narration,
+            role,
+            values,
+        }) => play::play(alloc, shelf, wire, narration, role, values),
+    };
+    tell(err, &status);
+    status
+}
+
+#[cfg(test)]
+mod tests;

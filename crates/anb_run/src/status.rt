@@ -1,6 +1,5 @@
-ghost use Rattle.std.specs.Prelude.{◌≡◌};
-
-use anb_base::Text;
+use anb_base::{NoMemory, Text};
+use itoa::Buffer;
 
 /// Where a play stopped: the event, and the instruction of a role file that ran, numbered from 1,
 /// or 0 where there is none.
@@ -31,9 +30,20 @@ pub enum Status {
     NoMemory,
 }
 
-impl Status {
+impl From<NoMemory> for Status {
     ghost use Rattle.std.specs.Prelude.{◌≡◌};
-    ghost use Rattle.anb_run.specs.Statuses.{number_of};
+    ghost use Rattle.anb_run.specs.declared.status.Status.TheVariants.{NoMemory};
+
+    ghost from_gives = { λ _ status. status ≡ NoMemory };
+
+    fn from(_none: NoMemory) -> Self {
+        Status::NoMemory
+    }
+}
+
+impl Status {
+    ghost use Rattle.std.specs.Prelude.{◌≡◌, ◌++◌};
+    ghost use Rattle.anb_run.specs.Statuses.{number_of, text_of};
 
     /// The exit status of the program.
     pub fn number(&self) -> u8
@@ -48,6 +58,22 @@ impl Status {
             Status::WriteFault => 15,
             Status::NotBuilt => 98,
             Status::NoMemory => 99,
+        }
+    }
+
+    /// What the status says, in two pieces. The digits hold the second one where it is a number.
+    pub(crate) fn words<'a>(&'a self, digits: &'a mut Buffer) -> (&'a str, &'a str)
+        ensures { text_of self.now ≡ result.0.now ++ result.1.now }
+    {
+        match self {
+            Status::Done => ("", ""),
+            Status::Usage => ("the words fit no command", ""),
+            Status::FileFault(name) => ("can't read ", name.as_str()),
+            Status::Stopped(halt) => ("stopped at event ", digits.format(halt.event)),
+            Status::ReadFault => ("read failed", ""),
+            Status::WriteFault => ("write failed", ""),
+            Status::NotBuilt => ("not built", ""),
+            Status::NoMemory => ("no memory", ""),
         }
     }
 }

@@ -1,2 +1,0 @@
-pub mod ByteMeaning
-pub mod AlgebraValue

@@ -1,0 +1,9 @@
+pub mod Exchanges
+pub mod FilesRead
+pub mod Lines
+pub mod Outcomes
+pub mod Places
+pub mod Ready
+pub mod Refusals
+pub mod Texts
+pub mod ValueLines

@@ -1,0 +1,92 @@
+ghost use Rattle.std.specs.Prelude.{◌≡◌, ◌≢◌, ◌≤◌, ℕ, List, [], ◌∷◌, length, IfOk, IfErr};
+ghost use Rattle.std.specs.List.{AllByRecursion};
+ghost use Rattle.anb_base.specs.Moves.{Rose};
+ghost use Rattle.anb_read.specs.Narrations.{PlainNarration};
+
+ghost use Rattle.anb_run.specs.Fetches.{Fetches, IfTold};
+ghost use Rattle.anb_run.specs.PlayCommand.{HasFile, HasPlain, HasValues};
+ghost use Rattle.anb_run.specs.Prepared.{Fails, IsFileFault};
+ghost use Rattle.anb_run.specs.Values.{IsValue};
+
+use crate::values::initial_values;
+use crate::{NARRATION_LIMIT, Status, VALUES_LIMIT};
+use anb_base::{Bytes, NoMemory, Shelf, ShelfNo, Text};
+use anb_read::{Plain, read_plain};
+use std::alloc::Global;
+
+/// The file of this name, where it has at most `limit` bytes.
+fn fetch_file<F: Shelf>(
+    alloc: Global,
+    shelf: &mut F,
+    name: &Text,
+    limit: u32,
+) -> Result<Bytes, Status>
+    ensures file { IfOk result (λ text. IfTold (F.files shelf.old) (λ files. HasFile files name.now limit text)) }
+    ensures within { IfOk result (λ text. length text ≤ limit) }
+    ensures err { IfErr result (λ status. Fails status
+        (λ file. (file ≡ name.now) × Rose (F.faults shelf.old file) (F.faults shelf.new file))
+        (IfTold (F.files shelf.old) (λ files. (text : List ℕ) → HasFile files name.now limit text → ⊥))) }
+    ensures fetches { Fetches (name.now ∷ []) (F.files shelf.old) (F.files shelf.new) (F.faults shelf.old) (F.faults shelf.new) }
+{
+    match shelf.fetch(alloc, name.as_str(), limit) {
+        Ok(text) => Ok(text),
+        Err(ShelfNo::Failed) => Err(file_fault(alloc, name)),
+        Err(ShelfNo::Long) => Err(Status::NotBuilt),
+        Err(ShelfNo::NoMemory) => Err(Status::NoMemory),
+    }
+}
+
+/// The status of a file that couldn't be read.
+fn file_fault(alloc: Global, name: &Text) -> Status
+    ensures { IsFileFault name.now result }
+{
+    match name.copy(alloc) {
+        Ok(name) => Status::FileFault(name),
+        Err(NoMemory) => Status::NoMemory,
+    }
+}
+
+/// The plain narration in the file.
+pub(crate) fn narration_of<F: Shelf>(
+    alloc: Global,
+    shelf: &mut F,
+    name: &Text,
+) -> Result<Plain, Status>
+    ensures plain { IfOk result (λ narration. IfTold (F.files shelf.old) (λ files. HasPlain files name.now narration)) }
+    ensures only { IfOk result (λ narration. IfTold (F.files shelf.old) (λ files. (other : PlainNarration) → HasPlain files name.now other → other ≡ narration)) }
+    ensures err { IfErr result (λ status. Fails status
+        (λ file. (file ≡ name.now) × Rose (F.faults shelf.old file) (F.faults shelf.new file))
+        (IfTold (F.files shelf.old) (λ files. (narration : PlainNarration) → HasPlain files name.now narration → ⊥))) }
+    ensures fetches { Fetches (name.now ∷ []) (F.files shelf.old) (F.files shelf.new) (F.faults shelf.old) (F.faults shelf.new) }
+{
+    let text = fetch_file(alloc, shelf, name, NARRATION_LIMIT)?;
+    match read_plain(alloc, text.as_slice()) {
+        Ok(Some(narration)) => Ok(narration),
+        Ok(None) => Err(Status::NotBuilt),
+        Err(NoMemory) => Err(Status::NoMemory),
+    }
+}
+
+/// The values that the file gives to the names.
+pub(crate) fn values_of<F: Shelf>(
+    alloc: Global,
+    shelf: &mut F,
+    name: &Text,
+    names: &[Text],
+) -> Result<Vec<Bytes>, Status>
+    ensures fit { IfOk result (λ values. IfTold (F.files shelf.old) (λ files. HasValues files name.now names.now values.items)) }
+    ensures only { IfOk result (λ values. IfTold (F.files shelf.old) (λ files. (others : List (List ℕ)) → HasValues files name.now names.now others → others ≡ values.items)) }
+    ensures each { IfOk result (λ values. length values.items ≡ length names.now) }
+    ensures are_values { IfOk result (λ values. AllByRecursion IsValue values.items) }
+    ensures err { IfErr result (λ status. Fails status
+        (λ file. (file ≡ name.now) × Rose (F.faults shelf.old file) (F.faults shelf.new file))
+        (IfTold (F.files shelf.old) (λ files. (values : List (List ℕ)) → HasValues files name.now names.now values → ⊥))) }
+    ensures fetches { Fetches (name.now ∷ []) (F.files shelf.old) (F.files shelf.new) (F.faults shelf.old) (F.faults shelf.new) }
+{
+    let text = fetch_file(alloc, shelf, name, VALUES_LIMIT)?;
+    match initial_values(alloc, text.as_slice(), names) {
+        Ok(Some(values)) => Ok(values),
+        Ok(None) => Err(Status::NotBuilt),
+        Err(NoMemory) => Err(Status::NoMemory),
+    }
+}
