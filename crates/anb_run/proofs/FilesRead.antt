@@ -1,5 +1,5 @@
 -- What the text of a file says of the file.
-use Rattle.std.proofs.Common.{◌≡◌, ℕ, ◌≤◌, ◌↔◌, List, Option, Some, None, refl, ap, sym, ◌∙◌, subst}
+use Rattle.std.proofs.Common.{◌≡◌, ℕ, ◌↔◌, List, Option, Some, None, sym, ◌∙◌, subst}
 use Rattle.anb_read.specs.Narrations.{PlainNarration}
 use Rattle.anb_read.specs.Plain.{IsPlainText}
 use Rattle.anb_run.specs.declared.limits.TheConstants.{NARRATION_LIMIT}
@@ -12,26 +12,26 @@ one_file files name limit text other here there = let same : Some text ≡ Some 
 
 -- what was read of the text
 pub plain_here : (told : Option (List ℕ → Option (List ℕ))) (name text read : List ℕ) (found : Option PlainNarration) (narration : PlainNarration) → read ≡ text
-  → ((n : PlainNarration) → (found ≡ Some n) ↔ IsPlainText n read) → found ≡ Some narration
-  → IfTold told (λ files. HasFile files name NARRATION_LIMIT text) → IfTold told (λ files. HasPlain files name narration)
+    → ((n : PlainNarration) → (found ≡ Some n) ↔ IsPlainText n read) → found ≡ Some narration
+    → IfTold told (λ files. HasFile files name NARRATION_LIMIT text) → IfTold told (λ files. HasPlain files name narration)
 plain_here None name text read found narration is exact some file = tt
 plain_here (Some files) name text read found narration is exact some file = (text, file, subst (λ (t : List ℕ). IsPlainText narration t) is ((exact narration).0 some))
 
 pub no_plain : (told : Option (List ℕ → Option (List ℕ))) (name text read : List ℕ) (found : Option PlainNarration) → read ≡ text
-  → ((n : PlainNarration) → (found ≡ Some n) ↔ IsPlainText n read) → found ≡ None
-  → IfTold told (λ files. HasFile files name NARRATION_LIMIT text)
-  → IfTold told (λ files. (narration : PlainNarration) → HasPlain files name narration → ⊥)
+    → ((n : PlainNarration) → (found ≡ Some n) ↔ IsPlainText n read) → found ≡ None
+    → IfTold told (λ files. HasFile files name NARRATION_LIMIT text)
+    → IfTold told (λ files. (narration : PlainNarration) → HasPlain files name narration → ⊥)
 no_plain None name text read found is exact none file = tt
 no_plain (Some files) name text read found is exact none file = λ narration has.
-  let same : has.0 ≡ read = one_file files name NARRATION_LIMIT has.0 text has.1 file ∙ sym is in
-  let some : found ≡ Some narration = (exact narration).1 (subst (λ (t : List ℕ). IsPlainText narration t) same has.2) in
-  let never : None ≡ Some narration = sym none ∙ some in cc
+    let same : has.0 ≡ read = one_file files name NARRATION_LIMIT has.0 text has.1 file ∙ sym is in
+    let some : found ≡ Some narration = (exact narration).1 (subst (λ (t : List ℕ). IsPlainText narration t) same has.2) in
+    let never : None ≡ Some narration = sym none ∙ some in cc
 
 pub only_plain : (told : Option (List ℕ → Option (List ℕ))) (name text read : List ℕ) (found : Option PlainNarration) (narration : PlainNarration) → read ≡ text
-  → ((n : PlainNarration) → (found ≡ Some n) ↔ IsPlainText n read) → found ≡ Some narration
-  → IfTold told (λ files. HasFile files name NARRATION_LIMIT text) → IfTold told (λ files. (other : PlainNarration) → HasPlain files name other → other ≡ narration)
+    → ((n : PlainNarration) → (found ≡ Some n) ↔ IsPlainText n read) → found ≡ Some narration
+    → IfTold told (λ files. HasFile files name NARRATION_LIMIT text) → IfTold told (λ files. (other : PlainNarration) → HasPlain files name other → other ≡ narration)
 only_plain None name text read found narration is exact some file = tt
 only_plain (Some files) name text read found narration is exact some file = λ other has.
-  let same : has.0 ≡ read = one_file files name NARRATION_LIMIT has.0 text has.1 file ∙ sym is in
-  let there : found ≡ Some other = (exact other).1 (subst (λ (t : List ℕ). IsPlainText other t) same has.2) in
-  let both : Some other ≡ Some narration = sym there ∙ some in cc
+    let same : has.0 ≡ read = one_file files name NARRATION_LIMIT has.0 text has.1 file ∙ sym is in
+    let there : found ≡ Some other = (exact other).1 (subst (λ (t : List ℕ). IsPlainText other t) same has.2) in
+    let both : Some other ≡ Some narration = sym there ∙ some in cc

@@ -1,7 +1,6 @@
 -- Pieces that are written one after another, and the line that they make.
 use Rattle.std.proofs.Common.{◌≡◌, ℕ, ◌+◌, ◌<◌, ◌≤◌, List, [], ◌∷◌, ◌++◌, length, take, drop, get_or, suc, Option, Result, Ok, Err, OnOk, OnErr, codes, refl, ap, sym, ◌∙◌, inl, inr, arith, append_assoc, length-append}
 use Rattle.std.specs.Borrow.{Bor}
-use Rattle.std.specs.List.{flat_map}
 use Rattle.std.proofs.Math.Seq.{take-append-add, drop-cons}
 use Rattle.std.proofs.lemmas.List.{take-append-le, take-append-drop}
 use Rattle.std.proofs.lemmas.Grind.{flat_map-append}
@@ -16,21 +15,21 @@ use Rattle.anb_run.specs.declared.status.Status.TheVariants.{Done, Usage, FileFa
 -- what was put, and then a prefix of what comes next, are a prefix of the whole
 pub prefix_within : (a b c : Option (List ℕ)) (front next rest whole : List ℕ) → whole ≡ front ++ (next ++ rest) → Put a b front → PutPrefix b c next → PutPrefix a c whole
 prefix_within a b c front next rest whole is put (n, within, more) =
-  let size : length front + n ≤ length whole = rw is (omega (arith, length-append front (next ++ rest), length-append next rest)) in
-  let taken : take (length front + n) whole ≡ front ++ take n next =
+    let size : length front + n ≤ length whole = rw is (omega (arith, length-append front (next ++ rest), length-append next rest)) in
+    let taken : take (length front + n) whole ≡ front ++ take n next =
     rw is (take-append-add front (next ++ rest) n ∙ ap (λ (t : List ℕ). front ++ t) (take-append-le n next rest within)) in
-  (length front + n, size, rw taken (Put-joined a b c front (take n next) put more))
+    (length front + n, size, rw taken (Put-joined a b c front (take n next) put more))
 
 -- the pieces are those so far, the next one, and the rest
 pub joined_at : (pieces : List (Bor (List ℕ))) (i : ℕ) (d : Bor (List ℕ)) → i < length pieces
-  → joined pieces ≡ joined (take i pieces) ++ ((get_or pieces i d).now ++ joined (drop (suc i) pieces))
+    → joined pieces ≡ joined (take i pieces) ++ ((get_or pieces i d).now ++ joined (drop (suc i) pieces))
 joined_at pieces i d within =
-  ap joined (sym (take-append-drop i pieces)) ∙ flat_map-append (λ (piece : Bor (List ℕ)). piece.now) (take i pieces) (drop i pieces)
-  ∙ ap (λ (after : List (Bor (List ℕ))). joined (take i pieces) ++ joined after) (drop-cons pieces i d within)
+    ap joined (sym (take-append-drop i pieces)) ∙ flat_map-append (λ (piece : Bor (List ℕ)). piece.now) (take i pieces) (drop i pieces)
+    ∙ ap (λ (after : List (Bor (List ℕ))). joined (take i pieces) ++ joined after) (drop-cons pieces i d within)
 
 -- the line is told where its pieces are written, or as many as could be
 pub told : (r : Result (Unit {0}) Failed) (old new : Option (List ℕ)) (before now : ℕ) (line : List ℕ)
-  → OnOk r (Put old new line) → OnErr r (PutPrefix old new line) → OnErr r (Rose before now) → Tells old new before now line
+    → OnOk r (Put old new line) → OnErr r (PutPrefix old new line) → OnErr r (Rose before now) → Tells old new before now line
 told (Ok x) old new before now line put failed cause = inl put
 told (Err e) old new before now line put failed cause = inr (cause, failed)
 
@@ -47,7 +46,7 @@ line_of-other NoMemory other = refl
 
 -- the line of a status is its pieces
 pub line_is : (status : Status) (what which : List ℕ) → (status ≡ Done → ⊥) → text_of status ≡ what ++ which
-  → codes "anb: " ++ (what ++ (which ++ (10 ∷ []))) ≡ line_of status
+    → codes "anb: " ++ (what ++ (which ++ (10 ∷ []))) ≡ line_of status
 line_is status what which other text = sym (rw (line_of-other status other, text) (simp append_assoc))
 
 pub on_err : {P : Type 0} (r : Result (Unit {0}) Failed) → P → OnErr r P

@@ -1,12 +1,11 @@
 -- Why the files of a play aren't read, or aren't of the form that is built.
-use Rattle.std.proofs.Common.{◌≡◌, ℕ, ◌≤◌, ◌<◌, ◌⊎◌, List, length, Option, Some, None, refl, ap, sym, ◌∙◌, subst, inl, inr, arith}
-use Rattle.std.specs.Prelude.{slice_get}
+use Rattle.std.proofs.Common.{◌≡◌, ℕ, ◌≤◌, ◌⊎◌, List, Option, Some, None, ap, sym, ◌∙◌, subst, inl, inr, arith}
 use Rattle.anb_base.specs.Moves.{Rose}
 use Rattle.anb_read.specs.Narrations.{PlainNarration}
 use Rattle.anb_run.specs.declared.status.Status.{Status}
 use Rattle.anb_run.specs.declared.status.Status.TheVariants.{Done, Usage, FileFault, Stopped, ReadFault, WriteFault, NotBuilt, NoMemory}
 use Rattle.anb_run.specs.Fetches.{IfTold}
-use Rattle.anb_run.specs.PlayCommand.{HasPlain, HasValues, IsAtFault, IsBuiltNarration, IsExchange, IsNotBuilt, names_known}
+use Rattle.anb_run.specs.PlayCommand.{HasPlain, HasValues, IsAtFault, IsExchange, IsNotBuilt, names_known}
 use Rattle.anb_run.specs.Prepared.{Fails}
 
 abbrev pub Told : Type 0
@@ -25,13 +24,13 @@ at_name None name role values file is = tt
 at_name (Some files) name role values file is = inl is
 
 no_narration : (told : Told) (name role values : List ℕ) → IfTold told (λ files. (narration : PlainNarration) → HasPlain files name narration → ⊥)
-  → IfTold told (λ files. IsNotBuilt files name role values)
+    → IfTold told (λ files. IsNotBuilt files name role values)
 no_narration None name role values never = tt
 no_narration (Some files) name role values never = λ plan initial built. never built.narration built.built.0
 
 pub narration_fails : (status : Status) (told : Told) (name role values : List ℕ) (Cause : List ℕ → Type 0)
-  → Fails status (λ file. (file ≡ name) × Cause file) (IfTold told (λ files. (narration : PlainNarration) → HasPlain files name narration → ⊥))
-  → Unready status told name role values Cause
+    → Fails status (λ file. (file ≡ name) × Cause file) (IfTold told (λ files. (narration : PlainNarration) → HasPlain files name narration → ⊥))
+    → Unready status told name role values Cause
 narration_fails (FileFault file) told name role values Cause (is, cause) = (inl is, cause, at_name told name role values file is)
 narration_fails NotBuilt told name role values Cause never = no_narration told name role values never
 narration_fails NoMemory told name role values Cause _ = tt
@@ -43,37 +42,37 @@ narration_fails WriteFault told name role values Cause never = absurd never
 
 -- the role has no exchange in the narration
 pub no_exchange : (told : Told) (name role values : List ℕ) (narration : PlainNarration)
-  → IfTold told (λ files. (other : PlainNarration) → HasPlain files name other → other ≡ narration)
-  → ((sent received : List ℕ) → IsExchange narration role sent received → ⊥)
-  → IfTold told (λ files. IsNotBuilt files name role values)
+    → IfTold told (λ files. (other : PlainNarration) → HasPlain files name other → other ≡ narration)
+    → ((sent received : List ℕ) → IsExchange narration role sent received → ⊥)
+    → IfTold told (λ files. IsNotBuilt files name role values)
 no_exchange None name role values narration only never = tt
 no_exchange (Some files) name role values narration only never = λ plan initial built.
-  let has = built.built.1 in
-  never has.0 has.1 (subst (λ (n : PlainNarration). IsExchange n role has.0 has.1) (only built.narration built.built.0) has.2)
+    let has = built.built.1 in
+    never has.0 has.1 (subst (λ (n : PlainNarration). IsExchange n role has.0 has.1) (only built.narration built.built.0) has.2)
 
 -- the values weren't read
 at_values : (told : Told) (name role values file : List ℕ) (narration : PlainNarration) (sent received : List ℕ)
-  → IfTold told (λ files. HasPlain files name narration) → IsExchange narration role sent received → file ≡ values
-  → IfTold told (λ files. IsAtFault files name role values file)
+    → IfTold told (λ files. HasPlain files name narration) → IsExchange narration role sent received → file ≡ values
+    → IfTold told (λ files. IsAtFault files name role values file)
 at_values None name role values file narration sent received plain exchange is = tt
 at_values (Some files) name role values file narration sent received plain exchange is = inr (is, (narration, (plain, (sent, received, exchange))))
 
 no_values : (told : Told) (name role values : List ℕ) (narration : PlainNarration) (names : List (List ℕ)) → names ≡ names_known narration.knows role
-  → IfTold told (λ files. (other : PlainNarration) → HasPlain files name other → other ≡ narration)
-  → IfTold told (λ files. (initial : List (List ℕ)) → HasValues files values names initial → ⊥)
-  → IfTold told (λ files. IsNotBuilt files name role values)
+    → IfTold told (λ files. (other : PlainNarration) → HasPlain files name other → other ≡ narration)
+    → IfTold told (λ files. (initial : List (List ℕ)) → HasValues files values names initial → ⊥)
+    → IfTold told (λ files. IsNotBuilt files name role values)
 no_values None name role values narration names is only never = tt
 no_values (Some files) name role values narration names is only never = λ plan initial built.
-  never initial (subst (λ (ns : List (List ℕ)). HasValues files values ns initial) (ap (λ (n : PlainNarration). names_known n.knows role) (only built.narration built.built.0) ∙ sym is) built.fit)
+    never initial (subst (λ (ns : List (List ℕ)). HasValues files values ns initial) (ap (λ (n : PlainNarration). names_known n.knows role) (only built.narration built.built.0) ∙ sym is) built.fit)
 
 pub values_fail : (status : Status) (told : Told) (name role values : List ℕ) (Cause : List ℕ → Type 0)
-  (narration : PlainNarration) (sent received : List ℕ) (names : List (List ℕ)) → names ≡ names_known narration.knows role
-  → IfTold told (λ files. HasPlain files name narration) → IfTold told (λ files. (other : PlainNarration) → HasPlain files name other → other ≡ narration)
-  → IsExchange narration role sent received
-  → Fails status (λ file. (file ≡ values) × Cause file) (IfTold told (λ files. (initial : List (List ℕ)) → HasValues files values names initial → ⊥))
-  → Unready status told name role values Cause
+    (narration : PlainNarration) (sent received : List ℕ) (names : List (List ℕ)) → names ≡ names_known narration.knows role
+    → IfTold told (λ files. HasPlain files name narration) → IfTold told (λ files. (other : PlainNarration) → HasPlain files name other → other ≡ narration)
+    → IsExchange narration role sent received
+    → Fails status (λ file. (file ≡ values) × Cause file) (IfTold told (λ files. (initial : List (List ℕ)) → HasValues files values names initial → ⊥))
+    → Unready status told name role values Cause
 values_fail (FileFault file) told name role values Cause narration sent received names names_is plain only exchange (is, cause) =
-  (inr is, cause, at_values told name role values file narration sent received plain exchange is)
+    (inr is, cause, at_values told name role values file narration sent received plain exchange is)
 values_fail NotBuilt told name role values Cause narration sent received names names_is plain only exchange never = no_values told name role values narration names names_is only never
 values_fail NoMemory told name role values Cause narration sent received names names_is plain only exchange _ = tt
 values_fail Done told name role values Cause narration sent received names names_is plain only exchange never = absurd never

@@ -5,13 +5,13 @@ use Rattle.anb_base.specs.declared.TheConstants.{ARRIVAL}
 use Rattle.anb_frame.specs.Frames.{frame, length_bytes, IsPart}
 use Rattle.anb_frame.specs.Cuts.{Tail, End, Short, Long}
 use Rattle.anb_run.specs.declared.status.Status.{Status}
-use Rattle.anb_run.specs.declared.status.Status.TheVariants.{Done, Usage, FileFault, Stopped, ReadFault, WriteFault, NotBuilt, NoMemory}
+use Rattle.anb_run.specs.declared.status.Status.TheVariants.{Done, Stopped, ReadFault, NotBuilt}
 use Rattle.anb_run.specs.Plays.{Played, stopped, waiting, done}
 
 abbrev pub exchanged : List ℕ → List ℕ → List (List ℕ) → Played
 exchanged sent awaited [] = record { sent = sent ∷ []; end = waiting 2; unused = [] }
 exchanged sent awaited (arrival ∷ arrivals) =
-  record { sent = sent ∷ []; end = (if bytes_eq arrival awaited then done else stopped 2); unused = arrivals }
+    record { sent = sent ∷ []; end = (if bytes_eq arrival awaited then done else stopped 2); unused = arrivals }
 
 -- the tail is read whole, or the four bytes of a length that is too much
 abbrev pub ReadsTail : Tail → Option (List ℕ) → Option (List ℕ) → Type 0
@@ -23,7 +23,7 @@ ReadsTail (Long len) left left_now = Took left left_now (length_bytes len)
 abbrev pub Awaits : List ℕ → List (List ℕ) → Tail → Option (List ℕ) → Option (List ℕ) → Status → Type 0
 Awaits awaited arrivals tail left left_now Done = (rest : List (List ℕ)) × (arrivals ≡ awaited ∷ rest) × Took left left_now (frame awaited)
 Awaits awaited arrivals tail left left_now (Stopped halt) =
-  (halt ≡ record { event = 2; at = 0 }) × ((arrival : List ℕ) × (rest : List (List ℕ)) × (arrivals ≡ arrival ∷ rest) × (arrival ≢ awaited) × Took left left_now (frame arrival))
+    (halt ≡ record { event = 2; at = 0 }) × ((arrival : List ℕ) × (rest : List (List ℕ)) × (arrivals ≡ arrival ∷ rest) × (arrival ≢ awaited) × Took left left_now (frame arrival))
 Awaits awaited arrivals tail left left_now NotBuilt = (arrivals ≡ []) × ReadsTail tail left left_now
 Awaits awaited arrivals tail left left_now ReadFault = (part : List ℕ) × (need : ℕ) × Took left left_now part × IsPart ARRIVAL part need
 Awaits awaited arrivals tail left left_now status = ⊥

@@ -1,5 +1,5 @@
 -- What `play` does: the play of a role, on a wire.
-use Rattle.std.specs.Prelude.{◌≡◌, ℕ, ◌≤◌, ◌⊎◌, ◌↔◌, Bool, true, false, List, [], ◌∷◌, ◌++◌, length, take, bytes_eq, Option, Some, None, IsTrue, ◌&&◌, if◌then◌else◌}
+use Rattle.std.specs.Prelude.{◌≡◌, ℕ, ◌≤◌, ◌⊎◌, ◌↔◌, Bool, true, false, List, [], ◌∷◌, ◌++◌, length, take, bytes_eq, Option, Some, IsTrue, ◌&&◌, if◌then◌else◌}
 use Rattle.anb_base.specs.declared.TheConstants.{ARRIVAL}
 use Rattle.anb_frame.specs.Frames.{frames, length_bytes}
 use Rattle.anb_frame.specs.Cuts.{Tail, Short, Long, Cut}
@@ -40,9 +40,9 @@ pub record IsExchange (narration : PlainNarration) (role sent received : List �
 abbrev pub steps_of : List PlainAction → List ℕ → List Event
 steps_of [] role = []
 steps_of (action ∷ actions) role =
-  if bytes_eq action.from role then send action.name ∷ steps_of actions role
-  else if bytes_eq action.to role then receive action.name ∷ steps_of actions role
-  else steps_of actions role
+    if bytes_eq action.from role then send action.name ∷ steps_of actions role
+    else if bytes_eq action.to role then receive action.name ∷ steps_of actions role
+    else steps_of actions role
 
 abbrev pub knows_of : List (List ℕ) → List Event → List Event
 knows_of [] events = events
@@ -67,7 +67,7 @@ HasValues files name names values = (text : List ℕ) × HasFile files name VALU
 -- the narration file is of the form that is built for the role
 abbrev pub IsBuiltNarration : (List ℕ → Option (List ℕ)) → List ℕ → List ℕ → PlainNarration → Type 0
 IsBuiltNarration files name role narration =
-  HasPlain files name narration × ((sent : List ℕ) × (received : List ℕ) × IsExchange narration role sent received)
+    HasPlain files name narration × ((sent : List ℕ) × (received : List ℕ) × IsExchange narration role sent received)
 
 -- and the values file gives the initial values of the role's plan
 pub record IsBuilt (files : List ℕ → Option (List ℕ)) (name role values : List ℕ) (plan : List Event) (initial : List (List ℕ)) : Type 0 where
@@ -113,8 +113,8 @@ pub record IsRefused (files : List ℕ → Option (List ℕ)) (name role values 
 -- tail, where no fault comes
 abbrev pub Outcome : (List ℕ → Option (List ℕ)) → List ℕ → List ℕ → List ℕ → List ℕ → List (List ℕ) → Tail → Status → List ℕ → List ℕ → Type 0
 Outcome files name role values left arrivals tail status out rest =
-  IsRefused files name role values left status out rest
-  ⊎ ((plan : List Event) × (initial : List (List ℕ)) × IsBuilt files name role values plan initial × IsPlayed plan initial left arrivals tail status out rest)
+    IsRefused files name role values left status out rest
+    ⊎ ((plan : List Event) × (initial : List (List ℕ)) × IsBuilt files name role values plan initial × IsPlayed plan initial left arrivals tail status out rest)
 
 -- the fault lies in the narration file, or in the values file of a narration that is built
 abbrev pub IsAtFault : (List ℕ → Option (List ℕ)) → List ℕ → List ℕ → List ℕ → List ℕ → Type 0
@@ -124,32 +124,32 @@ IsAtFault files name role values file = (file ≡ name) ⊎ ((file ≡ values) �
 abbrev pub CutShort : (List ℕ → Option (List ℕ)) → List ℕ → List ℕ → List ℕ → List ℕ → List (List ℕ) → Status → List ℕ → List ℕ → Type 0
 -- a prefix of the frames that are due
 CutShort files name role values left arrivals WriteFault out rest =
-  (plan : List Event) × (initial : List (List ℕ)) × (play : Played) × IsBuilt files name role values plan initial × Play plan initial arrivals play
-  × ((n : ℕ) × (out ≡ take n (frames play.sent)))
+    (plan : List Event) × (initial : List (List ℕ)) × (play : Played) × IsBuilt files name role values plan initial × Play plan initial arrivals play
+    × ((n : ℕ) × (out ≡ take n (frames play.sent)))
 -- the frames of the play over the arrivals that were read whole, which waits
 CutShort files name role values left arrivals ReadFault out rest =
-  (plan : List Event) × (initial : List (List ℕ)) × (play : Played) × IsBuilt files name role values plan initial
-  × ((taken : List ℕ) × (whole : List (List ℕ)) × (tail : Tail) × (e : ℕ) × (left ≡ taken ++ rest) × Cut ARRIVAL taken whole tail
-     × Play plan initial whole play × (play.end ≡ waiting e) × (out ≡ frames play.sent))
+    (plan : List Event) × (initial : List (List ℕ)) × (play : Played) × IsBuilt files name role values plan initial
+    × ((taken : List ℕ) × (whole : List (List ℕ)) × (tail : Tail) × (e : ℕ) × (left ≡ taken ++ rest) × Cut ARRIVAL taken whole tail
+    × Play plan initial whole play × (play.end ≡ waiting e) × (out ≡ frames play.sent))
 -- whole frames, the first of those that are due
 CutShort files name role values left arrivals NoMemory out rest =
-  (IsNotBuilt files name role values → out ≡ [])
-  × ((plan : List Event) (initial : List (List ℕ)) (play : Played) → IsBuilt files name role values plan initial → Play plan initial arrivals play
-     → (k : ℕ) × (out ≡ frames (take k play.sent)))
+    (IsNotBuilt files name role values → out ≡ [])
+    × ((plan : List Event) (initial : List (List ℕ)) (play : Played) → IsBuilt files name role values plan initial → Play plan initial arrivals play
+    → (k : ℕ) × (out ≡ frames (take k play.sent)))
 -- the file of the words
 CutShort files name role values left arrivals (FileFault file) out rest =
-  IsAtFault files name role values file
+    IsAtFault files name role values file
 CutShort files name role values left arrivals status out rest = Unit {0}
 
 -- the play of the role over an input with this cut, in both directions
 pub record IsPlayOf (files : List ℕ → Option (List ℕ)) (name role values left : List ℕ) (arrivals : List (List ℕ)) (tail : Tail) (written : List ℕ) (result : Status) (left_now written_now : Option (List ℕ)) : Type 0 where
   pub outcome : is_fault result ≡ false → (status : Status) (out rest : List ℕ)
-    → Outcome files name role values left arrivals tail status out rest ↔ ((result ≡ status) × (written_now ≡ Some (written ++ out)) × (left_now ≡ Some rest))
+      → Outcome files name role values left arrivals tail status out rest ↔ ((result ≡ status) × (written_now ≡ Some (written ++ out)) × (left_now ≡ Some rest))
   pub cut_short : is_fault result ≡ true
-    → (out : List ℕ) × (rest : List ℕ) × (written_now ≡ Some (written ++ out)) × (left_now ≡ Some rest) × CutShort files name role values left arrivals result out rest
+      → (out : List ℕ) × (rest : List ℕ) × (written_now ≡ Some (written ++ out)) × (left_now ≡ Some rest) × CutShort files name role values left arrivals result out rest
 
 -- what `play` does where the files and the wire tell what they hold
 abbrev pub DoesPlay : Option Asked → Option (List ℕ → Option (List ℕ)) → Option (List ℕ) → Option (List ℕ) → Option (List ℕ) → Option (List ℕ) → Status → Type 0
 DoesPlay (Some (play name role values)) (Some files) (Some left) left_now (Some written) written_now result =
-  (arrivals : List (List ℕ)) (tail : Tail) → Cut ARRIVAL left arrivals tail → IsPlayOf files name role values left arrivals tail written result left_now written_now
+    (arrivals : List (List ℕ)) (tail : Tail) → Cut ARRIVAL left arrivals tail → IsPlayOf files name role values left arrivals tail written result left_now written_now
 DoesPlay asked files left left_now written written_now result = Unit {0}

@@ -13,7 +13,7 @@ value labels (label n) = slice_get labels n
 pub record Agree (frame values : List (List ℕ)) : Type 0 where
   pub long : length frame ≡ length values
   pub one : (r s : Recipe) (t : List ℕ) → value frame r ≡ Some t → value frame s ≡ Some t
-    → (b : List ℕ) × (value values r ≡ Some b) × (value values s ≡ Some b)
+      → (b : List ℕ) × (value values r ≡ Some b) × (value values s ≡ Some b)
 
 -- some recipe has the term, and each one that has it gives these bytes
 pub record Gives (frame values : List (List ℕ)) (t b : List ℕ) : Type 0 where
@@ -53,17 +53,17 @@ known (receive t ∷ events) = known events
 -- the play goes on where the labels agree, and stops where they don't
 abbrev pub Judged : List (List ℕ) → List (List ℕ) → ℕ → List (List ℕ) → Played → Type 0 → Type 0
 Judged frame values e arrivals play GoesOn =
-  (Agree frame values × GoesOn) ⊎ ((Agree frame values → ⊥) × (play ≡ ends (stopped e) arrivals))
+    (Agree frame values × GoesOn) ⊎ ((Agree frame values → ⊥) × (play ≡ ends (stopped e) arrivals))
 
 -- the play of what is left of a plan, after e sends and receives
 abbrev pub Walk : List Event → List (List ℕ) → List (List ℕ) → ℕ → List (List ℕ) → Played → Type 0
 Walk [] frame values e arrivals play = play ≡ ends done arrivals
 Walk (know t ∷ events) frame values e arrivals play = Walk events frame values e arrivals play
 Walk (send t ∷ events) frame values e arrivals play =
-  (b : List ℕ) × (after : Played) × Gives frame values t b × Walk events frame values (e + 1) arrivals after × (play ≡ says b after)
+    (b : List ℕ) × (after : Played) × Gives frame values t b × Walk events frame values (e + 1) arrivals after × (play ≡ says b after)
 Walk (receive t ∷ events) frame values e [] play = play ≡ ends (waiting (e + 1)) []
 Walk (receive t ∷ events) frame values e (b ∷ arrivals) play =
-  Judged (frame ++ t ∷ []) (values ++ b ∷ []) (e + 1) arrivals play
+    Judged (frame ++ t ∷ []) (values ++ b ∷ []) (e + 1) arrivals play
     (Walk events (frame ++ t ∷ []) (values ++ b ∷ []) (e + 1) arrivals play)
 
 -- the play of a plan over initial values and arrivals

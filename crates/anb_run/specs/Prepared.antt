@@ -1,7 +1,7 @@
 -- What is known once the files of a play are read, before the wire is touched.
 use Rattle.std.specs.Prelude.{◌≡◌, ℕ, ◌↔◌, List, Option}
 use Rattle.anb_run.specs.declared.status.Status.{Status}
-use Rattle.anb_run.specs.declared.status.Status.TheVariants.{Done, Usage, FileFault, Stopped, ReadFault, WriteFault, NotBuilt, NoMemory}
+use Rattle.anb_run.specs.declared.status.Status.TheVariants.{FileFault, NotBuilt, NoMemory}
 use Rattle.anb_run.specs.Plays.{Event, Played, Play}
 use Rattle.anb_run.specs.PlayCommand.{IsBuilt}
 use Rattle.anb_run.specs.Exchanges.{exchanged}

@@ -1,5 +1,5 @@
 -- The number of each status, and its line on the error sink.
-use Rattle.std.specs.Prelude.{◌≡◌, ℕ, Bool, true, false, List, [], ◌∷◌, ◌++◌, codes, decimal}
+use Rattle.std.specs.Prelude.{ℕ, Bool, true, false, List, [], ◌∷◌, ◌++◌, codes, decimal}
 use Rattle.anb_run.specs.declared.status.Status.{Status}
 use Rattle.anb_run.specs.declared.status.Status.TheVariants.{Done, Usage, FileFault, Stopped, ReadFault, WriteFault, NotBuilt, NoMemory}
 

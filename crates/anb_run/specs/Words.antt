@@ -1,5 +1,5 @@
 -- The words that are accepted, and what they ask for.
-use Rattle.std.specs.Prelude.{◌≡◌, ℕ, Bool, true, false, not, ◌&&◌, ◌==◌, List, [], ◌∷◌, codes, bytes_eq, Option, Some, None, if◌then◌else◌}
+use Rattle.std.specs.Prelude.{ℕ, Bool, false, not, ◌&&◌, ◌==◌, List, [], ◌∷◌, codes, bytes_eq, Option, Some, None, if◌then◌else◌}
 
 -- what a word list asks for: the names of its files as they are given, and a role
 pub data Asked : Type 0 where
@@ -12,7 +12,7 @@ is_operand (first ∷ rest) = not (first == 45)
 
 abbrev pub asked_of : List (List ℕ) → Option Asked
 asked_of (command ∷ narration ∷ role ∷ values ∷ []) =
-  if bytes_eq command (codes "play") && (is_operand narration && (is_operand role && is_operand values)) then Some (play narration role values) else None
+    if bytes_eq command (codes "play") && (is_operand narration && (is_operand role && is_operand values)) then Some (play narration role values) else None
 asked_of words = None
 
 -- the files that are asked for, in the order in which they are fetched

@@ -2,7 +2,6 @@ ghost use Rattle.std.specs.Prelude.{◌≡◌, ◌≢◌, ◌≤◌, ℕ, List, 
 ghost use Rattle.std.specs.List.{AllByRecursion};
 ghost use Rattle.anb_base.specs.Moves.{Rose};
 ghost use Rattle.anb_read.specs.Narrations.{PlainNarration};
-
 ghost use Rattle.anb_run.specs.Fetches.{Fetches, IfTold};
 ghost use Rattle.anb_run.specs.PlayCommand.{HasFile, HasPlain, HasValues};
 ghost use Rattle.anb_run.specs.Prepared.{Fails, IsFileFault};

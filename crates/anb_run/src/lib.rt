@@ -26,12 +26,11 @@ mod values;
 mod words;
 
 use anb_base::{Shelf, Sink, Text, Wire};
+pub use limits::{NARRATION_LIMIT, VALUES_LIMIT};
 use line::tell;
+pub use status::{Halt, Status};
 use std::alloc::Global;
 use words::Command;
-
-pub use limits::{NARRATION_LIMIT, VALUES_LIMIT};
-pub use status::{Halt, Status};
 
 /// Does what the words ask for. The words are those after the program's name. The files are fetched
 /// from the shelf, what a role sends and receives goes over the wire, and the line of a status other
@@ -72,11 +71,13 @@ pub fn run<F: Shelf, W: Wire, E: Sink>(
     let _ = seed;
     let status = match Command::read(words) {
         None => Status::Usage,
-        Some(Command::Play {
-            narration,
-            role,
-            values,
-        }) => play::play(alloc, shelf, wire, narration, role, values),
+        Some(
+            Command::Play {
+                narration,
+                role,
+                values,
+            },
+        ) => play::play(alloc, shelf, wire, narration, role, values),
     };
     tell(err, &status);
     status

@@ -32,7 +32,7 @@ pub(crate) fn prepare<F: Shelf>(
     ensures short { IfOk result (λ p. length p.sent ≤ ARRIVAL) }
     ensures err { IfErr result (λ status. Fails status
         (λ file. ((file ≡ narration.now) ⊎ (file ≡ values.now)) × Rose (F.faults shelf.old file) (F.faults shelf.new file)
-            × IfTold (F.files shelf.old) (λ files. IsAtFault files narration.now role.now values.now file))
+        × IfTold (F.files shelf.old) (λ files. IsAtFault files narration.now role.now values.now file))
         (IfTold (F.files shelf.old) (λ files. IsNotBuilt files narration.now role.now values.now))) }
     ensures fetches { Fetches (narration.now ∷ values.now ∷ []) (F.files shelf.old) (F.files shelf.new) (F.faults shelf.old) (F.faults shelf.new) }
 {

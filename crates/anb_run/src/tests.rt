@@ -5,7 +5,8 @@ use anb_base::{Bytes, MemShelf, MemWire, NoMemory};
 use std::alloc::Global;
 use std::test::Fail;
 
-const PING: &str = "Protocol: Ping;\nTypes:\n  Agent A, B;\n  Number N;\nKnowledge:\n  A: N;\n  B: N;\nActions:\n  A -> B: N;\n  B -> A: N;\n";
+const PING: &str =
+    "Protocol: Ping;\nTypes:\n  Agent A, B;\n  Number N;\nKnowledge:\n  A: N;\n  B: N;\nActions:\n  A -> B: N;\n  B -> A: N;\n";
 
 fn text(alloc: Global, s: &str) -> Result<Text, NoMemory>
     ensures { IfOk result (λ text. text ≡ s.now) }
@@ -18,7 +19,13 @@ fn bytes(alloc: Global, b: &[u8]) -> Result<Bytes, NoMemory> {
 }
 
 fn wire(alloc: Global, input: &[u8], fails: &[u32]) -> Result<MemWire, NoMemory> {
-    MemWire::new(alloc, bytes(alloc, input)?, 1024, 64, Vec::from_slice(alloc, fails)?)
+    MemWire::new(
+        alloc,
+        bytes(alloc, input)?,
+        1024,
+        64,
+        Vec::from_slice(alloc, fails)?,
+    )
 }
 
 /// What `run` answers to these words, where the shelf holds a narration and a values file.
@@ -55,7 +62,9 @@ fn run_with(
 }
 
 #[test]
-fn ping_goes_on_exactly_while_what_comes_back_is_what_was_sent(rt: HostRuntime) -> Result<(), Fail> {
+fn ping_goes_on_exactly_while_what_comes_back_is_what_was_sent(
+    rt: HostRuntime,
+) -> Result<(), Fail> {
     let words = ["play", "n", "A", "v"].as_slice();
     let sent = b"\x00\x00\x00\x02ab".as_slice();
     let cases = [
@@ -78,14 +87,54 @@ fn ping_goes_on_exactly_while_what_comes_back_is_what_was_sent(rt: HostRuntime) 
 fn what_is_not_played_writes_nothing_but_its_line(rt: HostRuntime) -> Result<(), Fail> {
     let tight = "Protocol:Ping;Types:Agent A,B;Number N;Knowledge:A:N;B:N;Actions:A->B:N;B->A:N;";
     let cases = [
-        ([].as_slice(), PING, 1, b"anb: the words fit no command\n".as_slice()),
-        (["play", "n", "A"].as_slice(), PING, 1, b"anb: the words fit no command\n"),
-        (["play", "-n", "A", "v"].as_slice(), PING, 1, b"anb: the words fit no command\n"),
-        (["play", "m", "A", "v"].as_slice(), PING, 2, b"anb: can't read m\n"),
-        (["play", "n", "A", "w"].as_slice(), PING, 2, b"anb: can't read w\n"),
-        (["play", "n", "B", "v"].as_slice(), PING, 98, b"anb: not built\n"),
-        (["play", "n", "A", "n"].as_slice(), PING, 98, b"anb: not built\n"),
-        (["play", "n", "A", "v"].as_slice(), tight, 98, b"anb: not built\n"),
+        (
+            [].as_slice(),
+            PING,
+            1,
+            b"anb: the words fit no command\n".as_slice(),
+        ),
+        (
+            ["play", "n", "A"].as_slice(),
+            PING,
+            1,
+            b"anb: the words fit no command\n",
+        ),
+        (
+            ["play", "-n", "A", "v"].as_slice(),
+            PING,
+            1,
+            b"anb: the words fit no command\n",
+        ),
+        (
+            ["play", "m", "A", "v"].as_slice(),
+            PING,
+            2,
+            b"anb: can't read m\n",
+        ),
+        (
+            ["play", "n", "A", "w"].as_slice(),
+            PING,
+            2,
+            b"anb: can't read w\n",
+        ),
+        (
+            ["play", "n", "B", "v"].as_slice(),
+            PING,
+            98,
+            b"anb: not built\n",
+        ),
+        (
+            ["play", "n", "A", "n"].as_slice(),
+            PING,
+            98,
+            b"anb: not built\n",
+        ),
+        (
+            ["play", "n", "A", "v"].as_slice(),
+            tight,
+            98,
+            b"anb: not built\n",
+        ),
     ];
     for (words, narration, number, line) in cases {
         let ran = run_with(rt.alloc(), words, narration, b"", &[])?;

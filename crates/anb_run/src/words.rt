@@ -26,8 +26,7 @@ impl<'w> Command<'w> {
                 if command.as_str() == "play"
                     && is_operand(narration)
                     && is_operand(role)
-                    && is_operand(values) =>
-            {
+                    && is_operand(values) => {
                 Some(Command::Play {
                     narration,
                     role,

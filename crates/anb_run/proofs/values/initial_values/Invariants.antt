@@ -8,5 +8,5 @@ invariant-loop-name l = record {
   short : length l.rest ≤ VALUES_LIMIT;
   sound : (others : List (List ℕ)) → IsValuesText (drop l.name-index l.names) others l.rest → IsValuesText l.names (l.values.items ++ others) l.text;
   complete : (all : List (List ℕ)) → IsValuesText l.names all l.text
-    → (others : List (List ℕ)) × (all ≡ l.values.items ++ others) × IsValuesText (drop l.name-index l.names) others l.rest;
+      → (others : List (List ℕ)) × (all ≡ l.values.items ++ others) × IsValuesText (drop l.name-index l.names) others l.rest;
 }
