@@ -4,3 +4,4 @@ pub mod Macs
 pub mod Closed
 pub mod Masked
 pub mod ByteLemmas
+pub mod SealLemmas

@@ -1,18 +1,18 @@
 -- The faults of lines and names.
-use Rattle.std.proofs.Common.{◌≡◌, ◌<◌, ◌+◌, ◌||◌, ℕ, Bool, true, false, not, cond, List, [], ◌∷◌, ◌++◌, length, take, drop, get_or, map, filter, Option, Some, None, Err, inl, inr, refl, sym, ap, ◌∙◌, arith, All}
+use Rattle.std.proofs.Common.{◌≡◌, ◌<◌, ◌+◌, ◌||◌, ℕ, Bool, true, false, cond, List, [], ◌∷◌, ◌++◌, length, take, drop, get_or, map, Some, None, Err, inl, inr, refl, sym, ap, ◌∙◌, All}
 use Rattle.std.specs.Bool.{Decides}
-use Rattle.std.specs.List.{list_any, find}
+use Rattle.std.specs.List.{find}
 use Rattle.std.specs.Option.{option_map, is_some}
 use Rattle.std.specs.Str.{bytes_eq}
 use Rattle.std.proofs.lemmas.Bool.{cases_Bool}
-use Rattle.std.proofs.lemmas.List.{drop_more, map_push, map_more, length-map, length-take, length-drop}
+use Rattle.std.proofs.lemmas.List.{drop_more, map_push, map_more}
 use Rattle.std.proofs.lemmas.List.Elements.{All-head, All-tail}
 use Rattle.std.proofs.lemmas.Slice.Eq.{bytes_eq-Decides}
 use Rattle.anb_values.specs.declared.lines.Entry.{Entry}
 use Rattle.anb_values.specs.declared.refusal.ValuesNo.{ValuesNo}
 use Rattle.anb_values.specs.declared.refusal.ValuesNo.TheVariants.{Line, Extra, Twice, Long, Missing, NoMemory}
 use Rattle.anb_values.specs.Lines.{seed_label, lines_of, AreSaid}
-use Rattle.anb_values.specs.Fit.{has_line, value_of, is_asked, extra, twice, long, line_faults, lines_faults, missing, faults, Fit, UnlessNoMemory}
+use Rattle.anb_values.specs.Fit.{has_line, value_of, is_asked, twice, long, line_faults, lines_faults, missing, faults, Fit, UnlessNoMemory}
 use Rattle.anb_values.specs.Reading.{BeginsWith, IsFirst, IsFaulty}
 
 bytes_eq-true : (a b : List ℕ) → bytes_eq a b ≡ true → a ≡ b

@@ -1,18 +1,18 @@
 -- What a line gives.
-use Rattle.std.proofs.Common.{Ok, ◌||◌, ◌&&◌, nat_le, filter, ◌≡◌, ◌<◌, ◌≤◌, ◌+◌, ◌-◌, ◌==◌, ◌⊎◌, inl, inr, ℕ, zero, suc, Bool, true, false, not, cond, ltb, List, [], ◌∷◌, ◌++◌, length, take, drop, get_or, Option, Some, None, refl, sym, ap, ◌∙◌, arith, lit<, All, map, length-append, add-zero}
+use Rattle.std.proofs.Common.{Ok, ◌||◌, ◌&&◌, nat_le, ◌≡◌, ◌<◌, ◌≤◌, ◌+◌, ◌==◌, ◌⊎◌, inl, inr, ℕ, zero, suc, Bool, true, false, cond, ltb, List, [], ◌∷◌, ◌++◌, length, take, drop, get_or, Option, Some, None, refl, sym, ap, ◌∙◌, arith, lit<, All}
 use Rattle.std.specs.Str.{IsAscii}
-use Rattle.std.specs.List.{AllPass, AllZip, position_or_len, before_first, slice_split, onto_first, sum_by, flat_map}
+use Rattle.std.specs.List.{AllZip, position_or_len, slice_split, onto_first, sum_by, flat_map}
 use Rattle.std.specs.Option.{option_to_list, IfSome, IfNone}
 use Rattle.std.proofs.lemmas.List.Sums.{sum_by-cons}
 use Rattle.hex.specs.Hex.{decode_of}
 use Rattle.std.proofs.lemmas.Bool.{cases_lt, cond_below, cond_above, or_cases, and_parts, leb-true, eqb-true}
-use Rattle.std.proofs.lemmas.List.{append-nil, get_or_past, drop_all, take-append-drop, drop_more, take_more, take_all, flat_map_more, length-take-le, length-take, length-drop, length-map}
+use Rattle.std.proofs.lemmas.List.{append-nil, get_or_past, drop_all, take-append-drop, drop_more, take_more, flat_map_more, length-take-le}
 use Rattle.std.proofs.lemmas.List.Elements.{All-nil, All-cons, All-get_or}
 use Rattle.anb_format.specs.Literals.{IsLiteral, IsLiteralAt}
 use Rattle.anb_format.proofs.LiteralLemmas.{unique}
 use Rattle.hex.proofs.HexLemmas.{decode_of-ok}
 use Rattle.anb_values.specs.declared.lines.Entry.{Entry}
-use Rattle.anb_values.specs.Lines.{is_space, value_text, is_label_byte, IsLabel, IsHex, IsValue, IsGiven, Says, AreSaid, IsFirstFaulty, seed_label}
+use Rattle.anb_values.specs.Lines.{value_text, is_label_byte, IsLabel, IsHex, IsValue, IsGiven, Says, AreSaid, IsFirstFaulty, seed_label}
 
 pub literal_at : (text bytes : List ℕ) → IsLiteral text bytes → IsLiteralAt text 0 bytes (length text)
 literal_at text bytes h = record { spelling = text; is = h; rest = []; stands = sym (append-nil text); ends = omega arith }

@@ -1,5 +1,5 @@
 -- The values of a text have together at most as many bytes as the text.
-use Rattle.std.proofs.Common.{◌≡◌, ◌≢◌, ◌<◌, ◌≤◌, ◌+◌, ◌-◌, ◌*◌, ◌⊎◌, ◌==◌, inl, inr, ℕ, zero, suc, Bool, true, false, not, cond, List, [], ◌∷◌, ◌++◌, length, take, drop, map, filter, Option, Some, None, Ok, refl, sym, ap, ◌∙◌, arith, All, AllPairs, length-append}
+use Rattle.std.proofs.Common.{◌≡◌, ◌≢◌, ◌≤◌, ◌+◌, ◌==◌, inl, inr, ℕ, suc, Bool, true, false, cond, List, [], ◌∷◌, length, map, Option, Some, None, refl, ap, arith, All, AllPairs, length-append}
 use Rattle.std.specs.List.{AllZip, flat_map, sum_by, find, position_or_len, after_first}
 use Rattle.std.specs.Option.{option_to_list, option_map}
 use Rattle.std.specs.Str.{bytes_eq}
@@ -9,7 +9,7 @@ use Rattle.std.proofs.lemmas.List.Sums.{sum_by-cons, sum_by-le-sum_by}
 use Rattle.hex.proofs.HexLemmas.{decode_of-ok}
 use Rattle.anb_format.specs.Literals.{Character, Plain, Quote, Backslash, Hexadecimal, spelling_of, byte_of, IsLiteral}
 use Rattle.anb_values.specs.declared.lines.Entry.{Entry}
-use Rattle.anb_values.specs.Lines.{is_space, is_edge, after_leading, before_trailing, content, value_text, IsHex, IsValue, IsGiven, Says, AreSaid, lines_of}
+use Rattle.anb_values.specs.Lines.{is_space, is_edge, after_leading, before_trailing, content, value_text, IsHex, IsGiven, Says, AreSaid, lines_of}
 use Rattle.anb_values.specs.Fit.{value_of}
 use Rattle.anb_values.proofs.LineLemmas.{parts_fit}
 use Rattle.anb_values.proofs.FitLemmas.{differs}

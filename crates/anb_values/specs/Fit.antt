@@ -1,5 +1,5 @@
 -- Which values a text gives for some names.
-use Rattle.std.specs.Prelude.{◌≡◌, ◌||◌, not, ℕ, nat_lt, Bool, List, [], ◌∷◌, ◌++◌, length, map, filter, find, Option, Some, None, Result, Ok, Err, if◌then◌else◌}
+use Rattle.std.specs.Prelude.{◌≡◌, ◌||◌, not, ℕ, nat_lt, Bool, List, [], ◌∷◌, ◌++◌, length, map, filter, find, Option, Some, Result, Ok, Err, if◌then◌else◌}
 use Rattle.std.specs.List.{list_any}
 use Rattle.std.specs.Option.{option_map}
 use Rattle.std.specs.Str.{bytes_eq}
@@ -52,6 +52,10 @@ Fit text names (Ok fitted) = (entries : List Entry) × AreSaid (lines_of text) e
     × (map Some fitted.values ≡ map (value_of entries) names) × (fitted.seed ≡ value_of entries seed_label)
 Fit text names (Err (Line n)) = IsFirstFaulty (lines_of text) n
 Fit text names (Err fault) = (entries : List Entry) × AreSaid (lines_of text) entries × BeginsWith (faults names entries) fault
+
+-- no text gives two outcomes for some names
+abbrev pub FitIsUnique : Type 0
+FitIsUnique = (text : List ℕ) (names : List (List ℕ)) (one other : Result Fitted ValuesNo) → Fit text names one → Fit text names other → one ≡ other
 
 -- a fact for every refusal but want of memory
 abbrev pub UnlessNoMemory : ValuesNo → Type 0 → Type 0

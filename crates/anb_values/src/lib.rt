@@ -6,7 +6,7 @@
 #![tactic(auto)]
 
 ghost use Rattle.std.specs.Prelude.{◌≡◌, ◌≢◌, ◌≤◌, ℕ, List, length, sum_by, AllPairs, IfOk, IfErr, Ok, Err};
-ghost use Rattle.anb_values.specs.Fit.{Fit, UnlessNoMemory};
+ghost use Rattle.anb_values.specs.Fit.{Fit, FitIsUnique, UnlessNoMemory};
 
 mod entries;
 mod fitted;
@@ -17,6 +17,12 @@ use anb_base::Text;
 pub use fitted::{Fitted, ValueList};
 pub use refusal::ValuesNo;
 use std::alloc::Global;
+
+/// Law: a text gives one outcome for some names, which are values and perhaps a seed, or the first
+/// fault.
+pub fn one_fit()
+    ensures { FitIsUnique }
+{}
 
 /// Reads the values of these names, and the seed.
 pub fn values(alloc: Global, text: &[u8], names: &[Text]) -> Result<Fitted, ValuesNo>

@@ -1,8 +1,7 @@
-use Rattle.std.proofs.Common.{◌≡◌, rules, arith, Err}
-use Rattle.anb_values.specs.Lines.{lines_of, AreSaid}
-use Rattle.anb_values.specs.Fit.{Fit, UnlessNoMemory}
+use Rattle.std.proofs.Common.{rules, arith}
+use Rattle.anb_values.specs.Lines.{lines_of}
 use Rattle.anb_values.proofs.LineLemmas.{said_seed}
-use Rattle.anb_values.proofs.FitLemmas.{refused_by_line, refused_by_entry, refused_by_name}
+use Rattle.anb_values.proofs.FitLemmas.{refused_by_entry}
 use Rattle.anb_values.proofs.Sizes.{entries_fit, values_fit}
 use Rattle.anb_values.proofs.values.Goals as goal
 

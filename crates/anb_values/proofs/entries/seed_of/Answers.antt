@@ -1,4 +1,4 @@
-use Rattle.std.proofs.Common.{◌≡◌, ◌∙◌, length, ap, sym}
+use Rattle.std.proofs.Common.{◌∙◌, length, ap, sym}
 use Rattle.anb_values.proofs.FitLemmas.{seed_value}
 use Rattle.anb_values.proofs.entries.seed_of.Goals as goal
 

@@ -1,4 +1,4 @@
-use Rattle.std.proofs.Common.{◌≡◌, ◌+◌, ◌∙◌, Some, None, drop, ap, sym}
+use Rattle.std.proofs.Common.{◌≡◌, ◌+◌, ◌∙◌, Some, None, drop, sym}
 use Rattle.anb_values.specs.Fit.{missing, value_of}
 use Rattle.anb_values.proofs.FitLemmas.{missing_at, missing_past, values_push}
 use Rattle.anb_values.proofs.entries.values_of.Goals as goal
