@@ -1,5 +1,5 @@
 -- The checks that were given are all that the entries have.
-use Rattle.std.proofs.Common.{◌≡◌, ℕ, zero, suc, ◌-◌, ◌<◌, List, [], ◌∷◌, ◌++◌, length, Bool, true, false, Option, Some, None, refl, sym, ap, ◌∙◌, subst, arith, inl, inr, length-append}
+use Rattle.std.proofs.Common.{◌≡◌, ℕ, zero, suc, ◌-◌, ◌<◌, ◌≤◌, List, [], ◌∷◌, ◌++◌, length, Bool, true, false, Option, Some, None, refl, sym, ap, ◌∙◌, subst, arith, inl, inr, length-append}
 use Rattle.std.specs.Prelude.{slice_get}
 use Rattle.std.proofs.Math.ListN.{replicate}
 use Rattle.std.proofs.lemmas.List.{length-replicate}
@@ -20,7 +20,7 @@ use Rattle.anb_close.proofs.Growing.{terms_later}
 use Rattle.anb_close.proofs.Closing.{opened_row}
 use Rattle.anb_basis.specs.declared.check.Check.{Check}
 use Rattle.anb_basis.specs.declared.check.Check.TheVariants.{Open, Equal}
-use Rattle.anb_basis.specs.Checks.{IsComparedWith, Fits, entry_of, trues, IsGiven, IsBasis, AreAll}
+use Rattle.anb_basis.specs.Checks.{IsComparedWith, Fits, entry_of, trues, IsGiven, IsBasis, AreAll, OpensMarked, OpensUnmarked}
 
 row_stays : (es later : List Entry) (i : ℕ) (r : Option Tree) → slice_get (rows es) i ≡ Some r → slice_get (rows (es ++ later)) i ≡ Some r
 row_stays es later i r e = ap (λ l. slice_get l i) (rows_append es later) ∙ row_later (rows es) (terms_of later) i r e
@@ -64,7 +64,7 @@ given_later es es' later cs ms ms' g is is_m =
 
 module _ (es : List Entry) (known : IsKnown es) where
   -- an entry that was opened is not compared
-  not_both : (f : ℕ) (e : Entry) (o : Op) (ks : List Tree) (i : ℕ) (c : Tree) → slice_get es f ≡ Some e → e.origin ≡ Part o 0 ks i → IsComparedWith es i c → ⊥
+  pub not_both : (f : ℕ) (e : Entry) (o : Op) (ks : List Tree) (i : ℕ) (c : Tree) → slice_get es f ≡ Some e → e.origin ≡ Part o 0 ks i → IsComparedWith es i c → ⊥
   not_both f e o ks i c at is (inl (t, row, term_at, made)) = let p = known.parted f e o 0 ks i at is in let r = opened_row es i p.first p.opened in cc
   not_both f e o ks i c at is (inr (q, us, ms, row, u, made, same)) =
       let p = known.parted f e o 0 ks i at is in
@@ -87,7 +87,7 @@ module _ (es : List Entry) (known : IsKnown es) where
       let n : ms ≡ ms' = cc in
       cc
 
-  one_opening : (f g : ℕ) (e e' : Entry) (o o' : Op) (ks ks' : List Tree) (i i' : ℕ) → slice_get es f ≡ Some e → e.origin ≡ Part o 0 ks i → slice_get es g ≡ Some e' → e'.origin ≡ Part o' 0 ks' i' → i' ≡ i → (f ≡ g) × (o ≡ o') × (ks ≡ ks')
+  pub one_opening : (f g : ℕ) (e e' : Entry) (o o' : Op) (ks ks' : List Tree) (i i' : ℕ) → slice_get es f ≡ Some e → e.origin ≡ Part o 0 ks i → slice_get es g ≡ Some e' → e'.origin ≡ Part o' 0 ks' i' → i' ≡ i → (f ≡ g) × (o ≡ o') × (ks ≡ ks')
   one_opening f g e e' o o' ks ks' i i' at is at' is' same =
       let p = known.parted f e o 0 ks i at is in
       let q = known.parted g e' o' 0 ks' i' at' is' in
@@ -137,3 +137,37 @@ module _ (es : List Entry) (known : IsKnown es) where
           let m = basis.given.of_mark i (basis.equals i c (omega (arith, compared_within i c h, rows_length es)) h) in
           by_equal i c m.0 m.1 h m.2 m.3 (basis.given.fits m.0 m.1 m.2);
     }
+
+-- of entries that came after, no opening is marked, and of those before each is
+module _ (es later : List Entry) (cs : List Check) (ms : List Bool) (basis : IsBasis es cs ms) (known : IsKnown (es ++ later)) where
+  front : (xs ys : List Entry) (f : ℕ) (e : Entry) → f < length xs → slice_get (xs ++ ys) f ≡ Some e → slice_get xs f ≡ Some e
+  front [] ys f e h at = absurd (omega arith)
+  front (x ∷ xs) ys zero e h at = at
+  front (x ∷ xs) ys (suc f) e h at = front xs ys f e (omega arith) at
+
+  pub marked_before : (k : ℕ) → OpensMarked (es ++ later) (ms ++ replicate k false) (length es)
+  marked_before k f e o ks i h at is = slice_get-append ms (replicate k false) i true (basis.opens f e o ks i h (front es later f e h at) is)
+
+  unmarked_by : (c : Check) (f : ℕ) (e : Entry) (o : Op) (ks : List Tree) (i : ℕ) → length es ≤ f → slice_get (es ++ later) f ≡ Some e → e.origin ≡ Part o 0 ks i → entry_of c ≡ i → Fits es c → ⊥
+  unmarked_by (Open x) f e o ks i h at is of fits =
+      let here = slice_get-append es later x.first fits.0 fits.1 in
+      let u = one_opening (es ++ later) known f x.first e fits.0 o x.op ks x.keys i x.of at is here fits.2 of in
+      let w = slice_get-within es x.first fits.0 fits.1 in
+      omega (arith, u.0, w)
+  unmarked_by (Equal j w) f e o ks i h at is of fits =
+      not_both (es ++ later) known f e o ks i (made_tree w) at is (subst (λ n. IsComparedWith (es ++ later) n (made_tree w)) of (compared_later es later j (made_tree w) fits))
+
+  pub unmarked_after : (k : ℕ) → OpensUnmarked (es ++ later) (ms ++ replicate k false) (length es)
+  unmarked_after k f e o ks i h at is mark =
+      let m = basis.given.of_mark i (still_true ms k i mark) in
+      unmarked_by m.1 f e o ks i h at is m.3 (basis.given.fits m.0 m.1 m.2)
+
+module _ (es es' later : List Entry) (cs : List Check) (ms ms' : List Bool) (basis : IsBasis es cs ms) (known : IsKnown es') (is : es' ≡ es ++ later) (is_m : ms' ≡ ms ++ replicate (length es' - length ms) false) where
+  at_end : (P : List Entry → List Bool → ℕ → Type 0) → P (es ++ later) (ms ++ replicate (length es' - length ms) false) (length es) → P es' ms' (length ms)
+  at_end P h = subst (λ l. P l ms' (length ms)) (sym is) (subst (λ n. P (es ++ later) ms' n) (sym basis.given.long) (subst (λ l. P (es ++ later) l (length es)) (sym is_m) h))
+
+  pub marked_there : OpensMarked es' ms' (length ms)
+  marked_there = at_end OpensMarked (marked_before es later cs ms basis (subst IsKnown is known) (length es' - length ms))
+
+  pub unmarked_there : OpensUnmarked es' ms' (length ms)
+  unmarked_there = at_end OpensUnmarked (unmarked_after es later cs ms basis (subst IsKnown is known) (length es' - length ms))

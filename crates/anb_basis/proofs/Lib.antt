@@ -7,6 +7,7 @@ mod Sound
 mod Comparing
 mod Marks
 mod All
+mod Ordering
 mod Frames
 mod Exact
 mod Counting

@@ -1,5 +1,6 @@
 -- Checks, what they demand, and which ones entries have.
-use Rattle.std.specs.Prelude.{◌≡◌, ℕ, suc, ◌<◌, List, [], ◌∷◌, ◌++◌, map, Bool, true, false, IsTrue, Some, None, slice_get, unwrap_or, ◌⊎◌, length}
+use Rattle.std.specs.Prelude.{◌≡◌, ℕ, suc, ◌<◌, ◌≤◌, List, [], ◌∷◌, ◌++◌, map, drop, Bool, true, false, IsTrue, Some, None, slice_get, unwrap_or, ◌⊎◌, length}
+use Rattle.std.specs.List.{AllByRecursion}
 use Rattle.anb_term.specs.declared.term.Op.{Op}
 use Rattle.anb_term.specs.Operator.{undoable}
 use Rattle.anb_term.specs.Tree.{Tree, node, Trees, trees_of}
@@ -10,7 +11,7 @@ use Rattle.anb_close.specs.declared.entry.Entry.{Entry}
 use Rattle.anb_close.specs.declared.entry.Origin.TheVariants.{Part}
 use Rattle.anb_close.specs.declared.made.Made.{Made}
 use Rattle.anb_close.specs.MadeView.{made_tree}
-use Rattle.anb_close.specs.Entries.{rows, terms_of}
+use Rattle.anb_close.specs.Entries.{rows, terms_of, openings_from}
 use Rattle.anb_close.specs.Recipes.{recipes}
 use Rattle.anb_basis.specs.declared.check.Check.{Check}
 use Rattle.anb_basis.specs.declared.check.Check.TheVariants.{Open, Equal}
@@ -69,6 +70,10 @@ pub record IsGiven (es : List Entry) (cs : List Check) (ms : List Bool) : Type 0
 abbrev pub OpensMarked : List Entry → List Bool → ℕ → Type 0
 OpensMarked es ms n = (f : ℕ) (e : Entry) (o : Op) (ks : List Tree) (i : ℕ) → f < n → slice_get es f ≡ Some e → e.origin ≡ Part o 0 ks i → slice_get ms i ≡ Some true
 
+-- and those of the entries from there on are not
+abbrev pub OpensUnmarked : List Entry → List Bool → ℕ → Type 0
+OpensUnmarked es ms n = (f : ℕ) (e : Entry) (o : Op) (ks : List Tree) (i : ℕ) → n ≤ f → slice_get es f ≡ Some e → e.origin ≡ Part o 0 ks i → slice_get ms i ≡ Some true → ⊥
+
 -- those of the first entries that can be compared are marked
 abbrev pub EqualsMarked : List Entry → List Bool → ℕ → Type 0
 EqualsMarked es ms n = (i : ℕ) (c : Tree) → i < n → IsComparedWith es i c → slice_get ms i ≡ Some true
@@ -92,3 +97,18 @@ IsOnce cs = (k j : ℕ) (c d : Check) → slice_get cs k ≡ Some c → slice_ge
 
 abbrev pub AllFit : List Entry → List Check → Type 0
 AllFit es cs = (k : ℕ) (c : Check) → slice_get cs k ≡ Some c → Fits es c
+
+-- a check that compares
+abbrev pub IsEqual : Check → Type 0
+IsEqual (Open x) = ⊥
+IsEqual (Equal i w) = Unit {0}
+
+-- checks that compare came
+abbrev pub AfterEquals : List Check → List Check → Type 0
+AfterEquals cs cs' = (equals : List Check) × AllByRecursion IsEqual equals × (cs' ≡ cs ++ equals)
+
+-- the checks of the openings of entries from a place on came, in order, and then checks that compare
+pub record InOrder (n : ℕ) (es : List Entry) (cs cs' : List Check) : Type 0 where
+  pub equals : List Check
+  pub are : AllByRecursion IsEqual equals
+  pub is : cs' ≡ cs ++ (map Open (openings_from n (drop n es)) ++ equals)

@@ -4,7 +4,7 @@ ghost use Rattle.std.specs.Prelude.{◌≡◌, ◌+◌, ◌<◌, ◌≤◌, List
 ghost use Rattle.anb_term.specs.View.{tree_of};
 ghost use Rattle.anb_term.specs.Tree.{tree_size, trees_of, nodes, IsFormed, AreFormed};
 ghost use Rattle.anb_close.specs.Entries.{labels_of, HasAdded, IsKnown};
-ghost use Rattle.anb_basis.specs.Checks.{AreAll, After, IsOnce, AllFit};
+ghost use Rattle.anb_basis.specs.Checks.{AreAll, After, InOrder, IsOnce, AllFit};
 
 use crate::check::Check;
 use crate::giving::give_all;
@@ -70,12 +70,14 @@ impl Basis {
         &self.given
     }
 
-    /// Takes the next label's term, and gives the checks to make now, from a place of the list on.
+    /// Takes the next label's term, and gives the checks to make now, from a place of the list on:
+    /// those of the openings in order, and then the comparisons.
     pub fn next(&mut self, alloc: Global, t: &Term) -> Result<u64, NoMemory>
         requires formed { IsFormed (λ o. true) (tree_of t.now) }
         requires few { nodes (labels_of self.old.0) + tree_size (tree_of t.now) < 4294967295 }
         ensures added { IfOk result (λ first. HasAdded self.old.0 t.now self.new.0) }
         ensures after { IfOk result (λ first. After self.old.1 self.new.1) }
+        ensures order { IfOk result (λ first. InOrder (length self.old.0) self.new.0 self.old.1 self.new.1) }
         ensures first { IfOk result (λ first. first ≡ length self.old.1) }
         ensures err { OnErr result (self.new ≡ self.old) }
     {

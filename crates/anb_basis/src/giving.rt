@@ -1,11 +1,12 @@
 // Giving checks.
 
-ghost use Rattle.std.specs.Prelude.{◌≡◌, ◌+◌, ◌++◌, ◌∷◌, [], ◌<◌, ◌≤◌, ◌^◌, ℕ, List, length, map, Bool, true, false, Option, IfOk, MatchOption, OnOk, OnErr, Some, slice_get, replicate, ◌-◌};
+ghost use Rattle.std.specs.Prelude.{◌⊎◌, drop, ◌≡◌, ◌+◌, ◌++◌, ◌∷◌, [], ◌<◌, ◌≤◌, ◌^◌, ℕ, List, length, map, Bool, true, false, Option, IfOk, MatchOption, OnOk, OnErr, Some, slice_get, replicate, ◌-◌};
 ghost use Rattle.anb_term.specs.Tree.{Tree};
 ghost use Rattle.anb_close.specs.MadeView.{made_tree};
-ghost use Rattle.anb_close.specs.Entries.{terms_of, IsKnown};
+ghost use Rattle.anb_close.specs.Entries.{terms_of, openings_from, IsKnown};
 ghost use Rattle.anb_term.specs.View.{tree_of};
-ghost use Rattle.anb_basis.specs.Checks.{IsComparedWith, Fits, entry_of, IsGiven, OpensMarked, EqualsMarked, MarksStay, After, IsBasis};
+ghost use Rattle.anb_basis.specs.declared.check.Check.TheVariants.{Open};
+ghost use Rattle.anb_basis.specs.Checks.{IsComparedWith, Fits, entry_of, IsGiven, OpensMarked, OpensUnmarked, EqualsMarked, MarksStay, After, AfterEquals, InOrder, IsBasis};
 
 use crate::check::Check;
 use anb_close::{Closure, Entry, Made, Opening, Origin};
@@ -26,34 +27,38 @@ fn give(
     ensures stay { MarksStay marks.old.items marks.new.items }
     ensures ok { OnOk result ((es : List Entry) → IsGiven es given.old.items marks.old.items → Fits es check → IsGiven es given.new.items marks.new.items) }
     ensures marked { OnOk result (slice_get marks.new.items at ≡ Some true) }
+    ensures pushed { OnOk result (given.new.items ≡ given.old.items ++ check ∷ []) }
+    ensures only { OnOk result ((k : ℕ) → slice_get marks.new.items k ≡ Some true → (k ≡ at) ⊎ (slice_get marks.old.items k ≡ Some true)) }
 {
     given.push(check)?;
     marks[at as usize] = true;
     Ok(())
 }
 
-/// Gives the checks of openings.
+/// Gives the checks of the openings of entries from a place on.
 fn give_opens(
     alloc: Global,
     entries: &[Entry],
+    from: usize,
     given: &mut Vec<Check>,
     marks: &mut Vec<bool>,
 ) -> Result<(), NoMemory>
     requires known { IsKnown entries.now }
     requires few { length entries.now < 2 ^ 32 }
     requires given { IsGiven entries.now given.old.items marks.old.items }
+    requires marked { OpensMarked entries.now marks.old.items from }
+    requires fresh { OpensUnmarked entries.now marks.old.items from }
+    requires within { from ≤ length entries.now }
     ensures more { After given.old.items given.new.items }
     ensures ok { OnOk result (IsGiven entries.now given.new.items marks.new.items) }
     ensures opens { OnOk result (OpensMarked entries.now marks.new.items (length entries.now)) }
+    ensures listed { OnOk result (given.new.items ≡ given.old.items ++ map Open (openings_from from (drop from entries.now))) }
 {
-    for f in 0..entries.len() {
+    for f in from..entries.len() {
         match &entries[f].origin {
             Origin::Label(_) => continue,
             Origin::Part { op, part, keys, of } => {
                 if *part != 0 {
-                    continue;
-                }
-                if marks[*of as usize] {
                     continue;
                 }
                 let opening = Opening {
@@ -115,6 +120,7 @@ fn give_equals(
     ensures stay { MarksStay marks.old.items marks.new.items }
     ensures ok { OnOk result (IsGiven closure.now given.new.items marks.new.items) }
     ensures equals { OnOk result (EqualsMarked closure.now marks.new.items (length closure.now)) }
+    ensures compared { OnOk result (AfterEquals given.old.items given.new.items) }
 {
     let entries = closure.entries();
     for i in 0..entries.len() {
@@ -152,10 +158,11 @@ pub fn give_all(
     requires given { (before : List Entry) × After before closure.now × IsBasis before given.old.items marks.now }
     ensures more { After given.old.items given.new.items }
     ensures ok { IfOk result (λ m. IsBasis closure.now given.new.items m.items) }
+    ensures order { IfOk result (λ m. InOrder (length marks.now) closure.now given.old.items given.new.items) }
 {
     let entries = closure.entries();
     let mut all = extended(alloc, marks, entries.len())?;
-    give_opens(alloc, entries, given, &mut all)?;
+    give_opens(alloc, entries, marks.len(), given, &mut all)?;
     give_equals(alloc, closure, given, &mut all)?;
     Ok(all)
 }

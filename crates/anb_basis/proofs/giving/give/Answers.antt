@@ -1,4 +1,5 @@
-use Rattle.std.proofs.Common.{false}
+use Rattle.std.proofs.Common.{true, false, inl, inr, ⊎_elim}
+use Rattle.anb_term.proofs.Lists.{set-at}
 use Rattle.anb_basis.proofs.Marks.{given_more, marked_now}
 use Rattle.anb_basis.proofs.giving.give.Goals as goal
 
@@ -7,3 +8,6 @@ returns-clause-ok c es given fits = given_more es _ _ c.args.marks.now.items c.a
 
 pub returns-clause-marked : goal.returns-clause-marked
 returns-clause-marked c = marked_now c.args.marks.now.items c.args.at false c.requires.unmarked
+
+pub returns-clause-only : goal.returns-clause-only
+returns-clause-only c k e = ⊎_elim (λ h. inl h.0) (λ h. inr h) (set-at c.args.marks.now.items c.args.at k true true e)

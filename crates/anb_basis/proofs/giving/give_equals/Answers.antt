@@ -2,6 +2,7 @@ use Rattle.std.proofs.Common.{◌≡◌, length, Some, true, false, arith, ap}
 use Rattle.std.specs.Prelude.{slice_get}
 use Rattle.anb_basis.proofs.Comparing.{term_here}
 use Rattle.anb_basis.proofs.Marks.{after_more, equals_next, mark_is}
+use Rattle.anb_basis.proofs.Ordering.{one_more_equal}
 use Rattle.anb_basis.proofs.giving.give_equals.Goals as goal
 
 pub loop-i-preserved-then-index : goal.loop-i-preserved-then-index
@@ -12,6 +13,7 @@ loop-i-preserved-then-index c =
       more = i.more;
       stay = i.stay;
       given = i.given;
+      compared = i.compared;
       equals = equals_next c.args.closure.now c.loop-i.marks.items c.loop-i.marks.items c.loop-i.i i.equals (λ k e. e) (λ d k. marked);
     }
 
@@ -31,6 +33,7 @@ loop-i-preserved-in-None c =
       more = i.more;
       stay = i.stay;
       given = i.given;
+      compared = i.compared;
       equals = equals_next c.args.closure.now c.loop-i.marks.items c.loop-i.marks.items c.loop-i.i i.equals (λ k e. e) (λ d k. absurd (never d k));
     }
 
@@ -43,6 +46,7 @@ loop-i-preserved c =
       more = after_more c.args.given.now.items c.loop-i.given.items _ i.more e.more;
       stay = λ k h. e.stay k (i.stay k h);
       given = e.ok c.args.closure.now i.given fits;
+      compared = one_more_equal c.args.given.now.items c.loop-i.given.items _ c.loop-i.i c.in-Some.made i.compared e.pushed;
       equals = equals_next c.args.closure.now c.loop-i.marks.items _ c.loop-i.i i.equals e.stay (λ d k. e.marked);
     }
 

@@ -1,4 +1,4 @@
-use Rattle.anb_basis.specs.Checks.{IsGiven, EqualsMarked, MarksStay, After}
+use Rattle.anb_basis.specs.Checks.{IsGiven, EqualsMarked, MarksStay, After, AfterEquals}
 use Rattle.anb_basis.proofs.giving.give_equals.Given as goal
 
 abbrev pub invariant-loop-i : goal.invariant-loop-i
@@ -6,5 +6,6 @@ invariant-loop-i l = record {
   more : After l.initial.given.items l.given.items;
   stay : MarksStay l.initial.marks.items l.marks.items;
   given : IsGiven l.closure l.given.items l.marks.items;
+  compared : AfterEquals l.initial.given.items l.given.items;
   equals : EqualsMarked l.closure l.marks.items l.i;
 }

@@ -1,4 +1,7 @@
-use Rattle.anb_basis.specs.Checks.{IsGiven, OpensMarked, After}
+use Rattle.std.proofs.Common.{◌≡◌, ◌++◌, map, drop}
+use Rattle.anb_close.specs.Entries.{openings_from}
+use Rattle.anb_basis.specs.declared.check.Check.TheVariants.{Open}
+use Rattle.anb_basis.specs.Checks.{IsGiven, OpensMarked, OpensUnmarked, After}
 use Rattle.anb_basis.proofs.giving.give_opens.Given as goal
 
 abbrev pub invariant-loop-f : goal.invariant-loop-f
@@ -6,4 +9,6 @@ invariant-loop-f l = record {
   more : After l.initial.given.items l.given.items;
   given : IsGiven l.entries l.given.items l.marks.items;
   opens : OpensMarked l.entries l.marks.items l.f;
+  fresh : OpensUnmarked l.entries l.marks.items l.f;
+  listed : l.given.items ++ map Open (openings_from l.f (drop l.f l.entries)) ≡ l.initial.given.items ++ map Open (openings_from l.from (drop l.from l.entries));
 }
