@@ -25,7 +25,14 @@ fn status(rt: HostRuntime) -> Status {
     let mut shelf = RealShelf::new(rt);
     let mut wire = RealWire::new(rt);
     let mut err = StandardError::new(rt);
-    run(rt.alloc(), &words, &mut shelf, &mut wire, &mut err, seed(rt))
+    run(
+        rt.alloc(),
+        &words,
+        &mut shelf,
+        &mut wire,
+        &mut err,
+        seed(rt),
+    )
 }
 
 /// The words after the program's name.
