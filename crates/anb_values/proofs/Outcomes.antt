@@ -28,18 +28,18 @@ same_hex text one other x y = let digits : x.0 ≡ y.0 = ap (drop 1) (sym x.1 �
 
 one_given : (label text one other : List ℕ) → IsGiven label text one → IsGiven label text other → one ≡ other
 one_given label text one other g h = elim g [
-    inl p ↦ elim h [
-        inl q ↦ elim (p.1) [
-            inl l ↦ elim (q.1) [ inl m ↦ same_literal text one other l m | inr y ↦ absurd (literal_or_hex text one other l y) ]
-          | inr x ↦ elim (q.1) [ inl m ↦ absurd (literal_or_hex text other one m x) | inr y ↦ same_hex text one other x y ]
-          ]
-      | inr q ↦ absurd (seed_is_no_label (rw q.0 at p.0))
-      ]
-  | inr p ↦ elim h [
-        inl q ↦ absurd (seed_is_no_label (rw p.0 at q.0))
-      | inr q ↦ same_hex text one other p.1 q.1
-      ]
+  | inl p ↦ elim h [
+    | inl q ↦ elim (p.1) [
+      | inl l ↦ elim (q.1) [ inl m ↦ same_literal text one other l m | inr y ↦ absurd (literal_or_hex text one other l y) ]
+      | inr x ↦ elim (q.1) [ inl m ↦ absurd (literal_or_hex text other one m x) | inr y ↦ same_hex text one other x y ]
+    ]
+    | inr q ↦ absurd (seed_is_no_label (rw q.0 at p.0))
   ]
+  | inr p ↦ elim h [
+    | inl q ↦ absurd (seed_is_no_label (rw p.0 at q.0))
+    | inr q ↦ same_hex text one other p.1 q.1
+  ]
+]
 
 entry_is : (one other : Entry) → one.label ≡ other.label → one.value ≡ other.value → one ≡ other
 entry_is one other p q = λ i. record { label = p i; value = q i }
@@ -86,9 +86,9 @@ no_earlier lines n m f g h =
 
 one_faulty : (lines : List (List ℕ)) (n m : ℕ) → IsFirstFaulty lines n → IsFirstFaulty lines m → n ≡ m
 one_faulty lines n m f g = elim (cases_order (length f.0) (length g.0)) [
-    inl e ↦ omega (arith, f.5, g.5)
+  | inl e ↦ omega (arith, f.5, g.5)
   | inr o ↦ elim o [ inl h ↦ absurd (no_earlier lines n m f g h) | inr h ↦ absurd (no_earlier lines m n g f h) ]
-  ]
+]
 
 same_values : (one other : List (List ℕ)) → map Some one ≡ map Some other → one ≡ other
 same_values [] [] e = refl
@@ -106,8 +106,8 @@ one_fitted : (text : List ℕ) (names : List (List ℕ)) (one other : Fitted) �
 one_fitted text names one other h k =
     let entries = one_list (lines_of text) h.0 k.0 h.1 k.1 in
     fitted_is one other
-        (same_values one.values other.values (h.3 ∙ ap (λ es. map (value_of es) names) entries ∙ sym k.3))
-        (h.4 ∙ ap (λ es. value_of es seed_label) entries ∙ sym k.4)
+    (same_values one.values other.values (h.3 ∙ ap (λ es. map (value_of es) names) entries ∙ sym k.3))
+    (h.4 ∙ ap (λ es. value_of es seed_label) entries ∙ sym k.4)
 
 -- a fault of labels, values or names
 abbrev Fault : List ℕ → List (List ℕ) → ValuesNo → Type 0
@@ -129,7 +129,7 @@ no_fault text names fitted fault h k =
 abbrev Seen : List ℕ → List (List ℕ) → Result Fitted ValuesNo → Type 0
 Seen text names r = ((fitted : Fitted) × (r ≡ Ok fitted) × Fit text names (Ok fitted))
     ⊎ (((n : ℕ) × (r ≡ Err (Line n)) × IsFirstFaulty (lines_of text) n)
-        ⊎ ((fault : ValuesNo) × (r ≡ Err fault) × Fault text names fault))
+    ⊎ ((fault : ValuesNo) × (r ≡ Err fault) × Fault text names fault))
 
 seen : (text : List ℕ) (names : List (List ℕ)) (r : Result Fitted ValuesNo) → Fit text names r → Seen text names r
 seen text names (Ok fitted) h = inl (fitted, refl, h)
@@ -142,27 +142,27 @@ seen text names (Err NoMemory) h = inr (inr (NoMemory, refl, h))
 
 pub one_fit : (text : List ℕ) (names : List (List ℕ)) (one other : Result Fitted ValuesNo) → Fit text names one → Fit text names other → one ≡ other
 one_fit text names one other h k = elim (seen text names one h) [
-    inl a ↦ elim (seen text names other k) [
-        inl b ↦ a.1 ∙ ap Ok (one_fitted text names a.0 b.0 a.2 b.2) ∙ sym b.1
-      | inr rest ↦ elim rest [
-            inl b ↦ absurd (no_faulty (lines_of text) b.0 a.2.0 a.2.1 b.2)
-          | inr b ↦ absurd (no_fault text names a.0 b.0 a.2 b.2)
-          ]
-      ]
-  | inr some ↦ elim some [
-        inl a ↦ elim (seen text names other k) [
-            inl b ↦ absurd (no_faulty (lines_of text) a.0 b.2.0 b.2.1 a.2)
-          | inr rest ↦ elim rest [
-                inl b ↦ a.1 ∙ ap (λ (n : ℕ). Err (Line n)) (one_faulty (lines_of text) a.0 b.0 a.2 b.2) ∙ sym b.1
-              | inr b ↦ absurd (no_faulty (lines_of text) a.0 b.2.0 b.2.1 a.2)
-              ]
-          ]
-      | inr a ↦ elim (seen text names other k) [
-            inl b ↦ absurd (no_fault text names b.0 a.0 b.2 a.2)
-          | inr rest ↦ elim rest [
-                inl b ↦ absurd (no_faulty (lines_of text) b.0 a.2.0 a.2.1 b.2)
-              | inr b ↦ a.1 ∙ ap Err (one_fault text names a.0 b.0 a.2 b.2) ∙ sym b.1
-              ]
-          ]
-      ]
+  | inl a ↦ elim (seen text names other k) [
+    | inl b ↦ a.1 ∙ ap Ok (one_fitted text names a.0 b.0 a.2 b.2) ∙ sym b.1
+    | inr rest ↦ elim rest [
+      | inl b ↦ absurd (no_faulty (lines_of text) b.0 a.2.0 a.2.1 b.2)
+      | inr b ↦ absurd (no_fault text names a.0 b.0 a.2 b.2)
+    ]
   ]
+  | inr some ↦ elim some [
+    | inl a ↦ elim (seen text names other k) [
+      | inl b ↦ absurd (no_faulty (lines_of text) a.0 b.2.0 b.2.1 a.2)
+      | inr rest ↦ elim rest [
+        | inl b ↦ a.1 ∙ ap (λ (n : ℕ). Err (Line n)) (one_faulty (lines_of text) a.0 b.0 a.2 b.2) ∙ sym b.1
+        | inr b ↦ absurd (no_faulty (lines_of text) a.0 b.2.0 b.2.1 a.2)
+      ]
+    ]
+    | inr a ↦ elim (seen text names other k) [
+      | inl b ↦ absurd (no_fault text names b.0 a.0 b.2 a.2)
+      | inr rest ↦ elim rest [
+        | inl b ↦ absurd (no_faulty (lines_of text) b.0 a.2.0 a.2.1 b.2)
+        | inr b ↦ a.1 ∙ ap Err (one_fault text names a.0 b.0 a.2 b.2) ∙ sym b.1
+      ]
+    ]
+  ]
+]

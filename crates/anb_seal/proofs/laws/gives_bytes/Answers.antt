@@ -4,10 +4,10 @@ use Rattle.anb_seal.proofs.laws.gives_bytes.Goals as goal
 
 pub returns : goal.returns
 returns c = record {
-      hashed = bytes-hash_of;
-      tagged = bytes-mac_of;
-      seals = bytes-sealed;
-      unseals = bytes-unsealed;
-      wraps = bytes-wrapped;
-      unwraps = bytes-unwrapped;
-    }
+  hashed = bytes-hash_of;
+  tagged = bytes-mac_of;
+  seals = bytes-sealed;
+  unseals = bytes-unsealed;
+  wraps = bytes-wrapped;
+  unwraps = bytes-unwrapped;
+}
