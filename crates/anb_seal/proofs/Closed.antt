@@ -1,5 +1,5 @@
 -- What closed bytes are made of, and that they hold one message.
-use Rattle.std.proofs.Common.{◌≡◌, ◌+◌, ℕ, Bool, true, false, List, ◌++◌, length, take, drop, Some, None, if◌then◌else◌, refl, ap, sym, ◌∙◌, arith, length-append}
+use Rattle.std.proofs.Common.{Option, ◌≡◌, ◌+◌, ℕ, Bool, true, false, List, ◌++◌, length, take, drop, Some, None, if◌then◌else◌, refl, ap, sym, ◌∙◌, arith, length-append}
 use Rattle.std.proofs.lemmas.List.{take-append-drop, take_at, drop_at, length-take-le}
 use Rattle.std.proofs.lemmas.Slice.Eq.{bytes_eq-Decides}
 use Rattle.std.specs.Str.{bytes_eq}
@@ -83,3 +83,14 @@ pub closed_apart : (suite : Suite) (stream_key tag_key head m n : List ℕ) → 
 closed_apart suite stream_key tag_key head m n e =
     let c = closed suite stream_key tag_key head n in
     sym (rest_is_message suite stream_key tag_key head c m e) ∙ rest_is_message suite stream_key tag_key head c n refl
+
+-- as computed: a message that is found, and that there is none
+pub is_opened : (suite : Suite) (stream_key tag_key head c m : List ℕ) → closed suite stream_key tag_key head m ≡ c → Some m ≡ opened suite stream_key tag_key head c
+is_opened suite stream_key tag_key head c m e = sym (opens suite stream_key tag_key head c m e)
+
+none_from : (o : Option (List ℕ)) → ((m : List ℕ) → o ≡ Some m → ⊥) → None ≡ o
+none_from None never = refl
+none_from (Some m) never = absurd (never m refl)
+
+pub none_opened : (suite : Suite) (stream_key tag_key head c : List ℕ) → ((m : List ℕ) → closed suite stream_key tag_key head m ≡ c → ⊥) → None ≡ opened suite stream_key tag_key head c
+none_opened suite stream_key tag_key head c never = none_from (opened suite stream_key tag_key head c) (λ m e. never m (opened_closes suite stream_key tag_key head c m e))

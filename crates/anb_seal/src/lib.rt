@@ -9,7 +9,7 @@
 
 ghost use Rattle.std.specs.Prelude.{◌≡◌, ◌≢◌, ℕ, List, IfOk, IfSome, IfNone};
 ghost use Rattle.anb_seal.specs.Streams.{draw_of};
-ghost use Rattle.anb_seal.specs.Primitives.{hash_of, mac_of, sealed, wrapped};
+ghost use Rattle.anb_seal.specs.Primitives.{hash_of, mac_of, sealed, unsealed, wrapped, unwrapped};
 
 mod digest;
 mod hmac;
@@ -73,6 +73,7 @@ pub fn seal512(alloc: Global, k: &[u8], m: &[u8]) -> Result<Bytes, NoMemory>
 pub fn unseal(alloc: Global, k: &[u8], c: &[u8]) -> Result<Option<Bytes>, NoMemory>
     ensures some { IfOk result (λ r. IfSome r (λ m. sealed Suite.One k.now m ≡ c.now)) }
     ensures none { IfOk result (λ r. IfNone r ((m : List ℕ) → sealed Suite.One k.now m ≢ c.now)) }
+    ensures computed { IfOk result (λ r. r ≡ unsealed Suite.One k.now c.now) }
 {
     unseal_with::<Sha256>(alloc, k, c)
 }
@@ -81,6 +82,7 @@ pub fn unseal(alloc: Global, k: &[u8], c: &[u8]) -> Result<Option<Bytes>, NoMemo
 pub fn unseal512(alloc: Global, k: &[u8], c: &[u8]) -> Result<Option<Bytes>, NoMemory>
     ensures some { IfOk result (λ r. IfSome r (λ m. sealed Suite.Two k.now m ≡ c.now)) }
     ensures none { IfOk result (λ r. IfNone r ((m : List ℕ) → sealed Suite.Two k.now m ≢ c.now)) }
+    ensures computed { IfOk result (λ r. r ≡ unsealed Suite.Two k.now c.now) }
 {
     unseal_with::<Sha512>(alloc, k, c)
 }
@@ -104,6 +106,7 @@ pub fn wrap512(alloc: Global, k: &[u8], d: &[u8], m: &[u8]) -> Result<Bytes, NoM
 pub fn unwrap(alloc: Global, k: &[u8], d: &[u8], c: &[u8]) -> Result<Option<Bytes>, NoMemory>
     ensures some { IfOk result (λ r. IfSome r (λ m. wrapped Suite.One k.now d.now m ≡ c.now)) }
     ensures none { IfOk result (λ r. IfNone r ((m : List ℕ) → wrapped Suite.One k.now d.now m ≢ c.now)) }
+    ensures computed { IfOk result (λ r. r ≡ unwrapped Suite.One k.now d.now c.now) }
 {
     unwrap_with::<Sha256>(alloc, k, d, c)
 }
@@ -112,6 +115,7 @@ pub fn unwrap(alloc: Global, k: &[u8], d: &[u8], c: &[u8]) -> Result<Option<Byte
 pub fn unwrap512(alloc: Global, k: &[u8], d: &[u8], c: &[u8]) -> Result<Option<Bytes>, NoMemory>
     ensures some { IfOk result (λ r. IfSome r (λ m. wrapped Suite.Two k.now d.now m ≡ c.now)) }
     ensures none { IfOk result (λ r. IfNone r ((m : List ℕ) → wrapped Suite.Two k.now d.now m ≢ c.now)) }
+    ensures computed { IfOk result (λ r. r ≡ unwrapped Suite.Two k.now d.now c.now) }
 {
     unwrap_with::<Sha512>(alloc, k, d, c)
 }

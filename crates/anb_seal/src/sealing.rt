@@ -1,7 +1,7 @@
 // Sealing and wrapping over the hash function of a suite.
 ghost use Rattle.std.specs.Prelude.{◌≡◌, ◌≢◌, ◌≤◌, ℕ, ◌-◌, List, [], ◌++◌, length, take, drop, IfOk, IfSome, IfNone};
 ghost use Rattle.anb_seal.specs.Streams.{key_stream, xored};
-ghost use Rattle.anb_seal.specs.Primitives.{cut, tag_of, masked, closed, key_for, sealed, wrapped};
+ghost use Rattle.anb_seal.specs.Primitives.{cut, tag_of, masked, closed, opened, key_for, sealed, unsealed, wrapped, unwrapped};
 
 use crate::digest::SuiteHash;
 use crate::hmac::mac_with;
@@ -31,7 +31,7 @@ pub(crate) fn seal_with<H: SuiteHash>(alloc: Global, k: &[u8], m: &[u8]) -> Resu
     close::<H>(alloc, stream_key.as_slice(), tag_key.as_slice(), &[], m)
 }
 
-#[tactic(auto, unfolding(crate::specs::Primitives::sealed))]
+#[tactic(auto, unfolding(crate::specs::Primitives::sealed, crate::specs::Primitives::unsealed))]
 pub(crate) fn unseal_with<H: SuiteHash>(
     alloc: Global,
     k: &[u8],
@@ -39,6 +39,7 @@ pub(crate) fn unseal_with<H: SuiteHash>(
 ) -> Result<Option<Bytes>, NoMemory>
     ensures some { IfOk result (λ r. IfSome r (λ m. sealed H.suite k.now m ≡ c.now)) }
     ensures none { IfOk result (λ r. IfNone r ((m : List ℕ) → sealed H.suite k.now m ≢ c.now)) }
+    ensures computed { IfOk result (λ r. r ≡ unsealed H.suite k.now c.now) }
 {
     let stream_key = key_for::<H>(SEAL_STREAM, k);
     let tag_key = key_for::<H>(SEAL_TAG, k);
@@ -66,7 +67,7 @@ pub(crate) fn wrap_with<H: SuiteHash>(
     )
 }
 
-#[tactic(auto, unfolding(crate::specs::Primitives::wrapped))]
+#[tactic(auto, unfolding(crate::specs::Primitives::wrapped, crate::specs::Primitives::unwrapped))]
 pub(crate) fn unwrap_with<H: SuiteHash>(
     alloc: Global,
     k: &[u8],
@@ -75,6 +76,7 @@ pub(crate) fn unwrap_with<H: SuiteHash>(
 ) -> Result<Option<Bytes>, NoMemory>
     ensures some { IfOk result (λ r. IfSome r (λ m. wrapped H.suite k.now d.now m ≡ c.now)) }
     ensures none { IfOk result (λ r. IfNone r ((m : List ℕ) → wrapped H.suite k.now d.now m ≢ c.now)) }
+    ensures computed { IfOk result (λ r. r ≡ unwrapped H.suite k.now d.now c.now) }
 {
     let stream_key = key_for::<H>(WRAP_STREAM, k);
     let tag_key = key_for::<H>(WRAP_TAG, k);
@@ -122,6 +124,7 @@ fn open<H: SuiteHash>(
 ) -> Result<Option<Bytes>, NoMemory>
     ensures some { IfOk result (λ r. IfSome r (λ m. closed H.suite stream_key.now tag_key.now head.now m ≡ c.now)) }
     ensures none { IfOk result (λ r. IfNone r ((m : List ℕ) → closed H.suite stream_key.now tag_key.now head.now m ≢ c.now)) }
+    ensures computed { IfOk result (λ r. r ≡ opened H.suite stream_key.now tag_key.now head.now c.now) }
 {
     if c.len() < TAG {
         return Ok(None);

@@ -1,0 +1,3 @@
+pub mod ByteMeaning
+pub mod AlgebraValue
+pub mod ByteLawful

@@ -1,0 +1,10 @@
+//! The algebra of byte strings: what hashes, macs, seals, wraps and formats do to bytes.
+#![tactic(auto)]
+
+mod bytes;
+mod suites;
+
+pub use bytes::ByteAlgebra;
+
+#[cfg(test)]
+mod tests;

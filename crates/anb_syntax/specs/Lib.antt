@@ -1,0 +1,10 @@
+pub mod Words
+pub mod Lexing
+pub mod Grammar
+pub mod Levels
+pub mod Text
+pub mod Canon
+pub mod Views
+pub mod Nexts
+pub mod Scanning
+pub mod Laws
