@@ -1,2 +1,2 @@
 pub mod Picks
-pub mod Readable
+pub mod Operators

@@ -1,13 +1,11 @@
 -- What the operators mean over byte strings, by some formats and a suite.
-use Rattle.std.specs.Prelude.{◌≡◌, ℕ, List, [], ◌∷◌, length, Bool, true, false, ◌&&◌, ◌==◌, Option, Some, None, slice_get}
+use Rattle.std.specs.Prelude.{◌≡◌, ℕ, List, [], ◌∷◌, Bool, true, false, ◌&&◌, ◌==◌, Option, Some, None, slice_get}
 use Rattle.std.specs.Option.{option_map, option_map_or}
 use Rattle.std.specs.Str.{bytes_eq}
 use Rattle.anb_base.specs.Bytes.{is_bytes}
 use Rattle.anb_base.specs.declared.content.Suite.{Suite}
-use Rattle.anb_format.specs.declared.pieces.FieldKind.TheVariants.{Rest}
 use Rattle.anb_format.specs.declared.pieces.Piece.{Piece}
-use Rattle.anb_format.specs.declared.pieces.Piece.TheVariants.{Lit, Field}
-use Rattle.anb_format.specs.Formats.{FormatValue, field_count, format_bytes}
+use Rattle.anb_format.specs.Formats.{FormatValue, field_count, format_bytes, is_sound}
 use Rattle.anb_format.specs.Reading.{parts_of}
 use Rattle.anb_seal.specs.Primitives.{hash_of, mac_of, sealed, unsealed, wrapped, unwrapped}
 use Rattle.anb_term.specs.declared.term.Op.{Op}
@@ -18,17 +16,9 @@ use Rattle.anb_term.specs.Value.{Meaning, RecipeTree, value}
 abbrev pub StandsAt : List FormatValue → ℕ → ℕ → Type 0
 StandsAt formats i arity = (format : FormatValue) × (slice_get formats i ≡ Some format) × (field_count format.pieces ≡ arity)
 
--- whether pieces build byte strings that can be read back: literals are bytes, and nothing follows a
--- `rest`. Those of every `Format` do.
-abbrev pub is_readable : List Piece → Bool
-is_readable [] = true
-is_readable (Lit text ∷ pieces) = is_bytes text && is_readable pieces
-is_readable (Field Rest ∷ pieces) = length pieces == 0
-is_readable (Field kind ∷ pieces) = is_readable pieces
-
--- the operators: those that no format gives, and one for each format
+-- the operators: those that need no format, and one for each format, which is sound as every `Format`
 abbrev pub has_operator : List FormatValue → Op → Bool
-has_operator formats (Format i arity) = option_map_or (λ (format : FormatValue). is_readable format.pieces && (field_count format.pieces == arity)) (slice_get formats i) false
+has_operator formats (Format i arity) = option_map_or (λ (format : FormatValue). is_sound format.pieces && (field_count format.pieces == arity)) (slice_get formats i) false
 has_operator formats op = true
 
 abbrev pub pieces_at : List FormatValue → ℕ → List Piece

