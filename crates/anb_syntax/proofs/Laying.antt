@@ -4,7 +4,7 @@ use Rattle.std.specs.Prelude.{◌==◌}
 use Rattle.std.specs.List.{flat_map}
 use Rattle.anb_syntax.specs.Words.{Word, name, end, colon, types_word, actions_word, open_sign, close_sign, comma, hash_word, mac_word, seal_word, wrap_word}
 use Rattle.anb_syntax.specs.Grammar.{Tree, atom, apply, hash, mac, seal, wrap, spell_tree, spell_trees, KnowItem, Narration}
-use Rattle.anb_syntax.specs.Canon.{Laid, word_bytes, words_bytes, laid_bytes, all_bytes, at_once, on_line, spaced_first, lay_suite, lay_type, lay_formats, lay_know, lay_knows, lay_action, lay, canon}
+use Rattle.anb_syntax.specs.Canon.{Laid, word_bytes, words_bytes, laid_bytes, all_bytes, at_once, on_line, spaced_first, lay_suite, lay_type, lay_formats, lay_know, lay_knows, lay_action, canon}
 
 once_bytes : (xs : List Word) → all_bytes (map at_once xs) ≡ words_bytes xs
 once_bytes [] = refl

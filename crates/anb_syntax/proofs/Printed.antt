@@ -1,6 +1,6 @@
 -- The canonical text is its narration's.
-use Rattle.std.proofs.Common.{◌≡◌, ℕ, ◌+◌, List, [], ◌∷◌, ◌++◌, length, map, Bool, true, false, Option, Some, None, unwrap_or, refl, sym, ap, ◌∙◌, subst, inl, inr, append_assoc, codes}
-use Rattle.std.specs.Prelude.{◌||◌, ◌&&◌, not}
+use Rattle.std.proofs.Common.{◌≡◌, ℕ, ◌+◌, List, [], ◌∷◌, ◌++◌, length, map, true, false, Option, Some, None, unwrap_or, refl, sym, ap, ◌∙◌, subst, inl, inr, append_assoc}
+use Rattle.std.specs.Prelude.{◌||◌, not}
 use Rattle.std.proofs.lemmas.Bool.{and_parts}
 use Rattle.std.specs.List.{flat_map, list_all, list_any, AllByRecursion}
 use Rattle.std.specs.Str.{bytes_eq}
@@ -12,7 +12,7 @@ use Rattle.anb_format.specs.declared.pieces.Piece.{Piece}
 use Rattle.anb_format.specs.declared.pieces.Piece.TheVariants.{Lit, Field}
 use Rattle.anb_syntax.specs.declared.narration.Sort.{Sort}
 use Rattle.anb_syntax.specs.declared.narration.Sort.TheVariants.{Agent, Number, Key}
-use Rattle.anb_syntax.specs.Words.{Word, name, literal, sign, end, Tok, Begins, is_spelled, is_name, reserved_words, colon, semicolon, comma, open_sign, close_sign, equals, arrow, protocol_word, suite_word, types_word, formats_word, knowledge_word, actions_word, hash_word, mac_word, seal_word, wrap_word, sort_word, hash_name, kind_word}
+use Rattle.anb_syntax.specs.Words.{Word, name, literal, sign, end, Begins, is_spelled, is_name, reserved_words, colon, semicolon, comma, open_sign, close_sign, equals, arrow, protocol_word, suite_word, types_word, formats_word, knowledge_word, actions_word, hash_word, mac_word, seal_word, wrap_word, sort_word, hash_name, kind_word}
 use Rattle.anb_syntax.specs.Grammar.{Tree, atom, apply, hash, mac, seal, wrap, Trees, none, more, TypeItem, FormatItem, KnowItem, ActionItem, Narration, Written, told, IsName, IsTree, AreTrees, AreNames, IsPiece, IsTypeItem, IsFormatItem, IsKnowItem, IsActionItem, IsNarration, IsSpellable, spell_tree, spell_trees, spell_others, spell_names, comma_name, piece_word, spell_type, spell_format, spell_know, spell_action, spell_suite, spell_formats, spell_knows, spell}
 use Rattle.anb_syntax.specs.Lexing.{is_blank}
 use Rattle.anb_syntax.specs.Text.{Text}

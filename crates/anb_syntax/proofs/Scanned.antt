@@ -1,8 +1,7 @@
 -- Literals and signs, as they are scanned.
-use Rattle.std.proofs.Common.{◌≡◌, ℕ, zero, suc, ◌+◌, ◌-◌, ◌<◌, ◌≤◌, List, [], ◌∷◌, length, get_or, take, drop, true, false, Option, Some, None, refl, sym, ap, ◌∙◌, subst, arith, length-drop}
+use Rattle.std.proofs.Common.{◌≡◌, ℕ, suc, ◌+◌, ◌-◌, ◌<◌, ◌≤◌, List, [], ◌∷◌, length, get_or, take, drop, Option, Some, None, refl, sym, ap, ◌∙◌, subst, arith, length-drop}
 use Rattle.std.proofs.lemmas.List.{take_all, drop-drop}
-use Rattle.std.specs.Prelude.{◌==◌, option_map}
-use Rattle.anb_syntax.specs.Words.{Word, literal}
+use Rattle.anb_syntax.specs.Words.{literal}
 use Rattle.anb_syntax.specs.Lexing.{characters_here, quoted, token_here}
 use Rattle.anb_syntax.specs.Views.{meant}
 use Rattle.anb_syntax.specs.Scanning.{token_of, len_of, characters_len, escaped_len, farther, closing}

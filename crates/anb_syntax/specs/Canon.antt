@@ -1,5 +1,5 @@
 -- The canonical text of a narration: its words, each behind what stands before it.
-use Rattle.std.specs.Prelude.{ℕ, List, [], ◌∷◌, ◌++◌, map, ◌==◌, if◌then◌else◌, Option, Some, None}
+use Rattle.std.specs.Prelude.{ℕ, List, [], ◌∷◌, ◌++◌, map, ◌==◌, if◌then◌else◌}
 use Rattle.std.specs.List.{flat_map}
 use Rattle.anb_base.specs.declared.content.Suite.{Suite}
 use Rattle.anb_base.specs.declared.content.Suite.TheVariants.{One, Two}

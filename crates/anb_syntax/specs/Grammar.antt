@@ -3,7 +3,7 @@ use Rattle.std.specs.Prelude.{◌≡◌, ℕ, zero, suc, List, [], ◌∷◌, �
 use Rattle.std.specs.List.{flat_map, list_all, AllByRecursion}
 use Rattle.anb_base.specs.Bytes.{IsBytes}
 use Rattle.anb_base.specs.declared.content.Suite.{Suite}
-use Rattle.anb_base.specs.declared.content.Suite.TheVariants.{One, Two}
+use Rattle.anb_base.specs.declared.content.Suite.TheVariants.{One}
 use Rattle.anb_format.specs.declared.pieces.Piece.{Piece}
 use Rattle.anb_format.specs.declared.pieces.Piece.TheVariants.{Lit, Field}
 use Rattle.anb_syntax.specs.declared.narration.Sort.{Sort}

@@ -1,15 +1,15 @@
 -- What holds of tokens and narrations whatever they are.
-use Rattle.std.specs.Prelude.{◌≡◌, ℕ, List, ◌++◌, length, Some}
-use Rattle.anb_format.specs.Literals.{IsLiteral}
+use Rattle.std.specs.Prelude.{◌≡◌, ◌↔◌, ℕ, List, Some}
+use Rattle.anb_format.specs.Literals.{IsLiteralAt}
 use Rattle.anb_syntax.specs.Words.{Tok, literal}
 use Rattle.anb_syntax.specs.Lexing.{token_here, Lexes}
 use Rattle.anb_syntax.specs.Grammar.{Narration, IsSpellable}
 use Rattle.anb_syntax.specs.Text.{Text}
 use Rattle.anb_syntax.specs.Canon.{canon}
 
--- a literal is a token of the bytes that it means, whatever follows it
+-- a token that is a literal of some bytes begins exactly where a literal of these bytes does
 abbrev pub LiteralsAreTokens : Type 0
-LiteralsAreTokens = (x bytes rest : List ℕ) → IsLiteral x bytes → token_here (x ++ rest) ≡ Some (literal bytes, length x)
+LiteralsAreTokens = (x bytes : List ℕ) (n : ℕ) → (token_here x ≡ Some (literal bytes, n)) ↔ IsLiteralAt x 0 bytes n
 
 -- a text has one list of tokens
 abbrev pub TokensAreUnique : Type 0

@@ -1,10 +1,9 @@
 -- At which level the terms of a narration stand: for each of its words, the level of the term that the
 -- word begins, and 0 where it begins none.
-use Rattle.std.specs.Prelude.{ℕ, suc, List, [], ◌∷◌, ◌++◌, length, map, Option, Some, None, replicate}
+use Rattle.std.specs.Prelude.{ℕ, suc, List, [], ◌∷◌, ◌++◌, map, Option, Some, None}
 use Rattle.std.specs.List.{flat_map}
-use Rattle.anb_base.specs.declared.content.Suite.{Suite}
 use Rattle.anb_syntax.specs.Words.{Word}
-use Rattle.anb_syntax.specs.Grammar.{Tree, atom, apply, hash, mac, seal, wrap, Trees, none, more, TypeItem, FormatItem, KnowItem, ActionItem, Written, spell_type, spell_format, spell_suite, spell_formats, spell_ending}
+use Rattle.anb_syntax.specs.Grammar.{Tree, atom, apply, hash, mac, seal, wrap, Trees, none, more, KnowItem, ActionItem, Written, spell_type, spell_suite, spell_formats, spell_ending}
 
 -- words that begin no term
 abbrev pub no_terms : List Word → List ℕ

@@ -1,5 +1,5 @@
 -- What the scanner of tokens finds.
-use Rattle.std.specs.Prelude.{ℕ, ◌+◌, List, [], ◌∷◌, Option, Some, None, option_map, ◌==◌, if◌then◌else◌}
+use Rattle.std.specs.Prelude.{ℕ, ◌+◌, List, [], ◌∷◌, Option, Some, None, ◌==◌, if◌then◌else◌}
 use Rattle.anb_syntax.specs.Words.{Word}
 use Rattle.anb_syntax.specs.Lexing.{characters_here, escaped_here}
 use Rattle.anb_syntax.specs.Views.{word_of}

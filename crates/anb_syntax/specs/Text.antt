@@ -1,5 +1,5 @@
 -- Which narration a text is, which beginnings of a text a narration can go on from, and where a text is refused.
-use Rattle.std.specs.Prelude.{◌≡◌, ℕ, suc, ◌≤◌, List, ◌∷◌, ◌++◌, length, Bool, true, false, Some, slice_get}
+use Rattle.std.specs.Prelude.{◌≡◌, ℕ, ◌≤◌, List, ◌∷◌, ◌++◌, length, Bool, true, false, Some, slice_get}
 use Rattle.anb_syntax.specs.Words.{Word, Tok, head, Begins}
 use Rattle.anb_syntax.specs.Lexing.{Lexes}
 use Rattle.anb_syntax.specs.Grammar.{Narration, Written, told, IsNarration, fits, spell}

@@ -5,7 +5,7 @@ pub fn tokens_are_unique()
     ensures { TokensAreUnique }
 {}
 
-/// A law: what stands before anything else as a literal is a token of its bytes.
+/// A law: a token is a literal of some bytes exactly where a literal of these bytes begins.
 pub fn literals_are_tokens()
     ensures { LiteralsAreTokens }
 {}

@@ -1,6 +1,6 @@
-use Rattle.std.proofs.Common.{◌≡◌, ◌∙◌}
+use Rattle.std.proofs.Common.{◌∙◌}
 use Rattle.anb_syntax.specs.Views.{narration_of}
-use Rattle.anb_syntax.proofs.Laying.{behind, parts, canon_parts}
+use Rattle.anb_syntax.proofs.Laying.{behind, canon_parts}
 use Rattle.anb_syntax.proofs.writing.text_of.Goals as goal
 
 pub returns : goal.returns
