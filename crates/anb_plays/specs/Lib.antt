@@ -5,3 +5,4 @@ pub mod Runs
 pub mod Fits
 pub mod Exec
 pub mod Honest
+pub mod Statements

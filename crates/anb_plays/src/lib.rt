@@ -4,3 +4,5 @@
 //! goes on exactly while the values that the role has agree with their terms, and the run of a code
 //! while its own few demands hold. A code that fits a plan has the plan's play as its run.
 #![tactic(auto)]
+
+pub mod laws;
