@@ -8,7 +8,7 @@ ghost use Rattle.anb_read.specs.Productions.{is_comma, is_piece, is_sort, is_som
 ghost use Rattle.anb_read.specs.Places.{toks, Finds};
 
 use crate::lists::{Listed, many};
-use crate::places::{Place, first};
+use crate::places::Place;
 use crate::refusal::ReadNo;
 use crate::single::{expect_sign, is_piece, is_sign, is_some_name, name, piece, sort, sort_of};
 use crate::terms::{term, terms};
@@ -31,7 +31,7 @@ impl Listed for Text {
     ghost item_at = { comma_name_at };
 
     fn begins(text: &[u8], places: &[Place]) -> bool {
-        is_sign(b',', first(text, places))
+        is_sign(b',', text, places)
     }
 
     #[tactic(auto, unfolding(crate::specs::Productions::comma_name_at))]
@@ -71,7 +71,7 @@ impl Listed for TypeItem {
     ghost item_at = { type_at };
 
     fn begins(text: &[u8], places: &[Place]) -> bool {
-        sort_of(first(text, places)).is_some()
+        sort_of(text, places).is_some()
     }
 
     #[tactic(auto, unfolding(crate::specs::Productions::type_at))]
@@ -97,7 +97,7 @@ impl Listed for Piece {
     ghost item_at = { piece_at };
 
     fn begins(text: &[u8], places: &[Place]) -> bool {
-        is_piece(first(text, places))
+        is_piece(text, places)
     }
 
     fn read<'p>(
@@ -119,7 +119,7 @@ impl Listed for FormatItem {
     ghost item_at = { format_at };
 
     fn begins(text: &[u8], places: &[Place]) -> bool {
-        is_some_name(first(text, places))
+        is_some_name(text, places)
     }
 
     #[tactic(auto, unfolding(crate::specs::Productions::format_at))]
@@ -146,7 +146,7 @@ impl Listed for KnowItem {
     ghost item_at = { know_at 64 };
 
     fn begins(text: &[u8], places: &[Place]) -> bool {
-        is_some_name(first(text, places))
+        is_some_name(text, places)
     }
 
     #[tactic(auto, unfolding(crate::specs::Productions::know_at))]
@@ -172,7 +172,7 @@ impl Listed for ActionItem {
     ghost item_at = { action_at 64 };
 
     fn begins(text: &[u8], places: &[Place]) -> bool {
-        is_some_name(first(text, places))
+        is_some_name(text, places)
     }
 
     #[tactic(auto, unfolding(crate::specs::Productions::action_at))]

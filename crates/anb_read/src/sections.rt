@@ -9,7 +9,7 @@ ghost use Rattle.anb_read.specs.Places.{toks, Finds};
 ghost use Rattle.anb_read.specs.Tellings.{written_of};
 
 use crate::lists::many;
-use crate::places::{Place, first};
+use crate::places::Place;
 use crate::refusal::ReadNo;
 use crate::single::{expect_end, expect_sign, expect_word, is_word, name, suite};
 use anb_base::{Suite, Text};
@@ -89,7 +89,7 @@ fn title<'p>(alloc: Global, text: &[u8], places: &'p [Place]) -> Result<(Text, &
 fn told_suite<'p>(text: &[u8], places: &'p [Place]) -> Result<(Option<Suite>, &'p [Place]), ReadNo>
     ensures { Finds (λ x. (x.0, toks text.now x.1.now)) result (optional (is_word suite_word) suite_section (toks text.now places.now)) }
 {
-    if !is_word(b"Suite", first(text, places)) {
+    if !is_word(b"Suite", text, places) {
         return Ok((None, places));
     }
     let places = heading(b"Suite", text, places)?;
@@ -122,7 +122,7 @@ fn formats<'p>(
     requires { length text.now ≤ 1048576 }
     ensures { Finds (λ x. (option_map (λ is. map format_of is.items) x.0, toks text.now x.1.now)) result (optional (is_word formats_word) formats_section (toks text.now places.now)) }
 {
-    if !is_word(b"Formats", first(text, places)) {
+    if !is_word(b"Formats", text, places) {
         return Ok((None, places));
     }
     let places = heading(b"Formats", text, places)?;
@@ -140,7 +140,7 @@ fn knows<'p>(
     requires { length text.now ≤ 1048576 }
     ensures { Finds (λ x. (option_map (λ is. map know_of is.items) x.0, toks text.now x.1.now)) result (optional (is_word knowledge_word) (knows_section 64) (toks text.now places.now)) }
 {
-    if !is_word(b"Knowledge", first(text, places)) {
+    if !is_word(b"Knowledge", text, places) {
         return Ok((None, places));
     }
     let places = heading(b"Knowledge", text, places)?;
@@ -167,7 +167,7 @@ fn actions<'p>(
 fn ending<'p>(text: &[u8], places: &'p [Place]) -> Result<(bool, &'p [Place]), ReadNo>
     ensures { Finds (λ x. (x.0, toks text.now x.1.now)) result (ending_at (toks text.now places.now)) }
 {
-    if is_word(b"Goals", first(text, places)) {
+    if is_word(b"Goals", text, places) {
         let places = heading(b"Goals", text, places)?;
         return Ok((true, places));
     }

@@ -2,10 +2,10 @@
 
 ghost use Rattle.std.specs.Prelude.{◌≡◌, ◌≤◌, ℕ, List, true, not, length, drop, bytes_eq, IfOk};
 ghost use Rattle.std.specs.List.{list_all, list_any};
-ghost use Rattle.anb_base.specs.Bytes.{is_bytes};
+ghost use Rattle.anb_base.specs.Bytes.{IsBytes};
 ghost use Rattle.anb_syntax.specs.Words.{head, sign, name, end, word_eqb, is_letter, is_name_byte, is_spelled, is_name, reserved_words};
-ghost use Rattle.anb_read.specs.Productions.{expect, name_at, sort_at, suite_at, piece_at, word_sort, word_suite, word_kind, is_some_name, is_sort, is_piece, begins_term, some_of};
-ghost use Rattle.anb_read.specs.Places.{toks, word_in, literal_here, Finds};
+ghost use Rattle.anb_read.specs.Productions.{expect, name_at, sort_at, suite_at, piece_at, word_sort, word_suite, word_kind, is_word, is_some_name, is_sort, is_piece, begins_term, some_of};
+ghost use Rattle.anb_read.specs.Places.{toks, literal_here, Finds};
 
 use crate::places::{Place, Word, first, others};
 use crate::refusal::{ReadNo, refusal};
@@ -21,20 +21,20 @@ fn is_same(a: &[u8], b: &[u8]) -> bool
 }
 
 /// Whether the word is this sign.
-pub(crate) fn is_sign(c: u8, word: Word) -> bool
-    ensures { (text : List ℕ) → result ≡ word_eqb (sign c) (word_in text word.entry) }
+pub(crate) fn is_sign(c: u8, text: &[u8], places: &[Place]) -> bool
+    ensures { result ≡ word_eqb (sign c) (head (toks text.now places.now)) }
 {
-    match word {
+    match first(text, places) {
         Word::Sign(b) => c == b,
         _ => false,
     }
 }
 
 /// Whether the word is this one.
-pub(crate) fn is_word(wanted: &[u8], word: Word) -> bool
-    ensures { (text : List ℕ) → result ≡ word_eqb (name wanted.now) (word_in text word.entry) }
+pub(crate) fn is_word(wanted: &[u8], text: &[u8], places: &[Place]) -> bool
+    ensures { result ≡ is_word wanted.now (head (toks text.now places.now)) }
 {
-    match word {
+    match first(text, places) {
         Word::Name(b) => is_same(wanted, b),
         _ => false,
     }
@@ -49,7 +49,7 @@ pub(crate) fn expect_sign<'p>(
 ) -> Result<&'p [Place], ReadNo>
     ensures { Finds (λ r. (tt, toks text.now r.now)) result (expect (sign c) (toks text.now places.now)) }
 {
-    if is_sign(c, first(text, places)) {
+    if is_sign(c, text, places) {
         Ok(others(places))
     } else {
         Err(refusal(text, places))
@@ -65,7 +65,7 @@ pub(crate) fn expect_word<'p>(
 ) -> Result<&'p [Place], ReadNo>
     ensures { Finds (λ r. (tt, toks text.now r.now)) result (expect (name wanted.now) (toks text.now places.now)) }
 {
-    if is_word(wanted, first(text, places)) {
+    if is_word(wanted, text, places) {
         Ok(others(places))
     } else {
         Err(refusal(text, places))
@@ -141,24 +141,24 @@ fn is_name(bytes: &[u8]) -> bool
 }
 
 /// Whether the word is a name of the grammar.
-pub(crate) fn is_some_name(word: Word) -> bool
-    ensures { (text : List ℕ) → result ≡ is_some_name (word_in text word.entry) }
+pub(crate) fn is_some_name(text: &[u8], places: &[Place]) -> bool
+    ensures { result ≡ is_some_name (head (toks text.now places.now)) }
 {
-    match word {
+    match first(text, places) {
         Word::Name(bytes) => is_name(bytes),
         _ => false,
     }
 }
 
 /// Whether a term begins with the word.
-pub(crate) fn begins_term(word: Word) -> bool
-    ensures { (text : List ℕ) → result ≡ begins_term (word_in text word.entry) }
+pub(crate) fn begins_term(text: &[u8], places: &[Place]) -> bool
+    ensures { result ≡ begins_term (head (toks text.now places.now)) }
 {
-    is_word(b"h", word)
-        || is_word(b"mac", word)
-        || is_word(b"scrypt", word)
-        || is_word(b"wrap", word)
-        || is_some_name(word)
+    is_word(b"h", text, places)
+        || is_word(b"mac", text, places)
+        || is_word(b"scrypt", text, places)
+        || is_word(b"wrap", text, places)
+        || is_some_name(text, places)
 }
 
 /// A name of the grammar as a text.
@@ -190,10 +190,10 @@ pub(crate) fn name<'p>(
 }
 
 /// The sort that the word is.
-pub(crate) fn sort_of(word: Word) -> Option<Sort>
-    ensures { (text : List ℕ) → result ≡ word_sort (word_in text word.entry) }
+pub(crate) fn sort_of(text: &[u8], places: &[Place]) -> Option<Sort>
+    ensures { result ≡ word_sort (head (toks text.now places.now)) }
 {
-    match word {
+    match first(text, places) {
         Word::Name(bytes) => {
             if is_same(b"Agent", bytes) {
                 Some(Sort::Agent)
@@ -214,17 +214,17 @@ pub(crate) fn sort_of(word: Word) -> Option<Sort>
 pub(crate) fn sort<'p>(text: &[u8], places: &'p [Place]) -> Result<(Sort, &'p [Place]), ReadNo>
     ensures { Finds (λ x. (x.0, toks text.now x.1.now)) result (sort_at (toks text.now places.now)) }
 {
-    match sort_of(first(text, places)) {
+    match sort_of(text, places) {
         Some(sort) => Ok((sort, others(places))),
         None => Err(refusal(text, places)),
     }
 }
 
 /// The suite that the word names.
-fn suite_of(word: Word) -> Option<Suite>
-    ensures { (text : List ℕ) → result ≡ word_suite (word_in text word.entry) }
+fn suite_of(text: &[u8], places: &[Place]) -> Option<Suite>
+    ensures { result ≡ word_suite (head (toks text.now places.now)) }
 {
-    match word {
+    match first(text, places) {
         Word::Name(bytes) => {
             if is_same(b"sha256", bytes) {
                 Some(Suite::One)
@@ -243,7 +243,7 @@ fn suite_of(word: Word) -> Option<Suite>
 pub(crate) fn suite<'p>(text: &[u8], places: &'p [Place]) -> Result<(Suite, &'p [Place]), ReadNo>
     ensures { Finds (λ x. (x.0, toks text.now x.1.now)) result (suite_at (toks text.now places.now)) }
 {
-    match suite_of(first(text, places)) {
+    match suite_of(text, places) {
         Some(suite) => Ok((suite, others(places))),
         None => Err(refusal(text, places)),
     }
@@ -267,10 +267,10 @@ fn kind_of(bytes: &[u8]) -> Option<FieldKind>
 }
 
 /// Whether the word is a piece of a format.
-pub(crate) fn is_piece(word: Word) -> bool
-    ensures { (text : List ℕ) → result ≡ is_piece (word_in text word.entry) }
+pub(crate) fn is_piece(text: &[u8], places: &[Place]) -> bool
+    ensures { result ≡ is_piece (head (toks text.now places.now)) }
 {
-    match word {
+    match first(text, places) {
         Word::Name(bytes) => kind_of(bytes).is_some(),
         Word::Literal(_) => true,
         _ => false,
@@ -291,6 +291,24 @@ fn literal(alloc: Global, text: &[u8], at: u32) -> Result<Bytes, NoMemory>
     }
 }
 
+/// The bytes as a slice, each of which is below 256.
+fn slice_of(bytes: &Bytes) -> &[u8]
+    ensures same { result.now ≡ bytes.now }
+    ensures small { IsBytes bytes.now }
+{
+    let slice = bytes.as_slice();
+    slice
+}
+
+/// A piece that stands as it is.
+fn literal_piece(bytes: Bytes) -> Piece
+    ensures piece { result ≡ Piece.Lit bytes }
+    ensures bytes { IsBytes bytes }
+{
+    let _slice = slice_of(&bytes);
+    Piece::Lit(bytes)
+}
+
 /// Reads a piece of a format.
 #[tactic(auto, unfolding(crate::specs::Productions::piece_at))]
 pub(crate) fn piece<'p>(
@@ -307,7 +325,7 @@ pub(crate) fn piece<'p>(
             None => Err(refusal(text, places)),
         },
         Word::Literal(at) => match literal(alloc, text, at) {
-            Ok(bytes) => Ok((Piece::Lit(bytes), others(places))),
+            Ok(bytes) => Ok((literal_piece(bytes), others(places))),
             Err(NoMemory) => Err(ReadNo::NoMemory),
         },
         _ => Err(refusal(text, places)),

@@ -8,7 +8,7 @@ ghost use Rattle.anb_read.specs.Productions.{fault, begins_term, is_comma, many,
 ghost use Rattle.anb_read.specs.Places.{toks, Finds};
 ghost use Rattle.anb_read.specs.Trees.{keyed_word, keyed_tree};
 
-use crate::places::{Place, first};
+use crate::places::Place;
 use crate::refusal::{ReadNo, refusal, too_deep};
 use crate::single::{begins_term, expect_sign, expect_word, is_sign, is_word, name};
 use anb_syntax::Tree;
@@ -47,7 +47,7 @@ impl Keyed {
 fn no_level(text: &[u8], places: &[Place]) -> ReadNo
     ensures { result ≡ fault (begins_term (head (toks text.now places.now))) (toks text.now places.now) }
 {
-    if begins_term(first(text, places)) {
+    if begins_term(text, places) {
         too_deep(text, places)
     } else {
         refusal(text, places)
@@ -76,14 +76,13 @@ pub(crate) fn term<'p>(
     if levels == 0 {
         return Err(no_level(text, places));
     }
-    let word = first(text, places);
-    if is_word(b"h", word) {
+    if is_word(b"h", text, places) {
         hashed(alloc, levels - 1, text, places)
-    } else if is_word(b"mac", word) {
+    } else if is_word(b"mac", text, places) {
         under_key(alloc, levels - 1, Keyed::Mac, text, places)
-    } else if is_word(b"scrypt", word) {
+    } else if is_word(b"scrypt", text, places) {
         under_key(alloc, levels - 1, Keyed::Seal, text, places)
-    } else if is_word(b"wrap", word) {
+    } else if is_word(b"wrap", text, places) {
         wrapped(alloc, levels - 1, text, places)
     } else {
         named(alloc, levels - 1, text, places)
@@ -174,7 +173,7 @@ fn named<'p>(
     ensures { Finds (λ x. (tree_of x.0, toks text.now x.1.now)) result (named_at (term_at levels) (toks text.now places.now)) }
 {
     let (name, places) = name(alloc, text, places)?;
-    if !is_sign(b'(', first(text, places)) {
+    if !is_sign(b'(', text, places) {
         return Ok((Tree::Name(name), places));
     }
     let places = expect_sign(b'(', text, places)?;
@@ -194,7 +193,7 @@ pub(crate) fn terms<'p>(
 ) -> Result<(Vec<Tree>, &'p [Place]), ReadNo>
     ensures { Finds (λ x. (trees_of (map tree_of x.0.items), toks text.now x.1.now)) result (terms_at (term_at levels) (sign close) (toks text.now places.now)) }
 {
-    if is_sign(close, first(text, places)) {
+    if is_sign(close, text, places) {
         let places = expect_sign(close, text, places)?;
         return Ok((Vec::new(alloc), places));
     }
@@ -249,7 +248,7 @@ fn more_terms<'p>(
 {
     let mut rest = places;
     for _ in 0..places.len() {
-        if !is_sign(b',', first(text, rest)) {
+        if !is_sign(b',', text, rest) {
             return Ok((items, rest));
         }
         let (item, after) = comma_term(alloc, levels, text, rest)?;
