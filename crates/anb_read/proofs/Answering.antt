@@ -10,6 +10,7 @@ use Rattle.anb_read.specs.declared.refusal.ReadNo.{ReadNo}
 use Rattle.anb_read.specs.declared.refusal.ReadNo.TheVariants.{Token, Grammar, Deep, NoMemory}
 use Rattle.anb_read.specs.Refusals.{IsCause, HasCause, offset, IsRefusal, UnlessNoMemory}
 use Rattle.anb_read.specs.Productions.{is_bad, fault, begins_term, narration_at}
+use Rattle.anb_read.specs.Places.{Fails}
 use Rattle.anb_read.proofs.Readers.{opens, closes}
 use Rattle.anb_read.proofs.Depth.{stands_at, begins_there}
 use Rattle.anb_read.proofs.Endings.{no_bad, front_tokens, not_all}
@@ -199,6 +200,30 @@ module _ (x : List ℕ) (ts : List Tok) (l : Lexes 0 x ts) where
 
   pub ok_exact : (w : Written) (rest : List Tok) → narration_at 64 ts ≡ Ok (w, rest) → (why : ReadNo) → IsRefusal x why → ⊥
   ok_exact w rest e why r = cc (e, first_of why r)
+
+  pub err_refused : (f : ReadNo) → Fails f (narration_at 64 ts) → UnlessNoMemory f (IsRefusal x f)
+  err_refused (Token at) e = refusal_of (Token at) e
+  err_refused (Grammar at) e = refusal_of (Grammar at) e
+  err_refused (Deep at) e = refusal_of (Deep at) e
+  err_refused NoMemory e = tt
+
+  fails_only : (f y : ReadNo) → narration_at 64 ts ≡ Err y → Fails f (narration_at 64 ts) → (f ≡ y) ⊎ (f ≡ NoMemory)
+  fails_only (Token at) y e h = inl (cc (e, h))
+  fails_only (Grammar at) y e h = inl (cc (e, h))
+  fails_only (Deep at) y e h = inl (cc (e, h))
+  fails_only NoMemory y e h = inr refl
+
+  pub err_exact : (f : ReadNo) → Fails f (narration_at 64 ts) → (why : ReadNo) → IsRefusal x why → (f ≡ why) ⊎ (f ≡ NoMemory)
+  err_exact f h why r = fails_only f why (first_of why r) h
+
+  fails_never : (f : ReadNo) (y : Written × List Tok) → narration_at 64 ts ≡ Ok y → Fails f (narration_at 64 ts) → f ≡ NoMemory
+  fails_never (Token at) y e h = cc (e, h)
+  fails_never (Grammar at) y e h = cc (e, h)
+  fails_never (Deep at) y e h = cc (e, h)
+  fails_never NoMemory y e h = refl
+
+  pub err_only : (f : ReadNo) → Fails f (narration_at 64 ts) → (n : Narration) → Text n x → f ≡ NoMemory
+  err_only f h n t = let k = read_of n t in fails_never f (k.0, k.1) k.2 h
 
 -- the laws
 pub narrations_unique : (x : List ℕ) (m n : Narration) → Text m x → Text n x → m ≡ n

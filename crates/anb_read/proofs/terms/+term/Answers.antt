@@ -41,7 +41,7 @@ pub term-returns-then-is_word-2 : goal.term-returns-then-is_word-2
 term-returns-then-is_word-2 t c = rw (at_mac c.args.levels (toks c.args.text.now c.args.places.now) (omega arith) (sym c.if-is_word.ensures) (sym c.if-is_word-2.ensures)) c.under_key.ensures
 
 pub term-returns-then-is_word-3 : goal.term-returns-then-is_word-3
-term-returns-then-is_word-3 t c = rw (at_seal c.args.levels (toks c.args.text.now c.args.places.now) (omega arith) (sym c.if-is_word.ensures) (sym c.if-is_word-2.ensures) (sym c.if-is_word-3.ensures)) c.under_key.ensures
+term-returns-then-is_word-3 t c = rw (at_seal c.args.levels (toks c.args.text.now c.args.places.now) (omega arith) (sym c.if-is_word.ensures) (sym c.if-is_word-2.ensures) (sym c.if-is_word-3.ensures)) c.under_key-then-is_word-3.ensures
 
 pub term-returns-then-is_word-4 : goal.term-returns-then-is_word-4
 term-returns-then-is_word-4 t c = rw (at_wrap c.args.levels (toks c.args.text.now c.args.places.now) (omega arith) (sym c.if-is_word.ensures) (sym c.if-is_word-2.ensures) (sym c.if-is_word-3.ensures) (sym c.if-is_word-4.ensures)) c.wrapped.ensures
