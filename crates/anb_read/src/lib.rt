@@ -1,4 +1,7 @@
-//! Reads plain narrations: two agents, numbers that they know, and actions in which one sends
+//! Reads narrations: a text is read exactly where it is written by the grammar, and else refused at the
+//! first place from which no narration goes on.
+//!
+//! It also reads plain narrations: two agents, numbers that they know, and actions in which one sends
 //! the other a number.
 #![tactic(auto)]
 
@@ -10,9 +13,17 @@ ghost use Rattle.anb_read.specs.Plain.{IsPlainText};
 mod check;
 mod cursor;
 mod draft;
+mod items;
+mod lists;
 mod names;
 mod piece;
+mod places;
 mod plain;
+mod reader;
+mod refusal;
+mod sections;
+mod single;
+mod terms;
 #[cfg(test)]
 mod tests;
 mod unread;
@@ -23,6 +34,8 @@ use crate::names::is_same;
 use crate::unread::Unread;
 use anb_base::NoMemory;
 pub use plain::{Plain, PlainAction, PlainKnow};
+pub use reader::{narrations_are_unique, none_is_both, read, refusals_are_unique};
+pub use refusal::ReadNo;
 use std::alloc::Global;
 
 /// Whether a narration that was read from the text is plain, and the text its canonical text.

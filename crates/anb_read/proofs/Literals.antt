@@ -1,0 +1,54 @@
+-- The literal at an offset, and names as texts.
+use Rattle.std.proofs.Common.{◌≡◌, ℕ, zero, suc, ◌+◌, ◌<◌, List, [], ◌∷◌, ◌++◌, length, drop, Bool, true, false, Option, Some, None, refl, sym, ap, ◌∙◌, subst, arith}
+use Rattle.std.specs.Prelude.{IfSome, IfNone, ◌&&◌, not}
+use Rattle.std.specs.List.{list_all, list_any}
+use Rattle.std.specs.Str.{IsAscii, IsUtf8, bytes_eq}
+use Rattle.std.proofs.lemmas.Str.{IsUtf8-from_ascii}
+use Rattle.std.proofs.lemmas.Bool.Decides.{nat_tests}
+use Rattle.anb_format.specs.Literals.{IsLiteralAt}
+use Rattle.anb_syntax.specs.Words.{Word, name, literal, sign, end, bad, is_name_byte, is_letter, is_spelled, is_name, reserved_words}
+use Rattle.anb_syntax.specs.Lexing.{token_here}
+use Rattle.anb_syntax.proofs.LiteralTokens.{literal_read, literal_tokens}
+use Rattle.anb_read.specs.Places.{literal_of, found, literal_here}
+use Rattle.anb_read.proofs.Binds.{and_parts}
+
+pub literal_is : (x bytes : List ℕ) (at n : ℕ) → IsLiteralAt x at bytes n → bytes ≡ literal_here (drop at x)
+literal_is x bytes at n h = sym (ap (λ y. found (token_here y)) h.stands ∙ ap found (literal_read h.spelling bytes h.rest h.is))
+
+further : (x bytes : List ℕ) (at n : ℕ) → IsLiteralAt (drop at x) 0 bytes n → IsLiteralAt x at bytes (at + n)
+further x bytes at n h = record { spelling = h.spelling; is = h.is; rest = h.rest; stands = h.stands; ends = omega (arith, h.ends) }
+
+by_word : (w : Word) → ((b : List ℕ) → w ≡ literal b → ⊥) → [] ≡ literal_of w
+by_word (literal b) h = absurd (h b refl)
+by_word (name b) h = refl
+by_word (sign c) h = refl
+by_word end h = refl
+by_word bad h = refl
+
+by_token : (o : Option (Word × ℕ)) → ((b : List ℕ) (n : ℕ) → o ≡ Some (literal b, n) → ⊥) → [] ≡ found o
+by_token None h = refl
+by_token (Some t) h = by_word t.0 (λ b e. h b t.1 (ap (λ w. Some (w, t.1)) e))
+
+pub literal_none : (x : List ℕ) (at : ℕ) → ((bytes : List ℕ) (n : ℕ) → IsLiteralAt x at bytes n → ⊥) → [] ≡ literal_here (drop at x)
+literal_none x at none = by_token (token_here (drop at x)) (λ b n e. none b (at + n) (further x b at n ((literal_tokens (drop at x) b n).0 e)))
+
+small : (b : ℕ) → is_name_byte b ≡ true → b < 128
+small b h = grind (arith, nat_tests)
+
+all_small : (n : List ℕ) → list_all is_name_byte n ≡ true → IsAscii n
+all_small [] h i = omega arith
+all_small (b ∷ n) h zero = small b (and_parts (is_name_byte b) (list_all is_name_byte n) h).0
+all_small (b ∷ n) h (suc i) = all_small n (and_parts (is_name_byte b) (list_all is_name_byte n) h).1 i
+
+letter_is : (b : ℕ) → is_letter b ≡ true → is_name_byte b ≡ true
+letter_is b e = rw e refl
+
+spelled_small : (n : List ℕ) → is_spelled n ≡ true → IsAscii n
+spelled_small [] h i = omega arith
+spelled_small (b ∷ n) h i =
+    let k = and_parts (is_letter b) (list_all is_name_byte n) h in
+    all_small (b ∷ n) (rw (letter_is b k.0) k.1) i
+
+pub name_utf8 : (n : List ℕ) → is_name n ≡ true → IsUtf8 n
+unfolding is_name
+name_utf8 n h = IsUtf8-from_ascii n (spelled_small n (and_parts (is_spelled n) (not (list_any (bytes_eq n) reserved_words)) h).0)
