@@ -1,3 +1,4 @@
+pub mod Chains
 pub mod Exchanges
 pub mod FilesRead
 pub mod Lines
@@ -7,3 +8,4 @@ pub mod Ready
 pub mod Refusals
 pub mod Texts
 pub mod ValueLines
+pub mod Written

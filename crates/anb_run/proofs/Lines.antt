@@ -10,7 +10,7 @@ use Rattle.anb_base.proofs.Joined.{Put-joined}
 use Rattle.anb_run.specs.Lines.{Tells, joined}
 use Rattle.anb_run.specs.Statuses.{line_of, text_of}
 use Rattle.anb_run.specs.declared.status.Status.{Status}
-use Rattle.anb_run.specs.declared.status.Status.TheVariants.{Done, Usage, FileFault, Stopped, ReadFault, WriteFault, NotBuilt, NoMemory}
+use Rattle.anb_run.specs.declared.status.Status.TheVariants.{Done, Usage, FileFault, FileLong, BadNarration, Unreached, Stopped, ReadFault, WriteFault, NotBuilt, NoMemory}
 
 -- what was put, and then a prefix of what comes next, are a prefix of the whole
 pub prefix_within : (a b c : Option (List ℕ)) (front next rest whole : List ℕ) → whole ≡ front ++ (next ++ rest) → Put a b front → PutPrefix b c next → PutPrefix a c whole
@@ -38,6 +38,9 @@ pub line_of-other : (status : Status) → (status ≡ Done → ⊥) → line_of 
 line_of-other Done other = absurd (other refl)
 line_of-other Usage other = refl
 line_of-other (FileFault name) other = refl
+line_of-other (FileLong name) other = refl
+line_of-other (BadNarration why) other = refl
+line_of-other (Unreached place) other = refl
 line_of-other (Stopped halt) other = refl
 line_of-other ReadFault other = refl
 line_of-other WriteFault other = refl
@@ -45,9 +48,9 @@ line_of-other NotBuilt other = refl
 line_of-other NoMemory other = refl
 
 -- the line of a status is its pieces
-pub line_is : (status : Status) (what which : List ℕ) → (status ≡ Done → ⊥) → text_of status ≡ what ++ which
-    → codes "anb: " ++ (what ++ (which ++ (10 ∷ []))) ≡ line_of status
-line_is status what which other text = sym (rw (line_of-other status other, text) (simp append_assoc))
+pub line_is : (status : Status) (one two three : List ℕ) → (status ≡ Done → ⊥) → text_of status ≡ one ++ (two ++ three)
+    → codes "anb: " ++ (one ++ (two ++ (three ++ (10 ∷ [])))) ≡ line_of status
+line_is status one two three other text = sym (rw (line_of-other status other, text) (simp append_assoc))
 
 pub on_err : {P : Type 0} (r : Result (Unit {0}) Failed) → P → OnErr r P
 on_err (Ok x) p = tt

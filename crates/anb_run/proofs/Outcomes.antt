@@ -6,17 +6,18 @@ use Rattle.std.proofs.lemmas.List.{append_cancel_left, append_cancel_right}
 use Rattle.std.proofs.lemmas.Slice.Eq.{bytes_eq-Decides}
 use Rattle.anb_base.specs.declared.TheConstants.{ARRIVAL}
 use Rattle.anb_base.specs.Moves.{Put, PutPrefix}
+use Rattle.anb_base.specs.declared.place.Place.{Place}
 use Rattle.anb_frame.specs.Frames.{frame, frames, length_bytes, IsPart}
 use Rattle.anb_frame.specs.Cuts.{Tail, Short, Long, CutLeft}
 use Rattle.anb_frame.specs.Cuts.{End as Whole}
 use Rattle.anb_frame.proofs.Cuts.{cut_of_part}
 use Rattle.anb_run.specs.declared.status.Status.{Status}
-use Rattle.anb_run.specs.declared.status.Status.TheVariants.{Done, Usage, FileFault, Stopped, ReadFault, WriteFault, NotBuilt, NoMemory}
+use Rattle.anb_run.specs.declared.status.Status.TheVariants.{Done, Usage, FileFault, FileLong, BadNarration, Unreached, Stopped, ReadFault, WriteFault, NotBuilt, NoMemory}
 use Rattle.anb_run.specs.Exchanges.{exchanged, Awaits, ReadsTail}
 use Rattle.anb_run.specs.Fetches.{IfTold}
 use Rattle.anb_run.specs.Plays.{Event, End, stopped, waiting, done, Played, Play}
-use Rattle.anb_run.specs.PlayCommand.{IsNotBuilt, IsAtFault, Outcome, IsPlayOf, DoesPlay, LeavesAt, status_at}
-use Rattle.anb_run.specs.Prepared.{Fails, IsReady}
+use Rattle.anb_run.specs.PlayCommand.{IsBuilt, IsNotBuilt, IsAtFault, Outcome, IsPlayOf, DoesPlay, LeavesAt, status_at}
+use Rattle.anb_run.specs.Prepared.{IsReady, Unbuilt}
 use Rattle.anb_run.specs.Statuses.{is_fault}
 use Rattle.anb_run.specs.Words.{play}
 use Rattle.anb_run.proofs.Refusals.{Faulty, Unready}
@@ -45,22 +46,33 @@ module _ (files : List ℕ → Option (List ℕ)) (name role values left : List 
       from (same, out_is, rest_is) = inl (record { never = never; status_is = sym same; writes = nothing written out out_is; leaves = let e : rest ≡ left = cc in e })
 
   -- the files weren't read
-  pub unready : (status : Status) (P : List ℕ → Type 0) → ((file : List ℕ) → P file → IsAtFault files name role values file) → Fails status P (IsNotBuilt files name role values)
+  pub unready : (status : Status) (P : List ℕ → Type 0) → ((file : List ℕ) → P file → IsAtFault files name role values file) → Unbuilt status P (IsNotBuilt files name role values)
       → IsPlayOf files name role values left arrivals tail written status (Some left) (Some written)
   unready (FileFault file) P fault fails = record {
     outcome = λ quiet. let no : true ≡ false = quiet in cc;
     cut_short = λ _. ([], left, untouched_out, refl, fault file fails);
   }
-  unready NotBuilt P fault fails = refused fails
+  unready NotBuilt P fault fails = refused fails.1
   unready NoMemory P fault fails = record {
     outcome = λ quiet. let no : true ≡ false = quiet in cc;
     cut_short = λ _. ([], left, untouched_out, refl, (λ _. refl, λ plan initial played built plays. (0, refl)));
   }
-  unready Done P fault fails = absurd fails
-  unready Usage P fault fails = absurd fails
-  unready (Stopped halt) P fault fails = absurd fails
-  unready ReadFault P fault fails = absurd fails
-  unready WriteFault P fault fails = absurd fails
+  unready Done P fault fails = let never = fails.0 in cc
+  unready Usage P fault fails = let never = fails.0 in cc
+  unready (FileLong n) P fault fails = let never = fails.0 in cc
+  unready (BadNarration why) P fault fails = let never = fails.0 in cc
+  unready (Unreached place) P fault fails = let never = fails.0 in cc
+  unready (Stopped halt) P fault fails = let never = fails.0 in cc
+  unready ReadFault P fault fails = let never = fails.0 in cc
+  unready WriteFault P fault fails = let never = fails.0 in cc
+
+  -- the place wasn't reached
+  pub unreached : (place : Place) (plan : List Event) (initial : List (List ℕ)) → IsBuilt files name role values plan initial
+      → IsPlayOf files name role values left arrivals tail written (Unreached place) (Some left) (Some written)
+  unreached place plan initial built = record {
+    outcome = λ quiet. let no : true ≡ false = quiet in cc;
+    cut_short = λ _. ([], left, untouched_out, refl, ((plan, initial, built), refl, refl));
+  }
 
 -- an exchange has sent its message
 sent_of : (sent awaited : List ℕ) (arrivals : List (List ℕ)) → (exchanged sent awaited arrivals).sent ≡ sent ∷ []
@@ -222,33 +234,44 @@ module _ (files : List ℕ → Option (List ℕ)) (name role values sent awaited
   awaited_is ReadFault (Some now) (part, need, took, is_part) = unread part need now took is_part
   awaited_is Usage left_now never = absurd never
   awaited_is (FileFault file) left_now never = absurd never
+  awaited_is (FileLong n) left_now never = absurd never
+  awaited_is (BadNarration why) left_now never = absurd never
+  awaited_is (Unreached place) left_now never = absurd never
   awaited_is WriteFault left_now never = absurd never
   awaited_is NoMemory left_now never = absurd never
 
 -- the same, where files, what is left or what is written may be untold
-pub does_unready : (told : Option (List ℕ → Option (List ℕ))) (left written : Option (List ℕ)) (name role values : List ℕ) (status : Status) (Cause : List ℕ → Type 0)
-    → Unready status told name role values Cause → DoesPlay (Some (play name role values)) told left left written written status
-does_unready None left written name role values status Cause fails = tt
-does_unready (Some files) None written name role values status Cause fails = tt
-does_unready (Some files) (Some left) None name role values status Cause fails = tt
-does_unready (Some files) (Some left) (Some written) name role values status Cause fails = λ arrivals tail cut.
+pub does_unready : (told : Option (List ℕ → Option (List ℕ))) (left written : Option (List ℕ)) (name role values : List ℕ) (place : Place) (status : Status) (Cause : List ℕ → Type 0)
+    → Unready status told name role values Cause → DoesPlay (Some (play name role values place)) told left left written written status
+does_unready None left written name role values place status Cause fails = tt
+does_unready (Some files) None written name role values place status Cause fails = tt
+does_unready (Some files) (Some left) None name role values place status Cause fails = tt
+does_unready (Some files) (Some left) (Some written) name role values place status Cause fails = λ arrivals tail cut.
     unready files name role values left arrivals tail written status (Faulty (Some files) name role values Cause) (λ file faulty. faulty.2) fails
 
-pub does_unwritten : (told : Option (List ℕ → Option (List ℕ))) (left left_now written written_now : Option (List ℕ)) (name role values sent awaited : List ℕ)
+pub does_unwritten : (told : Option (List ℕ → Option (List ℕ))) (left left_now written written_now : Option (List ℕ)) (name role values sent awaited : List ℕ) (place : Place)
     → IfTold told (λ files. IsReady files name role values sent awaited) → PutPrefix written written_now (frame sent) → left_now ≡ left
-    → DoesPlay (Some (play name role values)) told left left_now written written_now WriteFault
-does_unwritten None left left_now written written_now name role values sent awaited ready put same = tt
-does_unwritten (Some files) None left_now written written_now name role values sent awaited ready put same = tt
-does_unwritten (Some files) (Some left) left_now None written_now name role values sent awaited ready put same = tt
-does_unwritten (Some files) (Some left) left_now (Some written) written_now name role values sent awaited ready (n, within, put) same = λ arrivals tail cut.
+    → DoesPlay (Some (play name role values place)) told left left_now written written_now WriteFault
+does_unwritten None left left_now written written_now name role values sent awaited place ready put same = tt
+does_unwritten (Some files) None left_now written written_now name role values sent awaited place ready put same = tt
+does_unwritten (Some files) (Some left) left_now None written_now name role values sent awaited place ready put same = tt
+does_unwritten (Some files) (Some left) left_now (Some written) written_now name role values sent awaited place ready (n, within, put) same = λ arrivals tail cut.
     rw (same, put) (unwritten files name role values sent awaited ready left arrivals tail written n)
 
-pub does_awaited : (told : Option (List ℕ → Option (List ℕ))) (left left_now written written_now : Option (List ℕ)) (name role values sent awaited : List ℕ) (status : Status)
+pub does_awaited : (told : Option (List ℕ → Option (List ℕ))) (left left_now written written_now : Option (List ℕ)) (name role values sent awaited : List ℕ) (place : Place) (status : Status)
     → IfTold told (λ files. IsReady files name role values sent awaited) → Put written written_now (frame sent)
     → ((arrivals : List (List ℕ)) (tail : Tail) → CutLeft ARRIVAL left arrivals tail → Awaits awaited arrivals tail left left_now status)
-    → DoesPlay (Some (play name role values)) told left left_now written written_now status
-does_awaited None left left_now written written_now name role values sent awaited status ready put awaits = tt
-does_awaited (Some files) None left_now written written_now name role values sent awaited status ready put awaits = tt
-does_awaited (Some files) (Some left) left_now None written_now name role values sent awaited status ready put awaits = tt
-does_awaited (Some files) (Some left) left_now (Some written) written_now name role values sent awaited status ready put awaits = λ arrivals tail cut.
+    → DoesPlay (Some (play name role values place)) told left left_now written written_now status
+does_awaited None left left_now written written_now name role values sent awaited place status ready put awaits = tt
+does_awaited (Some files) None left_now written written_now name role values sent awaited place status ready put awaits = tt
+does_awaited (Some files) (Some left) left_now None written_now name role values sent awaited place status ready put awaits = tt
+does_awaited (Some files) (Some left) left_now (Some written) written_now name role values sent awaited place status ready put awaits = λ arrivals tail cut.
     rw put (awaited_is files name role values sent awaited ready left arrivals tail written status left_now (awaits arrivals tail cut))
+
+pub does_unreached : (told : Option (List ℕ → Option (List ℕ))) (left written : Option (List ℕ)) (name role values sent awaited : List ℕ) (place at : Place)
+    → IfTold told (λ files. IsReady files name role values sent awaited) → DoesPlay (Some (play name role values place)) told left left written written (Unreached at)
+does_unreached None left written name role values sent awaited place at ready = tt
+does_unreached (Some files) None written name role values sent awaited place at ready = tt
+does_unreached (Some files) (Some left) None name role values sent awaited place at ready = tt
+does_unreached (Some files) (Some left) (Some written) name role values sent awaited place at ready = λ arrivals tail cut.
+    unreached files name role values left arrivals tail written at ready.plan ready.initial ready.built

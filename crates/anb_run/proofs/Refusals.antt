@@ -1,12 +1,14 @@
 -- Why the files of a play aren't read, or aren't of the form that is built.
-use Rattle.std.proofs.Common.{◌≡◌, ℕ, ◌≤◌, ◌⊎◌, List, Option, Some, None, ap, sym, ◌∙◌, subst, inl, inr, arith}
+use Rattle.std.proofs.Common.{◌≡◌, ℕ, ◌≤◌, ◌⊎◌, List, Option, Some, None, ap, sym, ◌∙◌, subst, inl, inr, refl, arith}
 use Rattle.anb_base.specs.Moves.{Rose}
 use Rattle.anb_read.specs.Narrations.{PlainNarration}
 use Rattle.anb_run.specs.declared.status.Status.{Status}
-use Rattle.anb_run.specs.declared.status.Status.TheVariants.{Done, Usage, FileFault, Stopped, ReadFault, WriteFault, NotBuilt, NoMemory}
+use Rattle.anb_run.specs.declared.status.Status.TheVariants.{Done, Usage, FileFault, FileLong, BadNarration, Unreached, Stopped, ReadFault, WriteFault, NotBuilt, NoMemory}
 use Rattle.anb_run.specs.Fetches.{IfTold}
 use Rattle.anb_run.specs.PlayCommand.{HasPlain, HasValues, IsAtFault, IsExchange, IsNotBuilt, names_known}
-use Rattle.anb_run.specs.Prepared.{Fails}
+use Rattle.anb_run.specs.Prepared.{Unbuilt, or_not_built}
+use Rattle.anb_run.specs.Files.{HasLonger}
+use Rattle.anb_run.specs.Steps.{Fails}
 
 abbrev pub Told : Type 0
 Told = Option (List ℕ → Option (List ℕ))
@@ -16,7 +18,21 @@ abbrev pub Faulty : Told → List ℕ → List ℕ → List ℕ → (List ℕ �
 Faulty told name role values Cause file = ((file ≡ name) ⊎ (file ≡ values)) × Cause file × IfTold told (λ files. IsAtFault files name role values file)
 
 abbrev pub Unready : Status → Told → List ℕ → List ℕ → List ℕ → (List ℕ → Type 0) → Type 0
-Unready status told name role values Cause = Fails status (Faulty told name role values Cause) (IfTold told (λ files. IsNotBuilt files name role values))
+Unready status told name role values Cause = Unbuilt status (Faulty told name role values Cause) (IfTold told (λ files. IsNotBuilt files name role values))
+
+-- a failure with a cause is one with a cause that follows
+pub Fails-map : (status : Status) (P Q : List ℕ → Type 0) (R S : Type 0) → ((file : List ℕ) → P file → Q file) → (R → S) → Fails status P R → Fails status Q S
+Fails-map (FileFault file) P Q R S causes never fails = causes file fails
+Fails-map NoMemory P Q R S causes never fails = tt
+Fails-map Done P Q R S causes never fails = never fails
+Fails-map Usage P Q R S causes never fails = never fails
+Fails-map (FileLong name) P Q R S causes never fails = never fails
+Fails-map (BadNarration why) P Q R S causes never fails = never fails
+Fails-map (Unreached place) P Q R S causes never fails = never fails
+Fails-map (Stopped halt) P Q R S causes never fails = never fails
+Fails-map ReadFault P Q R S causes never fails = never fails
+Fails-map WriteFault P Q R S causes never fails = never fails
+Fails-map NotBuilt P Q R S causes never fails = never fails
 
 -- the narration wasn't read
 at_name : (told : Told) (name role values file : List ℕ) → file ≡ name → IfTold told (λ files. IsAtFault files name role values file)
@@ -29,16 +45,10 @@ no_narration None name role values never = tt
 no_narration (Some files) name role values never = λ plan initial built. never built.narration built.built.0
 
 pub narration_fails : (status : Status) (told : Told) (name role values : List ℕ) (Cause : List ℕ → Type 0)
-    → Fails status (λ file. (file ≡ name) × Cause file) (IfTold told (λ files. (narration : PlainNarration) → HasPlain files name narration → ⊥))
+    → Unbuilt status (λ file. (file ≡ name) × Cause file) (IfTold told (λ files. (narration : PlainNarration) → HasPlain files name narration → ⊥))
     → Unready status told name role values Cause
-narration_fails (FileFault file) told name role values Cause (is, cause) = (inl is, cause, at_name told name role values file is)
-narration_fails NotBuilt told name role values Cause never = no_narration told name role values never
-narration_fails NoMemory told name role values Cause _ = tt
-narration_fails Done told name role values Cause never = absurd never
-narration_fails Usage told name role values Cause never = absurd never
-narration_fails (Stopped halt) told name role values Cause never = absurd never
-narration_fails ReadFault told name role values Cause never = absurd never
-narration_fails WriteFault told name role values Cause never = absurd never
+narration_fails status told name role values Cause fails =
+    Fails-map status _ _ _ _ (λ file at. (inl at.0, at.1, at_name told name role values file at.0)) (λ never. (never.0, no_narration told name role values never.1)) fails
 
 -- the role has no exchange in the narration
 pub no_exchange : (told : Told) (name role values : List ℕ) (narration : PlainNarration)
@@ -69,30 +79,29 @@ pub values_fail : (status : Status) (told : Told) (name role values : List ℕ) 
     (narration : PlainNarration) (sent received : List ℕ) (names : List (List ℕ)) → names ≡ names_known narration.knows role
     → IfTold told (λ files. HasPlain files name narration) → IfTold told (λ files. (other : PlainNarration) → HasPlain files name other → other ≡ narration)
     → IsExchange narration role sent received
-    → Fails status (λ file. (file ≡ values) × Cause file) (IfTold told (λ files. (initial : List (List ℕ)) → HasValues files values names initial → ⊥))
+    → Unbuilt status (λ file. (file ≡ values) × Cause file) (IfTold told (λ files. (initial : List (List ℕ)) → HasValues files values names initial → ⊥))
     → Unready status told name role values Cause
-values_fail (FileFault file) told name role values Cause narration sent received names names_is plain only exchange (is, cause) =
-    (inr is, cause, at_values told name role values file narration sent received plain exchange is)
-values_fail NotBuilt told name role values Cause narration sent received names names_is plain only exchange never = no_values told name role values narration names names_is only never
-values_fail NoMemory told name role values Cause narration sent received names names_is plain only exchange _ = tt
-values_fail Done told name role values Cause narration sent received names names_is plain only exchange never = absurd never
-values_fail Usage told name role values Cause narration sent received names names_is plain only exchange never = absurd never
-values_fail (Stopped halt) told name role values Cause narration sent received names names_is plain only exchange never = absurd never
-values_fail ReadFault told name role values Cause narration sent received names names_is plain only exchange never = absurd never
-values_fail WriteFault told name role values Cause narration sent received names names_is plain only exchange never = absurd never
-
--- a failure with a cause is one with a cause that follows
-pub Fails-map : (status : Status) (P Q : List ℕ → Type 0) (R S : Type 0) → ((file : List ℕ) → P file → Q file) → (R → S) → Fails status P R → Fails status Q S
-Fails-map (FileFault file) P Q R S causes never fails = causes file fails
-Fails-map NotBuilt P Q R S causes never fails = never fails
-Fails-map NoMemory P Q R S causes never fails = tt
-Fails-map Done P Q R S causes never fails = fails
-Fails-map Usage P Q R S causes never fails = fails
-Fails-map (Stopped halt) P Q R S causes never fails = fails
-Fails-map ReadFault P Q R S causes never fails = fails
-Fails-map WriteFault P Q R S causes never fails = fails
+values_fail status told name role values Cause narration sent received names names_is plain only exchange fails =
+    Fails-map status _ _ _ _ (λ file at. (inr at.0, at.1, at_values told name role values file narration sent received plain exchange at.0))
+    (λ never. (never.0, no_values told name role values narration names names_is only never.1)) fails
 
 -- a count that rose after a while rose
 pub Rose-later : (before between now : ℕ) → before ≤ between → Rose between now → Rose before now
 Rose-later before between now later (inl rose) = inl (omega arith)
 Rose-later before between now later (inr last) = inr last
+
+-- a file that is too long isn't of the form that is built
+pub unfetched : (status : Status) (told : Told) (name : List ℕ) (limit : ℕ) (P : List ℕ → Type 0) (Q : Type 0)
+    → (IfTold told (λ files. HasLonger files name limit) → Q)
+    → Fails status P ((status ≡ FileLong name) × IfTold told (λ files. HasLonger files name limit)) → Unbuilt (or_not_built status) P Q
+unfetched (FileFault file) told name limit P Q long fails = fails
+unfetched NoMemory told name limit P Q long fails = tt
+unfetched (FileLong n) told name limit P Q long fails = (refl, long fails.1)
+unfetched Done told name limit P Q long fails = let never = fails.0 in cc
+unfetched Usage told name limit P Q long fails = let never = fails.0 in cc
+unfetched (BadNarration why) told name limit P Q long fails = let never = fails.0 in cc
+unfetched (Unreached place) told name limit P Q long fails = let never = fails.0 in cc
+unfetched (Stopped halt) told name limit P Q long fails = let never = fails.0 in cc
+unfetched ReadFault told name limit P Q long fails = let never = fails.0 in cc
+unfetched WriteFault told name limit P Q long fails = let never = fails.0 in cc
+unfetched NotBuilt told name limit P Q long fails = let never = fails.0 in cc

@@ -5,7 +5,7 @@ use Rattle.anb_base.specs.declared.TheConstants.{ARRIVAL}
 use Rattle.anb_frame.specs.Frames.{frame, length_bytes, IsPart}
 use Rattle.anb_frame.specs.Cuts.{Tail, End, Short, Long}
 use Rattle.anb_run.specs.declared.status.Status.{Status}
-use Rattle.anb_run.specs.declared.status.Status.TheVariants.{Done, Stopped, ReadFault, NotBuilt}
+use Rattle.anb_run.specs.declared.status.Status.TheVariants.{Done, Stopped, ReadFault, WriteFault, NotBuilt}
 use Rattle.anb_run.specs.Plays.{Played, stopped, waiting, done}
 
 abbrev pub exchanged : List ℕ → List ℕ → List (List ℕ) → Played
@@ -41,3 +41,8 @@ abbrev pub IsCompared : List ℕ → List ℕ → Status → Type 0
 IsCompared message awaited Done = message ≡ awaited
 IsCompared message awaited (Stopped halt) = (halt ≡ record { event = 2; at = 0 }) × (message ≢ awaited)
 IsCompared message awaited status = ⊥
+
+-- the statuses that an exchange can end with
+abbrev pub IsExchanged : Status → Type 0
+IsExchanged WriteFault = Unit {0}
+IsExchanged status = IsAwaited status (Unit {0})

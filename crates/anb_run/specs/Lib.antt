@@ -1,10 +1,14 @@
 pub mod Commands
 pub mod Exchanges
 pub mod Fetches
+pub mod Files
 pub mod Lines
 pub mod PlayCommand
 pub mod Plays
 pub mod Prepared
+pub mod Reaches
 pub mod Statuses
+pub mod Steps
+pub mod TextCommands
 pub mod Values
 pub mod Words

@@ -10,7 +10,8 @@ use Rattle.anb_read.specs.Names.{is_among}
 use Rattle.anb_read.specs.Plain.{IsPlainText}
 use Rattle.anb_run.specs.declared.limits.TheConstants.{NARRATION_LIMIT, VALUES_LIMIT}
 use Rattle.anb_run.specs.declared.status.Status.{Status}
-use Rattle.anb_run.specs.declared.status.Status.TheVariants.{Done, FileFault, Stopped, NotBuilt, ReadFault, WriteFault, NoMemory}
+use Rattle.anb_run.specs.declared.status.Status.TheVariants.{Done, FileFault, Stopped, NotBuilt, Unreached, ReadFault, WriteFault, NoMemory}
+use Rattle.anb_run.specs.Files.{HasFile}
 use Rattle.anb_run.specs.Plays.{Event, know, send, receive, End, stopped, waiting, done, Played, Play}
 use Rattle.anb_run.specs.Statuses.{is_fault}
 use Rattle.anb_run.specs.Values.{IsValuesText}
@@ -50,11 +51,6 @@ knows_of (name ∷ names) events = know name ∷ knows_of names events
 
 abbrev pub plan_of : PlainNarration → List ℕ → List Event
 plan_of narration role = knows_of (names_known narration.knows role) (steps_of narration.actions role)
-
--- a file of at most so many bytes
-pub record HasFile (files : List ℕ → Option (List ℕ)) (name : List ℕ) (limit : ℕ) (text : List ℕ) : Type 0 where
-  pub holds : files name ≡ Some text
-  pub short : length text ≤ limit
 
 -- the file is the canonical text of this plain narration
 abbrev pub HasPlain : (List ℕ → Option (List ℕ)) → List ℕ → PlainNarration → Type 0
@@ -136,6 +132,9 @@ CutShort files name role values left arrivals NoMemory out rest =
     (IsNotBuilt files name role values → out ≡ [])
     × ((plan : List Event) (initial : List (List ℕ)) (play : Played) → IsBuilt files name role values plan initial → Play plan initial arrivals play
     → (k : ℕ) × (out ≡ frames (take k play.sent)))
+-- nothing, where the files are of the form that is built
+CutShort files name role values left arrivals (Unreached place) out rest =
+    ((plan : List Event) × (initial : List (List ℕ)) × IsBuilt files name role values plan initial) × (out ≡ []) × (rest ≡ left)
 -- the file of the words
 CutShort files name role values left arrivals (FileFault file) out rest =
     IsAtFault files name role values file
@@ -150,6 +149,6 @@ pub record IsPlayOf (files : List ℕ → Option (List ℕ)) (name role values l
 
 -- what `play` does where the files and the wire tell what they hold
 abbrev pub DoesPlay : Option Asked → Option (List ℕ → Option (List ℕ)) → Option (List ℕ) → Option (List ℕ) → Option (List ℕ) → Option (List ℕ) → Status → Type 0
-DoesPlay (Some (play name role values)) (Some files) (Some left) left_now (Some written) written_now result =
+DoesPlay (Some (play name role values place)) (Some files) (Some left) left_now (Some written) written_now result =
     (arrivals : List (List ℕ)) (tail : Tail) → Cut ARRIVAL left arrivals tail → IsPlayOf files name role values left arrivals tail written result left_now written_now
 DoesPlay asked files left left_now written written_now result = Unit {0}

@@ -1,23 +1,20 @@
 -- What is known once the files of a play are read, before the wire is touched.
 use Rattle.std.specs.Prelude.{◌≡◌, ℕ, ◌↔◌, List, Option}
 use Rattle.anb_run.specs.declared.status.Status.{Status}
-use Rattle.anb_run.specs.declared.status.Status.TheVariants.{FileFault, NotBuilt, NoMemory}
+use Rattle.anb_run.specs.declared.status.Status.TheVariants.{FileLong, NotBuilt}
+use Rattle.anb_run.specs.Steps.{Fails}
 use Rattle.anb_run.specs.Plays.{Event, Played, Play}
 use Rattle.anb_run.specs.PlayCommand.{IsBuilt}
 use Rattle.anb_run.specs.Exchanges.{exchanged}
 
--- why a step before the wire failed: a fault of its file, which P tells of, or a form that isn't built
-abbrev pub Fails : Status → (List ℕ → Type 0) → Type 0 → Type 0
-Fails (FileFault file) P Q = P file
-Fails NotBuilt P Q = Q
-Fails NoMemory P Q = Unit {0}
-Fails status P Q = ⊥
+-- why a step of a play failed: by a fault of its file, or as its form isn't built
+abbrev pub Unbuilt : Status → (List ℕ → Type 0) → Type 0 → Type 0
+Unbuilt status OfFile Never = Fails status OfFile ((status ≡ NotBuilt) × Never)
 
--- a fault of this file, for which memory may be wanting
-abbrev pub IsFileFault : List ℕ → Status → Type 0
-IsFileFault name (FileFault file) = file ≡ name
-IsFileFault name NoMemory = Unit {0}
-IsFileFault name status = ⊥
+-- the status, or NotBuilt for a file that is too long
+abbrev pub or_not_built : Status → Status
+or_not_built (FileLong name) = NotBuilt
+or_not_built status = status
 
 -- the role is to send these bytes and to await those
 pub record IsReady (files : List ℕ → Option (List ℕ)) (name role values sent awaited : List ℕ) : Type 0 where

@@ -1,21 +1,65 @@
 -- The words that are accepted, and what they ask for.
-use Rattle.std.specs.Prelude.{ℕ, Bool, false, not, ◌&&◌, ◌==◌, List, [], ◌∷◌, codes, bytes_eq, Option, Some, None, if◌then◌else◌}
+use Rattle.std.specs.Prelude.{ℕ, Bool, true, false, not, ◌&&◌, ◌==◌, List, [], ◌∷◌, codes, bytes_eq, Option, Some, None, if◌then◌else◌}
+use Rattle.std.specs.Option.{option_map, option_and_then}
+use Rattle.anb_base.specs.declared.place.Place.{Place}
+use Rattle.anb_base.specs.declared.place.Place.TheVariants.{Stdio, Dial, Listen}
 
--- what a word list asks for: the names of its files as they are given, and a role
+-- what a word list asks for: the names of its files as they are given, a role, and the place of the wire
 pub data Asked : Type 0 where
-  play : (narration role values : List ℕ) → Asked
+  fmt : (narration : List ℕ) → Asked
+  play : (narration role values : List ℕ) → Place → Asked
+  help : Asked
 
 -- a name may be any word that isn't empty and doesn't begin with `-`
 abbrev pub is_operand : List ℕ → Bool
 is_operand [] = false
 is_operand (first ∷ rest) = not (first == 45)
 
+-- the place that the last words name: none, or `--dial` or `--listen` and where
+abbrev pub place_in : List (List ℕ) → Option Place
+place_in [] = Some Stdio
+place_in (flag ∷ at ∷ []) =
+    if not (is_operand at) then None
+    else if bytes_eq flag (codes "--dial") then Some (Dial at)
+    else if bytes_eq flag (codes "--listen") then Some (Listen at)
+    else None
+place_in words = None
+
+abbrev pub fmt_in : List (List ℕ) → Option Asked
+fmt_in (narration ∷ []) = if is_operand narration then Some (fmt narration) else None
+fmt_in words = None
+
+abbrev pub play_in : List (List ℕ) → Option Asked
+play_in (narration ∷ role ∷ values ∷ place) =
+    if is_operand narration && is_operand role && is_operand values then option_map (play narration role values) (place_in place) else None
+play_in words = None
+
+abbrev pub help_in : List (List ℕ) → Option Asked
+help_in [] = Some help
+help_in words = None
+
 abbrev pub asked_of : List (List ℕ) → Option Asked
-asked_of (command ∷ narration ∷ role ∷ values ∷ []) =
-    if bytes_eq command (codes "play") && (is_operand narration && (is_operand role && is_operand values)) then Some (play narration role values) else None
-asked_of words = None
+asked_of [] = None
+asked_of (command ∷ words) =
+    if bytes_eq command (codes "fmt") then fmt_in words
+    else if bytes_eq command (codes "play") then play_in words
+    else if bytes_eq command (codes "help") then help_in words
+    else None
 
 -- the files that are asked for, in the order in which they are fetched
 abbrev pub files_of : Option Asked → List (List ℕ)
 files_of None = []
-files_of (Some (play narration role values)) = narration ∷ values ∷ []
+files_of (Some (fmt narration)) = narration ∷ []
+files_of (Some (play narration role values place)) = narration ∷ values ∷ []
+files_of (Some help) = []
+
+-- the place that is reached
+abbrev pub place_of : Asked → Place
+place_of (fmt narration) = Stdio
+place_of (play narration role values place) = place
+place_of help = Stdio
+
+-- whether the input is read
+abbrev pub is_reading : Option Asked → Bool
+is_reading (Some (play narration role values place)) = true
+is_reading asked = false

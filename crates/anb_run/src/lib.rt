@@ -5,13 +5,15 @@
 //! has one clause more, which says what it does.
 #![tactic(auto)]
 
-ghost use Rattle.std.specs.Prelude.{◌≡◌, ◌≤◌, ◌↔◌, true, None};
+ghost use Rattle.std.specs.Prelude.{◌≡◌, ◌≤◌, ◌↔◌, true, false, None};
 ghost use Rattle.anb_base.specs.Moves.{Rose};
 ghost use Rattle.anb_run.specs.Fetches.{Fetches, IsOneOf};
 ghost use Rattle.anb_run.specs.Lines.{Tells};
 ghost use Rattle.anb_run.specs.PlayCommand.{DoesPlay};
-ghost use Rattle.anb_run.specs.Statuses.{OnFileFault, is_before_wire, line_of};
-ghost use Rattle.anb_run.specs.Words.{asked_of, files_of};
+ghost use Rattle.anb_run.specs.Reaches.{IsPlaceOf, Reaches};
+ghost use Rattle.anb_run.specs.Statuses.{OnFileFault, OnUnreached, before_reach, is_untouched, line_of, phase_of};
+ghost use Rattle.anb_run.specs.TextCommands.{DoesFmt, DoesHelp};
+ghost use Rattle.anb_run.specs.Words.{asked_of, files_of, is_reading};
 ghost use Rattle.anb_run.specs.declared.status.Status.TheVariants.{Usage, ReadFault, WriteFault};
 
 mod converse;
@@ -24,13 +26,16 @@ mod prepare;
 mod status;
 mod values;
 mod words;
+mod writing;
 
 use anb_base::{Shelf, Sink, Text, Wire};
 pub use limits::{NARRATION_LIMIT, VALUES_LIMIT};
 use line::tell;
-pub use status::{Halt, Status};
+use play::play;
+pub use status::{Halt, NarrationNo, Status};
 use std::alloc::Global;
 use words::Command;
+use writing::{HELP, fmt, write_text};
 
 /// Does what the words ask for. The words are those after the program's name. The files are fetched
 /// from the shelf, what a role sends and receives goes over the wire, and the line of a status other
@@ -44,40 +49,45 @@ pub fn run<F: Shelf, W: Wire, E: Sink>(
     err: &mut E,
     seed: Option<[u8; 32]>,
 ) -> Status
+    // What each command does.
+    ensures fmt { DoesFmt (asked_of words.now) (F.files shelf.old) (W.written wire.old) (W.written wire.new) result }
     ensures play { DoesPlay (asked_of words.now) (F.files shelf.old) (W.left wire.old) (W.left wire.new) (W.written wire.old) (W.written wire.new) result }
+    ensures help { DoesHelp (asked_of words.now) (W.written wire.old) (W.written wire.new) result }
 
     // When each fault may come.
     ensures usage { (result ≡ Usage) ↔ (asked_of words.now ≡ None) }
     ensures file_fault { OnFileFault result (λ file. IsOneOf (files_of (asked_of words.now)) file × Rose (F.faults shelf.old file) (F.faults shelf.new file)) }
+    ensures unreached { OnUnreached result (λ at. IsPlaceOf (asked_of words.now) at × Rose (W.reach_faults wire.old) (W.reach_faults wire.new)) }
     ensures read_fault { result ≡ ReadFault → Rose (W.Source.faults wire.old) (W.Source.faults wire.new) }
     ensures write_fault { result ≡ WriteFault → Rose (W.Sink.faults wire.old) (W.Sink.faults wire.new) }
 
     // What is told, and what else is touched.
     ensures line { Tells (E.written err.old) (E.written err.new) (E.faults err.old) (E.faults err.new) (line_of result) }
     ensures fetches { Fetches (files_of (asked_of words.now)) (F.files shelf.old) (F.files shelf.new) (F.faults shelf.old) (F.faults shelf.new) }
-    ensures reached { W.reached wire.new ≡ W.reached wire.old }
-    ensures reach_faults { W.reach_faults wire.new ≡ W.reach_faults wire.old }
+    ensures reached { Reaches (asked_of words.now) result (W.reached wire.old) (W.reached wire.new) }
     ensures reading_never_falls { W.Source.faults wire.old ≤ W.Source.faults wire.new }
     ensures writing_never_falls { W.Sink.faults wire.old ≤ W.Sink.faults wire.new }
+    ensures reaching_never_falls { W.reach_faults wire.old ≤ W.reach_faults wire.new }
     ensures telling_never_falls { E.faults err.old ≤ E.faults err.new }
     ensures beside_line { E.kept err.new ≡ E.kept err.old }
 
-    // Before the wire is touched it is as it was.
-    ensures left { is_before_wire result ≡ true → W.left wire.new ≡ W.left wire.old }
-    ensures written { is_before_wire result ≡ true → W.written wire.new ≡ W.written wire.old }
-    ensures read_faults { is_before_wire result ≡ true → W.Source.faults wire.new ≡ W.Source.faults wire.old }
-    ensures write_faults { is_before_wire result ≡ true → W.Sink.faults wire.new ≡ W.Sink.faults wire.old }
+    // A command that reads no input leaves it as it was.
+    ensures unread { is_reading (asked_of words.now) ≡ false → W.left wire.new ≡ W.left wire.old }
+    ensures unread_faults { is_reading (asked_of words.now) ≡ false → W.Source.faults wire.new ≡ W.Source.faults wire.old }
+
+    // Before its place is reached the wire is as it was.
+    ensures left { is_untouched (phase_of result) ≡ true → W.left wire.new ≡ W.left wire.old }
+    ensures written { is_untouched (phase_of result) ≡ true → W.written wire.new ≡ W.written wire.old }
+    ensures read_faults { is_untouched (phase_of result) ≡ true → W.Source.faults wire.new ≡ W.Source.faults wire.old }
+    ensures write_faults { is_untouched (phase_of result) ≡ true → W.Sink.faults wire.new ≡ W.Sink.faults wire.old }
+    ensures reach_faults { phase_of result ≡ before_reach → W.reach_faults wire.new ≡ W.reach_faults wire.old }
 {
     let _ = seed;
     let status = match Command::read(words) {
         None => Status::Usage,
-        Some(
-            Command::Play {
-                narration,
-                role,
-                values,
-            },
-        ) => play::play(alloc, shelf, wire, narration, role, values),
+        Some(Command::Fmt { narration }) => fmt(alloc, shelf, wire, narration),
+        Some(Command::Play(role)) => play(alloc, shelf, wire, role),
+        Some(Command::Help) => write_text(wire, HELP.as_bytes()),
     };
     tell(err, &status);
     status

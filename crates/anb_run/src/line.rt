@@ -1,5 +1,4 @@
 ghost use Rattle.std.specs.Prelude.{◌≡◌, ◌≤◌, ◌<◌, ℕ, List, OnOk, OnErr};
-ghost use Rattle.std.specs.List.{flat_map};
 ghost use Rattle.anb_base.specs.Moves.{Rose, Put, PutPrefix};
 ghost use Rattle.anb_run.specs.Lines.{Tells, joined};
 ghost use Rattle.anb_run.specs.Statuses.{line_of};
@@ -18,8 +17,8 @@ pub(crate) fn tell<E: Sink>(err: &mut E, status: &Status)
         return;
     }
     let mut digits = Buffer::new();
-    let (what, which) = status.words(&mut digits);
-    let _ = write_pieces(err, &["anb: ", what, which, "\n"]);
+    let (what, which, more) = status.pieces(&mut digits);
+    let _ = write_pieces(err, &["anb: ", what, which, more, "\n"]);
 }
 
 /// Writes the pieces one after another.

@@ -3,11 +3,11 @@ ghost use Rattle.anb_base.specs.Moves.{Rose};
 ghost use Rattle.anb_base.specs.declared.TheConstants.{ARRIVAL};
 ghost use Rattle.anb_run.specs.Fetches.{Fetches, IfTold};
 ghost use Rattle.anb_run.specs.PlayCommand.{IsAtFault, IsNotBuilt};
-ghost use Rattle.anb_run.specs.Prepared.{Fails, IsReady};
+ghost use Rattle.anb_run.specs.Prepared.{IsReady, Unbuilt};
 
 use crate::Status;
 use crate::exchange::exchange_of;
-use crate::files::{narration_of, values_of};
+use crate::files::{plain_in_file, values_in_file};
 use anb_base::{ARRIVAL, Bytes, NoMemory, Shelf, Text};
 use std::alloc::Global;
 
@@ -30,20 +30,20 @@ pub(crate) fn prepare<F: Shelf>(
     ensures ready { IfOk result (λ p. IfTold (F.files shelf.old) (λ files. IsReady files narration.now role.now values.now p.sent p.awaited)) }
     ensures buffer { IfOk result (λ p. length p.buffer.items ≡ ARRIVAL) }
     ensures short { IfOk result (λ p. length p.sent ≤ ARRIVAL) }
-    ensures err { IfErr result (λ status. Fails status
+    ensures err { IfErr result (λ status. Unbuilt status
         (λ file. ((file ≡ narration.now) ⊎ (file ≡ values.now)) × Rose (F.faults shelf.old file) (F.faults shelf.new file)
         × IfTold (F.files shelf.old) (λ files. IsAtFault files narration.now role.now values.now file))
         (IfTold (F.files shelf.old) (λ files. IsNotBuilt files narration.now role.now values.now))) }
     ensures fetches { Fetches (narration.now ∷ values.now ∷ []) (F.files shelf.old) (F.files shelf.new) (F.faults shelf.old) (F.faults shelf.new) }
 {
-    let plain = match narration_of(alloc, shelf, narration) {
+    let plain = match plain_in_file(alloc, shelf, narration) {
         Ok(plain) => plain,
         Err(status) => return Err(status),
     };
     let Some(exchange) = exchange_of(&plain, role) else {
         return Err(Status::NotBuilt);
     };
-    let initial = match values_of(alloc, shelf, values, exchange.names) {
+    let initial = match values_in_file(alloc, shelf, values, exchange.names) {
         Ok(initial) => initial,
         Err(status) => return Err(status),
     };

@@ -1,39 +1,120 @@
-ghost use Rattle.std.specs.Prelude.{◌≡◌, ◌↔◌, IsTrue};
+ghost use Rattle.std.specs.Prelude.{◌≡◌, IfOk};
+ghost use Rattle.anb_run.specs.Commands.{place_by};
 ghost use Rattle.anb_run.specs.Words.{is_operand};
 
-use anb_base::Text;
+use anb_base::{NoMemory, Place, Text};
+use std::alloc::Global;
 
 /// What the words ask for.
 pub(crate) enum Command<'w> {
-    Play {
-        narration: &'w Text,
-        role: &'w Text,
-        values: &'w Text,
-    },
+    Fmt { narration: &'w Text },
+    Play(Role<'w>),
+    Help,
+}
+
+/// A role that is to be played: the names of its files, its own, and the place.
+#[derive(Clone, Copy)]
+pub(crate) struct Role<'w> {
+    pub(crate) narration: &'w Text,
+    pub(crate) name: &'w Text,
+    pub(crate) values: &'w Text,
+    pub(crate) spot: Spot<'w>,
+}
+
+/// The place that the words name.
+#[derive(Clone, Copy)]
+pub(crate) enum Spot<'w> {
+    Stdio,
+    Dial(&'w Text),
+    Listen(&'w Text),
 }
 
 impl<'w> Command<'w> {
     ghost use Rattle.std.specs.Prelude.{◌≡◌};
-    ghost use Rattle.anb_run.specs.Words.{asked_of};
     ghost use Rattle.anb_run.specs.Commands.{asked_by};
+    ghost use Rattle.anb_run.specs.Words.{asked_of, fmt_in, help_in, play_in};
 
     /// Reads a whole word list.
     pub(crate) fn read(words: &'w [Text]) -> Option<Self>
         ensures { asked_by result ≡ asked_of words.now }
     {
-        match words {
-            [command, narration, role, values]
-                if command.as_str() == "play"
-                    && is_operand(narration)
-                    && is_operand(role)
-                    && is_operand(values) => {
-                Some(Command::Play {
-                    narration,
-                    role,
-                    values,
-                })
-            }
+        let [command, words @ ..] = words else {
+            return None;
+        };
+        match command.as_str() {
+            "fmt" => Self::read_fmt(words),
+            "play" => Self::read_play(words),
+            "help" => Self::read_help(words),
             _ => None,
+        }
+    }
+
+    fn read_fmt(words: &'w [Text]) -> Option<Self>
+        ensures { asked_by result ≡ fmt_in words.now }
+    {
+        match words {
+            [narration] if is_operand(narration) => Some(Command::Fmt { narration }),
+            _ => None,
+        }
+    }
+
+    fn read_play(words: &'w [Text]) -> Option<Self>
+        ensures { asked_by result ≡ play_in words.now }
+    {
+        let [narration, name, values, place @ ..] = words else {
+            return None;
+        };
+        if !(is_operand(narration) && is_operand(name) && is_operand(values)) {
+            return None;
+        }
+        let spot = Spot::read(place)?;
+        Some(Command::Play(Role {
+            narration,
+            name,
+            values,
+            spot,
+        }))
+    }
+
+    fn read_help(words: &'w [Text]) -> Option<Self>
+        ensures { asked_by result ≡ help_in words.now }
+    {
+        match words {
+            [] => Some(Command::Help),
+            _ => None,
+        }
+    }
+}
+
+impl<'w> Spot<'w> {
+    ghost use Rattle.std.specs.Prelude.{◌≡◌, IfOk};
+    ghost use Rattle.std.specs.Option.{option_map};
+    ghost use Rattle.anb_run.specs.Commands.{place_by};
+    ghost use Rattle.anb_run.specs.Words.{place_in};
+
+    /// Reads the words at the end of a command that has a place.
+    fn read(words: &'w [Text]) -> Option<Self>
+        ensures { option_map place_by result ≡ place_in words.now }
+    {
+        match words {
+            [] => Some(Spot::Stdio),
+            [flag, at] if is_operand(at) => match flag.as_str() {
+                "--dial" => Some(Spot::Dial(at)),
+                "--listen" => Some(Spot::Listen(at)),
+                _ => None,
+            },
+            _ => None,
+        }
+    }
+
+    /// The place, in memory of its own.
+    pub(crate) fn place(self, alloc: Global) -> Result<Place, NoMemory>
+        ensures { IfOk result (λ place. place ≡ place_by self.entry) }
+    {
+        match self {
+            Spot::Stdio => Ok(Place::Stdio),
+            Spot::Dial(at) => Ok(Place::Dial(at.copy(alloc)?)),
+            Spot::Listen(at) => Ok(Place::Listen(at.copy(alloc)?)),
         }
     }
 }
