@@ -1,21 +1,19 @@
 -- What is answered for a text.
-use Rattle.std.proofs.Common.{◌≡◌, ◌≢◌, ℕ, suc, ◌+◌, ◌<◌, ◌≤◌, List, [], ◌∷◌, ◌++◌, length, Bool, true, false, Result, Ok, Err, refl, sym, ap, ◌∙◌, subst, inl, inr, ◌⊎◌, arith, cond}
-use Rattle.std.specs.Prelude.{IfOk, MatchResult}
+use Rattle.std.proofs.Common.{◌≡◌, ◌≢◌, ℕ, ◌<◌, ◌≤◌, List, [], ◌∷◌, length, Bool, true, false, Ok, Err, refl, sym, ap, ◌∙◌, subst, inl, inr, ◌⊎◌, arith, cond}
 use Rattle.anb_syntax.specs.Words.{Word, name, literal, sign, end, bad, Tok, head, place, Begins}
 use Rattle.anb_syntax.specs.Lexing.{Lexes}
-use Rattle.anb_syntax.specs.Grammar.{Narration, Written, told, IsNarration, fits, spell}
-use Rattle.anb_syntax.specs.Text.{Text, Continues, IsViable, BeginsTermAt}
+use Rattle.anb_syntax.specs.Grammar.{Narration, Written, told, IsNarration, fits, IsSpellable, spell}
+use Rattle.anb_syntax.specs.Text.{Text, IsViable, BeginsTermAt}
 use Rattle.anb_syntax.proofs.Unique.{lexes_once}
 use Rattle.anb_read.specs.declared.refusal.ReadNo.{ReadNo}
 use Rattle.anb_read.specs.declared.refusal.ReadNo.TheVariants.{Token, Grammar, Deep, NoMemory}
 use Rattle.anb_read.specs.Refusals.{IsCause, HasCause, offset, IsRefusal, UnlessNoMemory}
-use Rattle.anb_read.specs.Productions.{is_bad, fault, begins_term, narration_at}
+use Rattle.anb_read.specs.Productions.{is_bad, fault, narration_at}
 use Rattle.anb_read.specs.Places.{Fails}
-use Rattle.anb_read.proofs.Readers.{opens, closes}
 use Rattle.anb_read.proofs.Depth.{stands_at, begins_there}
 use Rattle.anb_read.proofs.Endings.{no_bad, front_tokens, not_all}
 use Rattle.anb_read.proofs.Offsets.{increasing}
-use Rattle.anb_read.proofs.Exact.{IsText, IsRefusedAs, IsRefused, IsFirst, compared, same_cut, viable_as, ok_is, is_ok, err_is, is_err}
+use Rattle.anb_read.proofs.Exact.{IsRefusedAs, IsRefused, compared, same_cut, viable_as, ok_is, is_ok, err_is, is_err}
 
 above : 0 < 64
 above = omega arith
@@ -191,6 +189,9 @@ module _ (x : List ℕ) (ts : List Tok) (l : Lexes 0 x ts) where
   ok_found w rest e =
       let k = ok_is 64 above ts w rest e in
       record { written = w; tells = refl; valid = k.valid; fit = k.fit; tokens = ts; lexes = l; rest = rest; begins = k.begins }
+
+  pub ok_spellable : (w : Written) (rest : List Tok) → narration_at 64 ts ≡ Ok (w, rest) → IsSpellable (told w)
+  ok_spellable w rest e = let k = ok_is 64 above ts w rest e in record { valid = k.valid; fit = k.fit }
 
   pub ok_only : (w : Written) (rest : List Tok) → narration_at 64 ts ≡ Ok (w, rest) → (n : Narration) → Text n x → told w ≡ n
   ok_only w rest e n t =

@@ -1,13 +1,13 @@
 -- The level of a term is one more than the parentheses that are open where it begins.
-use Rattle.std.proofs.Common.{◌≡◌, ℕ, zero, suc, ◌+◌, ◌-◌, ◌<◌, List, [], ◌∷◌, ◌++◌, length, map, Bool, true, false, Option, Some, None, refl, sym, ap, ◌∙◌, subst, arith, cond}
+use Rattle.std.proofs.Common.{◌≡◌, ℕ, suc, ◌+◌, ◌-◌, ◌<◌, List, [], ◌∷◌, ◌++◌, length, map, Bool, true, false, Option, Some, None, refl, sym, ap, ◌∙◌, arith, cond}
 use Rattle.std.specs.Prelude.{unwrap_or}
 use Rattle.std.specs.List.{slice_get, flat_map, AllByRecursion}
 use Rattle.std.proofs.lemmas.List.{map-append}
 use Rattle.anb_base.specs.declared.content.Suite.{Suite}
 use Rattle.anb_format.specs.declared.pieces.Piece.{Piece}
 use Rattle.anb_format.specs.declared.pieces.Piece.TheVariants.{Lit, Field}
-use Rattle.anb_syntax.specs.Words.{Word, name, sign, colon, semicolon, comma, equals, arrow, open_sign, close_sign, protocol_word, types_word, formats_word, knowledge_word, actions_word, hash_word, mac_word, seal_word, wrap_word, sort_word}
-use Rattle.anb_syntax.specs.Grammar.{IsName, Tree, atom, apply, hash, mac, seal, wrap, Trees, none, more, IsTree, AreTrees, spell_tree, spell_trees, spell_others, comma_name, spell_names, TypeItem, spell_type, FormatItem, spell_format, piece_word, KnowItem, IsKnowItem, spell_know, ActionItem, IsActionItem, spell_action, Written, told, IsNarration, spell, spell_suite, spell_formats, spell_knows, spell_ending}
+use Rattle.anb_syntax.specs.Words.{Word, name, colon, semicolon, comma, equals, arrow, open_sign, close_sign, protocol_word, types_word, formats_word, knowledge_word, actions_word, hash_word, mac_word, seal_word, wrap_word, sort_word}
+use Rattle.anb_syntax.specs.Grammar.{Tree, atom, apply, hash, mac, seal, wrap, Trees, none, more, IsTree, AreTrees, spell_tree, spell_trees, spell_others, comma_name, spell_names, TypeItem, spell_type, FormatItem, spell_format, piece_word, KnowItem, IsKnowItem, spell_know, ActionItem, IsActionItem, spell_action, Written, told, IsNarration, spell, spell_suite, spell_formats, spell_knows, spell_ending}
 use Rattle.anb_syntax.specs.Levels.{no_terms, levels_tree, levels_trees, levels_others, levels_know, levels_action, levels_knows, levels}
 use Rattle.anb_read.specs.Productions.{is_open, is_close, begins_term}
 use Rattle.anb_read.proofs.Readers.{opens, closes}

@@ -1,12 +1,11 @@
 -- The words of a narration: `bad` is none of them, and `end` is only the last.
-use Rattle.std.proofs.Common.{◌≡◌, ℕ, List, [], ◌∷◌, ◌++◌, length, drop, map, ◌+◌, Bool, true, false, Option, Some, None, refl, sym, ap, ◌∙◌, subst, arith, inl, inr, ◌⊎◌, append_assoc}
-use Rattle.std.specs.Prelude.{◌&&◌}
+use Rattle.std.proofs.Common.{◌≡◌, ℕ, List, [], ◌∷◌, ◌++◌, drop, map, ◌+◌, Bool, true, false, Option, Some, None, refl, sym, ap, ◌∙◌, subst, inl, inr, ◌⊎◌, append_assoc}
 use Rattle.std.specs.List.{flat_map, list_all}
 use Rattle.std.proofs.lemmas.List.Folds.{list_all-append}
 use Rattle.anb_base.specs.declared.content.Suite.{Suite}
 use Rattle.anb_format.specs.declared.pieces.Piece.{Piece}
 use Rattle.anb_format.specs.declared.pieces.Piece.TheVariants.{Lit, Field}
-use Rattle.anb_syntax.specs.Words.{Word, name, literal, sign, end, bad, Tok, Begins, colon, semicolon, comma, equals, arrow, open_sign, close_sign, protocol_word, types_word, formats_word, actions_word, sort_word}
+use Rattle.anb_syntax.specs.Words.{Word, name, literal, sign, end, bad, Tok, Begins, colon, semicolon, comma, equals, arrow, open_sign, close_sign, protocol_word, types_word, actions_word}
 use Rattle.anb_syntax.specs.Lexing.{gap_len, token_here, Lexes, LexesHere}
 use Rattle.anb_syntax.specs.Grammar.{Tree, atom, apply, hash, mac, seal, wrap, Trees, none, more, spell_tree, spell_trees, spell_others, comma_name, spell_names, TypeItem, spell_type, FormatItem, spell_format, piece_word, KnowItem, spell_know, ActionItem, spell_action, Written, spell, spell_suite, spell_formats, spell_knows, spell_ending}
 use Rattle.anb_syntax.specs.Text.{Continues}

@@ -1,15 +1,15 @@
 -- One token more.
-use Rattle.std.proofs.Common.{◌≡◌, ℕ, ◌+◌, ◌<◌, List, [], ◌∷◌, ◌++◌, length, drop, take, Option, Some, None, refl, sym, ap, ◌∙◌, subst, arith, append_assoc, length-drop}
+use Rattle.std.proofs.Common.{◌≡◌, ℕ, ◌+◌, ◌<◌, List, [], ◌∷◌, ◌++◌, length, drop, Option, Some, None, refl, sym, ap, ◌∙◌, subst, arith, append_assoc, length-drop}
 use Rattle.std.proofs.lemmas.List.{drop-drop, drop_all, map_push}
-use Rattle.anb_syntax.specs.Words.{Word, name, literal, sign, end, bad, Tok}
-use Rattle.anb_syntax.specs.Lexing.{gap_len, token_here, characters_here, Lexes, LexesHere}
-use Rattle.anb_syntax.specs.Views.{word_of, meant}
+use Rattle.anb_syntax.specs.Words.{Word, literal, end, bad, Tok}
+use Rattle.anb_syntax.specs.Lexing.{gap_len, token_here, Lexes, LexesHere}
+use Rattle.anb_syntax.specs.Views.{word_of}
 use Rattle.anb_syntax.specs.Nexts.{IsNext}
 use Rattle.anb_syntax.specs.declared.tokens.Token.{Token}
 use Rattle.anb_syntax.specs.declared.tokens.TokenKind.{TokenKind}
 use Rattle.anb_syntax.specs.declared.tokens.TokenKind.TheVariants as kinds
 use Rattle.anb_syntax.specs.declared.tokens.Next.TheVariants as next
-use Rattle.anb_read.specs.Places.{kind_of, found, literal_here, tok_of, toks}
+use Rattle.anb_read.specs.Places.{kind_of, found, tok_of, toks}
 use Rattle.anb_read.specs.declared.places.Place.{Place}
 use Rattle.anb_read.specs.declared.places.Place.TheVariants as places
 

@@ -1,6 +1,6 @@
 -- Later tokens begin at larger offsets.
-use Rattle.std.proofs.Common.{◌≡◌, ℕ, suc, ◌+◌, ◌<◌, ◌≤◌, List, [], ◌∷◌, length, drop, Bool, true, false, Option, Some, None, refl, sym, ap, ◌∙◌, subst, arith, inl, inr, cond, take}
-use Rattle.std.specs.Prelude.{◌==◌, ◌&&◌, ◌||◌}
+use Rattle.std.proofs.Common.{◌≡◌, ℕ, suc, ◌+◌, ◌<◌, ◌≤◌, List, [], ◌∷◌, length, drop, true, Option, Some, None, refl, sym, ap, subst, arith, inl, inr, cond, take}
+use Rattle.std.specs.Prelude.{◌==◌, ◌&&◌}
 use Rattle.std.specs.List.{prefix_len}
 use Rattle.anb_syntax.specs.Words.{Word, name, literal, sign, Tok, Begins, is_letter, is_name_byte}
 use Rattle.anb_syntax.specs.Lexing.{gap_len, token_here, quoted, characters_here, is_sign, begins_with, Lexes, LexesHere}

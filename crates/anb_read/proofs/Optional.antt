@@ -1,13 +1,12 @@
 -- A reader under a function, and a part that may be left out.
-use Rattle.std.proofs.Common.{◌≡◌, ℕ, ◌+◌, ◌<◌, List, [], ◌∷◌, Bool, true, false, Option, Some, None, Result, Ok, Err, refl, sym, ap, ◌∙◌, subst, inl, inr, ◌⊎◌, cond}
+use Rattle.std.proofs.Common.{◌≡◌, ℕ, ◌+◌, List, [], Bool, true, false, Option, Some, None, Result, Ok, Err, refl, sym, ap, ◌∙◌, subst, inl, inr, ◌⊎◌}
 use Rattle.std.specs.Prelude.{not}
 use Rattle.anb_read.specs.declared.refusal.ReadNo.{ReadNo}
 use Rattle.anb_syntax.specs.Words.{Word, Tok, head, Begins}
 use Rattle.anb_read.specs.Productions.{◌>>=◌, put, optional}
 use Rattle.anb_read.proofs.Readers.{opens, closes, Shallow, Refuses, Again, IsRead, Reads}
 use Rattle.anb_read.proofs.Binds.{bind_ok, bind_err}
-use Rattle.anb_read.proofs.Parts.{always, yes, nothing_at, reads_nothing, reads_as, reads_either}
-use Rattle.anb_read.proofs.Picks.{next_is}
+use Rattle.anb_read.proofs.Parts.{always, nothing_at, reads_nothing, reads_as, reads_either}
 
 again_put : {A B : Type 0} (b : Bool) (out : Result (A × List Tok) ReadNo) (g : A → B) (a : A) (rest : List Tok) → Again b out a rest → Again b (out >>= put g) (g a) rest
 again_put true out g a rest h = rw h refl

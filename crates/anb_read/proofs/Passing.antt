@@ -1,13 +1,12 @@
 -- Passing one token.
-use Rattle.std.proofs.Common.{◌≡◌, ℕ, List, Bool, true, false, Option, Some, None, Result, Ok, Err, refl, sym, ap, ◌∙◌}
+use Rattle.std.proofs.Common.{◌≡◌, ℕ, List, true, Some, Ok, refl}
 use Rattle.anb_syntax.specs.Words.{Word, name, literal, Tok, word_eqb, head, tail, is_name}
 use Rattle.anb_base.specs.declared.content.Suite.{Suite}
-use Rattle.anb_format.specs.declared.pieces.Piece.{Piece}
 use Rattle.anb_format.specs.declared.pieces.Piece.TheVariants.{Lit, Field}
 use Rattle.anb_format.specs.declared.pieces.FieldKind.{FieldKind}
 use Rattle.anb_syntax.specs.declared.narration.Sort.{Sort}
 use Rattle.anb_base.specs.Bytes.{is_bytes}
-use Rattle.anb_read.specs.Productions.{one, fault, expect, name_at, sort_at, suite_at, piece_at, word_sort, word_suite, word_kind, word_piece}
+use Rattle.anb_read.specs.Productions.{expect, name_at, sort_at, suite_at, piece_at, word_sort, word_suite, word_kind}
 
 pub passes : (x : Word) (w rest : List Tok) → word_eqb x (head w) ≡ true → rest ≡ tail w → expect x w ≡ Ok (tt, rest)
 unfolding expect

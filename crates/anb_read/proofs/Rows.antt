@@ -1,15 +1,15 @@
 -- Readers of lists: names behind commas, and the items of type and format sections.
-use Rattle.std.proofs.Common.{◌≡◌, ℕ, ◌<◌, List, [], ◌∷◌, ◌++◌, map, Bool, true, false, Result, refl, sym, ap, ◌∙◌, subst, arith}
-use Rattle.std.specs.Prelude.{◌&&◌, not}
+use Rattle.std.proofs.Common.{◌≡◌, ℕ, ◌<◌, List, [], ◌∷◌, ◌++◌, map, Bool, true, Result, refl, sym, ap, arith}
+use Rattle.std.specs.Prelude.{not}
 use Rattle.std.specs.List.{flat_map, list_all, AllByRecursion}
 use Rattle.anb_format.specs.declared.pieces.Piece.{Piece}
 use Rattle.anb_format.specs.declared.pieces.Piece.TheVariants.{Lit, Field}
 use Rattle.anb_format.specs.declared.pieces.FieldKind.{FieldKind}
 use Rattle.anb_format.specs.declared.pieces.FieldKind.TheVariants.{Len, Net, Hex, Rest}
 use Rattle.anb_read.specs.declared.refusal.ReadNo.{ReadNo}
-use Rattle.anb_syntax.specs.Words.{Word, name, bad, Tok, head, Begins, comma, semicolon, equals, sort_word}
+use Rattle.anb_syntax.specs.Words.{Word, name, Tok, comma, semicolon, equals}
 use Rattle.anb_syntax.specs.Grammar.{IsName, AreNames, comma_name, spell_names, TypeItem, IsTypeItem, spell_type, FormatItem, IsFormatItem, spell_format, IsPiece, piece_word}
-use Rattle.anb_read.specs.Productions.{◌>>=◌, with_front, many, is_comma, is_piece, comma_name_at, names_at, type_at, piece_at, format_at}
+use Rattle.anb_read.specs.Productions.{with_front, many, is_comma, is_piece, comma_name_at, names_at, type_at, piece_at, format_at}
 use Rattle.anb_read.proofs.Readers.{Reads}
 use Rattle.anb_read.proofs.Begins.{begins_length}
 use Rattle.anb_read.proofs.Parts.{reads_nothing, reads_as, always, yes}

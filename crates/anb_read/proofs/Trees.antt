@@ -7,7 +7,7 @@ use Rattle.std.proofs.lemmas.List.{append-nil}
 use Rattle.anb_read.specs.declared.refusal.ReadNo.{ReadNo}
 use Rattle.anb_syntax.specs.Words.{Word, name, literal, sign, end, bad, Tok, head, place, Begins, word_eqb, comma, open_sign, close_sign, hash_word, mac_word, seal_word, wrap_word, is_name}
 use Rattle.anb_syntax.specs.Grammar.{IsName, Tree, atom, apply, hash, mac, seal, wrap, Trees, none, more, trees_of, list_of, IsTree, AreTrees, spell_tree, spell_trees, spell_others, fits_tree, fits_trees}
-use Rattle.anb_read.specs.Productions.{◌>>=◌, with_front, fault, is_comma, is_open, is_word, begins_term, many, comma_term_at, some_terms_at, no_terms_at, terms_at, applied_at, after_name_at, named_at, operator_at, hashed_at, pair_at, keyed_at, wrapped_at, term_over, term_at}
+use Rattle.anb_read.specs.Productions.{fault, is_comma, is_open, is_word, begins_term, many, comma_term_at, some_terms_at, no_terms_at, terms_at, applied_at, after_name_at, named_at, operator_at, hashed_at, pair_at, keyed_at, wrapped_at, term_over, term_at}
 use Rattle.anb_read.proofs.Readers.{opens, closes, TooDeep, IfDeep, Reads}
 use Rattle.anb_read.proofs.Begins.{begins_length}
 use Rattle.anb_read.proofs.Parts.{reads_nothing, nothing_at, reads_as, reads_either, always, yes}

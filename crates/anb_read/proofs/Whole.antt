@@ -1,11 +1,11 @@
 -- The reader of whole narrations.
-use Rattle.std.proofs.Common.{◌≡◌, ℕ, ◌<◌, List, [], ◌∷◌, ◌++◌, Bool, true, false, Option, Some, None, refl, sym, ap, ◌∙◌, arith}
+use Rattle.std.proofs.Common.{◌≡◌, ℕ, ◌<◌, List, [], ◌∷◌, ◌++◌, Bool, true, false, Option, Some, None, refl, ap, ◌∙◌}
 use Rattle.std.specs.Prelude.{◌&&◌, not, unwrap_or}
 use Rattle.std.specs.List.{flat_map, list_all, AllByRecursion}
 use Rattle.std.proofs.lemmas.List.{append-nil}
 use Rattle.anb_base.specs.declared.content.Suite.{Suite}
-use Rattle.anb_syntax.specs.Words.{Word, name, end, Tok, head, Begins, colon, semicolon, protocol_word, suite_word, types_word, formats_word, knowledge_word, actions_word, goals_word, hash_name, is_name}
-use Rattle.anb_syntax.specs.Grammar.{IsName, spell_type, FormatItem, IsFormatItem, spell_format, KnowItem, IsKnowItem, spell_know, ActionItem, spell_action, Written, told, IsNarration, fits, spell, spell_suite, spell_formats, spell_knows, spell_ending}
+use Rattle.anb_syntax.specs.Words.{Word, name, end, Tok, head, Begins, colon, semicolon, suite_word, types_word, formats_word, knowledge_word, actions_word, goals_word, hash_name, is_name}
+use Rattle.anb_syntax.specs.Grammar.{spell_type, FormatItem, IsFormatItem, spell_format, KnowItem, IsKnowItem, spell_know, spell_action, Written, told, IsNarration, fits, spell, spell_suite, spell_formats, spell_knows, spell_ending}
 use Rattle.anb_read.specs.Productions.{is_word, is_sort, is_some_name, narration_at}
 use Rattle.anb_read.proofs.Readers.{Reads}
 use Rattle.anb_read.proofs.Parts.{reads_nothing, reads_as, always, yes}

@@ -1,24 +1,21 @@
 -- The readers of the sections and of whole narrations.
-use Rattle.std.proofs.Common.{◌≡◌, ℕ, ◌+◌, ◌<◌, List, [], ◌∷◌, ◌++◌, length, map, Bool, true, false, Option, Some, None, Result, refl, sym, ap, ◌∙◌, subst, arith, inl, inr, ◌⊎◌}
-use Rattle.std.specs.Prelude.{◌&&◌, not, unwrap_or}
+use Rattle.std.proofs.Common.{◌≡◌, ℕ, ◌<◌, List, [], ◌∷◌, ◌++◌, length, map, Bool, true, false, Result, refl, ap, subst, arith, inl, inr, ◌⊎◌}
+use Rattle.std.specs.Prelude.{not}
 use Rattle.std.specs.List.{flat_map, list_all, AllByRecursion}
-use Rattle.std.specs.Str.{bytes_eq}
 use Rattle.std.proofs.lemmas.List.{append-nil}
 use Rattle.anb_base.specs.declared.content.Suite.{Suite}
 use Rattle.anb_syntax.specs.declared.narration.Sort.{Sort}
 use Rattle.anb_syntax.specs.declared.narration.Sort.TheVariants.{Agent, Number, Key}
 use Rattle.anb_read.specs.declared.refusal.ReadNo.{ReadNo}
-use Rattle.anb_syntax.specs.Words.{Word, name, end, bad, Tok, head, Begins, colon, semicolon, comma, equals, arrow, protocol_word, suite_word, types_word, formats_word, knowledge_word, actions_word, goals_word, sort_word, hash_name, is_name}
-use Rattle.anb_syntax.specs.Grammar.{IsName, spell_names, TypeItem, IsTypeItem, spell_type, FormatItem, IsFormatItem, spell_format, piece_word, KnowItem, IsKnowItem, spell_know, AreTrees, fits_trees, spell_trees, ActionItem, IsActionItem, spell_action, spell_tree, fits_tree, Written, told, IsNarration, fits, spell, spell_suite, spell_formats, spell_knows, spell_ending}
-use Rattle.anb_read.specs.Productions.{◌>>=◌, optional, many, is_word, is_sort, is_some_name, begins_term, type_at, format_at, term_at, terms_at, know_at, action_at, heading_at, title_at, suite_section, types_section, formats_section, knows_section, actions_section, goals_at, end_at, ending_at, narration_at}
-use Rattle.anb_read.proofs.Readers.{opens, closes, Reads}
+use Rattle.anb_syntax.specs.Words.{Word, name, end, bad, Tok, head, Begins, colon, semicolon, equals, arrow, protocol_word, suite_word, types_word, formats_word, knowledge_word, actions_word, goals_word, sort_word, hash_name}
+use Rattle.anb_syntax.specs.Grammar.{IsName, spell_names, IsTypeItem, spell_type, IsFormatItem, spell_format, piece_word, KnowItem, IsKnowItem, spell_know, fits_trees, spell_trees, ActionItem, IsActionItem, spell_action, spell_tree, fits_tree, spell_ending}
+use Rattle.anb_read.specs.Productions.{◌>>=◌, many, is_word, is_sort, is_some_name, type_at, format_at, term_at, know_at, action_at, heading_at, title_at, suite_section, types_section, formats_section, knows_section, actions_section, goals_at, end_at, ending_at}
+use Rattle.anb_read.proofs.Readers.{Reads}
 use Rattle.anb_read.proofs.Begins.{begins_length}
 use Rattle.anb_read.proofs.Parts.{reads_nothing, reads_as, reads_either, always, yes}
-use Rattle.anb_read.proofs.Then.{reads_then}
-use Rattle.anb_read.proofs.Many.{stops_many, reads_many}
-use Rattle.anb_read.proofs.Optional.{IsMaybe, maybe_fits, maybe_words, maybe_stops, reads_optional}
+use Rattle.anb_read.proofs.Many.{reads_many}
 use Rattle.anb_read.proofs.Picks.{reads_word, reads_name, reads_suite, seq, seq_until, next_is}
-use Rattle.anb_read.proofs.Rows.{stops_at, always_stops, all_yes, reads_type, reads_format}
+use Rattle.anb_read.proofs.Rows.{always_stops, reads_type, reads_format}
 use Rattle.anb_read.proofs.Trees.{tree_ends, and_true, reads_terms, reads_term}
 
 abbrev pub fits_know : ℕ → KnowItem → Bool

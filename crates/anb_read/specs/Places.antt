@@ -3,7 +3,6 @@ use Rattle.std.specs.Prelude.{◌≡◌, ℕ, List, [], map, take, drop, Option,
 use Rattle.anb_syntax.specs.Words as spec
 use Rattle.anb_syntax.specs.Words.{Tok}
 use Rattle.anb_syntax.specs.Lexing.{token_here}
-use Rattle.anb_syntax.specs.Views.{word_of}
 use Rattle.anb_syntax.specs.declared.tokens.TokenKind.{TokenKind}
 use Rattle.anb_syntax.specs.declared.tokens.TokenKind.TheVariants as kinds
 use Rattle.anb_read.specs.declared.places.Place.{Place}

@@ -11,8 +11,8 @@ use Rattle.anb_format.specs.declared.pieces.FieldKind.{FieldKind}
 use Rattle.anb_format.specs.declared.pieces.FieldKind.TheVariants.{Len, Net, Hex, Rest}
 use Rattle.anb_syntax.specs.declared.narration.Sort.{Sort}
 use Rattle.anb_syntax.specs.declared.narration.Sort.TheVariants.{Agent, Number, Key}
-use Rattle.anb_syntax.specs.Words.{Word, name, literal, sign, end, bad, Tok, word_eqb, colon, semicolon, comma, open_sign, close_sign, equals, arrow, protocol_word, suite_word, types_word, formats_word, knowledge_word, actions_word, goals_word, hash_word, mac_word, seal_word, wrap_word, sort_word, hash_name, kind_word, is_name, head, tail, place}
-use Rattle.anb_syntax.specs.Grammar.{Tree, atom, apply, hash, mac, seal, wrap, Trees, none, more, trees_of, TypeItem, FormatItem, KnowItem, ActionItem, Written}
+use Rattle.anb_syntax.specs.Words.{Word, name, literal, end, bad, Tok, word_eqb, colon, semicolon, comma, open_sign, close_sign, equals, arrow, protocol_word, suite_word, types_word, formats_word, knowledge_word, actions_word, goals_word, hash_word, mac_word, seal_word, wrap_word, sort_word, hash_name, kind_word, is_name, head, tail, place}
+use Rattle.anb_syntax.specs.Grammar.{Tree, atom, apply, hash, mac, seal, wrap, Trees, none, trees_of, TypeItem, FormatItem, KnowItem, ActionItem, Written}
 use Rattle.anb_read.specs.declared.refusal.ReadNo.{ReadNo}
 use Rattle.anb_read.specs.declared.refusal.ReadNo.TheVariants.{Token, Grammar, Deep}
 

@@ -1,5 +1,5 @@
 -- What a narration as it was read stands for.
-use Rattle.std.specs.Prelude.{List, Option, option_map, map}
+use Rattle.std.specs.Prelude.{option_map, map}
 use Rattle.anb_syntax.specs.Grammar as grammar
 use Rattle.anb_syntax.specs.Views.{type_of, format_of, know_of, action_of}
 use Rattle.anb_read.specs.declared.sections.Written.{Written}

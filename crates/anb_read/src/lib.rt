@@ -20,6 +20,8 @@ mod piece;
 mod places;
 mod plain;
 mod reader;
+#[cfg(test)]
+mod reader_tests;
 mod refusal;
 mod sections;
 mod single;

@@ -1,7 +1,7 @@
 //! Reads narrations.
 
 ghost use Rattle.std.specs.Prelude.{◌≡◌, ◌≤◌, ◌⊎◌, length, IfOk, IfErr, MatchResult};
-ghost use Rattle.anb_syntax.specs.Grammar.{Narration as Told};
+ghost use Rattle.anb_syntax.specs.Grammar.{Narration as Told, IsSpellable};
 ghost use Rattle.anb_syntax.specs.Views.{narration_of};
 ghost use Rattle.anb_syntax.specs.Text.{Text};
 ghost use Rattle.anb_read.specs.Laws.{NarrationsAreUnique, RefusalsAreUnique, NoneIsBoth};
@@ -20,6 +20,8 @@ pub fn read(alloc: Global, text: &[u8]) -> Result<Narration, ReadNo>
     // What is read is the text's narration, and each narration's text is read.
     ensures found { IfOk result (λ n. Text (narration_of n) text.now) }
     ensures only { (n : Told) → Text n text.now → MatchResult result (λ m. narration_of m ≡ n) (λ e. e ≡ ReadNo.NoMemory) }
+    // It can be spelled, which calls on narrations ask for.
+    ensures spellable { IfOk result (λ n. IsSpellable (narration_of n)) }
     // What is refused has the refusal, and each text with a refusal is refused so.
     ensures refused { IfErr result (λ e. UnlessNoMemory e (IsRefusal text.now e)) }
     ensures exact { (e : No) → IsRefusal text.now e → MatchResult result (λ n. ⊥) (λ f. (f ≡ e) ⊎ (f ≡ ReadNo.NoMemory)) }

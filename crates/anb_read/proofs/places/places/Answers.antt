@@ -1,7 +1,7 @@
-use Rattle.std.proofs.Common.{◌∷◌, [], ◌++◌, List, length, sym, subst}
+use Rattle.std.proofs.Common.{◌∷◌, [], List, length, subst}
 use Rattle.anb_syntax.specs.Words.{Tok}
 use Rattle.anb_syntax.specs.Lexing.{Lexes}
-use Rattle.anb_read.specs.Places.{tok_of, toks}
+use Rattle.anb_read.specs.Places.{tok_of}
 use Rattle.anb_read.specs.declared.places.Place.TheVariants.{At, End, Bad}
 use Rattle.anb_read.proofs.Lexed.{lexed_token, lexed_end, lexed_bad, pushed, pushed_last}
 use Rattle.anb_read.proofs.places.places.Goals as goal

@@ -1,11 +1,11 @@
 use Rattle.std.proofs.Common.{List, sym, subst, ◌∙◌}
 use Rattle.anb_syntax.specs.Lexing.{Lexes}
-use Rattle.anb_syntax.specs.Grammar.{Narration}
+use Rattle.anb_syntax.specs.Grammar.{Narration, IsSpellable}
 use Rattle.anb_syntax.specs.Text.{Text}
 use Rattle.anb_read.specs.Places.{toks}
 use Rattle.anb_read.specs.Tellings.{written_of}
 use Rattle.anb_read.specs.declared.places.Place.{Place}
-use Rattle.anb_read.proofs.Answering.{ok_found, ok_only, ok_exact, err_refused, err_only, err_exact}
+use Rattle.anb_read.proofs.Answering.{ok_found, ok_spellable, ok_only, ok_exact, err_refused, err_only, err_exact}
 use Rattle.anb_read.proofs.reader.read.Goals as goal
 
 pub returns-in-Ok-clause-found : goal.returns-in-Ok-clause-found
@@ -27,3 +27,7 @@ returns-clause-refused c = err_refused c.args.text.now (toks c.args.text.now c.d
 
 pub returns-clause-exact : goal.returns-clause-exact
 returns-clause-exact c why r = err_exact c.args.text.now (toks c.args.text.now c.deref.result.now) (let P = λ (vs : List Place). Lexes 0 c.args.text.now (toks c.args.text.now vs) in subst P (sym c.deref.ensures.value) c.in_ok-all.ensures) c.in-Err.no c.in-Err.ensures why r
+
+pub returns-in-Ok-clause-spellable : goal.returns-in-Ok-clause-spellable
+returns-in-Ok-clause-spellable c =
+    subst IsSpellable (sym c.told.ensures) (ok_spellable c.args.text.now (toks c.args.text.now c.deref.result.now) (let P = λ (vs : List Place). Lexes 0 c.args.text.now (toks c.args.text.now vs) in subst P (sym c.deref.ensures.value) c.in_ok-all.ensures) (written_of c.in-Ok.written) (toks c.args.text.now c.in-Ok._rest.now) c.in-Ok.ensures)

@@ -1,5 +1,5 @@
 use Rattle.std.proofs.Common.{sym, ap}
-use Rattle.anb_syntax.specs.Words.{end, head, word_eqb}
+use Rattle.anb_syntax.specs.Words.{end, word_eqb}
 use Rattle.anb_read.specs.Places.{toks}
 use Rattle.anb_read.proofs.Passing.{passes}
 use Rattle.anb_read.proofs.single.expect_end.Goals as goal

@@ -1,7 +1,6 @@
-use Rattle.std.proofs.Common.{◌≡◌, Ok, ap, ◌∙◌, sym, List}
+use Rattle.std.proofs.Common.{Ok, ap, ◌∙◌, sym}
 use Rattle.anb_base.specs.Bytes.{is_bytes-IsBytes}
-use Rattle.anb_syntax.specs.Words.{Tok, literal}
-use Rattle.anb_format.specs.declared.pieces.Piece.{Piece}
+use Rattle.anb_syntax.specs.Words.{literal}
 use Rattle.anb_read.specs.Places.{toks}
 use Rattle.anb_read.proofs.Passing.{passes_kind, passes_literal}
 use Rattle.anb_read.proofs.single.piece.Goals as goal
