@@ -23,7 +23,7 @@ fn wire(alloc: Global, input: &[u8], fails: &[u32]) -> Result<MemWire, NoMemory>
         alloc,
         bytes(alloc, input)?,
         1024,
-        64,
+        256,
         Vec::from_slice(alloc, fails)?,
     )
 }
@@ -154,7 +154,10 @@ fn a_fault_of_the_wire_leaves_a_prefix_of_the_frame(rt: HostRuntime) -> Result<(
         if ran.number == 0 {
             return Ok(());
         }
-        if ran.number == 15 {
+        if ran.number == 9 {
+            assert_eq!(rt; ran.err.written(), b"anb: can't reach stdio\n".as_slice());
+            assert_eq!(rt; ran.wire.written(), b"".as_slice());
+        } else if ran.number == 15 {
             assert_eq!(rt; ran.err.written(), b"anb: write failed\n".as_slice());
             assert!(rt; frame.starts_with(ran.wire.written()));
         } else {
@@ -164,5 +167,118 @@ fn a_fault_of_the_wire_leaves_a_prefix_of_the_frame(rt: HostRuntime) -> Result<(
         }
     }
     assert!(rt; false, "no run without a fault");
+    Ok(())
+}
+
+const TIGHT: &str =
+    "Protocol:Ping;Types:Agent A,B;Number N;Knowledge:A:N;B:N;Actions:A->B:N;B->A:N; Goals: $";
+
+#[test]
+fn fmt_writes_the_canonical_text(rt: HostRuntime) -> Result<(), Fail> {
+    for narration in [TIGHT, PING] {
+        let ran = run_with(rt.alloc(), &["fmt", "n"], narration, b"unread", &[])?;
+        assert_eq!(rt; ran.number, 0);
+        assert_eq!(rt; ran.wire.written(), PING.as_bytes());
+        assert_eq!(rt; ran.wire.reached(), b"stdio\n".as_slice());
+        assert_eq!(rt; ran.err.written(), b"".as_slice());
+    }
+    Ok(())
+}
+
+#[test]
+fn what_is_no_narration_is_refused_at_its_place(rt: HostRuntime) -> Result<(), Fail> {
+    let cases = [
+        (
+            "Protocol One;",
+            b"anb: narration: unexpected at 9\n".as_slice(),
+        ),
+        ("Protocol: A$", b"anb: narration: no token at 11\n"),
+    ];
+    for (narration, line) in cases {
+        let ran = run_with(rt.alloc(), &["fmt", "n"], narration, b"", &[])?;
+        assert_eq!(rt; ran.number, 4);
+        assert_eq!(rt; ran.wire.written(), b"".as_slice());
+        assert_eq!(rt; ran.wire.reached(), b"".as_slice());
+        assert_eq!(rt; ran.err.written(), line);
+    }
+    Ok(())
+}
+
+#[test]
+fn fmt_comes_to_faults_in_order(rt: HostRuntime) -> Result<(), Fail> {
+    let absent = run_with(rt.alloc(), &["fmt", "m"], PING, b"", &[])?;
+    assert_eq!(rt; absent.number, 2);
+    assert_eq!(rt; absent.err.written(), b"anb: can't read m\n".as_slice());
+    let unreached = run_with(rt.alloc(), &["fmt", "n"], PING, b"", &[1])?;
+    assert_eq!(rt; unreached.number, 9);
+    assert_eq!(rt; unreached.wire.written(), b"".as_slice());
+    let unwritten = run_with(rt.alloc(), &["fmt", "n"], PING, b"", &[2])?;
+    assert_eq!(rt; unwritten.number, 15);
+    assert_eq!(rt; unwritten.wire.reached(), b"stdio\n".as_slice());
+    Ok(())
+}
+
+#[test]
+fn a_narration_has_at_most_a_mebibyte(rt: HostRuntime) -> Result<(), Fail> {
+    let mut narration = String::from_str(rt.alloc(), PING)?;
+    while narration.len() < 1_048_576 {
+        narration.push(' ')?;
+    }
+    let met = run_with(rt.alloc(), &["fmt", "n"], &narration, b"", &[])?;
+    assert_eq!(rt; met.number, 0);
+    narration.push(' ')?;
+    let passed = run_with(rt.alloc(), &["fmt", "n"], &narration, b"", &[])?;
+    assert_eq!(rt; passed.number, 3);
+    assert_eq!(rt; passed.err.written(), b"anb: n is too long\n".as_slice());
+    Ok(())
+}
+
+#[test]
+fn help_names_each_command(rt: HostRuntime) -> Result<(), Fail> {
+    let ran = run_with(rt.alloc(), &["help"], PING, b"", &[])?;
+    assert_eq!(rt; ran.number, 0);
+    assert_eq!(rt;
+        ran.wire.written(),
+        b"anb fmt <narration>\nanb play <narration> <role> <values> [place]\nanb help\n".as_slice()
+    );
+    Ok(())
+}
+
+#[test]
+fn the_place_of_the_words_is_reached(rt: HostRuntime) -> Result<(), Fail> {
+    let frame = b"\x00\x00\x00\x02ab".as_slice();
+    let words = ["play", "n", "A", "v", "--dial", "x"].as_slice();
+    let ran = run_with(rt.alloc(), words, PING, frame, &[])?;
+    assert_eq!(rt; ran.number, 0);
+    assert_eq!(rt; ran.wire.reached(), b"dial x\n".as_slice());
+    let unreached = run_with(rt.alloc(), words, PING, frame, &[1])?;
+    assert_eq!(rt; unreached.number, 9);
+    assert_eq!(rt; unreached.err.written(), b"anb: can't reach x\n".as_slice());
+    let listens = ["play", "n", "A", "v", "--listen", "y"].as_slice();
+    let ran = run_with(rt.alloc(), listens, PING, frame, &[])?;
+    assert_eq!(rt; ran.wire.reached(), b"listen y\n".as_slice());
+    Ok(())
+}
+
+#[test]
+fn words_that_fit_no_command(rt: HostRuntime) -> Result<(), Fail> {
+    let cases = [
+        ["fmt"].as_slice(),
+        &["fmt", "-n"],
+        &["fmt", "n", "n"],
+        &["help", "n"],
+        &["--help"],
+        &["play", "n", "A", "v", "--dial"],
+        &["play", "n", "A", "v", "--dial", "-x"],
+        &["play", "n", "A", "v", "--dial=x", "x"],
+    ];
+    for words in cases {
+        let ran = run_with(rt.alloc(), words, PING, b"", &[])?;
+        assert_eq!(rt; ran.number, 1);
+        assert_eq!(rt;
+            ran.err.written(),
+            b"anb: the words fit no command\n".as_slice()
+        );
+    }
     Ok(())
 }
