@@ -6,3 +6,4 @@ mod Runs
 mod Grows
 mod Exec
 mod Honest
+mod Reaching
