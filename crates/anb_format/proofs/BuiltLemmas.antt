@@ -1,6 +1,6 @@
 -- What is built of byte strings is a byte string.
-use Rattle.std.proofs.Common.{◌≡◌, ◌<◌, ◌≤◌, ◌+◌, ◌/◌, ◌%◌, ◌&&◌, ℕ, zero, suc, List, [], ◌∷◌, ◌++◌, length, slice_index, slice_get, nat_lt, true, false, Some, refl, ap, sym, ◌∙◌, arith, rules, inl, inr}
-use Rattle.std.proofs.lemmas.Bool.{and_parts, and_from, cases_lt}
+use Rattle.std.proofs.Common.{◌≡◌, ◌<◌, ◌+◌, ◌/◌, ◌%◌, ◌&&◌, ℕ, zero, suc, List, [], ◌∷◌, ◌++◌, length, slice_index, nat_lt, true, false, refl, arith, inl, inr}
+use Rattle.std.proofs.lemmas.Bool.{and_parts, cases_lt}
 use Rattle.std.proofs.lemmas.Bool.Decides.{nat_tests}
 use Rattle.std.specs.List.{AllByRecursion, list_all}
 use Rattle.anb_base.specs.Bytes.{IsBytes, IsBytes-pass, is_bytes, is_bytes-IsBytes}
@@ -9,8 +9,8 @@ use Rattle.anb_format.specs.declared.pieces.FieldKind.{FieldKind}
 use Rattle.anb_format.specs.declared.pieces.FieldKind.TheVariants.{Len, Net, Hex, Rest}
 use Rattle.anb_format.specs.declared.pieces.Piece.{Piece}
 use Rattle.anb_format.specs.declared.pieces.Piece.TheVariants.{Lit, Field}
-use Rattle.anb_format.specs.Fields.{decimal_digits, digits_within, field_bytes, leb128, leb128_within}
-use Rattle.anb_format.specs.Formats.{IsBytesPiece, IsEarlyRest, IsSound, ends_at_rest, format_bytes, head, is_bytes_piece, is_sound}
+use Rattle.anb_format.specs.Fields.{decimal_digits, digits_within, field_bytes, leb128}
+use Rattle.anb_format.specs.Formats.{IsBytesPiece, IsSound, ends_at_rest, format_bytes, head, is_bytes_piece, is_sound}
 use Rattle.anb_format.proofs.Leb128.{leb128_large, leb128_small}
 use Rattle.anb_format.proofs.ReadingLemmas.{RestIsLast, rest_last}
 

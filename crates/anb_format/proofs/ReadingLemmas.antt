@@ -1,9 +1,8 @@
 -- What pieces build is read as its arguments.
-use Rattle.std.proofs.Common.{◌≡◌, ◌<◌, ◌≤◌, ◌+◌, ◌-◌, ◌&&◌, ℕ, zero, suc, List, [], ◌∷◌, ◌++◌, length, take, drop, get_or, Bor, MatchOption, IsSomeAnd, Option, Some, true, false, Bool, nat_lt, refl, ap, sym, ◌∙◌, arith, append_assoc, append-nil, length-append, None, if◌then◌else◌}
+use Rattle.std.proofs.Common.{◌≡◌, ◌<◌, ◌≤◌, ◌+◌, ◌-◌, ◌&&◌, ℕ, suc, List, [], ◌∷◌, ◌++◌, length, take, drop, get_or, Bor, MatchOption, IsSomeAnd, Option, Some, true, false, Bool, refl, ap, sym, ◌∙◌, arith, append_assoc, append-nil, length-append, None, if◌then◌else◌}
 use Rattle.std.proofs.lemmas.List.{append_cancel_left, drop_all, drop_at, drop_more, take_all, take_at, take_more}
 use Rattle.std.specs.Str.{bytes_eq}
 use Rattle.std.proofs.lemmas.Bool.{and_parts}
-use Rattle.std.proofs.lemmas.Bool.Decides.{nat_tests}
 use Rattle.std.proofs.lemmas.Slice.Eq.{bytes_eq-Decides}
 use Rattle.std.specs.List.{AllByRecursion, list_all}
 use Rattle.anb_base.specs.Bytes.{IsBytes, IsBytes-pass, is_bytes, is_bytes-IsBytes}

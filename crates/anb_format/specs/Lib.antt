@@ -3,3 +3,4 @@ pub mod Formats
 pub mod Laws
 pub mod Literals
 pub mod Reading
+pub mod Widths

@@ -1,15 +1,16 @@
-ghost use Rattle.std.specs.Prelude.{◌≡◌, ◌≢◌, ◌↔◌, ◌≤◌, ◌<◌, ◌^◌, ◌+◌, ◌++◌, ◌∷◌, ℕ, List, [], length, drop, IsSomeAnd, OnSome, vec_len, slice_get, filter_map, All, IsTrue, IsOk, IfOk, IfSome, IfNone, Some};
-ghost use Rattle.std.specs.Option.{option_map};
+ghost use Rattle.std.specs.Prelude.{◌≡◌, ◌≢◌, ◌↔◌, ◌≤◌, ◌<◌, ◌^◌, ◌+◌, ◌++◌, ◌∷◌, ℕ, List, [], length, drop, min, IsSomeAnd, OnSome, vec_len, slice_get, filter_map, All, IsTrue, IsOk, IfOk, IfSome, IfNone, Some};
+ghost use Rattle.std.specs.Option.{option_map, SomeIff};
 ghost use Rattle.std.specs.List.{AllByRecursion};
 ghost use Rattle.anb_base.specs.Bytes.{IsBytes};
 ghost use Rattle.anb_format.specs.Formats.{AreApart, HasParts, IsBytesPiece, IsEarlyRest, IsFirstEarlyRest, IsParts, IsSound, field_count, format_bytes, head};
 ghost use Rattle.anb_format.specs.Reading.{parts_of};
+ghost use Rattle.anb_format.specs.Widths.{field_width, format_width, pieces_width};
 ghost use Rattle.anb_format.specs.declared.pieces.Piece.{Piece};
 
 use crate::fields::{field_at, put_field, tell_bytes};
 use crate::heads::Head;
 use crate::{FieldKind, FormatNo, Piece};
-use anb_base::{Bytes, NoMemory, Text};
+use anb_base::{ARRIVAL, Bytes, NoMemory, Text, WIDE};
 use std::alloc::Global;
 use std::marker::Model;
 
@@ -86,6 +87,25 @@ impl Format {
             }
         }
         count
+    }
+
+    /// The width of what the format builds from arguments of these widths, where it is at most
+    /// [`WIDE`]. A width bounds a number of bytes, and none is below [`ARRIVAL`].
+    pub fn width(&self, widths: &[u32]) -> Option<u32>
+        requires { length widths.now ≡ field_count self.now.pieces }
+        ensures { SomeIff result (format_width ARRIVAL self.now.pieces widths.now ≤ WIDE) (format_width ARRIVAL self.now.pieces widths.now) }
+    {
+        let mut sum = 0;
+        let mut left = widths;
+        for piece in &self.pieces {
+            left = add_width(&mut sum, piece, left);
+        }
+        let width = sum.max(u64::from(ARRIVAL));
+        if width <= u64::from(WIDE) {
+            Some(width as u32)
+        } else {
+            None
+        }
     }
 
     /// The bytes of the arguments that stand at these places of the table.
@@ -191,6 +211,38 @@ fn put_piece<'a>(
             put_field(alloc, out, *kind, table[at[0] as usize].as_slice())?;
             Ok(&at[1..])
         }
+    }
+}
+
+/// Adds the piece's width, where a field's argument has the first of these widths, and gives the
+/// widths that are left. The sum stops at the last value of a `u64`.
+fn add_width<'a>(sum: &mut u64, piece: &Piece, widths: &'a [u32]) -> &'a [u32]
+    requires { field_count (piece.now ∷ []) ≤ length widths.now }
+    ensures left { result.now ≡ drop (field_count (piece.now ∷ [])) widths.now }
+    ensures sum { (pieces : List Piece) → min (sum.new + pieces_width pieces result.now) u64.MAX
+        ≡ min (sum.old + pieces_width (piece.now ∷ pieces) widths.now) u64.MAX }
+{
+    match piece {
+        Piece::Lit(text) => {
+            *sum = sum.saturating_add(text.as_slice().len() as u64);
+            widths
+        }
+        Piece::Field(kind) => {
+            *sum = sum.saturating_add(field_width(*kind, widths[0]));
+            &widths[1..]
+        }
+    }
+}
+
+fn field_width(kind: FieldKind, width: u32) -> u64
+    ensures { result ≡ field_width kind width }
+{
+    let width = u64::from(width);
+    match kind {
+        FieldKind::Len => width + 10,
+        FieldKind::Net => width + 22,
+        FieldKind::Hex => 2 * width + 1,
+        FieldKind::Rest => width,
     }
 }
 

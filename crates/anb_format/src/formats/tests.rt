@@ -228,3 +228,28 @@ fn what_is_no_format(rt: HostRuntime) -> Result<(), Fail> {
     );
     Ok(())
 }
+
+#[test]
+fn a_width_is_the_sum_over_the_pieces(rt: HostRuntime) -> Result<(), Fail> {
+    let format = all_kinds(&rt, rt.alloc())?;
+    // 1 + (100000 + 10) + (200000 + 22) + (2 * 300000 + 1) + 400000
+    let width = format.width(&[100_000, 200_000, 300_000, 400_000]);
+    assert_eq!(rt; width, Some(1_300_034));
+    Ok(())
+}
+
+#[test]
+fn no_width_is_below_that_of_an_arrival(rt: HostRuntime) -> Result<(), Fail> {
+    let format = one_field(&rt, rt.alloc(), FieldKind::Len)?;
+    assert_eq!(rt; format.width(&[262_133]), Some(262_144));
+    assert_eq!(rt; format.width(&[262_134]), Some(262_145));
+    Ok(())
+}
+
+#[test]
+fn a_width_above_the_limit_is_none(rt: HostRuntime) -> Result<(), Fail> {
+    let format = one_field(&rt, rt.alloc(), FieldKind::Hex)?;
+    assert_eq!(rt; format.width(&[33_554_431]), Some(67_108_864));
+    assert_eq!(rt; format.width(&[33_554_432]), None);
+    Ok(())
+}
