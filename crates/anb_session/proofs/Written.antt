@@ -1,9 +1,9 @@
 -- What is put and taken piece by piece.
-use Rattle.std.proofs.Common.{◌≡◌, ℕ, ◌+◌, ◌≤◌, List, [], ◌∷◌, ◌++◌, length, take, Option, Some, None, refl, sym, ap, ◌∙◌, subst, arith, length-append, append_assoc, All}
+use Rattle.std.proofs.Common.{◌≡◌, ℕ, ◌+◌, ◌≤◌, List, [], ◌∷◌, ◌++◌, length, take, drop, Option, Some, None, refl, sym, ap, ◌∙◌, subst, arith, length-append, append_assoc, All, inl, inr}
 use Rattle.std.proofs.Math.Seq.{take-append-add}
-use Rattle.std.proofs.lemmas.List.{append-nil, take-append-le}
+use Rattle.std.proofs.lemmas.List.{append-nil, take-append-le, length-take-le}
 use Rattle.std.proofs.lemmas.List.Elements.{All-cons}
-use Rattle.anb_base.specs.Moves.{Took, Put, PutPrefix}
+use Rattle.anb_base.specs.Moves.{Rose, Took, Put, PutPrefix}
 use Rattle.anb_base.proofs.Joined.{Put-joined}
 use Rattle.anb_frame.specs.Frames.{frame, frames}
 use Rattle.anb_frame.specs.Cuts.{Tail, Cut}
@@ -36,3 +36,11 @@ pub kept_first : (a b : List (Option (List ℕ) × ℕ)) (x y : Option (List ℕ
 kept_first a b x y n m xs ys same is now = ap (λ (p : Option (List ℕ) × ℕ). p.0) (first (y, m) (x, n) ys xs (sym now ∙ same ∙ is)) where
   first : (p q : Option (List ℕ) × ℕ) (ps qs : List (Option (List ℕ) × ℕ)) → p ∷ ps ≡ q ∷ qs → p ≡ q
   first p q ps qs e = cc
+
+-- a buffer that is written back keeps its length
+pub written_back : (len room : ℕ) (new items : List ℕ) → length items ≡ len → length new ≡ length items → length items ≡ room → length (take len (new ++ drop (length new) items)) ≡ room
+written_back len room new items whole same is = length-take-le len (new ++ drop (length new) items) (omega (arith, length-append new (drop (length new) items))) ∙ sym whole ∙ is
+
+-- a count that rose later rose from before too
+pub rose_later : (a b c : ℕ) → a ≤ b → Rose b c → Rose a c
+rose_later a b c before rose = elim rose [ inl h ↦ inl (omega arith) | inr last ↦ inr last ]
