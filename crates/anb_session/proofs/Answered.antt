@@ -1,5 +1,5 @@
 -- The error of a result, where there is one.
-use Rattle.std.proofs.Common.{◌≡◌, Option, Some, None, Result, Ok, Err, subst, sym, IfSome}
+use Rattle.std.proofs.Common.{◌≡◌, Option, Result, Ok, Err, IfSome}
 use Rattle.std.specs.Option.{IfNone}
 use Rattle.std.specs.Result.{OnOk, IfErr, result_err}
 

@@ -1,11 +1,11 @@
 -- What comes of a run, from what comes of it after a turn.
-use Rattle.std.proofs.Common.{◌≡◌, ℕ, ◌≤◌, suc, List, [], ◌∷◌, ◌++◌, length, take, Option, Some, None, Err, refl, sym, ap, ◌∙◌, subst, arith, append_assoc}
+use Rattle.std.proofs.Common.{◌≡◌, ℕ, ◌≤◌, suc, List, [], ◌∷◌, ◌++◌, length, take, Option, Err, refl, sym, ap, subst, append_assoc}
 use Rattle.std.proofs.lemmas.List.Elements.{All-nil}
-use Rattle.anb_base.specs.Moves.{Took, Put, PutPrefix, AtEnd}
+use Rattle.anb_base.specs.Moves.{Took, Put, PutPrefix}
 use Rattle.anb_base.specs.declared.TheConstants.{ARRIVAL}
 use Rattle.anb_base.proofs.Joined.{Took-joined, Put-joined}
 use Rattle.anb_frame.specs.Frames.{frame, frames, length_bytes, IsPart}
-use Rattle.anb_frame.specs.Cuts.{Tail, Short, Long, Cut, CutLeft}
+use Rattle.anb_frame.specs.Cuts.{Tail, Short, Long, CutLeft}
 use Rattle.anb_frame.specs.Cuts.{End as Whole}
 use Rattle.anb_frame.specs.Answers.{Takes}
 use Rattle.anb_frame.specs.declared.FrameNo.{FrameNo}
@@ -15,7 +15,7 @@ use Rattle.anb_plays.specs.Plays.{Played, says, ends, stopped, waiting, done}
 use Rattle.anb_plays.specs.Plays.{End as RunEnd}
 use Rattle.anb_session.specs.declared.PlayEnd.{PlayEnd}
 use Rattle.anb_session.specs.declared.PlayEnd.TheVariants.{Done, Stopped, Waiting, Truncated, TooLarge, ReadFault, WriteFault, NoMemory}
-use Rattle.anb_session.specs.Sessions.{end_at, TookAll, Reads, Concludes, Runs}
+use Rattle.anb_session.specs.Sessions.{TookAll, Reads, Concludes, Runs}
 use Rattle.anb_session.specs.Turns.{Ends, EndsSending, EndsWaiting, Receives, Continues}
 use Rattle.anb_session.proofs.Written.{put_nothing, took_nothing, put_further, put_within, cut_further}
 
@@ -85,10 +85,13 @@ receiving R R' b left left' written comes receives = record { each = each } wher
       → (rest : List (List ℕ)) × CutLeft ARRIVAL left' rest tail
       × ((now written_now : Option (List ℕ)) (end : PlayEnd) → Runs R' rest tail left' now written written_now end → Runs R arrivals tail left now written written_now end)
   each arrivals tail cut =
-      let first = receives.first arrivals tail cut in
-      (first.0, first.2, λ now written_now end h.
-        subst (λ (xs : List (List ℕ)). Runs R xs tail left now written written_now end) (sym first.1)
-        (runs_receiving R R' b comes tail left left' now written written_now receives.took receives.fits first.0 end h))
+      let first = receives.first arrivals tail cut in (
+        first.0,
+        first.2,
+        λ now written_now end h.
+            subst (λ (xs : List (List ℕ)). Runs R xs tail left now written written_now end) (sym first.1)
+            (runs_receiving R R' b comes tail left left' now written written_now receives.took receives.fits first.0 end h),
+      )
 
 pub going_nowhere : (R : List (List ℕ) → Played (List ℕ)) (left written : Option (List ℕ)) → Continues R R left left written written
 going_nowhere R left written = record { each = λ arrivals tail cut. (arrivals, cut, λ now written_now end h. h) }
@@ -126,5 +129,5 @@ read_fault event room left now written written_now buf fault is fails same takes
     let (z, need, took, part) = failed fault fails takes in
     let c = cut_of_part ARRIVAL [] z need (All-nil (λ b. length b ≤ ARRIVAL)) (subst (λ (n : ℕ). IsPart n z need) is part) in
     (z, [], c.0, event, took, c.1, ap (λ p. p.end) waits, rw (waits, same) (put_nothing written)) where
-  failed : (fault : FrameNo) → fault ≡ Failed → Takes room left now buf (Err fault) → Takes room left now buf (Err Failed)
-  failed fault fails takes = subst (λ (x : FrameNo). Takes room left now buf (Err x)) fails takes
+      failed : (fault : FrameNo) → fault ≡ Failed → Takes room left now buf (Err fault) → Takes room left now buf (Err Failed)
+      failed fault fails takes = subst (λ (x : FrameNo). Takes room left now buf (Err x)) fails takes

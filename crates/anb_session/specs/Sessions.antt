@@ -1,5 +1,5 @@
 -- What comes of a session: of a run whose arrivals are the frames of a wire's input.
-use Rattle.std.specs.Prelude.{◌≡◌, ℕ, List, [], ◌++◌, take, Bool, true, false, Option}
+use Rattle.std.specs.Prelude.{◌≡◌, ℕ, List, ◌++◌, take, Bool, true, false, Option}
 use Rattle.anb_base.specs.Moves.{Took, Put, PutPrefix, AtEnd}
 use Rattle.anb_base.specs.declared.TheConstants.{ARRIVAL}
 use Rattle.anb_frame.specs.Frames.{frames, length_bytes}

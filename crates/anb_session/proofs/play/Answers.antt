@@ -1,4 +1,4 @@
-use Rattle.std.proofs.Common.{◌≡◌, ◌≤◌, arith, length, refl, ◌∙◌}
+use Rattle.std.proofs.Common.{arith, refl, ◌∙◌}
 use Rattle.anb_machine.specs.Machines.{gives}
 use Rattle.anb_session.proofs.Continued.{going_nowhere, continued, ending}
 use Rattle.anb_session.proofs.Written.{written_back, rose_later}
@@ -33,7 +33,7 @@ returns-in-Some g c =
     let old = c.loop-end.invariant in
     record {
       runs = ending (gives c.args.machine.now) (gives c.loop-end.machine) (g.W.Source.left c.args.wire.now) (g.W.Source.left c.loop-end.wire) (g.W.Sink.written c.args.wire.now) (g.W.Sink.written c.loop-end.wire)
-        (g.W.Source.left c.turn.new.wire) (g.W.Sink.written c.turn.new.wire) c.in-Some.end old.continues c.in-Some.ensures.ends;
+          (g.W.Source.left c.turn.new.wire) (g.W.Sink.written c.turn.new.wire) c.in-Some.end old.continues c.in-Some.ensures.ends;
       waits = c.in-Some.ensures.waits;
       read_fault = λ is. rose_later _ _ _ old.reading (c.in-Some.ensures.read_fault is);
       write_fault = λ is. rose_later _ _ _ old.writing (c.in-Some.ensures.write_fault is);

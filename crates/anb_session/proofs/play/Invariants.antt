@@ -1,4 +1,4 @@
-use Rattle.std.proofs.Common.{◌≡◌, ◌≤◌, ℕ, length}
+use Rattle.std.proofs.Common.{◌≡◌, ◌≤◌, length}
 use Rattle.anb_base.specs.declared.TheConstants.{ARRIVAL}
 use Rattle.anb_machine.specs.Machines.{gives, left}
 use Rattle.anb_session.specs.Turns.{Continues}

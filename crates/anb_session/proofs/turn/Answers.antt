@@ -1,4 +1,4 @@
-use Rattle.std.proofs.Common.{◌≡◌, ℕ, List, [], ◌∷◌, sym, ap, ◌∙◌}
+use Rattle.std.proofs.Common.{ℕ, List, [], ◌∷◌, sym, ap, ◌∙◌}
 use Rattle.anb_plays.specs.Plays.{Played}
 use Rattle.anb_machine.specs.Machines.{gives}
 use Rattle.anb_session.proofs.Answered.{no_error, an_error}
@@ -15,8 +15,10 @@ returns-in-Message-clause-continues g c =
 pub returns-in-Message-clause-ends : goal.returns-in-Message-clause-ends
 returns-in-Message-clause-ends g c =
     an_error c.send.result c.err.result _ _ c.err.ensures.value c.send.ensures.ends
-    (λ end ends. ends (gives c.args.machine.now) (λ xs. ((gives c.advance.new.self xs).sent,
-    ap (λ (p : Played (List ℕ)). p.sent) (c.in-Message.ensures.turned.0 xs) ∙ ap (λ (b : List ℕ). b ∷ (gives c.advance.new.self xs).sent) (sym c.as_slice.ensures))))
+    (λ end ends. ends (gives c.args.machine.now) (λ xs. (
+      (gives c.advance.new.self xs).sent,
+      ap (λ (p : Played (List ℕ)). p.sent) (c.in-Message.ensures.turned.0 xs) ∙ ap (λ (b : List ℕ). b ∷ (gives c.advance.new.self xs).sent) (sym c.as_slice.ensures),
+    )))
 
 pub returns-in-Ok-clause-continues : goal.returns-in-Ok-clause-continues
 returns-in-Ok-clause-continues g c =
