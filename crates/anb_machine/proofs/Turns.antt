@@ -19,7 +19,7 @@ use Rattle.anb_machine.specs.declared.turn.Last.{Last}
 use Rattle.anb_machine.specs.declared.turn.Last.TheVariants as last
 use Rattle.anb_machine.specs.declared.turn.Turn.{Turn}
 use Rattle.anb_machine.specs.declared.turn.Turn.TheVariants.{Message, Wants, Done, Stopped, NoMemory}
-use Rattle.anb_machine.specs.Machines.{MachineValue, unless_over, gives, waits_after, answer, answer_after, Turned, last_after}
+use Rattle.anb_machine.specs.Machines.{MachineValue, unless_over, gives, waits_after, answer, answer_after, Turned, last_after, turn_of}
 use Rattle.anb_machine.specs.ByteRuns.{run_bytes}
 use Rattle.anb_machine.proofs.Verified.{has_takes, counted}
 use Rattle.anb_machine.specs.Standing.{registers_in, acts_from, acts_left, coming, IsKept, IsSameRun, AtReceive, TurnsTo}
@@ -140,3 +140,11 @@ runs s init verified formats suite next event drawn table long arrivals =
     rw (formats, suite, next, event, drawn, table) refl in
     let takes = subst (HasTakes (has_operator code.formats) (map (act_of code.formats) code.instrs) 0) (sym long) (has_takes ARRIVAL WIDE code verified) in
     start ∙ exec_is_run (byte_meaning code.formats code.suite) (bytes_are_lawful code.formats code.suite) (draw_of s.seed s.session) (map (act_of code.formats) code.instrs) init arrivals takes
+
+-- a turn is the first of what the machine gives without a further arrival
+pub first : (old new : MachineValue) (turn : Turn) → Turned old new turn → (turn ≡ NoMemory → ⊥) → turn ≡ turn_of (gives old [])
+first old new (Message b) h not = sym (ap turn_of (h.0 []))
+first old new (Wants e) h not = sym (ap turn_of (h.0 [] ∙ h.1))
+first old new Done h not = sym (ap turn_of (h.1 []))
+first old new (Stopped halt) h not = sym (ap turn_of (h.1 []))
+first old new NoMemory h not = absurd (not refl)

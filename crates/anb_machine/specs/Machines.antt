@@ -1,10 +1,10 @@
 -- What a machine is, and what a turn says of it.
-use Rattle.std.specs.Prelude.{◌≡◌, ℕ, ◌<◌, ◌≤◌, List, [], length, Bool, true, false, Option, Some, None}
+use Rattle.std.specs.Prelude.{◌≡◌, ℕ, ◌<◌, ◌≤◌, List, [], ◌∷◌, length, Bool, true, false, Option, Some, None}
 use Rattle.anb_base.specs.declared.content.Suite.{Suite}
 use Rattle.anb_format.specs.Formats.{FormatValue}
 use Rattle.anb_seal.specs.Streams.{draw_of}
 use Rattle.anb_algebra.specs.ByteMeaning.{byte_meaning}
-use Rattle.anb_plays.specs.Plays.{Played, stopped, waiting, done, ends, says}
+use Rattle.anb_plays.specs.Plays.{Played, End, stopped, waiting, done, ends, says}
 use Rattle.anb_plays.specs.Codes.{Act}
 use Rattle.anb_plays.specs.Exec.{exec}
 use Rattle.anb_machine.specs.declared.turn.Last.{Last}
@@ -65,6 +65,16 @@ last_after NoMemory = last.NoMemory
 
 abbrev pub answer : MachineValue → Option Turn
 answer v = answer_after v.last
+
+-- the first turn of what is given: a message, or how it ends
+abbrev pub first_turn : List (List ℕ) → End → Turn
+first_turn (b ∷ bs) end = Message b
+first_turn [] (waiting e) = Wants e
+first_turn [] done = Done
+first_turn [] (stopped e at) = Stopped (record { event = e; at = at })
+
+abbrev pub turn_of : Played (List ℕ) → Turn
+turn_of p = first_turn p.sent p.end
 
 -- a machine in another state still gives the same
 abbrev pub GiveSame : MachineValue → MachineValue → Type 0

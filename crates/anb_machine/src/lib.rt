@@ -12,3 +12,8 @@ mod work;
 
 pub use machine::Machine;
 pub use turn::{Halt, Turn};
+
+#[cfg(test)]
+mod code_maker;
+#[cfg(test)]
+mod tests;

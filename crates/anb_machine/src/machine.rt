@@ -1,8 +1,8 @@
-ghost use Rattle.std.specs.Prelude.{◌≡◌, ℕ, List, [], ◌∷◌, ◌<◌, length, IsTrue, IfOk, IfSome, false, None};
+ghost use Rattle.std.specs.Prelude.{◌≡◌, ◌≢◌, ℕ, List, [], ◌∷◌, ◌<◌, length, IsTrue, IfOk, IfSome, false, None};
 ghost use Rattle.anb_plays.specs.Plays.{Played};
 ghost use Rattle.anb_code.specs.Meaning.{take_texts};
 ghost use Rattle.anb_machine.specs.ByteRuns.{run_bytes};
-ghost use Rattle.anb_machine.specs.Machines.{gives, left, waits, answer, answer_after, last_after, Turned};
+ghost use Rattle.anb_machine.specs.Machines.{gives, left, waits, answer, answer_after, last_after, turn_of, Turned};
 
 use crate::going::Going;
 use crate::table::begin_table;
@@ -66,6 +66,7 @@ impl<'c> Machine<'c> {
     /// What comes next. After `Done`, `Stopped` and `NoMemory` the same comes again.
     pub fn advance(&mut self, alloc: Global) -> Turn
         ensures turned { Turned self.old self.new result }
+        ensures first { result ≢ Turn.NoMemory → result ≡ turn_of (gives self.old []) }
         ensures again { IfSome (answer self.old) (λ turn. (result ≡ turn) × (self.new ≡ self.old)) }
     {
         if let Some(turn) = again(self.last) {
