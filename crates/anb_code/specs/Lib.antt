@@ -5,3 +5,4 @@ pub mod Spelling
 pub mod Table
 pub mod Verified
 pub mod Meaning
+pub mod Checking

@@ -10,7 +10,7 @@ use Rattle.anb_format.specs.declared.pieces.FormatNo.TheVariants.{NoHead, RestNo
 use Rattle.anb_format.specs.declared.pieces.Piece.{Piece}
 use Rattle.anb_format.specs.declared.pieces.Piece.TheVariants.{Lit, Field}
 use Rattle.anb_code.specs.declared.raw.What.{What}
-use Rattle.anb_code.specs.declared.raw.What.TheVariants.{Take, Build, Parse}
+use Rattle.anb_code.specs.declared.raw.What.TheVariants.{Take, Fresh, Recv, Hash, Mac, Seal, Unseal, Wrap, Unwrap, Build, Parse, Equal, Send}
 use Rattle.anb_code.specs.declared.refusal.CodeNo.{CodeNo}
 use Rattle.anb_code.specs.declared.refusal.CodeNo.TheVariants.{Many, Twice, Shape, Late, TakeTwice, BadFormat, Unwritten, Order, Wide}
 use Rattle.anb_code.specs.RawValue.{RawInstrValue, RawValue}
@@ -96,6 +96,25 @@ instr_faults arrival wide formats before instr = let at = length before + 1 in
     ++ where_true (not (writes_next before instr)) (Order at)
     ++ where_true (writes_wide arrival wide formats before instr) (Wide at)
 
+-- as many registers as the grammar of role files has for what the instruction does
+abbrev pub CountsAre : What → ℕ → ℕ → Type 0
+CountsAre Take to args = (to ≡ 1) × (args ≡ 0)
+CountsAre Fresh to args = (to ≡ 1) × (args ≡ 0)
+CountsAre Recv to args = (to ≡ 1) × (args ≡ 0)
+CountsAre Hash to args = (to ≡ 1) × (args ≡ 1)
+CountsAre Mac to args = (to ≡ 1) × (args ≡ 2)
+CountsAre Seal to args = (to ≡ 1) × (args ≡ 2)
+CountsAre Unseal to args = (to ≡ 1) × (args ≡ 2)
+CountsAre Wrap to args = (to ≡ 1) × (args ≡ 3)
+CountsAre Unwrap to args = (to ≡ 1) × (args ≡ 3)
+CountsAre Build to args = to ≡ 1
+CountsAre Parse to args = args ≡ 1
+CountsAre Equal to args = (to ≡ 0) × (args ≡ 2)
+CountsAre Send to args = (to ≡ 0) × (args ≡ 1)
+
+abbrev pub HasCounts : RawInstrValue → Type 0
+HasCounts instr = CountsAre instr.what (length instr.to) (length instr.args)
+
 -- ---- all
 
 -- those of each item, with the items before it
@@ -112,6 +131,9 @@ code_faults arrival wide raw =
 abbrev pub IsAccepted : ℕ → ℕ → RawValue → Type 0
 IsAccepted arrival wide raw = code_faults arrival wide raw ≡ []
 
+abbrev pub BeginsWith : List CodeNo → CodeNo → Type 0
+BeginsWith faults first = (rest : List CodeNo) × (faults ≡ first ∷ rest)
+
 -- this is the first fault
 abbrev pub IsFirstFault : ℕ → ℕ → RawValue → CodeNo → Type 0
-IsFirstFault arrival wide raw fault = (rest : List CodeNo) × (code_faults arrival wide raw ≡ fault ∷ rest)
+IsFirstFault arrival wide raw fault = BeginsWith (code_faults arrival wide raw) fault

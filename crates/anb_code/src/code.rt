@@ -1,8 +1,9 @@
-ghost use Rattle.std.specs.Prelude.{◌≡◌, ◌<◌, length, slice_get, Some};
-
-use crate::Instr;
+use crate::checks::{check_code, check_formats};
+use crate::spelling::{formats_of, instrs_of};
+use crate::{CodeNo, Instr, RawCode};
 use anb_base::{ARRIVAL, Suite, Text, WIDE};
 use anb_format::Format;
+use std::alloc::Global;
 use std::marker::Model;
 
 /// A code that was verified.
@@ -28,9 +29,42 @@ impl Model for RoleCode {
 }
 
 impl RoleCode {
-    ghost use Rattle.std.specs.Prelude.{◌≡◌, ◌<◌, length, slice_get, Some};
+    ghost use Rattle.std.specs.Prelude.{◌≡◌, ◌≢◌, ◌<◌, ◌+◌, ◌^◌, length, slice_get, Some, All, IfOk, OnOk, IfErr};
     ghost use Rattle.anb_code.specs.Meaning.{count_fresh, take_texts};
+    ghost use Rattle.anb_code.specs.Spelling.{code_of};
+    ghost use Rattle.anb_code.specs.Table.{HasCounts, IsAccepted, IsFirstFault, written};
     ghost use Rattle.anb_code.specs.Verified.{IsVerifiedCode};
+
+    /// Does the work of [`crate::verify`].
+    pub(crate) fn verified(alloc: Global, raw: RawCode) -> Result<Self, CodeNo>
+        requires counts { All HasCounts raw.code }
+        requires formats { length raw.formats + 1 < 2 ^ 32 }
+        requires pieces { All (λ format. length format.pieces < 2 ^ 32) raw.formats }
+        requires instrs { length raw.code + 1 < 2 ^ 32 }
+        requires destinations { length (written raw.code) + 1 < 2 ^ 32 }
+        ensures accepted { OnOk result (IsAccepted ARRIVAL WIDE raw) }
+        ensures code { IfOk result (λ code. code ≡ code_of raw) }
+        ensures refused { IfErr result (λ no. no ≢ CodeNo.NoMemory → IsFirstFault ARRIVAL WIDE raw no) }
+    {
+        let RawCode {
+            protocol,
+            role,
+            suite,
+            formats,
+            code,
+        } = raw;
+        check_formats(&formats)?;
+        let formats = formats_of(alloc, formats)?;
+        check_code(alloc, &formats, &code)?;
+        let instrs = instrs_of(alloc, &formats, code)?;
+        Ok(RoleCode {
+            protocol,
+            role,
+            suite,
+            formats,
+            instrs,
+        })
+    }
 
     pub fn protocol(&self) -> &Text
         ensures { result.now ≡ self.now.protocol }
@@ -63,5 +97,36 @@ impl RoleCode {
         ensures verified { IsVerifiedCode ARRIVAL WIDE self.now }
     {
         self.formats.as_slice()
+    }
+
+    /// How many takes there are, which stand first.
+    pub fn takes(&self) -> u32
+        ensures { result ≡ length (take_texts self.now.instrs) }
+    {
+        self.instrs
+            .iter()
+            .take_while(|instr| matches!(instr, Instr::Take(_)))
+            .count() as u32
+    }
+
+    /// The label text of a take, from 0.
+    pub fn take_text(&self, i: u32) -> &Text
+        requires { i < length (take_texts self.now.instrs) }
+        ensures { Some result.now ≡ slice_get (take_texts self.now.instrs) i }
+    {
+        let Instr::Take(text) = &self.instrs[i as usize] else {
+            unreachable!()
+        };
+        text
+    }
+
+    /// How many nonces it draws.
+    pub fn fresh(&self) -> u32
+        ensures { result ≡ count_fresh self.now.instrs }
+    {
+        self.instrs
+            .iter()
+            .filter(|instr| matches!(instr, Instr::Fresh))
+            .count() as u32
     }
 }

@@ -1,6 +1,7 @@
 ghost use Rattle.std.specs.Prelude.{◌≡◌};
 ghost use Rattle.anb_code.specs.declared.refusal.CodeNo.TheVariants as refusal;
 
+use anb_base::NoMemory;
 use anb_format::FormatNo;
 use std::alloc::{AllocError, AllocFailed};
 
@@ -26,6 +27,14 @@ pub enum CodeNo {
     /// A register that is written is wider than [`anb_base::WIDE`].
     Wide(u32),
     NoMemory,
+}
+
+impl From<NoMemory> for CodeNo {
+    ghost from_gives = { λ _ refused. refused ≡ refusal.NoMemory };
+
+    fn from(_error: NoMemory) -> Self {
+        CodeNo::NoMemory
+    }
 }
 
 impl From<AllocError> for CodeNo {
