@@ -1,5 +1,5 @@
 -- Which code is spelled by one that names its formats and numbers its registers.
-use Rattle.std.specs.Prelude.{ℕ, List, map, slice_index}
+use Rattle.std.specs.Prelude.{ℕ, Bool, List, map, slice_index}
 use Rattle.std.specs.List.{position_or_len}
 use Rattle.std.specs.Str.{bytes_eq}
 use Rattle.anb_format.specs.Formats.{FormatValue}
@@ -10,9 +10,12 @@ use Rattle.anb_code.specs.declared.raw.What.TheVariants.{Take, Fresh, Recv, Hash
 use Rattle.anb_code.specs.CodeValue.{CodeValue}
 use Rattle.anb_code.specs.RawValue.{RawInstrValue, RawValue}
 
+abbrev pub is_named : List ℕ → FormatValue → Bool
+is_named name format = bytes_eq format.name name
+
 -- the place of the format with this name
 abbrev pub place_of : List FormatValue → List ℕ → ℕ
-place_of formats name = position_or_len (λ (format : FormatValue). bytes_eq format.name name) formats
+place_of formats name = position_or_len (is_named name) formats
 
 abbrev pub spelled : List FormatValue → List ℕ → List ℕ → What → Instr
 spelled formats name args Take = instr.Take name

@@ -15,7 +15,7 @@ use Rattle.anb_code.specs.declared.refusal.CodeNo.{CodeNo}
 use Rattle.anb_code.specs.declared.refusal.CodeNo.TheVariants.{Many, Twice, Shape, Late, TakeTwice, BadFormat, Unwritten, Order, Wide}
 use Rattle.anb_code.specs.RawValue.{RawInstrValue, RawValue}
 use Rattle.anb_code.specs.Registers.{register_widths, written_widths}
-use Rattle.anb_code.specs.Spelling.{instr_of}
+use Rattle.anb_code.specs.Spelling.{instr_of, is_named}
 
 -- this refusal, where this holds
 abbrev pub where_true : {A : Type 0} → Bool → A → List A
@@ -38,9 +38,6 @@ early_rests i (piece ∷ pieces) = where_true (is_rest piece && not (is_empty pi
 
 abbrev pub shape_faults : List Piece → List FormatNo
 shape_faults pieces = where_true (is_empty (head pieces)) NoHead ++ early_rests 0 pieces
-
-abbrev pub is_named : List ℕ → FormatValue → Bool
-is_named name format = bytes_eq format.name name
 
 -- of a format, with those before it; formats are numbered from 0
 abbrev pub format_faults : List FormatValue → FormatValue → List CodeNo
@@ -131,8 +128,8 @@ code_faults arrival wide raw =
 abbrev pub IsAccepted : ℕ → ℕ → RawValue → Type 0
 IsAccepted arrival wide raw = code_faults arrival wide raw ≡ []
 
-abbrev pub BeginsWith : List CodeNo → CodeNo → Type 0
-BeginsWith faults first = (rest : List CodeNo) × (faults ≡ first ∷ rest)
+abbrev pub BeginsWith : {A : Type 0} → List A → A → Type 0
+BeginsWith {A} faults first = (rest : List A) × (faults ≡ first ∷ rest)
 
 -- this is the first fault
 abbrev pub IsFirstFault : ℕ → ℕ → RawValue → CodeNo → Type 0

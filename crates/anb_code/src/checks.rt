@@ -1,17 +1,17 @@
-ghost use Rattle.std.specs.Prelude.{◌≡◌, ◌≢◌, ◌<◌, ◌≤◌, ◌+◌, ◌^◌, ◌==◌, ◌↔◌, not, ℕ, List, [], ◌∷◌, ◌++◌, length, map, replicate, slice_get, slice_index, vec_len, find, option_copied, Some, All, Any, SomeIff, nat_le, IfOk, IfErr, OnOk, IsTrue};
+ghost use Rattle.std.specs.Prelude.{◌≡◌, ◌≢◌, ◌<◌, ◌≤◌, ◌+◌, ◌^◌, ◌==◌, ◌&&◌, ◌||◌, ◌↔◌, not, nat_lt, ℕ, List, [], ◌∷◌, ◌++◌, length, map, replicate, slice_get, slice_index, vec_len, find, option_copied, Some, All, Any, SomeIff, nat_le, IfOk, IfErr, OnOk, IsTrue};
 ghost use Rattle.std.specs.List.{list_any, range_with_len};
 ghost use Rattle.std.specs.Str.{bytes_eq};
 ghost use Rattle.anb_format.specs.Formats.{IsSound, field_count};
 ghost use Rattle.anb_format.specs.Widths.{format_width};
 ghost use Rattle.anb_code.specs.RawValue.{RawInstrValue};
 ghost use Rattle.anb_code.specs.Registers.{count_written, pieces_at, register_widths, width_of, written_widths};
-ghost use Rattle.anb_code.specs.Spelling.{instr_of, place_of};
-ghost use Rattle.anb_code.specs.Table.{BeginsWith, HasCounts, faults_from, format_faults, has_fields, has_its_format, instr_faults, is_late, is_named, is_take, is_taken, reads_unwritten, written};
+ghost use Rattle.anb_code.specs.Spelling.{instr_of, is_named, place_of};
+ghost use Rattle.anb_code.specs.Table.{BeginsWith, HasCounts, faults_from, format_faults, has_fields, has_its_format, instr_faults, is_late, is_take, is_taken, reads_unwritten, shape_faults, written};
 ghost use Rattle.anb_code.specs.Checking.{Knows};
 
 use crate::{CodeNo, RawFormat, RawInstr, What};
 use anb_base::{ARRIVAL, NoMemory, WIDE};
-use anb_format::{Format, Piece};
+use anb_format::{Format, FormatNo, Piece};
 use std::alloc::Global;
 
 /// The most formats, and the most fields of one.
@@ -40,16 +40,43 @@ fn check_format(before: &[RawFormat], format: &RawFormat) -> Result<(), CodeNo>
     ensures refused { IfErr result (BeginsWith (format_faults before.now format.now)) }
 {
     let f = before.len() as u32;
-    if before.len() == FORMATS || fields(&format.pieces) > FIELDS {
+    if are_many(before, format) {
         return Err(CodeNo::Many(f));
     }
-    if is_named_before(before, format.name.as_str()) {
+    if is_named_before(before, format) {
         return Err(CodeNo::Twice(f));
     }
-    match Format::check(&format.pieces) {
+    match check_shape(format) {
         Ok(()) => Ok(()),
-        Err(no) => Err(CodeNo::Shape(f, no)),
+        Err(fault) => Err(CodeNo::Shape(f, fault)),
     }
+}
+
+fn are_many(before: &[RawFormat], format: &RawFormat) -> bool
+    ensures { result ≡ (length before.now == 64 || nat_lt 32 (field_count format.now.pieces)) }
+{
+    before.len() == FORMATS || fields(&format.pieces) > FIELDS
+}
+
+fn is_named_before(before: &[RawFormat], format: &RawFormat) -> bool
+    ensures { result ≡ list_any (is_named format.now.name) before.now }
+{
+    is_any_named(before, format.name.as_str())
+}
+
+fn is_any_named(formats: &[RawFormat], name: &str) -> bool
+    ensures { result ≡ list_any (is_named name.now) formats.now }
+{
+    formats.iter().any(|format| format.name.as_str() == name)
+}
+
+fn check_shape(format: &RawFormat) -> Result<(), FormatNo>
+    requires { length format.now.pieces < 2 ^ 32 }
+    ensures fine { OnOk result (shape_faults format.now.pieces ≡ []) }
+    ensures sound { OnOk result (IsSound format.now.pieces) }
+    ensures refused { IfErr result (BeginsWith (shape_faults format.now.pieces)) }
+{
+    Format::check(&format.pieces)
 }
 
 fn fields(pieces: &[Piece]) -> usize
@@ -62,12 +89,6 @@ fn fields(pieces: &[Piece]) -> usize
         }
     }
     count
-}
-
-fn is_named_before(before: &[RawFormat], name: &str) -> bool
-    ensures { result ≡ list_any (is_named name.now) before.now }
-{
-    before.iter().any(|earlier| earlier.name.as_str() == name)
 }
 
 pub(crate) fn check_code(alloc: Global, formats: &[Format], code: &[RawInstr]) -> Result<(), CodeNo>
@@ -121,7 +142,7 @@ fn check_instr(
     let Some(width) = width_of(alloc, formats, widths, instr)? else {
         return Err(CodeNo::Wide(at));
     };
-    put_widths(widths, width, instr.to.len())?;
+    put_widths(widths, width, count_destinations(instr))?;
     Ok(())
 }
 
@@ -134,15 +155,26 @@ fn is_take(instr: &RawInstr) -> bool
 fn is_late(before: &[RawInstr], instr: &RawInstr) -> bool
     ensures { result ≡ is_late before.now instr.now }
 {
-    is_take(instr) && before.iter().any(|earlier| !is_take(earlier))
+    is_take(instr) && has_others(before)
+}
+
+/// Whether one of them is no take.
+fn has_others(before: &[RawInstr]) -> bool
+    ensures { result ≡ list_any (λ earlier. not (is_take earlier.what)) before.now }
+{
+    before.iter().any(|earlier| !is_take(earlier))
 }
 
 fn is_taken(before: &[RawInstr], instr: &RawInstr) -> bool
     ensures { result ≡ is_taken before.now instr.now }
 {
-    is_take(instr)
-        && before.iter().any(|earlier| is_take(earlier)
-            && earlier.name.as_str() == instr.name.as_str())
+    is_take(instr) && takes_text(before, instr.name.as_str())
+}
+
+fn takes_text(before: &[RawInstr], text: &str) -> bool
+    ensures { result ≡ list_any (λ earlier. is_take earlier.what && bytes_eq earlier.name text.now) before.now }
+{
+    before.iter().any(|earlier| is_take(earlier) && earlier.name.as_str() == text)
 }
 
 fn has_its_format(formats: &[Format], instr: &RawInstr) -> bool
@@ -178,11 +210,24 @@ fn reads_unwritten(registers: u32, instr: &RawInstr) -> bool
     instr.args.iter().any(|r| registers <= *r)
 }
 
-/// Whether the registers that it writes are the next ones, from this one on.
+/// Whether the registers that it writes are the next ones, from the first one on.
 fn writes_next(first: u32, instr: &RawInstr) -> bool
     ensures { result ≡ bytes_eq instr.now.to (range_with_len first (length instr.now.to)) }
 {
-    for (k, r) in instr.to.iter().enumerate() {
+    are_next(first, &instr.to)
+}
+
+fn count_destinations(instr: &RawInstr) -> usize
+    ensures { result ≡ length instr.now.to }
+{
+    instr.to.len()
+}
+
+/// Whether these are the next registers, from the first one on.
+fn are_next(first: u32, registers: &[u32]) -> bool
+    ensures { result ≡ bytes_eq registers.now (range_with_len first (length registers.now)) }
+{
+    for (k, r) in registers.iter().enumerate() {
         if u64::from(*r) != u64::from(first) + k as u64 {
             return false;
         }
@@ -210,7 +255,7 @@ fn width_of(
         What::Unseal => Some(widths[args[1] as usize]),
         What::Unwrap => Some(widths[args[2] as usize]),
         What::Parse => Some(widths[args[0] as usize]),
-        What::Build => return built_width(alloc, formats, widths, instr),
+        What::Build => return built_width(alloc, formats, widths, instr.name.as_str(), args),
         _ => Some(ARRIVAL),
     };
     Ok(width)
@@ -228,15 +273,16 @@ fn built_width(
     alloc: Global,
     formats: &[Format],
     widths: &[u32],
-    instr: &RawInstr,
+    name: &str,
+    args: &[u32],
 ) -> Result<Option<u32>, NoMemory>
-    requires written { All (λ r. r < length widths.now) instr.now.args }
-    requires format { IsTrue (has_fields (find (is_named instr.now.name) formats.now) (length instr.now.args)) }
-    ensures { IfOk result (λ r. let width = format_width ARRIVAL (pieces_at formats.now (place_of formats.now instr.now.name)) (map (slice_index widths.now) instr.now.args)
+    requires written { All (λ r. r < length widths.now) args.now }
+    requires format { IsTrue (has_fields (find (is_named name.now) formats.now) (length args.now)) }
+    ensures { IfOk result (λ r. let width = format_width ARRIVAL (pieces_at formats.now (place_of formats.now name.now)) (map (slice_index widths.now) args.now)
         in SomeIff r (width ≤ WIDE) width) }
 {
-    let operands = widths_at(alloc, widths, &instr.args)?;
-    match named(formats, instr.name.as_str()) {
+    let operands = widths_at(alloc, widths, args)?;
+    match named(formats, name) {
         Some(format) => Ok(format.width(&operands)),
         None => Ok(None),
     }
@@ -257,7 +303,7 @@ fn widths_at(alloc: Global, widths: &[u32], registers: &[u32]) -> Result<Vec<u32
 fn put_widths(widths: &mut Vec<u32>, width: u32, count: usize) -> Result<(), NoMemory>
     ensures { OnOk result (widths.new.items ≡ widths.old.items ++ replicate count width) }
 {
-    for _ in 0..count {
+    for done in 0..count {
         widths.push(width)?;
     }
     Ok(())

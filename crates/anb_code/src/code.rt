@@ -105,7 +105,7 @@ impl RoleCode {
     {
         self.instrs
             .iter()
-            .take_while(|instr| matches!(instr, Instr::Take(_)))
+            .filter(|instr| matches!(instr, Instr::Take(_)))
             .count() as u32
     }
 

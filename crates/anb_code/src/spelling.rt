@@ -1,6 +1,6 @@
-ghost use Rattle.std.specs.Prelude.{◌≡◌, ◌<◌, ◌≤◌, ◌^◌, length, map, All, IfOk};
+ghost use Rattle.std.specs.Prelude.{◌≡◌, ◌<◌, ◌≤◌, ◌^◌, length, map, position, All, IfOk};
 ghost use Rattle.anb_format.specs.Formats.{IsSound};
-ghost use Rattle.anb_code.specs.Spelling.{instr_of, place_of};
+ghost use Rattle.anb_code.specs.Spelling.{instr_of, is_named, place_of};
 ghost use Rattle.anb_code.specs.Table.{HasCounts};
 
 use crate::{Instr, RawFormat, RawInstr, Registers, What};
@@ -15,10 +15,18 @@ pub(crate) fn formats_of(alloc: Global, raw: Vec<RawFormat>) -> Result<Vec<Forma
 {
     let mut formats = Vec::new(alloc);
     for format in raw {
-        let RawFormat { name, pieces } = format;
-        formats.push(Format::new(name, pieces))?;
+        formats.push(format_of(format))?;
     }
     Ok(formats)
+}
+
+fn format_of(raw: RawFormat) -> Format
+    requires pieces { length raw.pieces < 2 ^ 32 }
+    requires sound { IsSound raw.pieces }
+    ensures { result ≡ raw }
+{
+    let RawFormat { name, pieces } = raw;
+    Format::new(name, pieces)
 }
 
 pub(crate) fn instrs_of(
@@ -70,11 +78,16 @@ fn place_of(formats: &[Format], name: &str) -> u16
     requires { length formats.now < 2 ^ 16 }
     ensures { result ≡ place_of formats.now name.now }
 {
-    match formats
-        .iter()
-        .position(|format| format.name().as_str() == name)
-    {
+    match position(formats, name) {
         Some(place) => place as u16,
         None => formats.len() as u16,
     }
+}
+
+fn position(formats: &[Format], name: &str) -> Option<usize>
+    ensures { result ≡ position (is_named name.now) formats.now }
+{
+    formats
+        .iter()
+        .position(|format| format.name().as_str() == name)
 }

@@ -1,0 +1,5 @@
+pub mod Shapes
+pub mod Rows
+pub mod Numbers
+pub mod Naming
+pub mod Steps
