@@ -3,3 +3,5 @@ pub mod Rows
 pub mod Numbers
 pub mod Naming
 pub mod Steps
+pub mod Takes
+pub mod Accepted

@@ -1,5 +1,5 @@
 -- From what is known of the instructions before to what is known with one more.
-use Rattle.std.proofs.Common.{◌≡◌, ◌<◌, ◌≤◌, ◌+◌, ◌&&◌, not, ℕ, zero, suc, nat_lt, nat_le, Bool, true, false, List, [], ◌∷◌, ◌++◌, length, map, replicate, get_or, slice_index, refl, sym, ap, subst, ◌∙◌, arith, append_assoc, lit≤, inl, inr, All}
+use Rattle.std.proofs.Common.{◌≡◌, ◌<◌, ◌≤◌, ◌+◌, ◌&&◌, not, ℕ, zero, suc, nat_lt, nat_le, Bool, true, false, List, [], ◌∷◌, ◌++◌, length, map, replicate, take, get_or, slice_index, refl, sym, ap, subst, ◌∙◌, arith, append_assoc, lit≤, inl, inr, All}
 use Rattle.std.specs.List.{list_any, flat_map, range_with_len, AllByRecursion, sum_by}
 use Rattle.std.specs.Str.{bytes_eq}
 use Rattle.std.proofs.lemmas.Bool.{cases_lt}
@@ -65,7 +65,7 @@ module _ (formats : List FormatValue) (before : List RawInstrValue) (widths : Li
     abbrev width : ℕ
     width = width_of ARRIVAL formats widths (instr_of formats instr)
 
-    wide_is : writes_wide ARRIVAL WIDE formats before instr ≡ list_any (nat_lt WIDE) (replicate (count_written formats (instr_of formats instr)) width)
+    pub wide_is : writes_wide ARRIVAL WIDE formats before instr ≡ list_any (nat_lt WIDE) (replicate (count_written formats (instr_of formats instr)) width)
     wide_is = ap (λ ws. list_any (nat_lt WIDE) (written_widths ARRIVAL formats ws (instr_of formats instr))) (sym known.widths_are)
 
     pub narrow_is : width ≤ WIDE → writes_wide ARRIVAL WIDE formats before instr ≡ false
@@ -118,3 +118,14 @@ module _ (formats : List FormatValue) (before : List RawInstrValue) (widths : Li
         wide_is instr ∙ some_wide WIDE (count_written formats (instr_of formats instr)) (width_of ARRIVAL formats widths (instr_of formats instr)) (omega (arith, count)) wide
     | inr none ↦ absurd (wide (writes_none instr.to instr.name instr.args instr.what counts (omega arith)))
   ]
+
+pub nothing_known : (formats : List FormatValue) → Knows formats [] []
+nothing_known formats = record { registers = refl; widths_are = refl; narrow = λ k d h. absurd (omega (arith, h)) }
+
+-- some instructions write no more registers than all
+pub written_within : (code : List RawInstrValue) (i : ℕ) (instr : RawInstrValue) → i < length code → instr ≡ get_or code i instr → length (written (take i code)) + length instr.to ≤ length (written code)
+written_within [] i instr h is = absurd (omega arith)
+written_within (x ∷ xs) zero instr h is = rw is (simp length-append (omega arith))
+written_within (x ∷ xs) (suc i) instr h is =
+    let rest = written_within xs i instr (omega arith) is in
+    simp length-append (omega (arith, rest))

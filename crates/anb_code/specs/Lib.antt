@@ -4,5 +4,6 @@ pub mod Registers
 pub mod Spelling
 pub mod Table
 pub mod Verified
+pub mod Taking
 pub mod Meaning
 pub mod Checking

@@ -1,5 +1,5 @@
 -- What a code does, in acts over registers.
-use Rattle.std.specs.Prelude.{◌≡◌, ℕ, List, [], ◌∷◌, length, map, count_by, filter_map, Bool, true, false, Option, Some, None, slice_get}
+use Rattle.std.specs.Prelude.{◌≡◌, List, [], ◌∷◌, length, map, Some, slice_get}
 use Rattle.anb_term.specs.declared.term.Op.{Op}
 use Rattle.anb_term.specs.declared.term.Op.TheVariants as op
 use Rattle.anb_format.specs.Formats.{FormatValue, IsSound, field_count}
@@ -33,18 +33,3 @@ abbrev pub IsOperator : List FormatValue → Op → Type 0
 IsOperator formats (op.Format f arity) =
     (format : FormatValue) × (slice_get formats f ≡ Some format) × IsSound format.pieces × (field_count format.pieces ≡ arity)
 IsOperator formats o = Unit {0}
-
-abbrev pub taken_text : Instr → Option (List ℕ)
-taken_text (Take text) = Some text
-taken_text instr = None
-
--- the label texts of the takes, in order
-abbrev pub take_texts : List Instr → List (List ℕ)
-take_texts instrs = filter_map taken_text instrs
-
-abbrev pub is_fresh : Instr → Bool
-is_fresh Fresh = true
-is_fresh instr = false
-
-abbrev pub count_fresh : List Instr → ℕ
-count_fresh instrs = count_by is_fresh instrs

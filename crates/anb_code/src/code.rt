@@ -1,3 +1,6 @@
+ghost use Rattle.std.specs.Prelude.{◌≡◌, count_by};
+ghost use Rattle.anb_code.specs.Taking.{is_taking};
+
 use crate::checks::{check_code, check_formats};
 use crate::spelling::{formats_of, instrs_of};
 use crate::{CodeNo, Instr, RawCode};
@@ -30,7 +33,7 @@ impl Model for RoleCode {
 
 impl RoleCode {
     ghost use Rattle.std.specs.Prelude.{◌≡◌, ◌≢◌, ◌<◌, ◌+◌, ◌^◌, length, slice_get, Some, All, IfOk, OnOk, IfErr};
-    ghost use Rattle.anb_code.specs.Meaning.{count_fresh, take_texts};
+    ghost use Rattle.anb_code.specs.Taking.{count_fresh, take_texts};
     ghost use Rattle.anb_code.specs.Spelling.{code_of};
     ghost use Rattle.anb_code.specs.Table.{HasCounts, IsAccepted, IsFirstFault, written};
     ghost use Rattle.anb_code.specs.Verified.{IsVerifiedCode};
@@ -103,10 +106,7 @@ impl RoleCode {
     pub fn takes(&self) -> u32
         ensures { result ≡ length (take_texts self.now.instrs) }
     {
-        self.instrs
-            .iter()
-            .filter(|instr| matches!(instr, Instr::Take(_)))
-            .count() as u32
+        count_takes(&self.instrs) as u32
     }
 
     /// The label text of a take, from 0.
@@ -129,4 +129,13 @@ impl RoleCode {
             .filter(|instr| matches!(instr, Instr::Fresh))
             .count() as u32
     }
+}
+
+fn count_takes(instrs: &[Instr]) -> usize
+    ensures { result ≡ count_by is_taking instrs.now }
+{
+    instrs
+        .iter()
+        .filter(|instr| matches!(instr, Instr::Take(_)))
+        .count()
 }

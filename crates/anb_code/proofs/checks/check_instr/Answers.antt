@@ -29,7 +29,7 @@ returns-then-reads_unwritten-clause-refused c =
     let has_format : has_its_format c.args.formats.now c.args.instr.now c.args.instr.now.what ≡ true = search (rules, tests) in
     let many : c.len-registers.result ≡ length c.args.widths.now.items = omega arith in
     let unwritten : reads_unwritten c.args.before.now c.args.instr.now ≡ true =
-        unwritten_is c.args.formats.now c.args.before.now c.args.widths.now.items c.requires.known c.args.instr.now ∙ ap (λ n. list_any (nat_le n) c.args.instr.now.args) (sym many) ∙ sym c.if-reads_unwritten.ensures in
+    unwritten_is c.args.formats.now c.args.before.now c.args.widths.now.items c.requires.known c.args.instr.now ∙ ap (λ n. list_any (nat_le n) c.args.instr.now.args) (sym many) ∙ sym c.if-reads_unwritten.ensures in
     λ other. unwritten_first ARRIVAL WIDE c.args.formats.now c.args.before.now c.args.instr.now (search (rules, tests)) (search (rules, tests)) (not_from_true _ has_format) unwritten
 
 pub returns-then-not-writes_next-clause-refused : goal.returns-then-not-writes_next-clause-refused
@@ -37,9 +37,9 @@ returns-then-not-writes_next-clause-refused c =
     let has_format : has_its_format c.args.formats.now c.args.instr.now c.args.instr.now.what ≡ true = search (rules, tests) in
     let many : c.len-registers.result ≡ length c.args.widths.now.items = omega arith in
     let is_written : reads_unwritten c.args.before.now c.args.instr.now ≡ false =
-        unwritten_is c.args.formats.now c.args.before.now c.args.widths.now.items c.requires.known c.args.instr.now ∙ ap (λ n. list_any (nat_le n) c.args.instr.now.args) (sym many) ∙ sym c.if-reads_unwritten.ensures in
+    unwritten_is c.args.formats.now c.args.before.now c.args.widths.now.items c.requires.known c.args.instr.now ∙ ap (λ n. list_any (nat_le n) c.args.instr.now.args) (sym many) ∙ sym c.if-reads_unwritten.ensures in
     let unordered : writes_next c.args.before.now c.args.instr.now ≡ false =
-        next_is c.args.formats.now c.args.before.now c.args.widths.now.items c.requires.known c.args.instr.now ∙ ap (λ n. bytes_eq c.args.instr.now.to (range_with_len n (length c.args.instr.now.to))) (sym many) ∙ sym c.if-not-writes_next.ensures in
+    next_is c.args.formats.now c.args.before.now c.args.widths.now.items c.requires.known c.args.instr.now ∙ ap (λ n. bytes_eq c.args.instr.now.to (range_with_len n (length c.args.instr.now.to))) (sym many) ∙ sym c.if-not-writes_next.ensures in
     λ other. order_first ARRIVAL WIDE c.args.formats.now c.args.before.now c.args.instr.now (search (rules, tests)) (search (rules, tests)) (not_from_true _ has_format) is_written (not_from_false _ unordered)
 
 pub returns-in_default-clause-refused : goal.returns-in_default-clause-refused
@@ -48,14 +48,14 @@ returns-in_default-clause-refused c =
     let has_format : has_its_format c.args.formats.now c.args.instr.now c.args.instr.now.what ≡ true = search (rules, tests) in
     let many : c.len-registers.result ≡ length widths = omega arith in
     let is_written : reads_unwritten c.args.before.now c.args.instr.now ≡ false =
-        unwritten_is c.args.formats.now c.args.before.now widths c.requires.known c.args.instr.now ∙ ap (λ n. list_any (nat_le n) c.args.instr.now.args) (sym many) ∙ sym c.if-reads_unwritten.ensures in
+    unwritten_is c.args.formats.now c.args.before.now widths c.requires.known c.args.instr.now ∙ ap (λ n. list_any (nat_le n) c.args.instr.now.args) (sym many) ∙ sym c.if-reads_unwritten.ensures in
     let ordered : writes_next c.args.before.now c.args.instr.now ≡ true =
-        next_is c.args.formats.now c.args.before.now widths c.requires.known c.args.instr.now ∙ ap (λ n. bytes_eq c.args.instr.now.to (range_with_len n (length c.args.instr.now.to))) (sym many) ∙ sym c.if-not-writes_next.ensures in
+    next_is c.args.formats.now c.args.before.now widths c.requires.known c.args.instr.now ∙ ap (λ n. bytes_eq c.args.instr.now.to (range_with_len n (length c.args.instr.now.to))) (sym many) ∙ sym c.if-not-writes_next.ensures in
     let same : c.deref.result.now ≡ widths = c.deref.ensures.value in
     let none = rw c.in_default.is at c.in_ok-width.ensures in
     let too_wide : width_of ARRIVAL c.args.formats.now widths (instr_of c.args.formats.now c.args.instr.now) ≤ WIDE → ⊥ = rw same at none in
     λ other. wide_first ARRIVAL WIDE c.args.formats.now c.args.before.now c.args.instr.now (search (rules, tests)) (search (rules, tests)) (not_from_true _ has_format) is_written (not_from_true _ ordered)
-        (too_wide_is c.args.formats.now c.args.before.now widths c.requires.known c.args.instr.now c.requires.counts has_format too_wide)
+    (too_wide_is c.args.formats.now c.args.before.now widths c.requires.known c.args.instr.now c.requires.counts has_format too_wide)
 
 pub returns-clause-fine : goal.returns-clause-fine
 returns-clause-fine c =
@@ -63,14 +63,14 @@ returns-clause-fine c =
     let has_format : has_its_format c.args.formats.now c.args.instr.now c.args.instr.now.what ≡ true = search (rules, tests) in
     let many : c.len-registers.result ≡ length widths = omega arith in
     let is_written : reads_unwritten c.args.before.now c.args.instr.now ≡ false =
-        unwritten_is c.args.formats.now c.args.before.now widths c.requires.known c.args.instr.now ∙ ap (λ n. list_any (nat_le n) c.args.instr.now.args) (sym many) ∙ sym c.if-reads_unwritten.ensures in
+    unwritten_is c.args.formats.now c.args.before.now widths c.requires.known c.args.instr.now ∙ ap (λ n. list_any (nat_le n) c.args.instr.now.args) (sym many) ∙ sym c.if-reads_unwritten.ensures in
     let ordered : writes_next c.args.before.now c.args.instr.now ≡ true =
-        next_is c.args.formats.now c.args.before.now widths c.requires.known c.args.instr.now ∙ ap (λ n. bytes_eq c.args.instr.now.to (range_with_len n (length c.args.instr.now.to))) (sym many) ∙ sym c.if-not-writes_next.ensures in
+    next_is c.args.formats.now c.args.before.now widths c.requires.known c.args.instr.now ∙ ap (λ n. bytes_eq c.args.instr.now.to (range_with_len n (length c.args.instr.now.to))) (sym many) ∙ sym c.if-not-writes_next.ensures in
     let same : c.deref.result.now ≡ widths = c.deref.ensures.value in
     let some = rw c.in-Some.is at c.in_ok-width.ensures in
     let narrow : width_of ARRIVAL c.args.formats.now widths (instr_of c.args.formats.now c.args.instr.now) ≤ WIDE = rw same at some.0 in
     no_fault ARRIVAL WIDE c.args.formats.now c.args.before.now c.args.instr.now (search (rules, tests)) (search (rules, tests)) (not_from_true _ has_format) is_written (not_from_true _ ordered)
-        (narrow_is c.args.formats.now c.args.before.now widths c.requires.known c.args.instr.now narrow)
+    (narrow_is c.args.formats.now c.args.before.now widths c.requires.known c.args.instr.now narrow)
 
 pub returns-clause-known : goal.returns-clause-known
 returns-clause-known c =
@@ -78,10 +78,10 @@ returns-clause-known c =
     let has_format : has_its_format c.args.formats.now c.args.instr.now c.args.instr.now.what ≡ true = search (rules, tests) in
     let many : c.len-registers.result ≡ length widths = omega arith in
     let ordered : bytes_eq c.args.instr.now.to (range_with_len (length widths) (length c.args.instr.now.to)) ≡ true =
-        ap (λ n. bytes_eq c.args.instr.now.to (range_with_len n (length c.args.instr.now.to))) (sym many) ∙ sym c.if-not-writes_next.ensures in
+    ap (λ n. bytes_eq c.args.instr.now.to (range_with_len n (length c.args.instr.now.to))) (sym many) ∙ sym c.if-not-writes_next.ensures in
     let same : c.deref.result.now ≡ widths = c.deref.ensures.value in
     let some = rw c.in-Some.is at c.in_ok-width.ensures in
     let narrow : width_of ARRIVAL c.args.formats.now widths (instr_of c.args.formats.now c.args.instr.now) ≤ WIDE = rw same at some.0 in
     let is : c.in-Some.width ≡ width_of ARRIVAL c.args.formats.now widths (instr_of c.args.formats.now c.args.instr.now) = rw same at some.1 in
     rw (c.in_ok-put_widths.ensures, c.count_destinations.ensures, is)
-        (knows_more c.args.formats.now c.args.before.now widths c.requires.known c.args.instr.now c.requires.counts has_format ordered narrow)
+    (knows_more c.args.formats.now c.args.before.now widths c.requires.known c.args.instr.now c.requires.counts has_format ordered narrow)
