@@ -1,30 +1,27 @@
 -- A code without faults spells a verified one.
-use Rattle.std.proofs.Common.{◌≡◌, ◌≢◌, ◌<◌, ◌≤◌, ◌+◌, ◌^◌, ◌&&◌, ◌||◌, ◌==◌, not, ℕ, zero, suc, nat_lt, nat_le, Bool, true, false, cond, List, [], ◌∷◌, ◌++◌, length, map, slice_get, slice_index, Option, Some, None, inl, inr, refl, sym, ap, subst, ◌∙◌, arith, All}
-use Rattle.std.specs.List.{list_any, find, AllByRecursion, sum_by}
+use Rattle.std.proofs.Common.{◌≡◌, ◌≢◌, ◌<◌, ◌≤◌, ◌+◌, ◌^◌, ◌&&◌, ◌||◌, ◌==◌, not, ℕ, nat_lt, Bool, true, false, List, [], ◌∷◌, ◌++◌, length, map, replicate, slice_index, refl, sym, ap, ◌∙◌, arith, All}
+use Rattle.std.specs.List.{list_any, find, AllByRecursion}
 use Rattle.std.specs.Str.{bytes_eq}
 use Rattle.std.proofs.lemmas.Bool.{not-false, eqb-false, ltb-false, or_parts, true≢false}
-use Rattle.std.proofs.lemmas.Bool.Decides.{nat_tests}
-use Rattle.std.proofs.lemmas.List.{length-append, length-map, length-replicate, map_push}
-use Rattle.std.proofs.lemmas.List.Elements.{All-head, All-tail, All-from_recursion, recursion_from_All}
-use Rattle.std.proofs.lemmas.List.Sums.{sum_by_push, sum_by-cons}
+use Rattle.std.proofs.lemmas.List.{length-append, length-map, length-replicate, map_push, append-nil, append_assoc}
+use Rattle.std.proofs.lemmas.List.Elements.{All-from_recursion, recursion_from_All}
+use Rattle.std.proofs.lemmas.List.Sums.{sum_by-cons}
 use Rattle.std.proofs.lemmas.Slice.Eq.{bytes_eq-Decides}
 use Rattle.anb_base.specs.declared.TheConstants.{ARRIVAL, WIDE}
 use Rattle.anb_format.specs.Formats.{FormatValue, IsSound, field_count}
 use Rattle.anb_code.specs.declared.instr.Instr.{Instr}
-use Rattle.anb_code.specs.declared.instr.Instr.TheVariants as instr
 use Rattle.anb_code.specs.declared.raw.What.{What}
 use Rattle.anb_code.specs.declared.raw.What.TheVariants.{Take, Fresh, Recv, Hash, Mac, Seal, Unseal, Wrap, Unwrap, Build, Parse, Equal, Send}
-use Rattle.anb_code.specs.declared.refusal.CodeNo.{CodeNo}
 use Rattle.anb_code.specs.declared.refusal.CodeNo.TheVariants.{Many, Twice, Shape, Late, TakeTwice, BadFormat, Unwritten, Order, Wide}
 use Rattle.anb_code.specs.Checking.{Knows}
 use Rattle.anb_code.specs.RawValue.{RawInstrValue, RawValue}
 use Rattle.anb_code.specs.Registers.{count_written, operands, register_widths, widths_after, width_of, written_widths}
-use Rattle.anb_code.specs.Spelling.{code_of, instr_of, is_named, place_of, spelled}
-use Rattle.anb_code.specs.Table.{BeginsWith, IsAccepted, CountsAre, HasCounts, where_true, is_take, faults_from, format_faults, instr_faults, has_fields, has_its_format, is_late, is_taken, reads_unwritten, writes_next, writes_wide, shape_faults, written}
+use Rattle.anb_code.specs.Spelling.{code_of, instr_of, is_named, spelled}
+use Rattle.anb_code.specs.Table.{BeginsWith, CountsAre, HasCounts, where_true, is_take, faults_from, format_faults, instr_faults, has_its_format, is_late, is_taken, reads_unwritten, writes_next, writes_wide, shape_faults, written}
 use Rattle.anb_code.specs.Verified.{EachAfter, HasItsFormat, IsFormatAfter, IsInstrAfter, IsOtherTake, IsTakeAfter, IsVerifiedCode, count_registers}
-use Rattle.anb_code.proofs.Naming.{count_written-instr_of, has_fields_there, slice_get-place_of}
+use Rattle.anb_code.proofs.Naming.{has_fields_there, slice_get-place_of}
 use Rattle.anb_code.proofs.Numbers.{all_written}
-use Rattle.anb_code.proofs.Steps.{length-known, unwritten_is, next_is, narrow_is, knows_more, wide_is, nothing_known, written-push}
+use Rattle.anb_code.proofs.Steps.{length-known, unwritten_is, next_is, knows_more, width_within, nothing_known}
 
 -- ---- the first of some faults
 
@@ -180,3 +177,89 @@ length-widths_after arrival formats widths (x ∷ xs) =
 pub count_known : (formats : List FormatValue) (before : List RawInstrValue) (widths : List ℕ) → Knows formats before widths → count_registers formats (map (instr_of formats) before) ≡ length widths
 count_known formats before widths known =
     omega (arith, ap length known.widths_are, length-widths_after ARRIVAL formats [] (map (instr_of formats) before))
+
+-- ---- a code
+
+module _ (formats : List FormatValue) where
+  abbrev f : RawInstrValue → Instr
+  f = instr_of formats
+
+  take_after : (before : List RawInstrValue) (to name args : List ℕ) (what : What) → is_late before (record { to = to; what = what; name = name; args = args }) ≡ false
+      → is_taken before (record { to = to; what = what; name = name; args = args }) ≡ false → IsTakeAfter (map f before) (spelled formats name args what)
+  take_after before to name args Take in_time new = other_takes formats name before in_time new
+  take_after before to name args Fresh in_time new = tt
+  take_after before to name args Recv in_time new = tt
+  take_after before to name args Hash in_time new = tt
+  take_after before to name args Mac in_time new = tt
+  take_after before to name args Seal in_time new = tt
+  take_after before to name args Unseal in_time new = tt
+  take_after before to name args Wrap in_time new = tt
+  take_after before to name args Unwrap in_time new = tt
+  take_after before to name args Build in_time new = tt
+  take_after before to name args Parse in_time new = tt
+  take_after before to name args Equal in_time new = tt
+  take_after before to name args Send in_time new = tt
+
+  its_format : (to name args : List ℕ) (what : What) → has_its_format formats (record { to = to; what = what; name = name; args = args }) what ≡ true → HasItsFormat formats (spelled formats name args what)
+  its_format to name args Take has = tt
+  its_format to name args Fresh has = tt
+  its_format to name args Recv has = tt
+  its_format to name args Hash has = tt
+  its_format to name args Mac has = tt
+  its_format to name args Seal has = tt
+  its_format to name args Unseal has = tt
+  its_format to name args Wrap has = tt
+  its_format to name args Unwrap has = tt
+  its_format to name args Build has =
+      let there = has_fields_there (find (is_named name) formats) (length args) has in (there.0, slice_get-place_of formats name ∙ there.1, sym there.2)
+  its_format to name args Parse has =
+      let there = has_fields_there (find (is_named name) formats) (length to) has in (there.0, slice_get-place_of formats name ∙ there.1)
+  its_format to name args Equal has = tt
+  its_format to name args Send has = tt
+
+  instr_after : (before : List RawInstrValue) (widths : List ℕ) (raw : RawInstrValue) → Knows formats before widths → HasCounts raw → NoFaults formats before raw → IsInstrAfter formats (map f before) (f raw)
+  instr_after before widths raw known counts fine =
+      let n = length widths in
+      let all : AllByRecursion (λ r. r < n) raw.args = all_written n raw.args (sym (unwritten_is formats before widths known raw) ∙ fine.written_before) in
+      let written_all : All (λ r. r < n) (operands (f raw)) = rw (operands_are formats raw.name raw.args (length raw.to) raw.what counts) (All-from_recursion (λ r. r < n) raw.args all) in
+      record {
+        take = take_after before raw.to raw.name raw.args raw.what fine.in_time fine.new;
+        format = its_format raw.to raw.name raw.args raw.what fine.has;
+        written = rw (count_known formats before widths known) written_all;
+      }
+
+  knows_after : (before : List RawInstrValue) (widths : List ℕ) (raw : RawInstrValue) → Knows formats before widths → HasCounts raw → NoFaults formats before raw
+      → Knows formats (before ++ raw ∷ []) (widths ++ replicate (length raw.to) (width_of ARRIVAL formats widths (f raw)))
+  knows_after before widths raw known counts fine =
+      let narrow : width_of ARRIVAL formats widths (f raw) ≤ WIDE = width_within formats before widths known raw counts fine.has fine.narrow in
+      knows_more formats before widths known raw counts fine.has (sym (next_is formats before widths known raw) ∙ fine.next) narrow
+
+  code_after : (before code : List RawInstrValue) (widths : List ℕ) → Knows formats before widths → AllByRecursion HasCounts code → faults_from (instr_faults ARRIVAL WIDE formats) before code ≡ []
+      → EachAfter (IsInstrAfter formats) (map f before) (map f code) × ((ws : List ℕ) × Knows formats (before ++ code) ws)
+  code_after before [] widths known counts none = (tt, (widths, rw append-nil known))
+  code_after before (raw ∷ code) widths known counts none =
+      let parts = both_empty (instr_faults ARRIVAL WIDE formats before raw) (faults_from (instr_faults ARRIVAL WIDE formats) (before ++ raw ∷ []) code) none in
+      let fine = no_faults formats before raw parts.0 in
+      let rest = code_after (before ++ raw ∷ []) code (widths ++ replicate (length raw.to) (width_of ARRIVAL formats widths (f raw))) (knows_after before widths raw known counts.0 fine) counts.1 parts.1 in
+      let next : EachAfter (IsInstrAfter formats) (map f before ++ f raw ∷ []) (map f code) = rw (map_push f before raw) at rest.0 in
+      let all : Knows formats (before ++ raw ∷ code) rest.1.0 = rw (append_assoc before (raw ∷ []) code) at rest.1.1 in
+      ((instr_after before widths raw known counts.0 fine, next), (rest.1.0, all))
+
+pub verified_code : (raw : RawValue) → faults_from format_faults [] raw.formats ≡ [] → faults_from (instr_faults ARRIVAL WIDE raw.formats) [] raw.code ≡ []
+    → All (λ (format : FormatValue). IsSound format.pieces) raw.formats → All HasCounts raw.code → length raw.code + 1 < 2 ^ 32 → length (written raw.code) + 1 < 2 ^ 32
+    → IsVerifiedCode ARRIVAL WIDE (code_of raw)
+verified_code raw no_format_fault no_instr_fault sound counts few_instrs few_registers =
+    let after = code_after raw.formats [] raw.code [] (nothing_known raw.formats) (recursion_from_All HasCounts raw.code counts) no_instr_fault in
+    let known : Knows raw.formats raw.code after.1.0 = after.1.1 in
+    let narrow : All (λ w. w ≤ WIDE) (register_widths ARRIVAL raw.formats (map (instr_of raw.formats) raw.code)) = rw (← known.widths_are) known.narrow in
+    record {
+      formats = (formats_accepted [] raw.formats (omega arith) (recursion_from_All (λ (format : FormatValue). IsSound format.pieces) raw.formats sound) no_format_fault).0;
+      instrs = after.0;
+      narrow = narrow;
+      few_instrs = omega (arith, length-map raw.code (instr_of raw.formats), few_instrs);
+      few_registers = omega (arith, count_known raw.formats raw.code after.1.0 known, length-known raw.formats raw.code after.1.0 known, few_registers);
+    }
+
+pub few_formats : (formats : List FormatValue) → faults_from format_faults [] formats ≡ [] → All (λ (format : FormatValue). IsSound format.pieces) formats → length formats ≤ 64
+few_formats formats none sound =
+    let few = (formats_accepted [] formats (omega arith) (recursion_from_All (λ (format : FormatValue). IsSound format.pieces) formats sound) none).1 in omega (arith, few)

@@ -1,5 +1,5 @@
 -- The rows of an instruction, and faults along a list.
-use Rattle.std.proofs.Common.{◌≡◌, ◌<◌, ◌≤◌, ◌+◌, ◌&&◌, ◌==◌, not, ℕ, zero, suc, nat_lt, nat_le, Bool, true, false, List, [], ◌∷◌, ◌++◌, length, map, take, drop, get_or, refl, sym, ap, ◌∙◌, arith, append_assoc}
+use Rattle.std.proofs.Common.{◌≡◌, ◌<◌, ◌+◌, not, ℕ, Bool, true, false, List, [], ◌∷◌, ◌++◌, length, take, drop, get_or, refl}
 use Rattle.std.proofs.lemmas.List.{drop_more, take_more}
 use Rattle.anb_format.specs.Formats.{FormatValue}
 use Rattle.anb_code.specs.declared.refusal.CodeNo.{CodeNo}

@@ -1,5 +1,5 @@
 -- The faults of a format's shape, and the rows of a format.
-use Rattle.std.proofs.Common.{◌≡◌, ◌≢◌, ◌<◌, ◌+◌, ◌&&◌, ◌||◌, ◌==◌, not, ℕ, zero, suc, nat_lt, Bool, true, false, List, [], ◌∷◌, ◌++◌, length, map, slice_get, Some, Result, Ok, Err, IsOk, OnOk, IfErr, ◌↔◌, refl, sym, ap, ◌∙◌, arith, add-zero, zero-add}
+use Rattle.std.proofs.Common.{◌≡◌, ◌≢◌, ◌<◌, ◌+◌, ◌&&◌, ◌||◌, ◌==◌, not, ℕ, zero, suc, nat_lt, Bool, true, false, List, [], ◌∷◌, ◌++◌, length, map, Some, Result, Ok, Err, IsOk, OnOk, IfErr, ◌↔◌, refl, ap, arith, add-zero, zero-add}
 use Rattle.std.specs.List.{list_any}
 use Rattle.std.proofs.lemmas.Bool.{and_parts, false_from_ne_true}
 use Rattle.anb_format.specs.Formats.{FormatValue, IsEarlyRest, IsFirstEarlyRest, IsSound, field_count, head}
@@ -8,7 +8,6 @@ use Rattle.anb_format.specs.declared.pieces.FormatNo.{FormatNo}
 use Rattle.anb_format.specs.declared.pieces.FormatNo.TheVariants.{NoHead, RestNotLast}
 use Rattle.anb_format.specs.declared.pieces.Piece.{Piece}
 use Rattle.anb_format.specs.declared.pieces.Piece.TheVariants.{Lit, Field}
-use Rattle.anb_code.specs.declared.refusal.CodeNo.{CodeNo}
 use Rattle.anb_code.specs.declared.refusal.CodeNo.TheVariants.{Many, Twice, Shape}
 use Rattle.anb_code.specs.Spelling.{is_named}
 use Rattle.anb_code.specs.Table.{BeginsWith, where_true, is_rest, is_empty, early_rests, shape_faults, format_faults}

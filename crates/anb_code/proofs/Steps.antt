@@ -1,13 +1,12 @@
 -- From what is known of the instructions before to what is known with one more.
-use Rattle.std.proofs.Common.{◌≡◌, ◌<◌, ◌≤◌, ◌+◌, ◌&&◌, not, ℕ, zero, suc, nat_lt, nat_le, Bool, true, false, List, [], ◌∷◌, ◌++◌, length, map, replicate, take, get_or, slice_index, refl, sym, ap, subst, ◌∙◌, arith, append_assoc, lit≤, inl, inr, All}
-use Rattle.std.specs.List.{list_any, flat_map, range_with_len, AllByRecursion, sum_by}
+use Rattle.std.proofs.Common.{◌≡◌, ◌<◌, ◌≤◌, ◌+◌, ℕ, zero, suc, nat_lt, nat_le, true, false, List, [], ◌∷◌, ◌++◌, length, map, replicate, take, get_or, slice_index, refl, sym, ap, ◌∙◌, arith, append_assoc, lit≤, inl, inr}
+use Rattle.std.specs.List.{list_any, range_with_len, AllByRecursion}
 use Rattle.std.specs.Str.{bytes_eq}
-use Rattle.std.proofs.lemmas.Bool.{cases_lt}
+use Rattle.std.proofs.lemmas.Bool.{cases_lt, true≢false}
 use Rattle.std.proofs.lemmas.Bool.Decides.{nat_tests}
 use Rattle.std.proofs.lemmas.List.{append-nil, length-append, length-replicate, map_push}
 use Rattle.std.proofs.lemmas.List.Elements.{All-append, All-from_recursion, recursion_from_All}
 use Rattle.std.proofs.lemmas.List.FromFn.{length-range_with_len}
-use Rattle.std.proofs.lemmas.List.Sums.{sum_by-cons}
 use Rattle.std.proofs.lemmas.Slice.Eq.{bytes_eq-Decides}
 use Rattle.anb_base.specs.declared.TheConstants.{ARRIVAL, WIDE}
 use Rattle.anb_format.specs.Formats.{FormatValue}
@@ -65,7 +64,7 @@ module _ (formats : List FormatValue) (before : List RawInstrValue) (widths : Li
     abbrev width : ℕ
     width = width_of ARRIVAL formats widths (instr_of formats instr)
 
-    pub wide_is : writes_wide ARRIVAL WIDE formats before instr ≡ list_any (nat_lt WIDE) (replicate (count_written formats (instr_of formats instr)) width)
+    wide_is : writes_wide ARRIVAL WIDE formats before instr ≡ list_any (nat_lt WIDE) (replicate (count_written formats (instr_of formats instr)) width)
     wide_is = ap (λ ws. list_any (nat_lt WIDE) (written_widths ARRIVAL formats ws (instr_of formats instr))) (sym known.widths_are)
 
     pub narrow_is : width ≤ WIDE → writes_wide ARRIVAL WIDE formats before instr ≡ false
@@ -117,6 +116,14 @@ module _ (formats : List FormatValue) (before : List RawInstrValue) (widths : Li
         let count = count_written-instr_of formats instr counts has in
         wide_is instr ∙ some_wide WIDE (count_written formats (instr_of formats instr)) (width_of ARRIVAL formats widths (instr_of formats instr)) (omega (arith, count)) wide
     | inr none ↦ absurd (wide (writes_none instr.to instr.name instr.args instr.what counts (omega arith)))
+  ]
+
+  -- and what is not too wide is narrow
+  pub width_within : (instr : RawInstrValue) → HasCounts instr → has_its_format formats instr instr.what ≡ true → writes_wide ARRIVAL WIDE formats before instr ≡ false
+      → width_of ARRIVAL formats widths (instr_of formats instr) ≤ WIDE
+  width_within instr counts has fine = elim (cases_lt WIDE (width_of ARRIVAL formats widths (instr_of formats instr))) [
+    | inr narrow ↦ narrow
+    | inl wide ↦ absurd (true≢false (sym (too_wide_is instr counts has (λ h. omega (arith, h, wide))) ∙ fine))
   ]
 
 pub nothing_known : (formats : List FormatValue) → Knows formats [] []

@@ -1,13 +1,13 @@
 -- In a verified code the takes stand first.
-use Rattle.std.proofs.Common.{◌≡◌, ◌<◌, ◌+◌, ◌||◌, ℕ, zero, suc, not, Bool, true, false, List, [], ◌∷◌, ◌++◌, length, get_or, count_by, cond, zero-add, slice_get, Option, Some, None, inl, inr, refl, sym, ap, ◌∙◌, arith}
-use Rattle.std.specs.List.{AllByRecursion, list_any, sum_by}
+use Rattle.std.proofs.Common.{◌≡◌, ◌<◌, ℕ, zero, suc, not, Bool, true, List, [], ◌∷◌, ◌++◌, length, get_or, count_by, cond, zero-add, slice_get, Some, refl, ap, ◌∙◌, arith}
+use Rattle.std.specs.List.{AllByRecursion, list_any}
 use Rattle.std.proofs.Math.Bool.{or-true}
 use Rattle.std.proofs.lemmas.List.Folds.{list_any-append}
 use Rattle.std.proofs.lemmas.List.Sums.{sum_by-cons}
 use Rattle.anb_format.specs.Formats.{FormatValue}
 use Rattle.anb_code.specs.declared.instr.Instr.{Instr}
-use Rattle.anb_code.specs.declared.instr.Instr.TheVariants.{Take, Fresh, Recv, Hash, Mac, Seal, Unseal, Wrap, Unwrap, Build, Parse, Equal, Send}
-use Rattle.anb_code.specs.Taking.{is_taking, taken_text, take_texts}
+use Rattle.anb_code.specs.declared.instr.Instr.TheVariants.{Take}
+use Rattle.anb_code.specs.Taking.{is_taking, take_texts}
 use Rattle.anb_code.specs.Verified.{EachAfter, IsInstrAfter, IsOtherTake}
 
 more_takes : (instr : Instr) (instrs : List Instr) → count_by is_taking instrs ≡ length (take_texts instrs) → count_by is_taking (instr ∷ instrs) ≡ length (take_texts (instr ∷ instrs))

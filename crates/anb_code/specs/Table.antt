@@ -1,14 +1,13 @@
 -- What is wrong with a code that wasn't verified: the rows of the table, in order.
-use Rattle.std.specs.Prelude.{◌≡◌, ℕ, zero, suc, ◌+◌, nat_lt, ◌==◌, ◌&&◌, ◌||◌, not, Bool, true, false, List, [], ◌∷◌, ◌++◌, length, map, find, Option, Some, None, if◌then◌else◌}
+use Rattle.std.specs.Prelude.{◌≡◌, ℕ, ◌+◌, nat_lt, ◌==◌, ◌&&◌, ◌||◌, not, Bool, true, false, List, [], ◌∷◌, ◌++◌, length, map, find, Option, Some, None, if◌then◌else◌}
 use Rattle.std.specs.List.{list_any, flat_map, range_with_len}
-use Rattle.std.specs.Option.{option_map_or}
 use Rattle.std.specs.Str.{bytes_eq}
 use Rattle.anb_format.specs.Formats.{FormatValue, field_count, head}
 use Rattle.anb_format.specs.declared.pieces.FieldKind.TheVariants.{Rest}
 use Rattle.anb_format.specs.declared.pieces.FormatNo.{FormatNo}
 use Rattle.anb_format.specs.declared.pieces.FormatNo.TheVariants.{NoHead, RestNotLast}
 use Rattle.anb_format.specs.declared.pieces.Piece.{Piece}
-use Rattle.anb_format.specs.declared.pieces.Piece.TheVariants.{Lit, Field}
+use Rattle.anb_format.specs.declared.pieces.Piece.TheVariants.{Field}
 use Rattle.anb_code.specs.declared.raw.What.{What}
 use Rattle.anb_code.specs.declared.raw.What.TheVariants.{Take, Fresh, Recv, Hash, Mac, Seal, Unseal, Wrap, Unwrap, Build, Parse, Equal, Send}
 use Rattle.anb_code.specs.declared.refusal.CodeNo.{CodeNo}

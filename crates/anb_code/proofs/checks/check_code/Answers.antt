@@ -1,4 +1,4 @@
-use Rattle.std.proofs.Common.{List, refl, ◌∙◌, subst, sym, arith, take, length}
+use Rattle.std.proofs.Common.{List, refl, ◌∙◌, subst, sym, arith}
 use Rattle.std.proofs.lemmas.List.{take_more}
 use Rattle.std.proofs.lemmas.Result.{err_from_is_err_and}
 use Rattle.anb_base.specs.declared.TheConstants.{ARRIVAL, WIDE}

@@ -1,11 +1,11 @@
-use Rattle.std.proofs.Common.{◌≡◌, ◌≤◌, ◌++◌, nat_le, length, replicate, ap, ◌∙◌, sym, not, true, false, rules, tests, arith}
+use Rattle.std.proofs.Common.{◌≡◌, ◌≤◌, nat_le, length, ap, ◌∙◌, sym, true, false, rules, tests, arith}
 use Rattle.std.specs.List.{list_any, range_with_len}
 use Rattle.std.specs.Str.{bytes_eq}
 use Rattle.std.proofs.lemmas.Bool.{not_from_true, not_from_false}
 use Rattle.anb_base.specs.declared.TheConstants.{ARRIVAL, WIDE}
 use Rattle.anb_code.specs.Registers.{width_of}
 use Rattle.anb_code.specs.Spelling.{instr_of}
-use Rattle.anb_code.specs.Table.{is_late, is_taken, has_its_format, reads_unwritten, writes_next, writes_wide}
+use Rattle.anb_code.specs.Table.{has_its_format, reads_unwritten, writes_next}
 use Rattle.anb_code.proofs.Rows.{late_first, taken_first, bad_first, unwritten_first, order_first, wide_first, no_fault}
 use Rattle.anb_code.proofs.Steps.{length-known, unwritten_is, next_is, narrow_is, knows_more, too_wide_is}
 use Rattle.anb_code.proofs.checks.check_instr.Goals as goal

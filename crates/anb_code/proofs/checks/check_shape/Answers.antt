@@ -1,6 +1,5 @@
-use Rattle.std.proofs.Common.{◌≡◌, List, ap, ◌∙◌}
+use Rattle.std.proofs.Common.{◌≡◌, ap, ◌∙◌}
 use Rattle.anb_format.specs.Formats.{FormatValue}
-use Rattle.anb_format.specs.declared.pieces.Piece.{Piece}
 use Rattle.anb_code.proofs.Shapes.{checked_fine, checked_refused}
 use Rattle.anb_code.proofs.checks.check_shape.Goals as goal
 

@@ -1,4 +1,4 @@
-use Rattle.std.proofs.Common.{◌++◌, ◌∷◌, [], ◌<◌, ◌^◌, append_assoc, ap, ◌∙◌, length, arith}
+use Rattle.std.proofs.Common.{◌∷◌, [], ◌<◌, ◌^◌, append_assoc, ap, ◌∙◌, length, arith}
 use Rattle.std.proofs.lemmas.List.Elements.{All-tail}
 use Rattle.anb_format.specs.Formats.{FormatValue, IsSound}
 use Rattle.anb_code.proofs.spelling.formats_of.Goals as goal

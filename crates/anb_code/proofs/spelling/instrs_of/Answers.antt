@@ -1,4 +1,4 @@
-use Rattle.std.proofs.Common.{◌++◌, ◌∷◌, [], map, append_assoc, ap, ◌∙◌, sym, length, arith}
+use Rattle.std.proofs.Common.{◌∷◌, [], map, append_assoc, ap, ◌∙◌, length, arith}
 use Rattle.std.proofs.lemmas.List.Elements.{All-tail}
 use Rattle.anb_code.specs.Spelling.{instr_of}
 use Rattle.anb_code.specs.Table.{HasCounts}

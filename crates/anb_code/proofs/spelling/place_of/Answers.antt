@@ -1,10 +1,7 @@
-use Rattle.std.proofs.Common.{◌≡◌, ℕ, ◌≤◌, cond, ltb, Bool, true, false, List, length, Option, Some, None, sym, ◌∙◌, arith}
-use Rattle.std.specs.List.{position, position_or_len, prefix_len}
-use Rattle.std.proofs.lemmas.Bool.{cases_Bool}
+use Rattle.std.proofs.Common.{◌≡◌, ℕ, ◌≤◌, cond, ltb, length, Some, None, sym, ◌∙◌, arith}
 use Rattle.std.proofs.lemmas.Bool.Decides.{nat_tests}
 use Rattle.std.proofs.lemmas.List.Sums.{prefix_len-le-length}
-use Rattle.anb_format.specs.Formats.{FormatValue}
-use Rattle.anb_code.specs.Spelling.{is_named, place_of}
+use Rattle.anb_code.specs.Spelling.{place_of}
 use Rattle.anb_code.proofs.spelling.place_of.Goals as goal
 
 at_the_end : (place many : ℕ) → place ≤ many → cond (ltb place many) (Some place) None ≡ None → many ≡ place
