@@ -11,7 +11,8 @@ use Rattle.anb_plays.specs.Codes.{Act, receives}
 use Rattle.anb_plays.specs.Exec.{exec, IsVerified, HasTakes}
 use Rattle.anb_plays.proofs.Exec.{exec_is_run, takes_ready}
 use Rattle.anb_code.specs.declared.instr.Instr.{Instr}
-use Rattle.anb_code.specs.Meaning.{act_of, take_texts}
+use Rattle.anb_code.specs.Meaning.{act_of}
+use Rattle.anb_code.specs.Taking.{take_texts}
 use Rattle.anb_code.specs.Verified.{IsVerifiedCode, count_registers}
 use Rattle.anb_machine.specs.declared.going.Going.{Going}
 use Rattle.anb_machine.specs.declared.turn.Halt.{Halt}

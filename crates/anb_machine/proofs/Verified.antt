@@ -18,7 +18,8 @@ use Rattle.anb_code.specs.declared.instr.Instr.TheVariants.{Take, Fresh, Recv, H
 use Rattle.anb_code.specs.CodeValue.{CodeValue}
 use Rattle.anb_code.specs.Registers.{operands, pieces_at, count_written}
 use Rattle.anb_code.specs.Verified.{EachAfter, IsFormatAfter, IsOtherTake, HasItsFormat, IsInstrAfter, count_registers, IsVerifiedCode}
-use Rattle.anb_code.specs.Meaning.{act_of, take_texts}
+use Rattle.anb_code.specs.Meaning.{act_of}
+use Rattle.anb_code.specs.Taking.{take_texts}
 use Rattle.anb_machine.specs.Standing.{registers_in}
 use Rattle.anb_machine.specs.Works.{HasFewFields}
 

@@ -1,6 +1,6 @@
 ghost use Rattle.std.specs.Prelude.{◌≡◌, ◌≢◌, ℕ, List, [], ◌∷◌, ◌<◌, length, IsTrue, IfOk, IfSome, false, None};
 ghost use Rattle.anb_plays.specs.Plays.{Played};
-ghost use Rattle.anb_code.specs.Meaning.{take_texts};
+ghost use Rattle.anb_code.specs.Taking.{take_texts};
 ghost use Rattle.anb_machine.specs.ByteRuns.{run_bytes};
 ghost use Rattle.anb_machine.specs.Machines.{gives, left, waits, answer, answer_after, last_after, turn_of, Turned};
 
