@@ -4,6 +4,6 @@ mod Plays
 mod There
 mod Runs
 mod Grows
-mod Exec
+pub mod Exec
 mod Honest
 mod Reaching

@@ -1,0 +1,9 @@
+pub mod CodeValue
+pub mod RawValue
+pub mod Registers
+pub mod Spelling
+pub mod Table
+pub mod Verified
+pub mod Taking
+pub mod Meaning
+pub mod Checking
