@@ -150,3 +150,8 @@ fn receive<W: Wire>(
         Err(FrameNo::Failed) => Err(PlayEnd::ReadFault),
     }
 }
+
+#[cfg(test)]
+mod code_maker;
+#[cfg(test)]
+mod tests;
