@@ -42,13 +42,7 @@ fn start(alloc: Global, code: &RoleCode) -> Result<Machine<'_>, Fail> {
 /// call.
 fn wire(alloc: Global, input: &[u8], piece: u32, fails: u32) -> Result<MemWire, Fail> {
     let input = Bytes::new(Vec::from_slice(alloc, input)?);
-    Ok(MemWire::new(
-        alloc,
-        input,
-        piece.max(1),
-        16,
-        vec![in alloc; fails]?,
-    )?)
+    Ok(MemWire::new(alloc, input, piece.max(1), 16, vec![in alloc; fails]?)?)
 }
 
 /// Plays a code over an input, and tests the end and what was written and left unread.
@@ -88,7 +82,15 @@ fn a_sender_ends_by_the_answer(rt: HostRuntime) -> Result<(), Fail> {
     plays(&rt, alloc, &code, ping, PlayEnd::Done, ping, 0)?;
     plays(&rt, alloc, &code, b"\0\0\0\x02ac", stopped, ping, 0)?;
     plays(&rt, alloc, &code, b"", PlayEnd::Waiting(2), ping, 0)?;
-    plays(&rt, alloc, &code, b"\0\0\0\x02ab\0\0", PlayEnd::Done, ping, 2)
+    plays(
+        &rt,
+        alloc,
+        &code,
+        b"\0\0\0\x02ab\0\0",
+        PlayEnd::Done,
+        ping,
+        2,
+    )
 }
 
 #[test]
@@ -110,7 +112,15 @@ fn an_input_ends_at_a_border_or_within_a_frame(rt: HostRuntime) -> Result<(), Fa
     let code = receiver(alloc, 2)?;
     let short = PlayEnd::Truncated { have: 2, need: 4 };
     plays(&rt, alloc, &code, b"\0\0", short, b"", 0)?;
-    plays(&rt, alloc, &code, b"\0\0\0\x01a", PlayEnd::Waiting(2), b"", 0)?;
+    plays(
+        &rt,
+        alloc,
+        &code,
+        b"\0\0\0\x01a",
+        PlayEnd::Waiting(2),
+        b"",
+        0,
+    )?;
     let within = PlayEnd::Truncated { have: 5, need: 7 };
     plays(&rt, alloc, &code, b"\0\0\0\x01a\0\0\0\x03b", within, b"", 0)
 }
