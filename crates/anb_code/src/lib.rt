@@ -38,3 +38,6 @@ pub fn verify(alloc: Global, raw: RawCode) -> Result<RoleCode, CodeNo>
 {
     RoleCode::verified(alloc, raw)
 }
+
+#[cfg(test)]
+mod tests;
