@@ -128,16 +128,10 @@ fn a_ping_is_verified(rt: HostRuntime) -> Result<(), Fail> {
     assert_eq!(rt; code.role().as_str(), "A");
     assert_eq!(rt; code.suite(), Suite::One);
     assert_eq!(rt; code.formats().len(), 0);
-    assert!(rt;
-        matches!(
-            code.instrs(),
-            [
-                Instr::Take(_),
-                Instr::Send(0),
-                Instr::Recv,
-                Instr::Equal(0, 1)
-            ]
-        )
+    are_spelled(
+        &rt,
+        code.instrs(),
+        &[[0, 0, 0, 0], [12, 0, 0, 0], [2, 0, 0, 0], [11, 0, 1, 0]],
     );
     assert_eq!(rt; code.fresh(), 0);
     let takes = code.takes();
@@ -192,28 +186,58 @@ fn each_instruction_is_spelled(rt: HostRuntime) -> Result<(), Fail> {
     };
     assert_eq!(rt; code.takes(), 2);
     assert_eq!(rt; code.fresh(), 1);
-    assert!(rt;
-        matches!(
-            code.instrs(),
-            [
-                Instr::Take(_),
-                Instr::Take(_),
-                Instr::Fresh,
-                Instr::Hash(2),
-                Instr::Mac(0, 3),
-                Instr::Seal(0, 4),
-                Instr::Wrap(0, 1, 5),
-                Instr::Build(1, _),
-                Instr::Send(7),
-                Instr::Recv,
-                Instr::Parse(1, 8),
-                Instr::Unseal(0, 9),
-                Instr::Unwrap(0, 1, 10),
-                Instr::Equal(11, 12),
-            ]
-        )
-    );
+    let wants = [
+        [0, 0, 0, 0],
+        [0, 0, 0, 0],
+        [1, 0, 0, 0],
+        [3, 2, 0, 0],
+        [4, 0, 3, 0],
+        [5, 0, 4, 0],
+        [7, 0, 1, 5],
+        [9, 1, 2, 6],
+        [12, 7, 0, 0],
+        [2, 0, 0, 0],
+        [10, 1, 8, 0],
+        [6, 0, 9, 0],
+        [8, 0, 1, 10],
+        [11, 11, 12, 0],
+    ];
+    are_spelled(&rt, code.instrs(), &wants);
     Ok(())
+}
+
+/// The kind of an instruction, by its place among all kinds, and three of its numbers; of a build
+/// of two operands the format, 2, and the first.
+fn numbers(instr: &Instr) -> [u32; 4] {
+    match instr {
+        Instr::Take(_) => [0, 0, 0, 0],
+        Instr::Fresh => [1, 0, 0, 0],
+        Instr::Recv => [2, 0, 0, 0],
+        Instr::Hash(r) => [3, *r, 0, 0],
+        Instr::Mac(k, b) => [4, *k, *b, 0],
+        Instr::Seal(k, b) => [5, *k, *b, 0],
+        Instr::Unseal(k, c) => [6, *k, *c, 0],
+        Instr::Wrap(k, d, b) => [7, *k, *d, *b],
+        Instr::Unwrap(k, d, c) => [8, *k, *d, *c],
+        Instr::Build(f, rs) => build_numbers(*f, rs.as_slice()),
+        Instr::Parse(f, r) => [10, u32::from(*f), *r, 0],
+        Instr::Equal(a, b) => [11, *a, *b, 0],
+        Instr::Send(r) => [12, *r, 0, 0],
+    }
+}
+
+fn build_numbers(format: u16, operands: &[u32]) -> [u32; 4] {
+    match operands {
+        [first, _] => [9, u32::from(format), 2, *first],
+        _ => [9, u32::from(format), 0, 0],
+    }
+}
+
+fn are_spelled(rt: &impl Abort, instrs: &[Instr], wants: &[[u32; 4]]) {
+    assert_eq!(rt; instrs.len(), wants.len());
+    for (i, want) in wants.iter().enumerate() {
+        assert_eq!(rt; numbers(&instrs[i]), *want, "instruction {i}");
+    }
 }
 
 /// So many formats without fields, f0 and so on.
