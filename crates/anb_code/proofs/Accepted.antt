@@ -32,11 +32,11 @@ pub begins_after : {A : Type 0} (xs ys : List A) (x : A) → xs ≡ [] → Begin
 begins_after xs ys x none b = (b.0, rw none b.1)
 
 -- lists together empty are empty each
-both_empty : {A : Type 0} (xs ys : List A) → xs ++ ys ≡ [] → (xs ≡ []) × (ys ≡ [])
+pub both_empty : {A : Type 0} (xs ys : List A) → xs ++ ys ≡ [] → (xs ≡ []) × (ys ≡ [])
 both_empty [] ys e = (refl, e)
 both_empty (x ∷ xs) ys e = cc
 
-holds_not : {A : Type 0} (b : Bool) (x : A) → where_true b x ≡ [] → b ≡ false
+pub holds_not : {A : Type 0} (b : Bool) (x : A) → where_true b x ≡ [] → b ≡ false
 holds_not true x e = cc
 holds_not false x e = refl
 
@@ -171,8 +171,13 @@ operands_are formats name args to Send counts = one_item args counts.1
 length-widths_after : (arrival : ℕ) (formats : List FormatValue) (widths : List ℕ) (instrs : List Instr) → length (widths_after arrival formats widths instrs) ≡ length widths + count_registers formats instrs
 length-widths_after arrival formats widths [] = omega arith
 length-widths_after arrival formats widths (x ∷ xs) =
-    omega (arith, length-widths_after arrival formats (widths ++ written_widths arrival formats widths x) xs, length-append widths (written_widths arrival formats widths x),
-        length-replicate (count_written formats x) (width_of arrival formats widths x), sum_by-cons (count_written formats) x xs)
+    omega (
+      arith,
+      length-widths_after arrival formats (widths ++ written_widths arrival formats widths x) xs,
+      length-append widths (written_widths arrival formats widths x),
+      length-replicate (count_written formats x) (width_of arrival formats widths x),
+      sum_by-cons (count_written formats) x xs,
+    )
 
 pub count_known : (formats : List FormatValue) (before : List RawInstrValue) (widths : List ℕ) → Knows formats before widths → count_registers formats (map (instr_of formats) before) ≡ length widths
 count_known formats before widths known =

@@ -5,3 +5,5 @@ pub mod Naming
 pub mod Steps
 pub mod Takes
 pub mod Accepted
+pub mod Widening
+pub mod Runnable

@@ -55,6 +55,13 @@ module _ (formats : List FormatValue) (before : List RawInstrValue) (widths : Li
   length-known = ap length known.registers ∙ length-range_with_len 0 (length widths)
 
   module _ (instr : RawInstrValue) where
+    -- the rows on registers, by how many there are
+    pub unwritten_by : (n : ℕ) → n ≡ length widths → reads_unwritten before instr ≡ list_any (nat_le n) instr.args
+    unwritten_by n many = any_unwritten (length widths) (written before) instr.args known.registers ∙ ap (λ k. list_any (nat_le k) instr.args) (sym many)
+
+    pub next_by : (n : ℕ) → n ≡ length widths → writes_next before instr ≡ bytes_eq instr.to (range_with_len n (length instr.to))
+    next_by n many = ap (λ k. bytes_eq instr.to (range_with_len k (length instr.to))) (length-known ∙ sym many)
+
     pub unwritten_is : reads_unwritten before instr ≡ list_any (nat_le (length widths)) instr.args
     unwritten_is = any_unwritten (length widths) (written before) instr.args known.registers
 

@@ -7,3 +7,4 @@ pub mod Verified
 pub mod Taking
 pub mod Meaning
 pub mod Checking
+pub mod Laws

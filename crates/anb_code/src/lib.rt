@@ -11,6 +11,7 @@ ghost use Rattle.anb_code.specs.Table.{HasCounts, IsAccepted, IsFirstFault, writ
 mod checks;
 mod code;
 mod instr;
+mod laws;
 mod raw;
 mod refusal;
 mod spelling;
@@ -18,6 +19,7 @@ mod spelling;
 use anb_base::{ARRIVAL, WIDE};
 pub use code::RoleCode;
 pub use instr::{Instr, Registers};
+pub use laws::{verified_is_runnable, wider_limits_accept};
 pub use raw::{RawCode, RawFormat, RawInstr, What};
 pub use refusal::CodeNo;
 use std::alloc::Global;
@@ -36,3 +38,6 @@ pub fn verify(alloc: Global, raw: RawCode) -> Result<RoleCode, CodeNo>
 {
     RoleCode::verified(alloc, raw)
 }
+
+#[cfg(test)]
+mod tests;

@@ -14,6 +14,6 @@ pub use machine::Machine;
 pub use turn::{Halt, Turn};
 
 #[cfg(test)]
-mod code_maker;
+mod codes;
 #[cfg(test)]
 mod tests;

@@ -6,4 +6,5 @@ mod Runs
 mod Grows
 pub mod Exec
 mod Honest
+mod HonestPlays
 mod Reaching

@@ -28,4 +28,4 @@ returns-in_err-check_instr-clause-refused c =
     let p = err_from_is_err_and c.from_residual.result c.from_residual.ensures.1 in
     let P = λ (faults : List CodeNo). BeginsWith faults c.in_err-check_instr.field-0.0 in
     rw (p.1, p.2) (λ other. subst P c.loop-i.invariant.faults
-        (stopped_at (instr_faults ARRIVAL WIDE c.args.formats.now) c.args.code.now c.loop-i.i c.index-code-i.result c.in_err-check_instr.field-0.0 c.loop-i-test.true c.index-code-i.is (c.in_err-check_instr.ensures.refused other)))
+    (stopped_at (instr_faults ARRIVAL WIDE c.args.formats.now) c.args.code.now c.loop-i.i c.index-code-i.result c.in_err-check_instr.field-0.0 c.loop-i-test.true c.index-code-i.is (c.in_err-check_instr.ensures.refused other)))

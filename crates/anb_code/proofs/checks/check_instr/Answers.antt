@@ -7,7 +7,7 @@ use Rattle.anb_code.specs.Registers.{width_of}
 use Rattle.anb_code.specs.Spelling.{instr_of}
 use Rattle.anb_code.specs.Table.{has_its_format, reads_unwritten, writes_next}
 use Rattle.anb_code.proofs.Rows.{late_first, taken_first, bad_first, unwritten_first, order_first, wide_first, no_fault}
-use Rattle.anb_code.proofs.Steps.{length-known, unwritten_is, next_is, narrow_is, knows_more, too_wide_is}
+use Rattle.anb_code.proofs.Steps.{length-known, unwritten_by, next_by, narrow_is, knows_more, too_wide_is}
 use Rattle.anb_code.proofs.checks.check_instr.Goals as goal
 
 pub overflow_cast-registers : goal.overflow_cast-registers
@@ -28,18 +28,15 @@ pub returns-then-reads_unwritten-clause-refused : goal.returns-then-reads_unwrit
 returns-then-reads_unwritten-clause-refused c =
     let has_format : has_its_format c.args.formats.now c.args.instr.now c.args.instr.now.what ≡ true = search (rules, tests) in
     let many : c.len-registers.result ≡ length c.args.widths.now.items = omega arith in
-    let unwritten : reads_unwritten c.args.before.now c.args.instr.now ≡ true =
-    unwritten_is c.args.formats.now c.args.before.now c.args.widths.now.items c.requires.known c.args.instr.now ∙ ap (λ n. list_any (nat_le n) c.args.instr.now.args) (sym many) ∙ sym c.if-reads_unwritten.ensures in
+    let unwritten : reads_unwritten c.args.before.now c.args.instr.now ≡ true = unwritten_by c.args.formats.now c.args.before.now c.args.widths.now.items c.requires.known c.args.instr.now c.len-registers.result many ∙ sym c.if-reads_unwritten.ensures in
     λ other. unwritten_first ARRIVAL WIDE c.args.formats.now c.args.before.now c.args.instr.now (search (rules, tests)) (search (rules, tests)) (not_from_true _ has_format) unwritten
 
 pub returns-then-not-writes_next-clause-refused : goal.returns-then-not-writes_next-clause-refused
 returns-then-not-writes_next-clause-refused c =
     let has_format : has_its_format c.args.formats.now c.args.instr.now c.args.instr.now.what ≡ true = search (rules, tests) in
     let many : c.len-registers.result ≡ length c.args.widths.now.items = omega arith in
-    let is_written : reads_unwritten c.args.before.now c.args.instr.now ≡ false =
-    unwritten_is c.args.formats.now c.args.before.now c.args.widths.now.items c.requires.known c.args.instr.now ∙ ap (λ n. list_any (nat_le n) c.args.instr.now.args) (sym many) ∙ sym c.if-reads_unwritten.ensures in
-    let unordered : writes_next c.args.before.now c.args.instr.now ≡ false =
-    next_is c.args.formats.now c.args.before.now c.args.widths.now.items c.requires.known c.args.instr.now ∙ ap (λ n. bytes_eq c.args.instr.now.to (range_with_len n (length c.args.instr.now.to))) (sym many) ∙ sym c.if-not-writes_next.ensures in
+    let is_written : reads_unwritten c.args.before.now c.args.instr.now ≡ false = unwritten_by c.args.formats.now c.args.before.now c.args.widths.now.items c.requires.known c.args.instr.now c.len-registers.result many ∙ sym c.if-reads_unwritten.ensures in
+    let unordered : writes_next c.args.before.now c.args.instr.now ≡ false = next_by c.args.formats.now c.args.before.now c.args.widths.now.items c.requires.known c.args.instr.now c.len-registers.result many ∙ sym c.if-not-writes_next.ensures in
     λ other. order_first ARRIVAL WIDE c.args.formats.now c.args.before.now c.args.instr.now (search (rules, tests)) (search (rules, tests)) (not_from_true _ has_format) is_written (not_from_false _ unordered)
 
 pub returns-in_default-clause-refused : goal.returns-in_default-clause-refused
@@ -47,10 +44,8 @@ returns-in_default-clause-refused c =
     let widths = c.args.widths.now.items in
     let has_format : has_its_format c.args.formats.now c.args.instr.now c.args.instr.now.what ≡ true = search (rules, tests) in
     let many : c.len-registers.result ≡ length widths = omega arith in
-    let is_written : reads_unwritten c.args.before.now c.args.instr.now ≡ false =
-    unwritten_is c.args.formats.now c.args.before.now widths c.requires.known c.args.instr.now ∙ ap (λ n. list_any (nat_le n) c.args.instr.now.args) (sym many) ∙ sym c.if-reads_unwritten.ensures in
-    let ordered : writes_next c.args.before.now c.args.instr.now ≡ true =
-    next_is c.args.formats.now c.args.before.now widths c.requires.known c.args.instr.now ∙ ap (λ n. bytes_eq c.args.instr.now.to (range_with_len n (length c.args.instr.now.to))) (sym many) ∙ sym c.if-not-writes_next.ensures in
+    let is_written : reads_unwritten c.args.before.now c.args.instr.now ≡ false = unwritten_by c.args.formats.now c.args.before.now widths c.requires.known c.args.instr.now c.len-registers.result many ∙ sym c.if-reads_unwritten.ensures in
+    let ordered : writes_next c.args.before.now c.args.instr.now ≡ true = next_by c.args.formats.now c.args.before.now widths c.requires.known c.args.instr.now c.len-registers.result many ∙ sym c.if-not-writes_next.ensures in
     let same : c.deref.result.now ≡ widths = c.deref.ensures.value in
     let none = rw c.in_default.is at c.in_ok-width.ensures in
     let too_wide : width_of ARRIVAL c.args.formats.now widths (instr_of c.args.formats.now c.args.instr.now) ≤ WIDE → ⊥ = rw same at none in
@@ -62,10 +57,8 @@ returns-clause-fine c =
     let widths = c.args.widths.now.items in
     let has_format : has_its_format c.args.formats.now c.args.instr.now c.args.instr.now.what ≡ true = search (rules, tests) in
     let many : c.len-registers.result ≡ length widths = omega arith in
-    let is_written : reads_unwritten c.args.before.now c.args.instr.now ≡ false =
-    unwritten_is c.args.formats.now c.args.before.now widths c.requires.known c.args.instr.now ∙ ap (λ n. list_any (nat_le n) c.args.instr.now.args) (sym many) ∙ sym c.if-reads_unwritten.ensures in
-    let ordered : writes_next c.args.before.now c.args.instr.now ≡ true =
-    next_is c.args.formats.now c.args.before.now widths c.requires.known c.args.instr.now ∙ ap (λ n. bytes_eq c.args.instr.now.to (range_with_len n (length c.args.instr.now.to))) (sym many) ∙ sym c.if-not-writes_next.ensures in
+    let is_written : reads_unwritten c.args.before.now c.args.instr.now ≡ false = unwritten_by c.args.formats.now c.args.before.now widths c.requires.known c.args.instr.now c.len-registers.result many ∙ sym c.if-reads_unwritten.ensures in
+    let ordered : writes_next c.args.before.now c.args.instr.now ≡ true = next_by c.args.formats.now c.args.before.now widths c.requires.known c.args.instr.now c.len-registers.result many ∙ sym c.if-not-writes_next.ensures in
     let same : c.deref.result.now ≡ widths = c.deref.ensures.value in
     let some = rw c.in-Some.is at c.in_ok-width.ensures in
     let narrow : width_of ARRIVAL c.args.formats.now widths (instr_of c.args.formats.now c.args.instr.now) ≤ WIDE = rw same at some.0 in

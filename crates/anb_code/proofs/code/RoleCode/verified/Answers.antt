@@ -27,9 +27,9 @@ returns-in_err-check_code-clause-refused c =
     let code : c.deref-3.result.now ≡ raw.code = c.deref-3.ensures.value ∙ ap (λ (r : RawValue). r.code) c.raw.view_is in
     let none = subst (λ (fs : List FormatValue). faults_from format_faults [] fs ≡ []) formats c.in_ok-check_formats.ensures.fine in
     rw (p.1, p.2) (λ other.
-      let here = subst (λ (fs : List FormatValue). BeginsWith (faults_from (instr_faults ARRIVAL WIDE fs) [] c.deref-3.result.now) fault) made (c.in_err-check_code.ensures.refused other) in
-      let first = subst (λ (is : List RawInstrValue). BeginsWith (faults_from (instr_faults ARRIVAL WIDE raw.formats) [] is) fault) code here in
-      begins_after (faults_from format_faults [] raw.formats) (faults_from (instr_faults ARRIVAL WIDE raw.formats) [] raw.code) fault none first)
+    let here = subst (λ (fs : List FormatValue). BeginsWith (faults_from (instr_faults ARRIVAL WIDE fs) [] c.deref-3.result.now) fault) made (c.in_err-check_code.ensures.refused other) in
+    let first = subst (λ (is : List RawInstrValue). BeginsWith (faults_from (instr_faults ARRIVAL WIDE raw.formats) [] is) fault) code here in
+    begins_after (faults_from format_faults [] raw.formats) (faults_from (instr_faults ARRIVAL WIDE raw.formats) [] raw.code) fault none first)
 
 pub instrs_of-requires-clause-few : goal.instrs_of-requires-clause-few
 instrs_of-requires-clause-few c =
@@ -46,7 +46,7 @@ invariant_of-result c =
     let checked : c.deref-2.result.now ≡ inside.formats.items = c.deref-2.ensures.value ∙ made in
     let code : c.deref-3.result.now ≡ inside.code.items = c.deref-3.ensures.value in
     let spelled : c.in_ok-instrs.instrs.items ≡ map (instr_of inside.formats.items) inside.code.items =
-        c.in_ok-instrs.ensures ∙ ap (λ (fs : List FormatValue). map (instr_of fs) inside.code.items) (c.deref-4.ensures.value ∙ made) in
+    c.in_ok-instrs.ensures ∙ ap (λ (fs : List FormatValue). map (instr_of fs) inside.code.items) (c.deref-4.ensures.value ∙ made) in
     let same : inside.code.items ≡ c.args.raw.code = ap (λ (r : RawValue). r.code) c.raw.view_is in
     let no_format_fault = subst (λ (fs : List FormatValue). faults_from format_faults [] fs ≡ []) given c.in_ok-check_formats.ensures.fine in
     let sound = subst (λ (fs : List FormatValue). All (λ (format : FormatValue). IsSound format.pieces) fs) given c.in_ok-check_formats.ensures.sound in
