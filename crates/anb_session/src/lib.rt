@@ -152,6 +152,6 @@ fn receive<W: Wire>(
 }
 
 #[cfg(test)]
-mod code_maker;
+mod codes;
 #[cfg(test)]
 mod tests;

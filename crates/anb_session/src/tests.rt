@@ -1,40 +1,22 @@
-use crate::code_maker::CodeMaker;
+use crate::codes::code;
 use crate::{PlayEnd, play};
-use anb_base::{Bytes, Failed, MemWire, read_full};
-use anb_code::{RoleCode, What};
+use anb_base::{Bytes, MemWire, read_full};
+use anb_code::RoleCode;
 use anb_machine::{Halt, Machine};
 use std::alloc::Global;
 use std::process::Abort;
 use std::test::Fail;
 
-/// Sends the value that it knows, and compares what comes.
-fn sender(alloc: Global) -> Result<RoleCode, Fail> {
-    let mut maker = CodeMaker::new(alloc);
-    maker.write(alloc, What::Take, "N")?;
-    maker.read(alloc, What::Send, &[0])?;
-    maker.write(alloc, What::Recv, "")?;
-    maker.read(alloc, What::Equal, &[0, 1])?;
-    maker.code(alloc)
-}
+/// Sends what it knows, and compares it with what comes.
+const SENDER: &str = "take N; send 0; recv; equal 0 1";
 
-/// Takes so many arrivals.
-fn receiver(alloc: Global, count: u32) -> Result<RoleCode, Fail> {
-    let mut maker = CodeMaker::new(alloc);
-    for _ in 0..count {
-        maker.write(alloc, What::Recv, "")?;
-    }
-    maker.code(alloc)
-}
-
-/// A machine over these initial values, each of which is `ab`.
-fn start(alloc: Global, code: &RoleCode) -> Result<Machine<'_>, Fail> {
+/// A machine over initial values, each of which is `ab`.
+fn start<'c>(rt: &impl Abort, alloc: Global, code: &'c RoleCode) -> Result<Machine<'c>, Fail> {
     let mut init = Vec::new(alloc);
     for _ in 0..code.takes() {
         init.push(Bytes::new(Vec::from_slice(alloc, b"ab")?))?;
     }
-    if code.takes() as usize != init.len() {
-        return Err(Failed.into());
-    }
+    assert!(rt; code.takes() as usize == init.len());
     Ok(Machine::start(alloc, code, &init, &[0; 32], 0)?)
 }
 
@@ -56,7 +38,7 @@ fn plays(
     unread: usize,
 ) -> Result<(), Fail> {
     for piece in [1_000, 1_000_000] {
-        let mut machine = start(alloc, code)?;
+        let mut machine = start(rt, alloc, code)?;
         let mut wire = wire(alloc, input, piece, 0)?;
         assert_eq!(rt; play(alloc, &mut machine, &mut wire), end);
         assert_eq!(rt; wire.written(), written);
@@ -76,7 +58,7 @@ fn frame_of(alloc: Global, len: u32) -> Result<Vec<u8>, Fail> {
 #[test]
 fn a_sender_ends_by_the_answer(rt: HostRuntime) -> Result<(), Fail> {
     let alloc = rt.alloc();
-    let code = sender(alloc)?;
+    let code = code(&rt, alloc, SENDER)?;
     let ping = b"\0\0\0\x02ab";
     let stopped = PlayEnd::Stopped(Halt { event: 2, at: 4 });
     plays(&rt, alloc, &code, ping, PlayEnd::Done, ping, 0)?;
@@ -96,7 +78,7 @@ fn a_sender_ends_by_the_answer(rt: HostRuntime) -> Result<(), Fail> {
 #[test]
 fn an_arrival_has_up_to_262144_bytes(rt: HostRuntime) -> Result<(), Fail> {
     let alloc = rt.alloc();
-    let code = receiver(alloc, 1)?;
+    let code = code(&rt, alloc, "recv")?;
     for len in [0, 65_537, 262_144] {
         let input = frame_of(alloc, len)?;
         plays(&rt, alloc, &code, &input, PlayEnd::Done, b"", 0)?;
@@ -109,7 +91,7 @@ fn an_arrival_has_up_to_262144_bytes(rt: HostRuntime) -> Result<(), Fail> {
 #[test]
 fn an_input_ends_at_a_border_or_within_a_frame(rt: HostRuntime) -> Result<(), Fail> {
     let alloc = rt.alloc();
-    let code = receiver(alloc, 2)?;
+    let code = code(&rt, alloc, "recv; recv")?;
     let short = PlayEnd::Truncated { have: 2, need: 4 };
     plays(&rt, alloc, &code, b"\0\0", short, b"", 0)?;
     plays(
@@ -126,37 +108,40 @@ fn an_input_ends_at_a_border_or_within_a_frame(rt: HostRuntime) -> Result<(), Fa
 }
 
 /// What a sender's play answers where this call fails, and how many bytes it wrote of its frame.
-fn ends_failing(alloc: Global, code: &RoleCode, call: u32) -> Result<(PlayEnd, usize), Fail> {
-    let mut machine = start(alloc, code)?;
+fn ends_failing(
+    rt: &impl Abort,
+    alloc: Global,
+    code: &RoleCode,
+    call: u32,
+) -> Result<(PlayEnd, usize), Fail> {
+    let mut machine = start(rt, alloc, code)?;
     let mut wire = wire(alloc, b"\0\0\0\x02ab", 1, call)?;
     let end = play(alloc, &mut machine, &mut wire);
-    if !b"\0\0\0\x02ab".starts_with(wire.written()) {
-        return Err(Failed.into());
-    }
+    assert!(rt; b"\0\0\0\x02ab".starts_with(wire.written()));
     Ok((end, wire.written().len()))
 }
 
 #[test]
 fn a_fault_at_any_call_is_answered(rt: HostRuntime) -> Result<(), Fail> {
     let alloc = rt.alloc();
-    let code = sender(alloc)?;
+    let code = code(&rt, alloc, SENDER)?;
     for call in 1..7 {
-        let end = ends_failing(alloc, &code, call)?;
+        let end = ends_failing(&rt, alloc, &code, call)?;
         assert_eq!(rt; end, (PlayEnd::WriteFault, call as usize - 1));
     }
     for call in 7..13 {
-        let end = ends_failing(alloc, &code, call)?;
+        let end = ends_failing(&rt, alloc, &code, call)?;
         assert_eq!(rt; end, (PlayEnd::ReadFault, 6));
     }
-    assert_eq!(rt; ends_failing(alloc, &code, 13)?, (PlayEnd::Done, 6));
+    assert_eq!(rt; ends_failing(&rt, alloc, &code, 13)?, (PlayEnd::Done, 6));
     Ok(())
 }
 
 #[test]
 fn a_machine_that_waits_goes_on_over_another_wire(rt: HostRuntime) -> Result<(), Fail> {
     let alloc = rt.alloc();
-    let code = sender(alloc)?;
-    let mut machine = start(alloc, &code)?;
+    let code = code(&rt, alloc, SENDER)?;
+    let mut machine = start(&rt, alloc, &code)?;
     let mut first = wire(alloc, b"\0\0", 16, 0)?;
     let short = PlayEnd::Truncated { have: 2, need: 4 };
     assert_eq!(rt; play(alloc, &mut machine, &mut first), short);
