@@ -1,7 +1,8 @@
 -- A run over the values of registers is the code's run.
-use Rattle.std.proofs.Common.{◌≡◌, ℕ, zero, suc, ◌+◌, ◌≤◌, List, [], ◌∷◌, ◌++◌, length, take, Some, refl, sym, ap, ◌∙◌, subst, inl, inr, ◌⊎◌, arith, length-append}
+use Rattle.std.proofs.Common.{◌≡◌, ℕ, zero, suc, ◌+◌, ◌≤◌, List, [], ◌∷◌, ◌++◌, length, take, Bool, Some, refl, sym, ap, ◌∙◌, subst, inl, inr, ◌⊎◌, arith, length-append}
 use Rattle.std.specs.Prelude.{slice_get}
 use Rattle.std.proofs.lemmas.List.{take_all}
+use Rattle.anb_term.specs.declared.term.Op.{Op}
 use Rattle.anb_term.specs.Lawful.{Lawful}
 use Rattle.anb_term.specs.Value.{Meaning, RecipeTree, label, recipe_trees, values}
 use Rattle.anb_term.proofs.Lists.{slice_get-there}
@@ -87,3 +88,8 @@ module _ {A : Type 0} (m : Meaning A) (lawful : Lawful m) (draw : ℕ → A) whe
 pub exec_is_run : {A : Type 0} (m : Meaning A) → Lawful m → ExecIsRun m
 unfolding labels
 exec_is_run m lawful draw code init arrivals h = starts m lawful draw code 0 init 0 arrivals h
+
+-- a code with its takes first is verified, with their registers written
+pub takes_ready : (has : Op → Bool) (acts : List Act) (k n : ℕ) → HasTakes has acts k n → IsVerified has acts n
+takes_ready has (takes ∷ acts) k n h = takes_ready has acts (suc k) n h
+takes_ready has acts k n h = h.1

@@ -4,5 +4,7 @@ mod Plays
 mod There
 mod Runs
 mod Grows
-mod Exec
+pub mod Exec
 mod Honest
+mod HonestPlays
+mod Reaching

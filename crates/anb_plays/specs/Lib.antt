@@ -6,3 +6,4 @@ pub mod Fits
 pub mod Exec
 pub mod Honest
 pub mod Statements
+pub mod Reaches

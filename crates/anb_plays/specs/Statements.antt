@@ -1,5 +1,5 @@
 -- Laws on plays, runs and codes that fit.
-use Rattle.std.specs.Prelude.{◌≡◌, ℕ, List, [], ◌++◌, length, map, IsTrue, Some, ◌⊎◌}
+use Rattle.std.specs.Prelude.{◌≡◌, ℕ, List, [], ◌++◌, length, map, take, IsTrue, Some, slice_get, ◌⊎◌}
 use Rattle.anb_term.specs.Tree.{Tree, trees_of, AreFormed}
 use Rattle.anb_term.specs.Value.{Meaning, RecipeTree, value}
 use Rattle.anb_term.specs.Lawful.{AreValues}
@@ -11,7 +11,7 @@ use Rattle.anb_plays.specs.Codes.{Act}
 use Rattle.anb_plays.specs.Runs.{run, without_place}
 use Rattle.anb_plays.specs.Fits.{Fits}
 use Rattle.anb_plays.specs.Exec.{exec, HasTakes}
-use Rattle.anb_plays.specs.Honest.{honest}
+use Rattle.anb_plays.specs.Honest.{honest, honest_play, heard, made, LabelsAreFormed}
 
 -- q goes on from where p waited, or is p where that was over, with these arrivals left as well
 abbrev pub Grows : {A : Type 0} → Played A → Played A → List A → Type 0
@@ -53,3 +53,9 @@ module _ {A : Type 0} (m : Meaning A) where
   HonestAgree = (atoms : ℕ → A) (frame : List Tree) → ((n : ℕ) → IsTrue (m.is_value (atoms n))) → AreFormed m.has (trees_of frame)
       → AreValues m (map (honest m atoms) frame) × Agree m frame (map (honest m atoms) frame)
       × ((r : RecipeTree) (t : Tree) → value (terms_over m.has) frame r ≡ Some t → value m (map (honest m atoms) frame) r ≡ Some (honest m atoms t))
+
+  -- where the labels of a role have values by the form of their terms, its play never stops: it sends the value of each message by its form
+  abbrev pub HonestPlays : Type 0
+  HonestPlays = (draw : ℕ → A) (atoms : ℕ → A) (plan : List Event) (n : ℕ) → ((k : ℕ) → IsTrue (m.is_value (atoms k))) → Sendable m.has plan → LabelsAreFormed m.has plan
+      → ((i : ℕ) (t : Tree) → slice_get (made plan) i ≡ Some t → draw i ≡ honest m atoms t)
+      → Play m draw plan (map (honest m atoms) (known plan)) (map (honest m atoms) (take n (heard plan))) (honest_play m atoms plan n)

@@ -1,6 +1,7 @@
 // What holds of plays, of runs and of codes that fit, in every lawful algebra.
 
-ghost use Rattle.anb_plays.specs.Statements.{PlaysAreOne, PlaysAreThere, RunsAsPlayed, ExecIsRun, RunGrows, HonestAgree};
+ghost use Rattle.anb_plays.specs.Statements.{PlaysAreOne, PlaysAreThere, RunsAsPlayed, ExecIsRun, RunGrows, HonestAgree, HonestPlays};
+ghost use Rattle.anb_plays.specs.Reaches.{ReachesOn, ReachesFit};
 
 use anb_term::Algebra;
 use anb_term::laws::new_atom_agrees;
@@ -43,6 +44,22 @@ pub fn run_grows<A: Algebra>(a: &A)
 /// Labels with honest values agree, and each recipe has the honest value of its term.
 pub fn honest_agree<A: Algebra>(a: &A)
     ensures { HonestAgree (A.meaning a.now) }
+{
+    let _ = a;
+}
+
+/// A role that hears honest values alone never stops, and sends honest values.
+pub fn honest_plays<A: Algebra>(a: &A)
+    ensures { HonestPlays (A.meaning a.now) }
+{
+    let _ = a;
+}
+
+/// A code that was made piece by piece fits, where each piece goes on from the place before it and
+/// enough is asked at the end.
+pub fn pieces_fit<A: Algebra>(a: &A)
+    ensures on { ReachesOn (A.meaning a.now) }
+    ensures fit { ReachesFit (A.meaning a.now) }
 {
     let _ = a;
 }

@@ -1,0 +1,9 @@
+pub mod Shapes
+pub mod Rows
+pub mod Numbers
+pub mod Naming
+pub mod Steps
+pub mod Takes
+pub mod Accepted
+pub mod Widening
+pub mod Runnable

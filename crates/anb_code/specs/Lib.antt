@@ -1,0 +1,10 @@
+pub mod CodeValue
+pub mod RawValue
+pub mod Registers
+pub mod Spelling
+pub mod Table
+pub mod Verified
+pub mod Taking
+pub mod Meaning
+pub mod Checking
+pub mod Laws

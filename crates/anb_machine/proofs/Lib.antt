@@ -1,0 +1,4 @@
+pub mod Works
+pub mod Verified
+pub mod Steps
+pub mod Turns

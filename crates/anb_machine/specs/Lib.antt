@@ -1,0 +1,5 @@
+pub mod ByteRuns
+pub mod Machines
+pub mod Standing
+pub mod Works
+pub mod Inside

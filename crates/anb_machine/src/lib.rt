@@ -1,0 +1,19 @@
+//! A code's run, one turn at a time.
+//!
+//! A machine does instructions until it has a message to hand out, wants an arrival, is done, or a
+//! demand fails. It takes the memory for its registers when it starts.
+#![tactic(auto)]
+
+mod going;
+mod machine;
+mod table;
+mod turn;
+mod work;
+
+pub use machine::Machine;
+pub use turn::{Halt, Turn};
+
+#[cfg(test)]
+mod codes;
+#[cfg(test)]
+mod tests;

@@ -1,0 +1,56 @@
+-- What comes of a session: of a run whose arrivals are the frames of a wire's input.
+use Rattle.std.specs.Prelude.{◌≡◌, ℕ, List, ◌++◌, take, Bool, true, false, Option}
+use Rattle.anb_base.specs.Moves.{Took, Put, PutPrefix, AtEnd}
+use Rattle.anb_base.specs.declared.TheConstants.{ARRIVAL}
+use Rattle.anb_frame.specs.Frames.{frames, length_bytes}
+use Rattle.anb_frame.specs.Cuts.{Tail, End, Short, Long, Cut}
+use Rattle.anb_plays.specs.Plays as plays
+use Rattle.anb_plays.specs.Plays.{Played}
+use Rattle.anb_session.specs.declared.PlayEnd.{PlayEnd}
+use Rattle.anb_session.specs.declared.PlayEnd.TheVariants.{Done, Stopped, Waiting, Truncated, TooLarge, ReadFault, WriteFault, NoMemory}
+
+-- how a run that ended so ends over an input with this tail
+abbrev pub end_at : plays.End → Tail → PlayEnd
+end_at plays.done tail = Done
+end_at (plays.stopped e at) tail = Stopped (record { event = e; at = at })
+end_at (plays.waiting e) End = Waiting e
+end_at (plays.waiting e) (Short have need) = Truncated have need
+end_at (plays.waiting e) (Long len) = TooLarge len
+
+-- all that was left was taken
+abbrev pub TookAll : Option (List ℕ) → Option (List ℕ) → Type 0
+TookAll left now = (taken : List ℕ) × Took left now taken × AtEnd now
+
+-- what was taken, from left to now, by a run that ended so: the frames of the arrivals that were used. Where it
+-- waits all of them were, and the tail is taken too, a long one up to the end of its length
+abbrev pub Reads : plays.End → (arrivals unused : List (List ℕ)) → Tail → (left now : Option (List ℕ)) → Type 0
+Reads (plays.waiting e) arrivals unused End left now = TookAll left now
+Reads (plays.waiting e) arrivals unused (Short have need) left now = TookAll left now
+Reads (plays.waiting e) arrivals unused (Long len) left now = Took left now (frames arrivals ++ length_bytes len)
+Reads end arrivals unused tail left now = (used : List (List ℕ)) × (arrivals ≡ used ++ unused) × Took left now (frames used)
+
+-- R is the run, and the input that is left is the frames of these arrivals and this tail
+module _ (R : List (List ℕ) → Played (List ℕ)) (arrivals : List (List ℕ)) (tail : Tail) (left now written written_now : Option (List ℕ)) where
+  -- the run came to its end, and all its messages are written in frames
+  abbrev pub Concludes : PlayEnd → Type 0
+  Concludes result =
+      (result ≡ end_at (R arrivals).end tail) × Put written written_now (frames (R arrivals).sent) × Reads (R arrivals).end arrivals (R arrivals).left tail left now
+
+  -- what is written and taken with each end. After a fault of writing a prefix of the messages' frames is written.
+  -- Before a fault of reading what was taken had whole arrivals, over which the run waits, and its messages there are
+  -- written. Where memory was wanted whole frames of the first messages are written
+  abbrev pub Runs : PlayEnd → Type 0
+  Runs WriteFault = PutPrefix written written_now (frames (R arrivals).sent)
+  Runs ReadFault =
+      (taken : List ℕ) × (whole : List (List ℕ)) × (part : Tail) × (e : ℕ) × Took left now taken × Cut ARRIVAL taken whole part
+      × ((R whole).end ≡ plays.waiting e) × Put written written_now (frames (R whole).sent)
+  Runs NoMemory = (k : ℕ) × Put written written_now (frames (take k (R arrivals).sent))
+  Runs result = Concludes result
+
+-- the run waits for an arrival that was not handed in
+abbrev pub waits_at : PlayEnd → Bool
+waits_at (Waiting e) = true
+waits_at (Truncated have need) = true
+waits_at (TooLarge len) = true
+waits_at ReadFault = true
+waits_at _ = false

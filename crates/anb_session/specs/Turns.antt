@@ -1,0 +1,36 @@
+-- What one turn of a session does.
+use Rattle.std.specs.Prelude.{◌≡◌, ℕ, ◌≤◌, List, [], ◌∷◌, length, Option}
+use Rattle.anb_base.specs.Moves.{Took}
+use Rattle.anb_base.specs.declared.TheConstants.{ARRIVAL}
+use Rattle.anb_frame.specs.Frames.{frame}
+use Rattle.anb_frame.specs.Cuts.{Tail, CutLeft}
+use Rattle.anb_plays.specs.Plays.{Played, ends, waiting}
+use Rattle.anb_session.specs.declared.PlayEnd.{PlayEnd}
+use Rattle.anb_session.specs.Sessions.{Runs}
+
+-- the run came to this end, whatever cut the input has
+abbrev pub Ends : (List (List ℕ) → Played (List ℕ)) → (left now written written_now : Option (List ℕ)) → PlayEnd → Type 0
+Ends R left now written written_now end = (arrivals : List (List ℕ)) (tail : Tail) → CutLeft ARRIVAL left arrivals tail → Runs R arrivals tail left now written written_now end
+
+-- the same of each run that sends this message first
+abbrev pub EndsSending : List ℕ → (left now written written_now : Option (List ℕ)) → PlayEnd → Type 0
+EndsSending message left now written written_now end =
+    (R : List (List ℕ) → Played (List ℕ)) → ((arrivals : List (List ℕ)) → (sent : List (List ℕ)) × ((R arrivals).sent ≡ message ∷ sent))
+    → Ends R left now written written_now end
+
+-- and of each run that waits for its next arrival at this event
+abbrev pub EndsWaiting : ℕ → (left now written written_now : Option (List ℕ)) → PlayEnd → Type 0
+EndsWaiting event left now written written_now end =
+    (R : List (List ℕ) → Played (List ℕ)) → (R [] ≡ ends (waiting event) []) → Ends R left now written written_now end
+
+-- an arrival was taken in its frame
+pub record Receives (b : List ℕ) (left now : Option (List ℕ)) : Type 0 where
+  pub fits : length b ≤ ARRIVAL
+  pub took : Took left now (frame b)
+  pub first : (arrivals : List (List ℕ)) (tail : Tail) → CutLeft ARRIVAL left arrivals tail → (rest : List (List ℕ)) × (arrivals ≡ b ∷ rest) × CutLeft ARRIVAL now rest tail
+
+-- what comes of the run R' from here on comes of the run R from there on
+pub record Continues (R R' : List (List ℕ) → Played (List ℕ)) (left left' written written' : Option (List ℕ)) : Type 0 where
+  pub each : (arrivals : List (List ℕ)) (tail : Tail) → CutLeft ARRIVAL left arrivals tail
+      → (rest : List (List ℕ)) × CutLeft ARRIVAL left' rest tail
+      × ((now written_now : Option (List ℕ)) (end : PlayEnd) → Runs R' rest tail left' now written' written_now end → Runs R arrivals tail left now written written_now end)
