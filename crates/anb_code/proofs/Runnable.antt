@@ -1,6 +1,6 @@
 -- A verified code's acts are ready for a run over registers.
-use Rattle.std.proofs.Common.{◌≡◌, ◌<◌, ◌+◌, ◌-◌, ℕ, zero, suc, Bool, true, false, IsTrue, List, [], ◌∷◌, ◌++◌, length, map, slice_get, Some, refl, sym, ap, subst, ◌∙◌, arith, zero-add, All}
-use Rattle.std.specs.List.{AllByRecursion, sum_by}
+use Rattle.std.proofs.Common.{◌≡◌, ◌<◌, ◌+◌, ◌-◌, ℕ, zero, suc, Bool, IsTrue, List, [], ◌∷◌, ◌++◌, length, map, slice_get, Some, refl, sym, ap, subst, ◌∙◌, arith, zero-add, All}
+use Rattle.std.specs.List.{AllByRecursion}
 use Rattle.std.specs.Option.{option_map_or}
 use Rattle.std.proofs.lemmas.List.{length-append}
 use Rattle.std.proofs.lemmas.List.Elements.{All-from_recursion, recursion_from_All}
@@ -8,8 +8,8 @@ use Rattle.std.proofs.lemmas.List.Sums.{sum_by_push}
 use Rattle.anb_format.specs.Formats.{FormatValue, IsSound, field_count}
 use Rattle.anb_term.specs.declared.term.Op.{Op}
 use Rattle.anb_term.specs.declared.term.Op.TheVariants as op
-use Rattle.anb_plays.specs.Codes.{Act, takes, draws, receives, sends, works, make, undo, equal}
-use Rattle.anb_plays.specs.Exec.{HasTakes, IsReady, IsVerified, NoTakes}
+use Rattle.anb_plays.specs.Codes.{Act}
+use Rattle.anb_plays.specs.Exec.{HasTakes, IsVerified, NoTakes}
 use Rattle.anb_code.specs.declared.instr.Instr.{Instr}
 use Rattle.anb_code.specs.declared.instr.Instr.TheVariants.{Take, Fresh, Recv, Hash, Mac, Seal, Unseal, Wrap, Unwrap, Build, Parse, Equal, Send}
 use Rattle.anb_code.specs.CodeValue.{CodeValue}
@@ -17,7 +17,7 @@ use Rattle.anb_code.specs.Meaning.{IsOperator, act_of, acts_of}
 use Rattle.anb_code.specs.Registers.{count_written, operands, pieces_at}
 use Rattle.anb_code.specs.Taking.{take_texts}
 use Rattle.anb_code.specs.Verified.{EachAfter, IsFormatAfter, IsInstrAfter, IsVerifiedCode, count_registers}
-use Rattle.anb_code.proofs.Takes.{is_other, no_takes, other_last}
+use Rattle.anb_code.proofs.Takes.{no_takes, other_last}
 
 sound_at : (before formats : List FormatValue) (f : ℕ) (format : FormatValue) → EachAfter IsFormatAfter before formats → slice_get formats f ≡ Some format → IsSound format.pieces
 sound_at before [] f format each e = cc

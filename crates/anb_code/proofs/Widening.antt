@@ -1,17 +1,15 @@
 -- With four times the limits no width is more than four times as wide.
-use Rattle.std.proofs.Common.{◌≡◌, ◌<◌, ◌≤◌, ◌+◌, ◌*◌, not, ℕ, zero, suc, nat_lt, Bool, true, false, List, [], ◌∷◌, ◌++◌, length, map, replicate, slice_index, refl, sym, ap, ◌∙◌, arith}
-use Rattle.std.specs.Prelude.{max}
+use Rattle.std.proofs.Common.{◌≡◌, ◌≤◌, ◌+◌, ◌*◌, not, ℕ, zero, suc, nat_lt, false, List, [], ◌∷◌, ◌++◌, length, map, replicate, slice_index, refl, arith}
 use Rattle.std.specs.List.{AllZip, list_any}
 use Rattle.std.proofs.lemmas.Bool.{or_parts, ltb-false, le-ltb}
 use Rattle.anb_format.specs.Formats.{FormatValue}
-use Rattle.anb_format.specs.Widths.{field_width, format_width, pieces_width}
+use Rattle.anb_format.specs.Widths.{field_width, pieces_width}
 use Rattle.anb_format.specs.declared.pieces.FieldKind.{FieldKind}
 use Rattle.anb_format.specs.declared.pieces.FieldKind.TheVariants as kind
 use Rattle.anb_format.specs.declared.pieces.Piece.{Piece}
 use Rattle.anb_format.specs.declared.pieces.Piece.TheVariants.{Lit, Field}
 use Rattle.anb_code.specs.declared.instr.Instr.{Instr}
-use Rattle.anb_code.specs.declared.instr.Instr.TheVariants.{Take, Fresh, Recv, Hash, Mac, Seal, Unseal, Wrap, Unwrap, Build, Parse, Equal, Send}
-use Rattle.anb_code.specs.declared.refusal.CodeNo.{CodeNo}
+use Rattle.anb_code.specs.declared.instr.Instr.TheVariants.{Seal, Unseal, Wrap, Unwrap, Build, Parse}
 use Rattle.anb_code.specs.declared.refusal.CodeNo.TheVariants.{Late, TakeTwice, BadFormat, Unwritten, Order, Wide}
 use Rattle.anb_code.specs.RawValue.{RawInstrValue, RawValue}
 use Rattle.anb_code.specs.Registers.{count_written, pieces_at, register_widths, widths_after, width_of, written_widths}

@@ -76,6 +76,18 @@ fn has_counts(instr: &RawInstr) -> bool
     }
 }
 
+fn count_destinations(instr: &RawInstr) -> usize
+    ensures { result ≡ length instr.now.to }
+{
+    instr.to.len()
+}
+
+fn count_pieces(format: &RawFormat) -> usize
+    ensures { result ≡ length format.now.pieces }
+{
+    format.pieces.len()
+}
+
 /// Asserts that the counts are those of the grammar, and that no instruction writes many registers.
 fn assert_counts(rt: &impl Abort, code: &[RawInstr])
     ensures counts { All HasCounts code.now }
@@ -83,7 +95,7 @@ fn assert_counts(rt: &impl Abort, code: &[RawInstr])
 {
     for instr in code {
         assert!(rt; has_counts(instr));
-        assert!(rt; instr.to.len() <= 1000);
+        assert!(rt; count_destinations(instr) <= 1000);
     }
 }
 
@@ -91,7 +103,7 @@ fn assert_pieces(rt: &impl Abort, formats: &[RawFormat])
     ensures { All (λ format. length format.pieces < 2 ^ 32) formats.now }
 {
     for format in formats {
-        assert!(rt; format.pieces.len() <= 1000);
+        assert!(rt; count_pieces(format) <= 1000);
     }
 }
 
