@@ -1,4 +1,6 @@
-ghost use Rattle.std.specs.Prelude.{◌≡◌, count_by};
+ghost use Rattle.std.specs.Prelude.{◌≡◌, ◌≢◌, ◌<◌, ◌+◌, ◌^◌, length, count_by, All, IfOk, OnOk, IfErr};
+ghost use Rattle.anb_code.specs.Spelling.{code_of};
+ghost use Rattle.anb_code.specs.Table.{HasCounts, IsAccepted, IsFirstFault, written};
 ghost use Rattle.anb_code.specs.Taking.{is_taking};
 
 use crate::checks::{check_code, check_formats};
@@ -31,43 +33,42 @@ impl Model for RoleCode {
     ghost invariant = { λ c. IsVerifiedCode ARRIVAL WIDE (record { protocol = c.protocol; role = c.role; suite = c.suite; formats = c.formats.items; instrs = c.instrs.items }) };
 }
 
-impl RoleCode {
-    ghost use Rattle.std.specs.Prelude.{◌≡◌, ◌≢◌, ◌<◌, ◌+◌, ◌^◌, length, slice_get, Some, All, IfOk, OnOk, IfErr};
-    ghost use Rattle.anb_code.specs.Taking.{count_fresh, take_texts};
-    ghost use Rattle.anb_code.specs.Spelling.{code_of};
-    ghost use Rattle.anb_code.specs.Table.{HasCounts, IsAccepted, IsFirstFault, written};
-    ghost use Rattle.anb_code.specs.Verified.{IsVerifiedCode};
+/// Checks a code. Its formats are looked at first, in order, and then its instructions; the first
+/// fault decides. A code that is accepted is made of the same names, formats and instructions.
+pub fn verify(alloc: Global, raw: RawCode) -> Result<RoleCode, CodeNo>
+    requires counts { All HasCounts raw.code }
+    requires formats { length raw.formats + 1 < 2 ^ 32 }
+    requires pieces { All (λ format. length format.pieces < 2 ^ 32) raw.formats }
+    requires instrs { length raw.code + 1 < 2 ^ 32 }
+    requires destinations { length (written raw.code) + 1 < 2 ^ 32 }
+    ensures accepted { OnOk result (IsAccepted ARRIVAL WIDE raw) }
+    ensures code { IfOk result (λ code. code ≡ code_of raw) }
+    ensures refused { IfErr result (λ no. no ≢ CodeNo.NoMemory → IsFirstFault ARRIVAL WIDE raw no) }
+{
+    let RawCode {
+        protocol,
+        role,
+        suite,
+        formats,
+        code,
+    } = raw;
+    check_formats(&formats)?;
+    let formats = formats_of(alloc, formats)?;
+    check_code(alloc, &formats, &code)?;
+    let instrs = instrs_of(alloc, &formats, code)?;
+    Ok(RoleCode {
+        protocol,
+        role,
+        suite,
+        formats,
+        instrs,
+    })
+}
 
-    /// Does the work of [`crate::verify`].
-    pub(crate) fn verified(alloc: Global, raw: RawCode) -> Result<Self, CodeNo>
-        requires counts { All HasCounts raw.code }
-        requires formats { length raw.formats + 1 < 2 ^ 32 }
-        requires pieces { All (λ format. length format.pieces < 2 ^ 32) raw.formats }
-        requires instrs { length raw.code + 1 < 2 ^ 32 }
-        requires destinations { length (written raw.code) + 1 < 2 ^ 32 }
-        ensures accepted { OnOk result (IsAccepted ARRIVAL WIDE raw) }
-        ensures code { IfOk result (λ code. code ≡ code_of raw) }
-        ensures refused { IfErr result (λ no. no ≢ CodeNo.NoMemory → IsFirstFault ARRIVAL WIDE raw no) }
-    {
-        let RawCode {
-            protocol,
-            role,
-            suite,
-            formats,
-            code,
-        } = raw;
-        check_formats(&formats)?;
-        let formats = formats_of(alloc, formats)?;
-        check_code(alloc, &formats, &code)?;
-        let instrs = instrs_of(alloc, &formats, code)?;
-        Ok(RoleCode {
-            protocol,
-            role,
-            suite,
-            formats,
-            instrs,
-        })
-    }
+impl RoleCode {
+    ghost use Rattle.std.specs.Prelude.{◌≡◌, ◌<◌, length, slice_get, Some};
+    ghost use Rattle.anb_code.specs.Taking.{count_fresh, take_texts};
+    ghost use Rattle.anb_code.specs.Verified.{IsVerifiedCode};
 
     pub fn protocol(&self) -> &Text
         ensures { result.now ≡ self.now.protocol }

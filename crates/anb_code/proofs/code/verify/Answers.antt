@@ -6,7 +6,7 @@ use Rattle.anb_code.specs.RawValue.{RawInstrValue, RawValue}
 use Rattle.anb_code.specs.Spelling.{instr_of}
 use Rattle.anb_code.specs.Table.{BeginsWith, HasCounts, faults_from, format_faults, instr_faults, written}
 use Rattle.anb_code.proofs.Accepted.{begins, begins_after, few_formats, verified_code}
-use Rattle.anb_code.proofs.code.RoleCode.verified.Goals as goal
+use Rattle.anb_code.proofs.code.verify.Goals as goal
 
 pub returns-in_err-check_formats-clause-refused : goal.returns-in_err-check_formats-clause-refused
 returns-in_err-check_formats-clause-refused c =
