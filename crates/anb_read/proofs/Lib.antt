@@ -26,3 +26,4 @@ pub mod Walks
 pub mod Lexed
 pub mod Literals
 pub mod Leveled
+pub mod Sizing

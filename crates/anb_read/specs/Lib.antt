@@ -8,5 +8,6 @@ pub mod Plain
 pub mod Productions
 pub mod Reading
 pub mod Refusals
+pub mod Sizes
 pub mod Trees
 pub mod Tellings

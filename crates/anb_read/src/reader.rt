@@ -6,6 +6,7 @@ ghost use Rattle.anb_syntax.specs.Views.{narration_of};
 ghost use Rattle.anb_syntax.specs.Text.{Text};
 ghost use Rattle.anb_read.specs.Laws.{NarrationsAreUnique, RefusalsAreUnique, NoneIsBoth};
 ghost use Rattle.anb_read.specs.Refusals.{IsRefusal, UnlessNoMemory};
+ghost use Rattle.anb_read.specs.Sizes.{size};
 ghost use Rattle.anb_read.specs.declared.refusal.ReadNo.{ReadNo as No};
 
 use crate::places::places;
@@ -20,8 +21,9 @@ pub fn read(alloc: Global, text: &[u8]) -> Result<Narration, ReadNo>
     // What is read is the text's narration, and each narration's text is read.
     ensures found { IfOk result (λ n. Text (narration_of n) text.now) }
     ensures only { (n : Told) → Text n text.now → MatchResult result (λ m. narration_of m ≡ n) (λ e. e ≡ ReadNo.NoMemory) }
-    // It can be spelled, which calls on narrations ask for.
+    // It can be spelled, and is no larger than its text, which calls on narrations ask for.
     ensures spellable { IfOk result (λ n. IsSpellable (narration_of n)) }
+    ensures size { IfOk result (λ n. size (narration_of n) ≤ length text.now) }
     // What is refused has the refusal, and each text with a refusal is refused so.
     ensures refused { IfErr result (λ e. UnlessNoMemory e (IsRefusal text.now e)) }
     ensures exact { (e : No) → IsRefusal text.now e → MatchResult result (λ n. ⊥) (λ f. (f ≡ e) ⊎ (f ≡ ReadNo.NoMemory)) }

@@ -1,10 +1,12 @@
-use Rattle.std.proofs.Common.{List, sym, subst, ◌∙◌}
+use Rattle.std.proofs.Common.{List, sym, subst, ◌∙◌, ◌≤◌, length}
 use Rattle.anb_syntax.specs.Lexing.{Lexes}
-use Rattle.anb_syntax.specs.Grammar.{Narration, IsSpellable}
+use Rattle.anb_syntax.specs.Grammar.{Narration, IsSpellable, told}
 use Rattle.anb_syntax.specs.Text.{Text}
 use Rattle.anb_read.specs.Places.{toks}
 use Rattle.anb_read.specs.Tellings.{written_of}
 use Rattle.anb_read.specs.declared.places.Place.{Place}
+use Rattle.anb_read.specs.Sizes.{size}
+use Rattle.anb_read.proofs.Sizing.{text_size}
 use Rattle.anb_read.proofs.Answering.{ok_found, ok_spellable, ok_only, ok_exact, err_refused, err_only, err_exact}
 use Rattle.anb_read.proofs.reader.read.Goals as goal
 
@@ -31,3 +33,8 @@ returns-clause-exact c why r = err_exact c.args.text.now (toks c.args.text.now c
 pub returns-in-Ok-clause-spellable : goal.returns-in-Ok-clause-spellable
 returns-in-Ok-clause-spellable c =
     subst IsSpellable (sym c.told.ensures) (ok_spellable c.args.text.now (toks c.args.text.now c.deref.result.now) (let P = λ (vs : List Place). Lexes 0 c.args.text.now (toks c.args.text.now vs) in subst P (sym c.deref.ensures.value) c.in_ok-all.ensures) (written_of c.in-Ok.written) (toks c.args.text.now c.in-Ok._rest.now) c.in-Ok.ensures)
+
+pub returns-in-Ok-clause-size : goal.returns-in-Ok-clause-size
+returns-in-Ok-clause-size c =
+    let P : Narration → Type 0 = λ n. size n ≤ length c.args.text.now in
+    subst P (sym c.told.ensures) (text_size (told (written_of c.in-Ok.written)) c.args.text.now (ok_found c.args.text.now (toks c.args.text.now c.deref.result.now) (let P = λ (vs : List Place). Lexes 0 c.args.text.now (toks c.args.text.now vs) in subst P (sym c.deref.ensures.value) c.in_ok-all.ensures) (written_of c.in-Ok.written) (toks c.args.text.now c.in-Ok._rest.now) c.in-Ok.ensures))
