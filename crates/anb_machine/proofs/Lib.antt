@@ -2,3 +2,4 @@ pub mod Works
 pub mod Verified
 pub mod Steps
 pub mod Turns
+pub mod Counts
