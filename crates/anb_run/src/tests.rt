@@ -221,7 +221,7 @@ fn fmt_comes_to_faults_in_order(rt: HostRuntime) -> Result<(), Fail> {
 #[test]
 fn a_narration_has_at_most_a_mebibyte(rt: HostRuntime) -> Result<(), Fail> {
     let mut narration = String::from_str(rt.alloc(), PING)?;
-    while narration.len() < 1_048_576 {
+    for _ in PING.len()..1_048_576 {
         narration.push(' ')?;
     }
     let met = run_with(rt.alloc(), &["fmt", "n"], &narration, b"", &[])?;
