@@ -9,5 +9,5 @@ mod Marks
 mod All
 mod Ordering
 mod Frames
-mod Exact
+pub mod Exact
 mod Counting

@@ -1,10 +1,10 @@
 pub mod Growing
 pub mod Registers
-mod Plays
-mod There
-mod Runs
-mod Grows
+pub mod Plays
+pub mod There
+pub mod Runs
+pub mod Grows
 pub mod Exec
-mod Honest
+pub mod Honest
 mod HonestPlays
-mod Reaching
+pub mod Reaching

@@ -4,6 +4,7 @@ pub mod Grammar
 pub mod Levels
 pub mod Text
 pub mod Canon
+pub mod Sizes
 pub mod Views
 pub mod Nexts
 pub mod Scanning
