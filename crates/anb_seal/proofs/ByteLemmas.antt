@@ -1,17 +1,17 @@
 -- Which lists are bytes.
-use Rattle.std.proofs.Common.{◌≡◌, ◌<◌, ◌+◌, ◌/◌, ◌%◌, ℕ, zero, suc, Bool, true, false, ◌&&◌, nat_lt, List, [], ◌∷◌, ◌++◌, length, take, drop, bit_xor, Some, refl, ap, sym, ◌∙◌, arith}
+use Rattle.std.proofs.Common.{◌≡◌, ◌<◌, ◌+◌, ◌*◌, ◌/◌, ◌%◌, ℕ, zero, suc, Bool, true, false, ◌&&◌, nat_lt, List, [], ◌∷◌, ◌++◌, length, take, drop, bit_xor, Some, refl, ap, sym, ◌∙◌, arith}
 use Rattle.std.specs.Int.{w32, w64, to_le_bytes, to_be_bytes}
 use Rattle.std.proofs.lemmas.List.Folds.{list_all-append}
 use Rattle.std.proofs.lemmas.Nat.{xor_lt}
 use Rattle.std.proofs.lemmas.Bool.Decides.{Decides-ltb}
 use Rattle.std.specs.Prelude.{slice_index}
-use Rattle.rand_chacha.specs.ChaCha.{word_at}
+use Rattle.rand_chacha.specs.ChaCha.{word_at, key_of}
 use Rattle.sha2.specs.Sha256 as one
 use Rattle.sha2.specs.Sha512 as two
 use Rattle.anb_base.specs.Bytes.{is_bytes}
 use Rattle.anb_base.specs.declared.content.Suite.{Suite}
 use Rattle.anb_base.specs.declared.content.Suite.TheVariants.{One, Two}
-use Rattle.anb_seal.specs.Streams.{word_bytes, stream_bytes, key_stream, xored}
+use Rattle.anb_seal.specs.Streams.{word_bytes, stream_bytes, key_stream, draw_of, xored}
 use Rattle.anb_seal.specs.Primitives.{hash_of, mac_of, cut, tag_of, masked, closed, opened}
 use Rattle.anb_seal.proofs.Closed.{opened_closes, rest_is_message}
 
@@ -84,10 +84,13 @@ pub bytes-mac_of : (suite : Suite) (k m : List ℕ) → is_bytes (mac_of suite k
 unfolding mac_of
 bytes-mac_of suite k m = bytes-hash_of suite _
 
-bytes-stream : (key : List ℕ) (stream i n : ℕ) → is_bytes (stream_bytes key stream i n) ≡ true
+pub bytes-stream : (key : List ℕ) (stream i n : ℕ) → is_bytes (stream_bytes key stream i n) ≡ true
 unfolding word_bytes
 bytes-stream key stream i zero = refl
 bytes-stream key stream i (suc n) = bytes-append (word_bytes key stream i) (stream_bytes key stream (i + 1) n) (le_bytes (word_at 10 key stream i)) (bytes-stream key stream (i + 1) n)
+
+pub bytes-draw_of : (seed : List ℕ) (session i : ℕ) → is_bytes (draw_of seed session i) ≡ true
+bytes-draw_of seed session i = bytes-stream (key_of seed) session (8 * i) 8
 
 bytes-key_stream : (key : List ℕ) (n : ℕ) → is_bytes (key_stream key n) ≡ true
 unfolding key_stream

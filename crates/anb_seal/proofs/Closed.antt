@@ -45,20 +45,6 @@ closes suite stream_key tag_key head c m rest tag =
     ∙ ap (λ (t : List ℕ). take 32 c ++ t) (masked_twice suite stream_key (take 32 c) (drop 32 c))
     ∙ take-append-drop 32 c
 
--- a tag and a message, after the message was masked in its place
-pub closed_in_place : (suite : Suite) (stream_key tag_key head m key before after : List ℕ)
-    → before ≡ tag_of suite tag_key head m ++ m → key ≡ cut (mac_of suite stream_key (tag_of suite tag_key head m))
-    → after ≡ take 32 before ++ xored (drop 32 before) (key_stream key (length (drop 32 before)))
-    → after ≡ closed suite stream_key tag_key head m
-closed_in_place suite stream_key tag_key head m key before after held derived e =
-    let tag = tag_of suite tag_key head m in
-    let size = length-tag_of suite tag_key head m in
-    let front : take 32 before ≡ tag = ap (take 32) held ∙ take_at tag m 32 size in
-    let rest : drop 32 before ≡ m = ap (drop 32) held ∙ drop_at tag m 32 size in
-    e ∙ ap (λ (t : List ℕ). t ++ xored (drop 32 before) (key_stream key (length (drop 32 before)))) front
-    ∙ ap (λ (t : List ℕ). tag ++ xored t (key_stream key (length t))) rest
-    ∙ ap (λ (t : List ℕ). tag ++ xored m (key_stream t (length m))) derived
-
 -- ---- the laws of opening
 
 if_some : (b : Bool) (x m : List ℕ) → (if b then Some x else None) ≡ Some m → (b ≡ true) × (x ≡ m)

@@ -1,5 +1,5 @@
 -- The bytes of the words of a stream.
-use Rattle.std.proofs.Common.{◌≡◌, ◌+◌, ◌*◌, ◌%◌, ◌^◌, ◌<◌, ℕ, zero, suc, List, ◌++◌, length, refl, ap, sym, ◌∙◌, arith, length-append}
+use Rattle.std.proofs.Common.{◌≡◌, ◌+◌, ◌*◌, ◌%◌, ◌^◌, ◌<◌, ℕ, zero, suc, List, ◌++◌, length, refl, ap, sym, ◌∙◌, arith, zero-add, length-append}
 use Rattle.std.proofs.lemmas.List.{append_assoc}
 use Rattle.std.specs.Int.{w32, to_le_bytes}
 use Rattle.rand_chacha.specs.ChaCha.{ChaCha, next_word}
@@ -29,6 +29,10 @@ stream_bytes-add key stream i (suc m) n =
     ∙ ap (λ t. word_bytes key stream i ++ t) (stream_bytes-add key stream (i + 1) m n)
     ∙ sym (append_assoc (word_bytes key stream i) (stream_bytes key stream (i + 1) m) (stream_bytes key stream (i + 1 + m) n))
     ∙ ap (λ (k : ℕ). stream_bytes key stream i (suc m) ++ stream_bytes key stream k n) place
+
+-- the first words of a stream, and those from there on
+pub stream_bytes-split : (key : List ℕ) (stream m n : ℕ) → stream_bytes key stream 0 (m + n) ≡ stream_bytes key stream 0 m ++ stream_bytes key stream m n
+stream_bytes-split key stream m n = rw (zero-add m) at (stream_bytes-add key stream 0 m n)
 
 -- the next word of a generator, and the place after it
 pub next_bytes : (before after : ChaCha) (word : ℕ) → (word, after) ≡ next_word 10 before

@@ -126,7 +126,8 @@ pub fn draw(seed: &[u8; 32], session: u32, i: u32) -> [u8; 32]
     ensures { result ≡ draw_of seed.now session i }
 {
     let mut bytes = [0u8; 32];
-    stream::mask(seed, session, 8 * u64::from(i), &mut bytes);
+    let mut words = stream::words_from(seed, session, 8 * u64::from(i));
+    stream::fill(&mut words, &mut bytes);
     bytes
 }
 

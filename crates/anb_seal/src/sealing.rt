@@ -107,10 +107,7 @@ fn close<H: SuiteHash>(
     ensures { IfOk result (λ c. c ≡ closed H.suite stream_key.now tag_key.now head.now m.now) }
 {
     let tag = short_mac::<H>(tag_key, head, m);
-    let mut bytes = Vec::with_capacity(alloc, TAG + m.len())?;
-    bytes.extend_from_slice(&tag)?;
-    bytes.extend_from_slice(m)?;
-    mask_after_tag(&short_mac::<H>(stream_key, &[], &tag), &mut bytes);
+    let bytes = masked_after::<H>(alloc, &tag, stream_key, &tag, m)?;
     Ok(Bytes::new(bytes))
 }
 
@@ -130,7 +127,7 @@ fn open<H: SuiteHash>(
         return Ok(None);
     }
     let (tag, body) = c.split_at(TAG);
-    let m = masked::<H>(alloc, stream_key, tag, body)?;
+    let m = masked_after::<H>(alloc, &[], stream_key, tag, body)?;
     if short_mac::<H>(tag_key, head, &m).as_slice() == tag {
         Ok(Some(Bytes::new(m)))
     } else {
@@ -138,18 +135,20 @@ fn open<H: SuiteHash>(
     }
 }
 
-/// The bytes xor the stream of a tag.
-fn masked<H: SuiteHash>(
+/// A front, and after it the bytes xor the stream of a tag.
+fn masked_after<H: SuiteHash>(
     alloc: Global,
+    front: &[u8],
     stream_key: &[u8],
     tag: &[u8],
     bytes: &[u8],
 ) -> Result<Vec<u8>, NoMemory>
-    ensures { IfOk result (λ v. v.items ≡ masked H.suite stream_key.now tag.now bytes.now) }
+    ensures { IfOk result (λ v. v.items ≡ front.now ++ masked H.suite stream_key.now tag.now bytes.now) }
 {
-    let mut masked = Vec::from_slice(alloc, bytes)?;
-    stream::mask(&short_mac::<H>(stream_key, &[], tag), 0, 0, &mut masked);
-    Ok(masked)
+    let key = short_mac::<H>(stream_key, &[], tag);
+    let mut masked = Vec::with_capacity(alloc, front.len() + bytes.len())?;
+    masked.extend_from_slice(front)?;
+    Ok(stream::append_masked(&key, masked, bytes))
 }
 
 /// The first 32 bytes of a mac.
@@ -166,12 +165,4 @@ fn front(bytes: &[u8]) -> [u8; 32]
     let mut front = [0; 32];
     front.copy_from_slice(&bytes[..32]);
     front
-}
-
-/// What follows the tag xor a stream.
-fn mask_after_tag(key: &[u8; 32], bytes: &mut [u8])
-    requires { 32 ≤ length bytes.old }
-    ensures { bytes.new ≡ take 32 bytes.old ++ xored (drop 32 bytes.old) (key_stream key.now (length (drop 32 bytes.old))) }
-{
-    stream::mask(key, 0, 0, &mut bytes[TAG..]);
 }

@@ -1,30 +1,52 @@
 // ChaCha20 (RFC 8439) as a source of bytes.
-ghost use Rattle.std.specs.Prelude.{◌≡◌, ◌+◌, ◌^◌, ◌<◌, ◌≤◌, length};
-ghost use Rattle.std.specs.Int.{w32, to_le_bytes, div_ceil};
+ghost use Rattle.std.specs.Prelude.{◌≡◌, ◌+◌, ◌/◌, ◌%◌, ◌^◌, ◌<◌, ◌≤◌, ◌++◌, length, vec_len};
+ghost use Rattle.std.specs.Vec.{vec_capacity};
 ghost use Rattle.rand_chacha.specs.ChaCha.{key_of};
-ghost use Rattle.anb_seal.specs.Streams.{stream_bytes, xored};
+ghost use Rattle.anb_seal.specs.Streams.{stream_bytes, key_stream, xored};
 
 use rand_chacha::ChaCha20Rng;
 use rand_core::SeedableRng;
 use rand_core::utils::NextWord;
 
-/// The bytes that are masked at a time, by four words: one word at a time is slower.
-const STRIDE: usize = 16;
+/// The bytes that are masked at a time: those of the four blocks that the generator makes at once.
+const PAD: usize = 256;
 
-/// The bytes xor those of a stream, from word `first` of the stream on.
-pub(crate) fn mask(key: &[u8; 32], stream: u32, first: u64, bytes: &mut [u8])
-    requires { first < 2 ^ 40 }
-    ensures { bytes.new ≡ xored bytes.old (stream_bytes (key_of key.now) stream first (div_ceil (length bytes.old) 4)) }
+/// A front, and after it the bytes xor the key stream of a key.
+///
+/// For speed the front comes by value, since behind a reference its length would be written with
+/// each byte, and the loops stay out of the callers, where their code varies in speed.
+#[inline(never)]
+pub(crate) fn append_masked(key: &[u8; 32], front: Vec<u8>, bytes: &[u8]) -> Vec<u8>
+    requires { vec_len front + length bytes.now ≤ vec_capacity front }
+    ensures { result.items ≡ front.items ++ xored bytes.now (key_stream key.now (length bytes.now)) }
 {
-    let mut words = words_from(key, stream, first);
-    let strides = bytes.len() / STRIDE;
-    for i in 0..strides {
-        mask_stride(&mut words, &mut bytes[STRIDE * i..]);
+    let mut masked = front;
+    let mut words = words_from(key, 0, 0);
+    let mut pad = [0; PAD];
+    for i in 0..bytes.len().div_ceil(PAD) {
+        let start = PAD * i;
+        let end = bytes.len().min(start + PAD);
+        fill(&mut words, &mut pad);
+        append_xored(&mut masked, &bytes[start..end], &pad);
     }
-    mask_rest(&mut words, &mut bytes[STRIDE * strides..]);
+    masked
 }
 
-fn words_from(key: &[u8; 32], stream: u32, first: u64) -> ChaCha20Rng
+/// Appends the bytes xor those of a pad, which are as many or more.
+fn append_xored(masked: &mut Vec<u8>, bytes: &[u8], pad: &[u8; PAD])
+    requires room { vec_len masked.old + length bytes.now ≤ vec_capacity masked.old }
+    requires pad { length bytes.now ≤ 256 }
+    ensures items { masked.new.items ≡ masked.old.items ++ xored bytes.now pad.now }
+    ensures len { vec_len masked.new ≡ vec_len masked.old + length bytes.now }
+    ensures capacity { vec_capacity masked.new ≡ vec_capacity masked.old }
+{
+    for i in 0..bytes.len() {
+        masked.push_reserved(bytes[i] ^ pad[i]);
+    }
+}
+
+/// A stream under a key, from word `first` on.
+pub(crate) fn words_from(key: &[u8; 32], stream: u32, first: u64) -> ChaCha20Rng
     requires { first < 2 ^ 40 }
     ensures { result ≡ record { key = key_of key.now; stream = stream; word_pos = first } }
 {
@@ -34,51 +56,14 @@ fn words_from(key: &[u8; 32], stream: u32, first: u64) -> ChaCha20Rng
     words
 }
 
-/// The bytes of a stride xor the next four words.
-fn mask_stride(words: &mut ChaCha20Rng, bytes: &mut [u8])
-    requires room { 16 ≤ length bytes.old }
+/// Writes the next words of a stream over the bytes.
+pub(crate) fn fill(words: &mut ChaCha20Rng, bytes: &mut [u8])
+    requires whole { length bytes.old % 4 ≡ 0 }
     requires near { words.old.word_pos < 2 ^ 67 }
-    ensures bytes { bytes.new ≡ xored bytes.old (stream_bytes words.old.key words.old.stream words.old.word_pos 4) }
-    ensures words { words.new ≡ record words.old { word_pos = words.old.word_pos + 4 } }
+    ensures bytes { bytes.new ≡ stream_bytes words.old.key words.old.stream words.old.word_pos (length bytes.old / 4) }
+    ensures words { words.new ≡ record words.old { word_pos = words.old.word_pos + length bytes.old / 4 } }
 {
-    for i in 0..STRIDE / 4 {
-        mask_word(&mut bytes[4 * i..], words.next_word());
-    }
-}
-
-/// All bytes xor the next words, the last of which may reach past them.
-fn mask_rest(words: &mut ChaCha20Rng, bytes: &mut [u8])
-    requires { words.old.word_pos < 2 ^ 67 }
-    ensures { bytes.new ≡ xored bytes.old (stream_bytes words.old.key words.old.stream words.old.word_pos (div_ceil (length bytes.old) 4)) }
-{
-    let whole = bytes.len() / 4;
-    for i in 0..whole {
-        mask_word(&mut bytes[4 * i..], words.next_word());
-    }
-    if bytes.len() % 4 > 0 {
-        mask_part(&mut bytes[4 * whole..], words.next_word());
-    }
-}
-
-/// The first four bytes xor a word's.
-fn mask_word(bytes: &mut [u8], word: u32)
-    requires { 4 ≤ length bytes.old }
-    ensures { bytes.new ≡ xored bytes.old (to_le_bytes w32 word) }
-{
-    let pad = word.to_le_bytes();
-    bytes[0] ^= pad[0];
-    bytes[1] ^= pad[1];
-    bytes[2] ^= pad[2];
-    bytes[3] ^= pad[3];
-}
-
-/// All bytes, which are fewer than four, xor the first of a word's.
-fn mask_part(bytes: &mut [u8], word: u32)
-    requires { length bytes.old < 4 }
-    ensures { bytes.new ≡ xored bytes.old (to_le_bytes w32 word) }
-{
-    let pad = word.to_le_bytes();
-    for i in 0..bytes.len() {
-        bytes[i] ^= pad[i];
+    for i in 0..bytes.len() / 4 {
+        bytes[4 * i..4 * i + 4].copy_from_slice(&words.next_word().to_le_bytes());
     }
 }
