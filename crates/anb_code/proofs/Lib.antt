@@ -7,3 +7,4 @@ pub mod Takes
 pub mod Accepted
 pub mod Widening
 pub mod Runnable
+pub mod Spelled

@@ -46,7 +46,7 @@ all_written n [] none = tt
 all_written n (r ∷ args) none = (grind (arith, nat_tests), all_written n args (grind (arith, nat_tests)))
 
 -- the next registers follow those written
-range_more : (n first more : ℕ) → range_with_len first n ++ range_with_len (first + n) more ≡ range_with_len first (n + more)
+pub range_more : (n first more : ℕ) → range_with_len first n ++ range_with_len (first + n) more ≡ range_with_len first (n + more)
 range_more zero first more = rw (add-zero, zero-add) refl
 range_more (suc n) first more =
     let place : first + suc n ≡ first + 1 + n = omega arith in

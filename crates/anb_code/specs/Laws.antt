@@ -1,12 +1,13 @@
 -- What holds of codes whatever they are.
-use Rattle.std.specs.Prelude.{ℕ, ◌*◌, length, Bool, IsTrue}
+use Rattle.std.specs.Prelude.{◌≡◌, ℕ, ◌+◌, ◌*◌, ◌^◌, ◌<◌, length, Bool, IsTrue, All}
 use Rattle.anb_base.specs.declared.TheConstants.{ARRIVAL, WIDE}
 use Rattle.anb_term.specs.declared.term.Op.{Op}
 use Rattle.anb_plays.specs.Exec.{HasTakes}
 use Rattle.anb_code.specs.CodeValue.{CodeValue}
 use Rattle.anb_code.specs.RawValue.{RawValue}
 use Rattle.anb_code.specs.Meaning.{IsOperator, acts_of}
-use Rattle.anb_code.specs.Table.{IsAccepted}
+use Rattle.anb_code.specs.Spelling.{code_of, raw_of}
+use Rattle.anb_code.specs.Table.{HasCounts, IsAccepted, written}
 use Rattle.anb_code.specs.Taking.{take_texts}
 use Rattle.anb_code.specs.Verified.{IsVerifiedCode}
 
@@ -23,3 +24,16 @@ WiderAccepts = (arrival wide : ℕ) (raw : RawValue) → IsAccepted arrival wide
 -- so what is accepted with 65,536 and 16,777,216 is accepted
 abbrev pub QuarterAccepts : Type 0
 QuarterAccepts = (raw : RawValue) → IsAccepted 65536 16777216 raw → IsAccepted ARRIVAL WIDE raw
+
+-- a raw code that spells this one: it can be verified, it is accepted, and this comes of it
+pub record Spells (arrival wide : ℕ) (raw : RawValue) (code : CodeValue) : Type 0 where
+  pub counts : All HasCounts raw.code
+  pub few_formats : length raw.formats + 1 < 2 ^ 32
+  pub few_instrs : length raw.code + 1 < 2 ^ 32
+  pub few_destinations : length (written raw.code) + 1 < 2 ^ 32
+  pub accepted : IsAccepted arrival wide raw
+  pub same : code_of raw ≡ code
+
+-- each verified code is spelled
+abbrev pub VerifiedIsSpelled : Type 0
+VerifiedIsSpelled = (arrival wide : ℕ) (code : CodeValue) → IsVerifiedCode arrival wide code → Spells arrival wide (raw_of code) code

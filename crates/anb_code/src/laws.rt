@@ -1,4 +1,4 @@
-ghost use Rattle.anb_code.specs.Laws.{QuarterAccepts, VerifiedIsRunnable, WiderAccepts};
+ghost use Rattle.anb_code.specs.Laws.{QuarterAccepts, VerifiedIsRunnable, VerifiedIsSpelled, WiderAccepts};
 
 /// Laws on the two limits: a code that is accepted with some limits is accepted with wider ones.
 pub fn wider_limits_accept()
@@ -9,4 +9,9 @@ pub fn wider_limits_accept()
 /// A law: a verified code can be run over the values of registers.
 pub fn verified_is_runnable()
     ensures { VerifiedIsRunnable }
+{}
+
+/// A law: each verified code is spelled by a raw code that is accepted, and comes of it again.
+pub fn verified_is_spelled()
+    ensures { VerifiedIsSpelled }
 {}

@@ -14,7 +14,7 @@ mod spelling;
 
 pub use code::{RoleCode, verify};
 pub use instr::{Instr, Registers};
-pub use laws::{verified_is_runnable, wider_limits_accept};
+pub use laws::{verified_is_runnable, verified_is_spelled, wider_limits_accept};
 pub use raw::{RawCode, RawFormat, RawInstr, What};
 pub use refusal::CodeNo;
 

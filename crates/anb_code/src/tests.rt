@@ -378,4 +378,5 @@ fn a_width_may_be_67108864_and_not_more(rt: HostRuntime) -> Result<(), Fail> {
 fn laws_are_called() {
     wider_limits_accept();
     verified_is_runnable();
+    verified_is_spelled();
 }
