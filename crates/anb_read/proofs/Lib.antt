@@ -1,8 +1,3 @@
-pub mod Laws
-pub mod Loop
-pub mod Narrated
-pub mod Plainness
-pub mod Words
 pub mod Readers
 pub mod Begins
 pub mod Binds

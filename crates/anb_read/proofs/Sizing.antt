@@ -12,7 +12,7 @@ use Rattle.anb_syntax.specs.Lexing.{gap_len, token_here, quoted, characters_here
 use Rattle.anb_syntax.specs.Grammar.{Tree, atom, apply, hash, mac, seal, wrap, Trees, none, more, spell_tree, spell_trees, spell_others, comma_name, spell_names, TypeItem, spell_type, FormatItem, spell_format, piece_word, KnowItem, spell_know, ActionItem, spell_action, Narration, Written, told, spell, spell_suite, spell_formats, spell_knows, spell_ending}
 use Rattle.anb_syntax.specs.Text.{Text}
 use Rattle.anb_syntax.proofs.LiteralTokens.{literal_tokens}
-use Rattle.anb_read.specs.Sizes.{tree_size, trees_size, name_size, type_size, format_size, know_size, action_size, size}
+use Rattle.anb_syntax.specs.Sizes.{tree_size, trees_size, name_size, type_size, format_size, know_size, action_size, size}
 use Rattle.anb_read.proofs.Binds.{split}
 
 -- how many bytes a word takes at least

@@ -1,13 +1,6 @@
-pub mod Answers
-pub mod Checks
 pub mod Laws
-pub mod Names
-pub mod Narrations
 pub mod Places
-pub mod Plain
 pub mod Productions
-pub mod Reading
 pub mod Refusals
-pub mod Sizes
 pub mod Trees
 pub mod Tellings

@@ -6,7 +6,7 @@ ghost use Rattle.anb_syntax.specs.Views.{narration_of};
 ghost use Rattle.anb_syntax.specs.Text.{Text};
 ghost use Rattle.anb_read.specs.Laws.{NarrationsAreUnique, RefusalsAreUnique, NoneIsBoth};
 ghost use Rattle.anb_read.specs.Refusals.{IsRefusal, UnlessNoMemory};
-ghost use Rattle.anb_read.specs.Sizes.{size};
+ghost use Rattle.anb_syntax.specs.Sizes.{size};
 ghost use Rattle.anb_read.specs.declared.refusal.ReadNo.{ReadNo as No};
 
 use crate::places::places;

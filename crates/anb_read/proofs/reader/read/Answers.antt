@@ -5,7 +5,7 @@ use Rattle.anb_syntax.specs.Text.{Text}
 use Rattle.anb_read.specs.Places.{toks}
 use Rattle.anb_read.specs.Tellings.{written_of}
 use Rattle.anb_read.specs.declared.places.Place.{Place}
-use Rattle.anb_read.specs.Sizes.{size}
+use Rattle.anb_syntax.specs.Sizes.{size}
 use Rattle.anb_read.proofs.Sizing.{text_size}
 use Rattle.anb_read.proofs.Answering.{ok_found, ok_spellable, ok_only, ok_exact, err_refused, err_only, err_exact}
 use Rattle.anb_read.proofs.reader.read.Goals as goal
