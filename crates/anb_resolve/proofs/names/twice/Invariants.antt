@@ -1,0 +1,10 @@
+use Rattle.std.proofs.Common.{◌≡◌, take, drop}
+use Rattle.anb_resolve.specs.Choices.{first_after, refuse_if}
+use Rattle.anb_resolve.specs.Names.{among}
+use Rattle.anb_resolve.specs.Checks.{twice_among}
+use Rattle.anb_resolve.specs.declared.refusals.ResolveNo.TheVariants.{Twice}
+use Rattle.anb_resolve.specs.Views.{pointed}
+use Rattle.anb_resolve.proofs.names.twice.Given as goal
+
+abbrev pub invariant-loop-i : goal.invariant-loop-i
+invariant-loop-i l = first_after (λ before x. refuse_if (among before x) (Twice x)) (take l.i (pointed l.names)) (drop l.i (pointed l.names)) ≡ twice_among (pointed l.names)

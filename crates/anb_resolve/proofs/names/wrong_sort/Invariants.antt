@@ -1,0 +1,11 @@
+use Rattle.std.proofs.Common.{◌≡◌, map, drop}
+use Rattle.anb_syntax.specs.Views.{format_of}
+use Rattle.anb_resolve.specs.Choices.{first, refuse_if}
+use Rattle.anb_resolve.specs.Names.{used_name}
+use Rattle.anb_resolve.specs.Checks.{is_missorted}
+use Rattle.anb_resolve.specs.declared.refusals.ResolveNo.TheVariants.{WrongSort}
+use Rattle.anb_resolve.specs.Views.{use_of}
+use Rattle.anb_resolve.proofs.names.wrong_sort.Given as goal
+
+abbrev pub invariant-loop-used : goal.invariant-loop-used
+invariant-loop-used l = first (λ u. refuse_if (is_missorted l.atoms (map format_of l.formats) u) (WrongSort (used_name u))) (map use_of (drop l.used-index l.uses)) ≡ first (λ u. refuse_if (is_missorted l.atoms (map format_of l.formats) u) (WrongSort (used_name u))) (map use_of l.uses)
