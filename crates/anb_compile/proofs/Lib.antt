@@ -1,0 +1,14 @@
+pub mod Lists
+pub mod Narrow
+pub mod Writing
+pub mod Asking
+pub mod Laying
+pub mod Opened
+pub mod Small
+pub mod Events
+pub mod Doing
+pub mod Whole
+pub mod Protocols
+pub mod Accepting
+pub mod Played
+pub mod Valuing

@@ -1,0 +1,10 @@
+pub mod Fitting
+pub mod Unsent
+pub mod Counted
+pub mod Registers
+pub mod Laws
+pub mod Writing
+pub mod Verifying
+pub mod Valued
+pub mod Emitting
+pub mod Spelling
