@@ -1,5 +1,5 @@
 -- Pieces that are written one after another, and the line that they make.
-use Rattle.std.proofs.Common.{◌≡◌, ℕ, ◌+◌, ◌<◌, ◌≤◌, List, [], ◌∷◌, ◌++◌, length, take, drop, get_or, suc, Option, Result, Ok, Err, OnOk, OnErr, codes, refl, ap, sym, ◌∙◌, inl, inr, arith, append_assoc, length-append}
+use Rattle.std.proofs.Common.{◌≡◌, ℕ, ◌+◌, ◌<◌, ◌≤◌, List, [], ◌∷◌, ◌++◌, length, take, drop, get_or, suc, Option, Result, Ok, Err, OnOk, OnErr, codes, decimal, append-nil, refl, ap, sym, ◌∙◌, inl, inr, arith, append_assoc, length-append}
 use Rattle.std.specs.Borrow.{Bor}
 use Rattle.std.proofs.Math.Seq.{take-append-add, drop-cons}
 use Rattle.std.proofs.lemmas.List.{take-append-le, take-append-drop}
@@ -10,7 +10,7 @@ use Rattle.anb_base.proofs.Joined.{Put-joined}
 use Rattle.anb_run.specs.Lines.{Tells, joined}
 use Rattle.anb_run.specs.Statuses.{line_of, text_of}
 use Rattle.anb_run.specs.declared.status.Status.{Status}
-use Rattle.anb_run.specs.declared.status.Status.TheVariants.{Done, Usage, FileFault, FileLong, BadNarration, Unreached, Stopped, ReadFault, WriteFault, NotBuilt, NoMemory}
+use Rattle.anb_run.specs.declared.status.Status.TheVariants.{Done, Usage, CannotSend}
 
 -- what was put, and then a prefix of what comes next, are a prefix of the whole
 pub prefix_within : (a b c : Option (List ℕ)) (front next rest whole : List ℕ) → whole ≡ front ++ (next ++ rest) → Put a b front → PutPrefix b c next → PutPrefix a c whole
@@ -37,20 +37,17 @@ told (Err e) old new before now line put failed cause = inr (cause, failed)
 pub line_of-other : (status : Status) → (status ≡ Done → ⊥) → line_of status ≡ codes "anb: " ++ text_of status ++ 10 ∷ []
 line_of-other Done other = absurd (other refl)
 line_of-other Usage other = refl
-line_of-other (FileFault name) other = refl
-line_of-other (FileLong name) other = refl
-line_of-other (BadNarration why) other = refl
-line_of-other (Unreached place) other = refl
-line_of-other (Stopped halt) other = refl
-line_of-other ReadFault other = refl
-line_of-other WriteFault other = refl
-line_of-other NotBuilt other = refl
-line_of-other NoMemory other = refl
+line_of-other _ other = refl
 
 -- the line of a status is its pieces
-pub line_is : (status : Status) (one two three : List ℕ) → (status ≡ Done → ⊥) → text_of status ≡ one ++ (two ++ three)
-    → codes "anb: " ++ (one ++ (two ++ (three ++ (10 ∷ [])))) ≡ line_of status
-line_is status one two three other text = sym (rw (line_of-other status other, text) (simp append_assoc))
+pub line_is : (status : Status) (a b c d e : List ℕ) → (status ≡ Done → ⊥) → text_of status ≡ a ++ (b ++ (c ++ (d ++ e)))
+    → codes "anb: " ++ (a ++ (b ++ (c ++ (d ++ (e ++ (10 ∷ [])))))) ≡ line_of status
+line_is status a b c d e other text = sym (rw (line_of-other status other, text) (simp append_assoc))
+
+-- the text of a message that can't be composed
+pub cannot_send_text : (s : Status) (action : ℕ) (role name digits : List ℕ) → s ≡ CannotSend action role → name ≡ role → digits ≡ decimal action
+    → text_of s ≡ name ++ (codes " can't compose the message of action " ++ (digits ++ []))
+cannot_send_text s action role name digits is name_is digits_are = rw (is, name_is, digits_are, append-nil) refl
 
 pub on_err : {P : Type 0} (r : Result (Unit {0}) Failed) → P → OnErr r P
 on_err (Ok x) p = tt

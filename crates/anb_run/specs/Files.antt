@@ -1,12 +1,19 @@
 -- The files that a command reads, and what they hold.
-use Rattle.std.specs.Prelude.{◌≡◌, ℕ, ◌<◌, ◌≤◌, List, length, Option, Some}
+use Rattle.std.specs.Prelude.{◌≡◌, ℕ, ◌<◌, ◌≤◌, List, length, Option, Some, None, Result, Ok, Err}
+use Rattle.anb_base.specs.declared.TheConstants.{ARRIVAL, WIDE}
 use Rattle.anb_syntax.specs.Grammar.{Narration}
 use Rattle.anb_syntax.specs.Text.{Text}
 use Rattle.anb_read.specs.Refusals.{IsRefusal}
 use Rattle.anb_read.specs.declared.refusal.ReadNo.{ReadNo}
-use Rattle.anb_run.specs.declared.limits.TheConstants.{NARRATION_LIMIT}
-use Rattle.anb_run.specs.declared.status.NarrationNo.TheVariants.{Read}
-use Rattle.anb_run.specs.declared.status.Status.TheVariants.{FileLong, BadNarration}
+use Rattle.anb_resolve.specs.Checks.{fault}
+use Rattle.anb_resolve.specs.Protocols.{ProtocolValue, protocol_of}
+use Rattle.anb_resolve.specs.declared.refusals.ResolveNo.{ResolveNo}
+use Rattle.anb_values.specs.Fit.{Fit}
+use Rattle.anb_values.specs.declared.fitted.Fitted.{Fitted}
+use Rattle.anb_values.specs.declared.refusal.ValuesNo.{ValuesNo}
+use Rattle.anb_run.specs.declared.limits.TheConstants.{NARRATION_LIMIT, VALUES_LIMIT}
+use Rattle.anb_run.specs.declared.status.NarrationNo.TheVariants.{Read, Resolve}
+use Rattle.anb_run.specs.declared.status.Status.TheVariants.{FileLong, BadNarration, BadValues}
 use Rattle.anb_run.specs.Steps.{Answer, refused, given, Then}
 
 -- a file of at most so many bytes
@@ -25,11 +32,27 @@ abbrev pub FileIs : (List ℕ → Option (List ℕ)) → List ℕ → ℕ → An
 FileIs files name limit (refused status) = (status ≡ FileLong name) × HasLonger files name limit
 FileIs files name limit (given text) = HasFile files name limit text
 
--- the narration that a text is
+-- the narration that a text is, by the grammar
 abbrev pub NarrationIs : List ℕ → Answer Narration → Type 0
 NarrationIs text (refused status) = (why : ReadNo) × (status ≡ BadNarration (Read why)) × IsRefusal text why
 NarrationIs text (given n) = Text n text
 
+-- the protocol that a narration tells, where it is well formed
+abbrev pub ProtocolIs : Narration → Answer ProtocolValue → Type 0
+ProtocolIs n (refused status) = (why : ResolveNo) × (status ≡ BadNarration (Resolve why)) × (fault ARRIVAL WIDE n ≡ Some why)
+ProtocolIs n (given p) = (fault ARRIVAL WIDE n ≡ None) × (p ≡ protocol_of n)
+
+-- the values that a text gives to some names, and the seed where it has one
+abbrev pub ValuesAre : List (List ℕ) → List ℕ → Answer Fitted → Type 0
+ValuesAre names text (refused status) = (why : ValuesNo) × (status ≡ BadValues why) × Fit text names (Err why)
+ValuesAre names text (given fitted) = Fit text names (Ok fitted)
+
 module _ (files : List ℕ → Option (List ℕ)) (name : List ℕ) where
   abbrev pub NarrationInFile : Answer Narration → Type 0
   NarrationInFile = Then (FileIs files name NARRATION_LIMIT) NarrationIs
+
+  abbrev pub ProtocolInFile : Answer ProtocolValue → Type 0
+  ProtocolInFile = Then NarrationInFile ProtocolIs
+
+  abbrev pub ValuesInFile : List (List ℕ) → Answer Fitted → Type 0
+  ValuesInFile names = Then (FileIs files name VALUES_LIMIT) (ValuesAre names)

@@ -1,14 +1,13 @@
 pub mod Commands
-pub mod Exchanges
+pub mod Completions
 pub mod Fetches
 pub mod Files
+pub mod Jobs
 pub mod Lines
 pub mod PlayCommand
-pub mod Plays
 pub mod Prepared
 pub mod Reaches
 pub mod Statuses
 pub mod Steps
 pub mod TextCommands
-pub mod Values
 pub mod Words

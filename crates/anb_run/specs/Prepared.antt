@@ -1,25 +1,57 @@
--- What is known once the files of a play are read, before the wire is touched.
-use Rattle.std.specs.Prelude.{◌≡◌, ℕ, ◌↔◌, List, Option}
+-- What is known before the wire is touched, and what comes of a code's run over it.
+use Rattle.std.specs.Prelude.{◌≡◌, ℕ, ◌↔◌, ◌⊎◌, List, take, Option}
+use Rattle.std.specs.List.{AllByRecursion}
+use Rattle.anb_base.specs.Bytes.{IsBytes}
+use Rattle.anb_base.specs.Moves.{Put, PutPrefix, Took}
+use Rattle.anb_base.specs.declared.TheConstants.{ARRIVAL}
+use Rattle.anb_frame.specs.Frames.{frames}
+use Rattle.anb_frame.specs.Cuts.{Tail, Cut}
+use Rattle.anb_plays.specs.Plays as plays
+use Rattle.anb_plays.specs.Plays.{Played}
+use Rattle.anb_plays.specs.Runs.{without_place}
+use Rattle.anb_code.specs.CodeValue.{CodeValue}
+use Rattle.anb_machine.specs.ByteRuns.{run_bytes}
+use Rattle.anb_session.specs.Sessions.{Reads}
+use Rattle.anb_session.specs.declared.PlayEnd.{PlayEnd}
+use Rattle.anb_session.specs.declared.PlayEnd.TheVariants.{Done, Stopped, Waiting, Truncated, TooLarge}
+use Rattle.anb_session.specs.declared.PlayEnd.TheVariants as faults
 use Rattle.anb_run.specs.declared.status.Status.{Status}
-use Rattle.anb_run.specs.declared.status.Status.TheVariants.{FileLong, NotBuilt}
-use Rattle.anb_run.specs.Steps.{Fails}
-use Rattle.anb_run.specs.Plays.{Event, Played, Play}
-use Rattle.anb_run.specs.PlayCommand.{IsBuilt}
-use Rattle.anb_run.specs.Exchanges.{exchanged}
+use Rattle.anb_run.specs.declared.status.Status.TheVariants as ended
+use Rattle.anb_run.specs.declared.status.Status.TheVariants.{Unreached, ReadFault, WriteFault, NoMemory}
+use Rattle.anb_run.specs.Jobs.{Job}
+use Rattle.anb_run.specs.PlayCommand.{PlayOf, status_at}
+use Rattle.anb_run.specs.Steps.{Answer, given}
 
--- why a step of a play failed: by a fault of its file, or as its form isn't built
-abbrev pub Unbuilt : Status → (List ℕ → Type 0) → Type 0 → Type 0
-Unbuilt status OfFile Never = Fails status OfFile ((status ≡ NotBuilt) × Never)
+-- over arrivals of bytes, the job's plays are the code's runs from these values and this seed
+abbrev pub PlaysAs : Job → CodeValue → (initial : List (List ℕ)) → (seed : List ℕ) → Type 0
+PlaysAs job code initial seed =
+    (arrivals : List (List ℕ)) → AllByRecursion IsBytes arrivals → (p : Played (List ℕ)) → PlayOf job arrivals p ↔ (p ≡ without_place (run_bytes code initial seed 0 arrivals))
 
--- the status, or NotBuilt for a file that is too long
-abbrev pub or_not_built : Status → Status
-or_not_built (FileLong name) = NotBuilt
-or_not_built status = status
+-- there is something to play, and the code plays it
+pub record IsReady (Asks : Answer Job → Type 0) (code : CodeValue) (initial : List (List ℕ)) (seed : List ℕ) : Type 0 where
+  pub job : Job
+  pub asks : Asks (given job)
+  pub plays : PlaysAs job code initial seed
 
--- the role is to send these bytes and to await those
-pub record IsReady (files : List ℕ → Option (List ℕ)) (name role values sent awaited : List ℕ) : Type 0 where
-  pub plan : List Event
-  pub initial : List (List ℕ)
-  pub built : IsBuilt files name role values plan initial
-  pub only : (plan' : List Event) (initial' : List (List ℕ)) → IsBuilt files name role values plan' initial' → (plan' ≡ plan) × (initial' ≡ initial)
-  pub plays : (arrivals : List (List ℕ)) (p : Played) → Play plan initial arrivals p ↔ (p ≡ exchanged sent awaited arrivals)
+-- what comes of a run over an input with this cut
+module _ (R : List (List ℕ) → Played (List ℕ)) where
+  abbrev pub RunsTo : List (List ℕ) → Tail → (left left_now written written_now : Option (List ℕ)) → Status → Type 0
+  RunsTo arrivals tail left left_now written written_now (Unreached at) = (left_now ≡ left) × (written_now ≡ written)
+  RunsTo arrivals tail left left_now written written_now WriteFault = PutPrefix written written_now (frames (R arrivals).sent)
+  RunsTo arrivals tail left left_now written written_now ReadFault =
+      (taken : List ℕ) × (whole : List (List ℕ)) × (part : Tail) × (e : ℕ) × Took left left_now taken × Cut ARRIVAL taken whole part
+      × ((R whole).end ≡ plays.waiting e) × Put written written_now (frames (R whole).sent)
+  RunsTo arrivals tail left left_now written written_now NoMemory = (k : ℕ) × Put written written_now (frames (take k (R arrivals).sent))
+  RunsTo arrivals tail left left_now written written_now result =
+      (result ≡ status_at (R arrivals).end tail) × Put written written_now (frames (R arrivals).sent) × Reads (R arrivals).end arrivals (R arrivals).left tail left left_now
+
+-- the status of a play over a wire, which tells no instruction
+abbrev pub status_of : PlayEnd → Status
+status_of Done = ended.Done
+status_of (Stopped halt) = ended.Stopped (record { event = halt.event; at = 0 })
+status_of (Waiting event) = ended.Waiting event
+status_of (Truncated have need) = ended.Truncated have need
+status_of (TooLarge len) = ended.TooLarge len
+status_of faults.ReadFault = ended.ReadFault
+status_of faults.WriteFault = ended.WriteFault
+status_of faults.NoMemory = ended.NoMemory

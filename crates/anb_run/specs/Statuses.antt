@@ -2,13 +2,23 @@
 use Rattle.std.specs.Prelude.{◌≡◌, ◌⊎◌, ℕ, Bool, true, false, List, [], ◌∷◌, ◌++◌, codes, decimal}
 use Rattle.anb_base.specs.declared.place.Place.{Place}
 use Rattle.anb_base.specs.declared.place.Place.TheVariants.{Stdio, Dial, Listen}
+use Rattle.anb_format.specs.declared.pieces.FormatNo.{FormatNo}
+use Rattle.anb_format.specs.declared.pieces.FormatNo.TheVariants.{NoHead, RestNotLast}
 use Rattle.anb_read.specs.declared.refusal.ReadNo.{ReadNo}
 use Rattle.anb_read.specs.declared.refusal.ReadNo.TheVariants.{Token, Grammar, Deep}
 use Rattle.anb_read.specs.declared.refusal.ReadNo.TheVariants as reading
+use Rattle.anb_resolve.specs.declared.refusals.Kind.{Kind}
+use Rattle.anb_resolve.specs.declared.refusals.Kind.TheVariants as kind
+use Rattle.anb_resolve.specs.declared.refusals.Item.{Item}
+use Rattle.anb_resolve.specs.declared.refusals.Item.TheVariants as item
+use Rattle.anb_resolve.specs.declared.refusals.ResolveNo.{ResolveNo}
+use Rattle.anb_resolve.specs.declared.refusals.ResolveNo.TheVariants as resolving
+use Rattle.anb_values.specs.declared.refusal.ValuesNo.{ValuesNo}
+use Rattle.anb_values.specs.declared.refusal.ValuesNo.TheVariants as fitting
 use Rattle.anb_run.specs.declared.status.NarrationNo.{NarrationNo}
-use Rattle.anb_run.specs.declared.status.NarrationNo.TheVariants.{Read}
+use Rattle.anb_run.specs.declared.status.NarrationNo.TheVariants.{Read, Resolve}
 use Rattle.anb_run.specs.declared.status.Status.{Status}
-use Rattle.anb_run.specs.declared.status.Status.TheVariants.{Done, Usage, FileFault, FileLong, BadNarration, Unreached, Stopped, ReadFault, WriteFault, NotBuilt, NoMemory}
+use Rattle.anb_run.specs.declared.status.Status.TheVariants.{Done, Usage, FileFault, FileLong, BadNarration, NoRole, CannotSend, BadValues, NoSeed, Unreached, Stopped, Waiting, Truncated, TooLarge, ReadFault, WriteFault, NoMemory}
 
 abbrev pub number_of : Status → ℕ
 number_of Done = 0
@@ -16,11 +26,17 @@ number_of Usage = 1
 number_of (FileFault name) = 2
 number_of (FileLong name) = 3
 number_of (BadNarration why) = 4
+number_of (NoRole name) = 5
+number_of (CannotSend action role) = 6
+number_of (BadValues why) = 7
+number_of NoSeed = 8
 number_of (Unreached place) = 9
 number_of (Stopped halt) = 10
+number_of (Waiting event) = 11
+number_of (Truncated have need) = 12
+number_of (TooLarge len) = 13
 number_of ReadFault = 14
 number_of WriteFault = 15
-number_of NotBuilt = 98
 number_of NoMemory = 99
 
 -- why a text is no narration
@@ -30,8 +46,50 @@ why_unread (Grammar at) = codes "unexpected at " ++ decimal at
 why_unread (Deep at) = codes "too deep at " ++ decimal at
 why_unread reading.NoMemory = codes "no memory"
 
+abbrev pub kind_text : Kind → List ℕ
+kind_text kind.Name = codes "bytes in a name"
+kind_text kind.Formats = codes "formats"
+kind_text kind.Fields = codes "fields"
+kind_text kind.Roles = codes "roles"
+kind_text kind.Actions = codes "actions"
+kind_text kind.TermNodes = codes "nodes in a term"
+kind_text kind.AllNodes = codes "nodes"
+
+abbrev pub why_misshapen : FormatNo → List ℕ
+why_misshapen NoHead = codes " has no head"
+why_misshapen (RestNotLast i) = codes " has a rest at " ++ decimal i
+
+-- what is too wide
+abbrev pub item_text : Item → List ℕ
+item_text (item.Know role) = codes "knowledge of " ++ role
+item_text (item.Action n) = codes "action " ++ decimal n
+
+-- why a narration isn't well formed
+abbrev pub why_ill_formed : ResolveNo → List ℕ
+why_ill_formed (resolving.Limit kind count) = codes "too many " ++ (kind_text kind ++ (codes ": " ++ decimal count))
+why_ill_formed (resolving.Twice name) = name ++ codes " twice"
+why_ill_formed (resolving.Unknown name) = name ++ codes " unknown"
+why_ill_formed (resolving.WrongSort name) = name ++ codes " has the wrong sort"
+why_ill_formed (resolving.WrongCount name) = name ++ codes " has the wrong count"
+why_ill_formed (resolving.FormatShape name why) = name ++ why_misshapen why
+why_ill_formed (resolving.Overlap f g) = f ++ (codes " and " ++ (g ++ codes " overlap"))
+why_ill_formed (resolving.SelfSend n) = codes "action " ++ (decimal n ++ codes " goes to its sender")
+why_ill_formed (resolving.KnowledgeTwice role term) = role ++ (codes " knows " ++ (term ++ codes " twice"))
+why_ill_formed (resolving.Wide what) = item_text what ++ codes " is too wide"
+why_ill_formed resolving.NoMemory = codes "no memory"
+
 abbrev pub why_bad : NarrationNo → List ℕ
 why_bad (Read why) = why_unread why
+why_bad (Resolve why) = why_ill_formed why
+
+-- why a values file doesn't fit
+abbrev pub why_unfit : ValuesNo → List ℕ
+why_unfit (fitting.Line n) = codes "line " ++ decimal n
+why_unfit (fitting.Extra name) = name ++ codes " isn't asked for"
+why_unfit (fitting.Twice name) = name ++ codes " twice"
+why_unfit (fitting.Long name) = name ++ codes " is too long"
+why_unfit (fitting.Missing name) = name ++ codes " is missing"
+why_unfit fitting.NoMemory = codes "no memory"
 
 abbrev pub where_text : Place → List ℕ
 where_text Stdio = codes "stdio"
@@ -45,11 +103,17 @@ text_of Usage = codes "the words fit no command"
 text_of (FileFault name) = codes "can't read " ++ name
 text_of (FileLong name) = name ++ codes " is too long"
 text_of (BadNarration why) = codes "narration: " ++ why_bad why
+text_of (NoRole name) = codes "no role " ++ name
+text_of (CannotSend action role) = role ++ (codes " can't compose the message of action " ++ decimal action)
+text_of (BadValues why) = codes "values: " ++ why_unfit why
+text_of NoSeed = codes "no seed"
 text_of (Unreached place) = codes "can't reach " ++ where_text place
 text_of (Stopped halt) = codes "stopped at event " ++ decimal halt.event
+text_of (Waiting event) = codes "waiting at event " ++ decimal event
+text_of (Truncated have need) = codes "input ends after " ++ (decimal have ++ (codes " of " ++ (decimal need ++ codes " bytes")))
+text_of (TooLarge len) = codes "a frame of " ++ (decimal len ++ codes " bytes")
 text_of ReadFault = codes "read failed"
 text_of WriteFault = codes "write failed"
-text_of NotBuilt = codes "not built"
 text_of NoMemory = codes "no memory"
 
 -- its line; there is none where all was done
@@ -88,8 +152,11 @@ phase_of Usage = before_reach
 phase_of (FileFault name) = before_reach
 phase_of (FileLong name) = before_reach
 phase_of (BadNarration why) = before_reach
+phase_of (NoRole name) = before_reach
+phase_of (CannotSend action role) = before_reach
+phase_of (BadValues why) = before_reach
+phase_of NoSeed = before_reach
 phase_of (Unreached place) = at_reach
-phase_of NotBuilt = at_any_time
 phase_of NoMemory = at_any_time
 phase_of status = after_reach
 

@@ -12,7 +12,11 @@ abbrev pub Then : {A B : Type 0} → (Answer A → Type 0) → (A → Answer B �
 Then {A} {B} first next answer =
     ((status : Status) × first (refused status) × (answer ≡ refused status)) ⊎ ((a : A) × first (given a) × next a answer)
 
--- it has one answer at most
+-- this is the answer
+abbrev pub Is : {A : Type 0} → A → Answer A → Type 0
+Is a answer = answer ≡ given a
+
+-- a step has one answer at most
 abbrev pub IsOne : {A : Type 0} → (Answer A → Type 0) → Type 0
 IsOne {A} step = (one other : Answer A) → step one → step other → one ≡ other
 

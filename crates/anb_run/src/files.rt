@@ -1,22 +1,23 @@
-ghost use Rattle.std.specs.Prelude.{◌≡◌, ◌⊎◌, ◌≤◌, ℕ, List, [], ◌∷◌, length, IfOk, IfErr};
+//! Files, and what they hold.
+ghost use Rattle.std.specs.Prelude.{◌≡◌, ◌≢◌, ◌⊎◌, ◌≤◌, ℕ, List, [], ◌∷◌, length, AllPairs, IfOk, IfErr};
 ghost use Rattle.std.specs.List.{AllByRecursion};
+ghost use Rattle.anb_base.specs.Bytes.{IsBytes};
 ghost use Rattle.anb_base.specs.Moves.{Rose};
-ghost use Rattle.anb_read.specs.Narrations.{PlainNarration};
+ghost use Rattle.anb_syntax.specs.Grammar.{IsSpellable};
+ghost use Rattle.anb_syntax.specs.Sizes.{size};
 ghost use Rattle.anb_syntax.specs.Views.{narration_of};
 ghost use Rattle.anb_run.specs.Fetches.{Fetches, IfTold};
-ghost use Rattle.anb_run.specs.Files.{HasFile, HasLonger, NarrationIs, NarrationInFile};
-ghost use Rattle.anb_run.specs.PlayCommand.{HasPlain, HasValues};
-ghost use Rattle.anb_run.specs.Prepared.{Unbuilt, or_not_built};
+ghost use Rattle.anb_run.specs.Files.{HasFile, HasLonger, NarrationIs, NarrationInFile, ProtocolIs, ProtocolInFile, ValuesAre, ValuesInFile};
 ghost use Rattle.anb_run.specs.Statuses.{IsEarly};
 ghost use Rattle.anb_run.specs.Steps.{Fails, refused, given};
-ghost use Rattle.anb_run.specs.Values.{IsValue};
 ghost use Rattle.anb_run.specs.declared.status.Status.TheVariants as status;
 
-use crate::values::initial_values;
 use crate::{NARRATION_LIMIT, NarrationNo, Status, VALUES_LIMIT};
 use anb_base::{Bytes, NoMemory, Shelf, ShelfNo, Text};
-use anb_read::{Plain, ReadNo, read, read_plain};
+use anb_read::{ReadNo, read};
+use anb_resolve::{Protocol, ResolveNo, resolve, small_is_countable};
 use anb_syntax::Narration;
+use anb_values::{Fitted, ValuesNo, values};
 use std::alloc::Global;
 
 /// The file of this name, where it has at most `limit` bytes.
@@ -68,6 +69,8 @@ pub(crate) fn narration_in_file<F: Shelf>(
     name: &Text,
 ) -> Result<Narration, Status>
     ensures given { IfOk result (λ n. IfTold (F.files shelf.old) (λ files. NarrationInFile files name.now (given (narration_of n)))) }
+    ensures spellable { IfOk result (λ n. IsSpellable (narration_of n)) }
+    ensures small { IfOk result (λ n. size (narration_of n) ≤ NARRATION_LIMIT) }
     ensures refused { IfErr result (λ status. Fails status
         (λ file. (file ≡ name.now) × Rose (F.faults shelf.old file) (F.faults shelf.new file))
         (IfTold (F.files shelf.old) (λ files. NarrationInFile files name.now (refused status)))) }
@@ -84,6 +87,8 @@ pub(crate) fn narration_in_file<F: Shelf>(
 fn narration_of_text(alloc: Global, text: &[u8]) -> Result<Narration, Status>
     requires { length text.now ≤ NARRATION_LIMIT }
     ensures given { IfOk result (λ n. NarrationIs text.now (given (narration_of n))) }
+    ensures spellable { IfOk result (λ n. IsSpellable (narration_of n)) }
+    ensures small { IfOk result (λ n. size (narration_of n) ≤ NARRATION_LIMIT) }
     ensures refused { IfErr result (λ status. Fails status (λ file. ⊥) (NarrationIs text.now (refused status))) }
     ensures early { IfErr result IsEarly }
 {
@@ -94,63 +99,96 @@ fn narration_of_text(alloc: Global, text: &[u8]) -> Result<Narration, Status>
     }
 }
 
-/// The plain narration in the file.
-pub(crate) fn plain_in_file<F: Shelf>(
+/// The protocol in the file.
+pub(crate) fn protocol_in_file<F: Shelf>(
     alloc: Global,
     shelf: &mut F,
     name: &Text,
-) -> Result<Plain, Status>
-    ensures plain { IfOk result (λ narration. IfTold (F.files shelf.old) (λ files. HasPlain files name.now narration)) }
-    ensures only { IfOk result (λ narration. IfTold (F.files shelf.old) (λ files. (other : PlainNarration) → HasPlain files name.now other → other ≡ narration)) }
-    ensures err { IfErr result (λ status. Unbuilt status
+) -> Result<Protocol, Status>
+    ensures given { IfOk result (λ p. IfTold (F.files shelf.old) (λ files. ProtocolInFile files name.now (given p))) }
+    ensures refused { IfErr result (λ status. Fails status
         (λ file. (file ≡ name.now) × Rose (F.faults shelf.old file) (F.faults shelf.new file))
-        (IfTold (F.files shelf.old) (λ files. (narration : PlainNarration) → HasPlain files name.now narration → ⊥))) }
+        (IfTold (F.files shelf.old) (λ files. ProtocolInFile files name.now (refused status)))) }
+    ensures early { IfErr result IsEarly }
     ensures fetches { Fetches (name.now ∷ []) (F.files shelf.old) (F.files shelf.new) (F.faults shelf.old) (F.faults shelf.new) }
 {
-    let text = match fetch_file(alloc, shelf, name, NARRATION_LIMIT) {
-        Ok(text) => text,
-        Err(status) => return Err(or_not_built(status)),
-    };
-    match read_plain(alloc, text.as_slice()) {
-        Ok(Some(narration)) => Ok(narration),
-        Ok(None) => Err(Status::NotBuilt),
-        Err(NoMemory) => Err(Status::NoMemory),
+    match narration_in_file(alloc, shelf, name) {
+        Ok(narration) => protocol_of_narration(alloc, &narration),
+        Err(status) => Err(status),
     }
 }
 
-/// The values that the file gives to the names.
+/// The protocol that the narration tells.
+fn protocol_of_narration(alloc: Global, narration: &Narration) -> Result<Protocol, Status>
+    requires spellable { IsSpellable (narration_of narration.now) }
+    requires small { size (narration_of narration.now) ≤ NARRATION_LIMIT }
+    ensures given { IfOk result (λ p. ProtocolIs (narration_of narration.now) (given p)) }
+    ensures refused { IfErr result (λ status. Fails status (λ file. ⊥) (ProtocolIs (narration_of narration.now) (refused status))) }
+    ensures early { IfErr result IsEarly }
+{
+    small_is_countable();
+    match resolve(alloc, narration) {
+        Ok(protocol) => Ok(protocol),
+        Err(ResolveNo::NoMemory) => Err(Status::NoMemory),
+        Err(why) => Err(Status::BadNarration(NarrationNo::Resolve(why))),
+    }
+}
+
+/// What the file gives for the names.
 pub(crate) fn values_in_file<F: Shelf>(
     alloc: Global,
     shelf: &mut F,
     name: &Text,
     names: &[Text],
-) -> Result<Vec<Bytes>, Status>
-    ensures fit { IfOk result (λ values. IfTold (F.files shelf.old) (λ files. HasValues files name.now names.now values.items)) }
-    ensures only { IfOk result (λ values. IfTold (F.files shelf.old) (λ files. (others : List (List ℕ)) → HasValues files name.now names.now others → others ≡ values.items)) }
-    ensures each { IfOk result (λ values. length values.items ≡ length names.now) }
-    ensures are_values { IfOk result (λ values. AllByRecursion IsValue values.items) }
-    ensures err { IfErr result (λ status. Unbuilt status
+) -> Result<Fitted, Status>
+    requires { AllPairs (λ (one other : List ℕ). one ≢ other) names.now }
+    ensures given { IfOk result (λ fitted. IfTold (F.files shelf.old) (λ files. ValuesInFile files name.now names.now (given fitted))) }
+    ensures each { IfOk result (λ fitted. length fitted.values ≡ length names.now) }
+    ensures bytes { IfOk result (λ fitted. AllByRecursion IsBytes fitted.values) }
+    ensures refused { IfErr result (λ status. Fails status
         (λ file. (file ≡ name.now) × Rose (F.faults shelf.old file) (F.faults shelf.new file))
-        (IfTold (F.files shelf.old) (λ files. (values : List (List ℕ)) → HasValues files name.now names.now values → ⊥))) }
+        (IfTold (F.files shelf.old) (λ files. ValuesInFile files name.now names.now (refused status)))) }
+    ensures early { IfErr result IsEarly }
     ensures fetches { Fetches (name.now ∷ []) (F.files shelf.old) (F.files shelf.new) (F.faults shelf.old) (F.faults shelf.new) }
 {
-    let text = match fetch_file(alloc, shelf, name, VALUES_LIMIT) {
-        Ok(text) => text,
-        Err(status) => return Err(or_not_built(status)),
-    };
-    match initial_values(alloc, text.as_slice(), names) {
-        Ok(Some(values)) => Ok(values),
-        Ok(None) => Err(Status::NotBuilt),
-        Err(NoMemory) => Err(Status::NoMemory),
+    match fetch_file(alloc, shelf, name, VALUES_LIMIT) {
+        Ok(text) => values_of_text(alloc, text.as_slice(), names),
+        Err(status) => Err(status),
     }
 }
 
-/// The status, or NotBuilt for a file that is too long.
-fn or_not_built(status: Status) -> Status
-    ensures { result ≡ or_not_built status }
+/// What the text gives for the names.
+fn values_of_text(alloc: Global, text: &[u8], names: &[Text]) -> Result<Fitted, Status>
+    requires size { length text.now ≤ VALUES_LIMIT }
+    requires differ { AllPairs (λ (one other : List ℕ). one ≢ other) names.now }
+    ensures given { IfOk result (λ fitted. ValuesAre names.now text.now (given fitted)) }
+    ensures each { IfOk result (λ fitted. length fitted.values ≡ length names.now) }
+    ensures bytes { IfOk result (λ fitted. AllByRecursion IsBytes fitted.values) }
+    ensures refused { IfErr result (λ status. Fails status (λ file. ⊥) (ValuesAre names.now text.now (refused status))) }
+    ensures early { IfErr result IsEarly }
 {
-    match status {
-        Status::FileLong(_) => Status::NotBuilt,
-        status => status,
+    match values(alloc, text, names) {
+        Ok(fitted) => {
+            all_bytes(fitted.values.as_slice());
+            Ok(fitted)
+        }
+        Err(ValuesNo::NoMemory) => Err(Status::NoMemory),
+        Err(why) => Err(Status::BadValues(why)),
     }
+}
+
+/// A law: these are strings of bytes.
+fn all_bytes(values: &[Bytes])
+    ensures { AllByRecursion IsBytes values.now }
+{
+    for value in values {
+        are_bytes(value.as_slice());
+    }
+}
+
+/// A law: a slice of bytes is a string of bytes.
+fn are_bytes(bytes: &[u8])
+    ensures { IsBytes bytes.now }
+{
+    let _ = bytes;
 }

@@ -5,9 +5,11 @@
 //! has one clause more, which says what it does.
 #![tactic(auto)]
 
-ghost use Rattle.std.specs.Prelude.{◌≡◌, ◌≤◌, ◌↔◌, true, false, None};
+ghost use Rattle.std.specs.Prelude.{◌≡◌, ◌≤◌, ◌↔◌, ℕ, List, true, false, None};
 ghost use Rattle.anb_base.specs.Moves.{Rose};
+ghost use Rattle.anb_run.specs.Completions.{CompletesPlay, Rests};
 ghost use Rattle.anb_run.specs.Fetches.{Fetches, IsOneOf};
+ghost use Rattle.anb_run.specs.Jobs.{RefusesPlay};
 ghost use Rattle.anb_run.specs.Lines.{Tells};
 ghost use Rattle.anb_run.specs.PlayCommand.{DoesPlay};
 ghost use Rattle.anb_run.specs.Reaches.{IsPlaceOf, Reaches};
@@ -16,15 +18,12 @@ ghost use Rattle.anb_run.specs.TextCommands.{DoesFmt, DoesHelp};
 ghost use Rattle.anb_run.specs.Words.{asked_of, files_of, is_reading};
 ghost use Rattle.anb_run.specs.declared.status.Status.TheVariants.{Usage, ReadFault, WriteFault};
 
-mod converse;
-mod exchange;
 mod files;
 mod limits;
 mod line;
 mod play;
 mod prepare;
 mod status;
-mod values;
 mod words;
 mod writing;
 
@@ -51,7 +50,12 @@ pub fn run<F: Shelf, W: Wire, E: Sink>(
 ) -> Status
     // What each command does.
     ensures fmt { DoesFmt (asked_of words.now) (F.files shelf.old) (W.written wire.old) (W.written wire.new) result }
-    ensures play { DoesPlay (asked_of words.now) (F.files shelf.old) (W.left wire.old) (W.left wire.new) (W.written wire.old) (W.written wire.new) result }
+    ensures play { DoesPlay (asked_of words.now) (F.files shelf.old) seed (W.left wire.old) (W.left wire.new) (W.written wire.old) (W.written wire.new) result }
+    ensures play_refuses { RefusesPlay (asked_of words.now) (F.files shelf.old) seed result }
+    ensures play_completes { Rests (W.reach_faults wire.old) (W.reach_faults wire.new) → Rests (W.Source.faults wire.old) (W.Source.faults wire.new)
+        → Rests (W.Sink.faults wire.old) (W.Sink.faults wire.new)
+        → ((file : List ℕ) → IsOneOf (files_of (asked_of words.now)) file → Rests (F.faults shelf.old file) (F.faults shelf.new file))
+        → CompletesPlay (asked_of words.now) (F.files shelf.old) seed (W.left wire.old) (W.left wire.new) result }
     ensures help { DoesHelp (asked_of words.now) (W.written wire.old) (W.written wire.new) result }
 
     // When each fault may come.
@@ -82,16 +86,19 @@ pub fn run<F: Shelf, W: Wire, E: Sink>(
     ensures write_faults { is_untouched (phase_of result) ≡ true → W.Sink.faults wire.new ≡ W.Sink.faults wire.old }
     ensures reach_faults { phase_of result ≡ before_reach → W.reach_faults wire.new ≡ W.reach_faults wire.old }
 {
-    let _ = seed;
     let status = match Command::read(words) {
         None => Status::Usage,
         Some(Command::Fmt { narration }) => fmt(alloc, shelf, wire, narration),
-        Some(Command::Play(role)) => play(alloc, shelf, wire, role),
+        Some(Command::Play(role)) => play(alloc, shelf, wire, role, seed),
         Some(Command::Help) => write_text(wire, HELP.as_bytes()),
     };
     tell(err, &status);
     status
 }
 
+#[cfg(test)]
+mod plays;
+#[cfg(test)]
+mod running;
 #[cfg(test)]
 mod tests;

@@ -4,8 +4,8 @@ ghost use Rattle.anb_run.specs.Lines.{Tells, joined};
 ghost use Rattle.anb_run.specs.Statuses.{line_of};
 
 use crate::Status;
+use crate::status::Digits;
 use anb_base::{Failed, Sink, write_whole};
-use itoa::Buffer;
 
 /// Writes the line of a status other than Done. A fault of the sink cuts it short.
 pub(crate) fn tell<E: Sink>(err: &mut E, status: &Status)
@@ -16,9 +16,9 @@ pub(crate) fn tell<E: Sink>(err: &mut E, status: &Status)
     if let Status::Done = status {
         return;
     }
-    let mut digits = Buffer::new();
-    let (what, which, more) = status.pieces(&mut digits);
-    let _ = write_pieces(err, &["anb: ", what, which, more, "\n"]);
+    let mut digits = Digits::new();
+    let (a, b, c, d, e) = status.pieces(&mut digits);
+    let _ = write_pieces(err, &["anb: ", a, b, c, d, e, "\n"]);
 }
 
 /// Writes the pieces one after another.

@@ -1,23 +1,21 @@
 ghost use Rattle.std.specs.Prelude.{◌≡◌, ◌++◌};
-ghost use Rattle.anb_run.specs.Statuses.{where_text, why_unread};
+ghost use Rattle.anb_run.specs.Statuses.{item_text, kind_text, where_text, why_ill_formed, why_misshapen, why_unfit, why_unread};
 
 use anb_base::{NoMemory, Place, Text};
+use anb_format::FormatNo;
+pub use anb_machine::Halt;
 use anb_read::ReadNo;
+use anb_resolve::{Item, Kind, ResolveNo};
+use anb_values::ValuesNo;
 use itoa::Buffer;
-
-/// Where a play stopped: the event, and the instruction of a role file that ran, numbered from 1,
-/// or 0 where there is none.
-#[derive(Clone, Copy, Debug, PartialEq, Eq, Drop)]
-pub struct Halt {
-    pub event: u32,
-    pub at: u32,
-}
 
 /// Why a file holds no narration to work with.
 #[derive(Debug, Drop)]
 pub enum NarrationNo {
     /// The text is no narration.
     Read(ReadNo),
+    /// The narration isn't well formed.
+    Resolve(ResolveNo),
 }
 
 /// How a command ended.
@@ -33,16 +31,29 @@ pub enum Status {
     FileLong(Text),
     /// The narration file holds none.
     BadNarration(NarrationNo),
+    /// No role of the narration has this name.
+    NoRole(Text),
+    /// The first action, numbered from 1, whose message its sender can't compose.
+    CannotSend { action: u32, role: Text },
+    /// The values file doesn't fit.
+    BadValues(ValuesNo),
+    /// The role makes a name, and there is no seed.
+    NoSeed,
     /// The place of the words couldn't be reached.
     Unreached(Place),
-    /// The checks of the role failed.
+    /// The checks of the role failed at this event.
     Stopped(Halt),
+    /// The input ended before the arrival of this event.
+    Waiting(u32),
+    /// The input ended within a frame, which has `need` bytes with its length, after `have` of them.
+    /// Where the length isn't whole, `need` is 4.
+    Truncated { have: u64, need: u64 },
+    /// A frame has this length, which is too much.
+    TooLarge(u32),
     /// Reading from the wire failed.
     ReadFault,
     /// Writing to the wire failed.
     WriteFault,
-    /// The files are not of the form that is played by now, or the play waits.
-    NotBuilt,
     /// No memory was left.
     NoMemory,
 }
@@ -55,6 +66,25 @@ impl From<NoMemory> for Status {
 
     fn from(_none: NoMemory) -> Self {
         Status::NoMemory
+    }
+}
+
+/// A text in pieces.
+pub(crate) type Pieces<'a> = (&'a str, &'a str, &'a str, &'a str, &'a str);
+
+/// Room for the digits of the two numbers that a line may have.
+#[derive(Drop)]
+pub(crate) struct Digits {
+    first: Buffer,
+    second: Buffer,
+}
+
+impl Digits {
+    pub(crate) fn new() -> Self {
+        Digits {
+            first: Buffer::new(),
+            second: Buffer::new(),
+        }
     }
 }
 
@@ -72,46 +102,81 @@ impl Status {
             Status::FileFault(_) => 2,
             Status::FileLong(_) => 3,
             Status::BadNarration(_) => 4,
+            Status::NoRole(_) => 5,
+            Status::CannotSend { .. } => 6,
+            Status::BadValues(_) => 7,
+            Status::NoSeed => 8,
             Status::Unreached(_) => 9,
             Status::Stopped(_) => 10,
+            Status::Waiting(_) => 11,
+            Status::Truncated { .. } => 12,
+            Status::TooLarge(_) => 13,
             Status::ReadFault => 14,
             Status::WriteFault => 15,
-            Status::NotBuilt => 98,
             Status::NoMemory => 99,
         }
     }
 
-    /// What the status says, in pieces. The digits hold the one that is a number.
-    pub(crate) fn pieces<'a>(&'a self, digits: &'a mut Buffer) -> (&'a str, &'a str, &'a str)
-        ensures { text_of self.now ≡ result.0.now ++ (result.1.now ++ result.2.now) }
+    /// What the status says, in pieces. The digits hold those that are numbers.
+    pub(crate) fn pieces<'a>(&'a self, digits: &'a mut Digits) -> Pieces<'a>
+        ensures { text_of self.now ≡ result.0.now ++ (result.1.now ++ (result.2.now ++ (result.3.now ++ result.4.now))) }
     {
+        let Digits { first, second } = digits;
         match self {
-            Status::Done => ("", "", ""),
-            Status::Usage => ("the words fit no command", "", ""),
-            Status::FileFault(name) => ("can't read ", name.as_str(), ""),
-            Status::FileLong(name) => (name.as_str(), " is too long", ""),
-            Status::BadNarration(why) => why.pieces(digits),
-            Status::Unreached(place) => ("can't reach ", where_text(place), ""),
-            Status::Stopped(halt) => ("stopped at event ", digits.format(halt.event), ""),
-            Status::ReadFault => ("read failed", "", ""),
-            Status::WriteFault => ("write failed", "", ""),
-            Status::NotBuilt => ("not built", "", ""),
-            Status::NoMemory => ("no memory", "", ""),
+            Status::Done => ("", "", "", "", ""),
+            Status::Usage => ("the words fit no command", "", "", "", ""),
+            Status::FileFault(name) => ("can't read ", name.as_str(), "", "", ""),
+            Status::FileLong(name) => (name.as_str(), " is too long", "", "", ""),
+            Status::BadNarration(why) => {
+                let (a, b, c, d) = why.pieces(first);
+                ("narration: ", a, b, c, d)
+            }
+            Status::NoRole(name) => ("no role ", name.as_str(), "", "", ""),
+            Status::CannotSend { action, role } => (
+                role.as_str(),
+                " can't compose the message of action ",
+                first.format(*action),
+                "",
+                "",
+            ),
+            Status::BadValues(why) => {
+                let (what, which) = unfit(why, first);
+                ("values: ", what, which, "", "")
+            }
+            Status::NoSeed => ("no seed", "", "", "", ""),
+            Status::Unreached(place) => ("can't reach ", where_text(place), "", "", ""),
+            Status::Stopped(halt) => ("stopped at event ", first.format(halt.event), "", "", ""),
+            Status::Waiting(event) => ("waiting at event ", first.format(*event), "", "", ""),
+            Status::Truncated { have, need } => (
+                "input ends after ",
+                first.format(*have),
+                " of ",
+                second.format(*need),
+                " bytes",
+            ),
+            Status::TooLarge(len) => ("a frame of ", first.format(*len), " bytes", "", ""),
+            Status::ReadFault => ("read failed", "", "", "", ""),
+            Status::WriteFault => ("write failed", "", "", "", ""),
+            Status::NoMemory => ("no memory", "", "", "", ""),
         }
     }
 }
 
 impl NarrationNo {
-    ghost use Rattle.std.specs.Prelude.{◌≡◌, ◌++◌, codes};
+    ghost use Rattle.std.specs.Prelude.{◌≡◌, ◌++◌};
     ghost use Rattle.anb_run.specs.Statuses.{why_bad};
 
-    /// Why the file holds no narration, after the word that says so.
-    fn pieces<'a>(&'a self, digits: &'a mut Buffer) -> (&'a str, &'a str, &'a str)
-        ensures { codes "narration: " ++ why_bad self.now ≡ result.0.now ++ (result.1.now ++ result.2.now) }
+    /// Why the file holds no narration.
+    fn pieces<'a>(&'a self, digits: &'a mut Buffer) -> (&'a str, &'a str, &'a str, &'a str)
+        ensures { why_bad self.now ≡ result.0.now ++ (result.1.now ++ (result.2.now ++ result.3.now)) }
     {
-        let NarrationNo::Read(why) = self;
-        let (what, at) = unread(*why, digits);
-        ("narration: ", what, at)
+        match self {
+            NarrationNo::Read(why) => {
+                let (what, at) = unread(*why, digits);
+                (what, at, "", "")
+            }
+            NarrationNo::Resolve(why) => ill_formed(why, digits),
+        }
     }
 }
 
@@ -124,6 +189,86 @@ fn unread(why: ReadNo, digits: &mut Buffer) -> (&str, &str)
         ReadNo::Grammar { at } => ("unexpected at ", digits.format(at)),
         ReadNo::Deep { at } => ("too deep at ", digits.format(at)),
         ReadNo::NoMemory => ("no memory", ""),
+    }
+}
+
+/// Why a narration isn't well formed.
+fn ill_formed<'a>(
+    why: &'a ResolveNo,
+    digits: &'a mut Buffer,
+) -> (&'a str, &'a str, &'a str, &'a str)
+    ensures { why_ill_formed why.now ≡ result.0.now ++ (result.1.now ++ (result.2.now ++ result.3.now)) }
+{
+    match why {
+        ResolveNo::Limit(kind, count) => {
+            ("too many ", kind_text(*kind), ": ", digits.format(*count))
+        }
+        ResolveNo::Twice(name) => (name.as_str(), " twice", "", ""),
+        ResolveNo::Unknown(name) => (name.as_str(), " unknown", "", ""),
+        ResolveNo::WrongSort(name) => (name.as_str(), " has the wrong sort", "", ""),
+        ResolveNo::WrongCount(name) => (name.as_str(), " has the wrong count", "", ""),
+        ResolveNo::FormatShape(name, why) => {
+            let (what, at) = misshapen(*why, digits);
+            (name.as_str(), what, at, "")
+        }
+        ResolveNo::Overlap(f, g) => (f.as_str(), " and ", g.as_str(), " overlap"),
+        ResolveNo::SelfSend(n) => ("action ", digits.format(*n), " goes to its sender", ""),
+        ResolveNo::KnowledgeTwice(role, term) => {
+            (role.as_str(), " knows ", term.as_str(), " twice")
+        }
+        ResolveNo::Wide(what) => {
+            let (kind, which) = item(what, digits);
+            (kind, which, " is too wide", "")
+        }
+        ResolveNo::NoMemory => ("no memory", "", "", ""),
+    }
+}
+
+fn kind_text(kind: Kind) -> &'static str
+    ensures { result.now ≡ kind_text kind }
+{
+    match kind {
+        Kind::Name => "bytes in a name",
+        Kind::Formats => "formats",
+        Kind::Fields => "fields",
+        Kind::Roles => "roles",
+        Kind::Actions => "actions",
+        Kind::TermNodes => "nodes in a term",
+        Kind::AllNodes => "nodes",
+    }
+}
+
+/// Why a format's pieces make none.
+fn misshapen(why: FormatNo, digits: &mut Buffer) -> (&str, &str)
+    ensures { why_misshapen why ≡ result.0.now ++ result.1.now }
+{
+    match why {
+        FormatNo::NoHead => (" has no head", ""),
+        FormatNo::RestNotLast(at) => (" has a rest at ", digits.format(at)),
+    }
+}
+
+/// Where a term stands.
+fn item<'a>(what: &'a Item, digits: &'a mut Buffer) -> (&'a str, &'a str)
+    ensures { item_text what.now ≡ result.0.now ++ result.1.now }
+{
+    match what {
+        Item::Know(role) => ("knowledge of ", role.as_str()),
+        Item::Action(n) => ("action ", digits.format(*n)),
+    }
+}
+
+/// Why a values file doesn't fit.
+fn unfit<'a>(why: &'a ValuesNo, digits: &'a mut Buffer) -> (&'a str, &'a str)
+    ensures { why_unfit why.now ≡ result.0.now ++ result.1.now }
+{
+    match why {
+        ValuesNo::Line(n) => ("line ", digits.format(*n)),
+        ValuesNo::Extra(name) => (name.as_str(), " isn't asked for"),
+        ValuesNo::Twice(name) => (name.as_str(), " twice"),
+        ValuesNo::Long(name) => (name.as_str(), " is too long"),
+        ValuesNo::Missing(name) => (name.as_str(), " is missing"),
+        ValuesNo::NoMemory => ("no memory", ""),
     }
 }
 
