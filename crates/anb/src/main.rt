@@ -12,11 +12,12 @@ use std::random::RandomSource;
 use std::{env, io};
 
 fn main(rt: HostRuntime) -> ExitCode {
-    ExitCode::from(status(rt).number())
+    ExitCode::from(status(rt, 1).number())
 }
 
-fn status(rt: HostRuntime) -> Status {
-    let words = match words(rt) {
+/// Runs the words behind the first ones, of which there are so many.
+fn status(rt: HostRuntime, skipped: usize) -> Status {
+    let words = match words(rt, skipped) {
         Ok(words) => words,
         Err(error) if error.kind() == io::ErrorKind::OutOfMemory => return Status::NoMemory,
         // A word that isn't UTF-8 fits no command, and nor does a list without words.
@@ -35,10 +36,10 @@ fn status(rt: HostRuntime) -> Status {
     )
 }
 
-/// The words after the program's name.
-fn words(rt: HostRuntime) -> io::Result<Vec<Text>> {
+/// The words behind the first ones.
+fn words(rt: HostRuntime, skipped: usize) -> io::Result<Vec<Text>> {
     let mut words = Vec::new(rt.alloc());
-    for word in env::args(&rt)?.skip(1) {
+    for word in env::args(&rt)?.skip(skipped) {
         words.push(Text::new(word))?;
     }
     Ok(words)
@@ -52,3 +53,6 @@ fn seed(rt: HostRuntime) -> Option<[u8; 32]> {
         Err(_) => None,
     }
 }
+
+#[cfg(test)]
+mod tests;

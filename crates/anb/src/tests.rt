@@ -1,0 +1,88 @@
+//! The program as a child, over TCP on this machine.
+use crate::{status, words};
+use std::io::{Read, Write};
+use std::net::{OpenListener, TcpListener, TcpStream};
+use std::process::{Child, Command};
+use std::test::Fail;
+use std::time::Duration;
+use std::{env, fs, thread};
+
+const PING: &str =
+    "Protocol: Ping; Types: Agent A, B; Number N; Knowledge: A: N; B: N; Actions: A -> B: N; B -> A: N;";
+
+const FRAME: [u8; 6] = [0, 0, 0, 2, b'a', b'b'];
+
+/// The child that the other tests start: behind its own name and this test's stand the words that it
+/// runs. The runner of tests starts it without them.
+#[test]
+fn child(rt: HostRuntime) -> Result<(), Fail> {
+    if words(rt, 2)?.as_slice().is_empty() {
+        return Ok(());
+    }
+    assert_eq!(rt; status(rt, 2).number(), 0);
+    Ok(())
+}
+
+/// Starts the child with words that play this role at this place.
+fn start(rt: HostRuntime, role: &str, flag: &str, at: &str) -> Result<Child, Fail> {
+    fs::write(&rt, "ping.anb", PING.as_bytes())?;
+    fs::write(&rt, "ping.values", b"N = \"ab\"")?;
+    let program = env::args(&rt)?.next().ok_or("no name")?;
+    let mut command = Command::new(rt.alloc(), program)?;
+    for word in [
+        "tests::child",
+        "play",
+        "ping.anb",
+        role,
+        "ping.values",
+        flag,
+        at,
+    ] {
+        let _ = command.arg(word)?;
+    }
+    Ok(command.spawn(&rt)?)
+}
+
+#[test]
+fn a_role_dials_its_peer(rt: HostRuntime) -> Result<(), Fail> {
+    let listener = TcpListener::bind(&rt, "127.0.0.1:0")?;
+    let at = format!(in rt.alloc(); "{}", listener.local_addr()?)?;
+    let mut role = start(rt, "A", "--dial", &at)?;
+    let (mut peer, _) = listener.accept()?;
+    let mut frame = [0u8; 6];
+    peer.read_exact(&mut frame)?;
+    assert_eq!(rt; frame, FRAME);
+    peer.write_all(&frame)?;
+    assert!(rt; role.wait()?.success());
+    Ok(())
+}
+
+#[test]
+fn a_role_listens_for_its_peer(rt: HostRuntime) -> Result<(), Fail> {
+    let at = free_address(rt)?;
+    let mut role = start(rt, "B", "--listen", &at)?;
+    let mut peer = dial(rt, &at)?;
+    peer.write_all(&FRAME)?;
+    let mut frame = [0u8; 6];
+    peer.read_exact(&mut frame)?;
+    assert_eq!(rt; frame, FRAME);
+    assert!(rt; role.wait()?.success());
+    Ok(())
+}
+
+/// An address on this machine that nobody listens at.
+fn free_address(rt: HostRuntime) -> Result<String, Fail> {
+    let listener = TcpListener::bind(&rt, "127.0.0.1:0")?;
+    Ok(format!(in rt.alloc(); "{}", listener.local_addr()?)?)
+}
+
+/// Dials until someone listens, for some seconds.
+fn dial(rt: HostRuntime, at: &str) -> Result<TcpStream, Fail> {
+    for _ in 0..200 {
+        if let Ok(stream) = TcpStream::connect(&rt, at) {
+            return Ok(stream);
+        }
+        thread::sleep(&rt, Duration::from_millis(50));
+    }
+    Err("nobody listens".into())
+}
