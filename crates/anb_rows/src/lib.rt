@@ -1,0 +1,40 @@
+//! Worked examples, from the text of a narration to the codes of its roles and what these do.
+//!
+//! The tests are the examples. The one function of the crate reads a text and resolves it, as they
+//! all begin.
+#![tactic(auto)]
+
+ghost use Rattle.std.specs.Prelude.{◌≡◌, ◌≤◌, length, IfOk, IfErr};
+ghost use Rattle.anb_rows.specs.Telling.{Tells, Refuses};
+
+use anb_read::{ReadNo, read};
+use anb_resolve::{Protocol, ResolveNo, resolve, small_is_countable};
+use std::alloc::Global;
+
+/// Why a text tells no protocol: it is no narration, or one that isn't well formed.
+#[derive(Debug, Drop)]
+pub enum Refusal {
+    Read(ReadNo),
+    Resolve(ResolveNo),
+}
+
+/// The protocol that a text tells.
+pub fn protocol_in(alloc: Global, text: &[u8]) -> Result<Protocol, Refusal>
+    requires { length text.now ≤ 1048576 }
+    ensures tells { IfOk result (λ p. Tells text.now p) }
+    ensures refused { IfErr result (λ why. Refuses text.now why) }
+{
+    small_is_countable();
+    match read(alloc, text) {
+        Err(no) => Err(Refusal::Read(no)),
+        Ok(narration) => match resolve(alloc, &narration) {
+            Ok(protocol) => Ok(protocol),
+            Err(no) => Err(Refusal::Resolve(no)),
+        },
+    }
+}
+
+#[cfg(test)]
+mod compiling;
+#[cfg(test)]
+mod resolving;
