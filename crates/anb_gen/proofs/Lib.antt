@@ -1,0 +1,5 @@
+pub mod Each
+pub mod Spellable
+pub mod Growing
+pub mod Alternating
+pub mod Small

@@ -1,0 +1,3 @@
+pub mod Drill
+pub mod Turns
+pub mod Laws
