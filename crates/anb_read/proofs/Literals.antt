@@ -31,24 +31,3 @@ by_token (Some t) h = by_word t.0 (λ b e. h b t.1 (ap (λ w. Some (w, t.1)) e))
 
 pub literal_none : (x : List ℕ) (at : ℕ) → ((bytes : List ℕ) (n : ℕ) → IsLiteralAt x at bytes n → ⊥) → [] ≡ literal_here (drop at x)
 literal_none x at none = by_token (token_here (drop at x)) (λ b n e. none b (at + n) (further x b at n ((literal_tokens (drop at x) b n).0 e)))
-
-small : (b : ℕ) → is_name_byte b ≡ true → b < 128
-small b h = grind (arith, nat_tests)
-
-all_small : (n : List ℕ) → list_all is_name_byte n ≡ true → IsAscii n
-all_small [] h i = omega arith
-all_small (b ∷ n) h zero = small b (and_parts (is_name_byte b) (list_all is_name_byte n) h).0
-all_small (b ∷ n) h (suc i) = all_small n (and_parts (is_name_byte b) (list_all is_name_byte n) h).1 i
-
-letter_is : (b : ℕ) → is_letter b ≡ true → is_name_byte b ≡ true
-letter_is b e = rw e refl
-
-spelled_small : (n : List ℕ) → is_spelled n ≡ true → IsAscii n
-spelled_small [] h i = omega arith
-spelled_small (b ∷ n) h i =
-    let k = and_parts (is_letter b) (list_all is_name_byte n) h in
-    all_small (b ∷ n) (rw (letter_is b k.0) k.1) i
-
-pub name_utf8 : (n : List ℕ) → is_name n ≡ true → IsUtf8 n
-unfolding is_name
-name_utf8 n h = IsUtf8-from_ascii n (spelled_small n (and_parts (is_spelled n) (not (list_any (bytes_eq n) reserved_words)) h).0)

@@ -13,9 +13,9 @@ use Rattle.anb_format.specs.declared.pieces.FieldKind.TheVariants.{Len, Net, Hex
 use Rattle.anb_syntax.specs.declared.narration.Sort.{Sort}
 use Rattle.anb_syntax.specs.declared.narration.Sort.TheVariants.{Agent, Number, Key}
 use Rattle.anb_read.specs.declared.refusal.ReadNo.{ReadNo}
-use Rattle.anb_syntax.specs.Words.{Word, name, literal, sign, end, bad, Tok, head, Begins, word_eqb, is_name, sort_word, hash_name, kind_word}
+use Rattle.anb_syntax.specs.Words.{Word, name, literal, sign, end, bad, Tok, head, Begins, word_eqb, is_name, sort_word, hash_name, kind_word, kind_of_word}
 use Rattle.anb_syntax.specs.Grammar.{IsName, IsPiece, piece_word}
-use Rattle.anb_read.specs.Productions.{◌>>=◌, this_word, word_name, word_sort, word_suite, word_kind, word_piece, field, expect, name_at, sort_at, suite_at, piece_at, begins_term}
+use Rattle.anb_read.specs.Productions.{◌>>=◌, this_word, word_name, word_sort, word_suite, word_piece, field, expect, name_at, sort_at, suite_at, piece_at, begins_term}
 use Rattle.anb_read.proofs.Readers.{opens, closes, Reads}
 use Rattle.anb_read.proofs.Binds.{split, ands, and_parts}
 use Rattle.anb_read.proofs.Parts.{OneWord, reads_one, always, yes}
@@ -139,7 +139,7 @@ unfolding suite_at
 reads_suite l h = reads_one l l word_suite (λ s. Unit {0}) (λ s. name (hash_name s)) one_suite (λ v i e. cc) (λ v i. refl) (λ v i e. h)
 
 -- the pieces of formats
-gives_kind : (k : FieldKind) → word_kind (kind_word k) ≡ Some k
+gives_kind : (k : FieldKind) → kind_of_word (kind_word k) ≡ Some k
 gives_kind Len = refl
 gives_kind Net = refl
 gives_kind Hex = refl
@@ -159,7 +159,7 @@ only_literal b (Lit c) h = let s : b ≡ c = cc (h.1) in (ap literal s, subst Is
 only_literal b (Field k) h = cc (h.1)
 
 only_piece : (x : Word) (v : Piece) → word_piece x ≡ Some v → (x ≡ piece_word v) × IsPiece v
-only_piece (name b) v e = only_field (word_kind b) b v (λ k h. table_only kind_word (Len ∷ Net ∷ Hex ∷ Rest ∷ []) b k h) e
+only_piece (name b) v e = only_field (kind_of_word b) b v (λ k h. table_only kind_word (Len ∷ Net ∷ Hex ∷ Rest ∷ []) b k h) e
 only_piece (literal b) v e = elim (split (is_bytes b) (Some (Lit b)) None (Some v) e) [ inl c ↦ only_literal b v c | inr c ↦ cc (c.1) ]
 only_piece (sign c) v e = cc
 only_piece end v e = cc

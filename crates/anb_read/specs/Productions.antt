@@ -4,14 +4,12 @@ use Rattle.std.specs.Prelude.{ℕ, zero, suc, List, [], ◌∷◌, ◌++◌, len
 use Rattle.std.specs.Str.{bytes_eq}
 use Rattle.anb_base.specs.Bytes.{is_bytes}
 use Rattle.anb_base.specs.declared.content.Suite.{Suite}
-use Rattle.anb_base.specs.declared.content.Suite.TheVariants.{One, Two}
 use Rattle.anb_format.specs.declared.pieces.Piece.{Piece}
 use Rattle.anb_format.specs.declared.pieces.Piece.TheVariants.{Lit, Field}
 use Rattle.anb_format.specs.declared.pieces.FieldKind.{FieldKind}
-use Rattle.anb_format.specs.declared.pieces.FieldKind.TheVariants.{Len, Net, Hex, Rest}
 use Rattle.anb_syntax.specs.declared.narration.Sort.{Sort}
 use Rattle.anb_syntax.specs.declared.narration.Sort.TheVariants.{Agent, Number, Key}
-use Rattle.anb_syntax.specs.Words.{Word, name, literal, end, bad, Tok, word_eqb, colon, semicolon, comma, open_sign, close_sign, equals, arrow, protocol_word, suite_word, types_word, formats_word, knowledge_word, actions_word, goals_word, hash_word, mac_word, seal_word, wrap_word, sort_word, hash_name, kind_word, is_name, head, tail, place}
+use Rattle.anb_syntax.specs.Words.{Word, name, literal, end, bad, Tok, word_eqb, colon, semicolon, comma, open_sign, close_sign, equals, arrow, protocol_word, suite_word, types_word, formats_word, knowledge_word, actions_word, goals_word, hash_word, mac_word, seal_word, wrap_word, sort_word, is_name, kind_of_word, suite_of_word, head, tail, place}
 use Rattle.anb_syntax.specs.Grammar.{Tree, atom, apply, hash, mac, seal, wrap, Trees, none, trees_of, TypeItem, FormatItem, KnowItem, ActionItem, Written}
 use Rattle.anb_read.specs.declared.refusal.ReadNo.{ReadNo}
 use Rattle.anb_read.specs.declared.refusal.ReadNo.TheVariants.{Token, Grammar, Deep}
@@ -53,22 +51,15 @@ word_sort (name b) =
 word_sort _ = None
 
 abbrev pub word_suite : Word → Option Suite
-word_suite (name b) = if bytes_eq (hash_name One) b then Some One else (if bytes_eq (hash_name Two) b then Some Two else None)
+word_suite (name b) = suite_of_word b
 word_suite _ = None
-
-abbrev pub word_kind : List ℕ → Option FieldKind
-word_kind b =
-    if bytes_eq (kind_word Len) b then Some Len
-    else (if bytes_eq (kind_word Net) b then Some Net
-    else (if bytes_eq (kind_word Hex) b then Some Hex
-    else (if bytes_eq (kind_word Rest) b then Some Rest else None)))
 
 abbrev pub field : Option FieldKind → Option Piece
 field None = None
 field (Some k) = Some (Field k)
 
 abbrev pub word_piece : Word → Option Piece
-word_piece (name b) = field (word_kind b)
+word_piece (name b) = field (kind_of_word b)
 word_piece (literal b) = if is_bytes b then Some (Lit b) else None
 word_piece _ = None
 
@@ -112,7 +103,7 @@ abbrev pub is_sort : Word → Bool
 is_sort x = some_of (word_sort x)
 
 abbrev pub is_piece : Word → Bool
-is_piece (name b) = some_of (word_kind b)
+is_piece (name b) = some_of (kind_of_word b)
 is_piece (literal b) = true
 is_piece _ = false
 

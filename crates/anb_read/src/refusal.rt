@@ -6,6 +6,7 @@ ghost use Rattle.anb_read.specs.Productions.{fault};
 ghost use Rattle.anb_read.specs.Places.{toks};
 
 use crate::places::{Place, Word, first};
+use anb_base::NoMemory;
 use std::alloc::{AllocError, AllocFailed};
 
 /// Why a text is no narration. Each `at` is an offset in bytes; no two refusals share one.
@@ -19,6 +20,16 @@ pub enum ReadNo {
     Deep { at: u32 },
     /// No memory was left.
     NoMemory,
+}
+
+impl From<NoMemory> for ReadNo {
+    ghost use Rattle.anb_read.specs.declared.refusal.ReadNo.TheVariants as refusal;
+
+    ghost from_gives = { λ _ e. e ≡ refusal.NoMemory };
+
+    fn from(_error: NoMemory) -> Self {
+        ReadNo::NoMemory
+    }
 }
 
 impl From<AllocError> for ReadNo {

@@ -1,18 +1,17 @@
 //! Reads single words.
 
-ghost use Rattle.std.specs.Prelude.{◌≡◌, ◌≤◌, ℕ, List, true, not, length, drop, bytes_eq, IfOk};
-ghost use Rattle.std.specs.List.{list_all, list_any};
+ghost use Rattle.std.specs.Prelude.{◌≡◌, ◌≤◌, length, drop, bytes_eq, IfOk};
 ghost use Rattle.anb_base.specs.Bytes.{IsBytes};
-ghost use Rattle.anb_syntax.specs.Words.{head, sign, name, end, word_eqb, is_letter, is_name_byte, is_spelled, is_name, reserved_words};
-ghost use Rattle.anb_read.specs.Productions.{expect, name_at, sort_at, suite_at, piece_at, word_sort, word_suite, word_kind, is_word, is_some_name, is_sort, is_piece, begins_term, some_of};
+ghost use Rattle.anb_syntax.specs.Words.{head, sign, name, end, word_eqb};
+ghost use Rattle.anb_read.specs.Productions.{expect, name_at, sort_at, suite_at, piece_at, word_sort, word_suite, is_word, is_some_name, is_sort, is_piece, begins_term, some_of};
 ghost use Rattle.anb_read.specs.Places.{toks, literal_here, Finds};
 
 use crate::places::{Place, Word, first, others};
 use crate::refusal::{ReadNo, refusal};
 use anb_base::{Bytes, NoMemory, Suite, Text};
-use anb_format::{FieldKind, Piece, read_literal};
-use anb_syntax::Sort;
-use std::alloc::{AllocError, Global};
+use anb_format::{Piece, read_literal};
+use anb_syntax::{Sort, is_name, kind_of_word, name_text, suite_of_word};
+use std::alloc::Global;
 
 fn is_same(a: &[u8], b: &[u8]) -> bool
     ensures { result ≡ bytes_eq a.now b.now }
@@ -83,63 +82,6 @@ pub(crate) fn expect_end<'p>(text: &[u8], places: &'p [Place]) -> Result<&'p [Pl
     }
 }
 
-fn is_letter(b: u8) -> bool
-    ensures { result ≡ is_letter b }
-{
-    (b'A' <= b && b <= b'Z') || (b'a' <= b && b <= b'z')
-}
-
-fn is_name_byte(b: u8) -> bool
-    ensures { result ≡ is_name_byte b }
-{
-    is_letter(b) || (b'0' <= b && b <= b'9') || b == b'_'
-}
-
-fn are_name_bytes(bytes: &[u8]) -> bool
-    ensures { result ≡ list_all is_name_byte bytes.now }
-{
-    bytes.iter().all(|b| is_name_byte(*b))
-}
-
-/// Whether the bytes are a letter, and then letters, digits and underscores.
-fn is_spelled(bytes: &[u8]) -> bool
-    ensures { result ≡ is_spelled bytes.now }
-{
-    match bytes {
-        [] => false,
-        [first, rest @ ..] => is_letter(*first) && are_name_bytes(rest),
-    }
-}
-
-/// Whether the grammar keeps the word for itself.
-fn is_reserved(bytes: &[u8]) -> bool
-    ensures { result ≡ list_any (bytes_eq bytes.now) reserved_words }
-{
-    is_same(bytes, b"Protocol")
-        || is_same(bytes, b"Suite")
-        || is_same(bytes, b"Types")
-        || is_same(bytes, b"Formats")
-        || is_same(bytes, b"Knowledge")
-        || is_same(bytes, b"Actions")
-        || is_same(bytes, b"Choice")
-        || is_same(bytes, b"Goals")
-        || is_same(bytes, b"Agent")
-        || is_same(bytes, b"Number")
-        || is_same(bytes, b"Key")
-        || is_same(bytes, b"h")
-        || is_same(bytes, b"mac")
-        || is_same(bytes, b"scrypt")
-        || is_same(bytes, b"wrap")
-}
-
-/// Whether this is a name of the grammar.
-#[tactic(auto, unfolding(anb_syntax::specs::Words::is_name))]
-fn is_name(bytes: &[u8]) -> bool
-    ensures { result ≡ is_name bytes.now }
-{
-    is_spelled(bytes) && !is_reserved(bytes)
-}
-
 /// Whether the word is a name of the grammar.
 pub(crate) fn is_some_name(text: &[u8], places: &[Place]) -> bool
     ensures { result ≡ is_some_name (head (toks text.now places.now)) }
@@ -161,14 +103,6 @@ pub(crate) fn begins_term(text: &[u8], places: &[Place]) -> bool
         || is_some_name(text, places)
 }
 
-/// A name of the grammar as a text.
-fn text_of_name(alloc: Global, bytes: &[u8]) -> Result<Text, AllocError>
-    requires { is_name bytes.now ≡ true }
-    ensures { IfOk result (λ t. t ≡ bytes.now) }
-{
-    Ok(Text::new(String::from_utf8_lossy(alloc, bytes)?))
-}
-
 /// Reads a name.
 #[tactic(auto, unfolding(crate::specs::Productions::name_at))]
 pub(crate) fn name<'p>(
@@ -183,7 +117,7 @@ pub(crate) fn name<'p>(
             if !is_name(bytes) {
                 return Err(refusal(text, places));
             }
-            Ok((text_of_name(alloc, bytes)?, others(places)))
+            Ok((name_text(alloc, bytes)?, others(places)))
         }
         _ => Err(refusal(text, places)),
     }
@@ -225,15 +159,7 @@ fn suite_of(text: &[u8], places: &[Place]) -> Option<Suite>
     ensures { result ≡ word_suite (head (toks text.now places.now)) }
 {
     match first(text, places) {
-        Word::Name(bytes) => {
-            if is_same(b"sha256", bytes) {
-                Some(Suite::One)
-            } else if is_same(b"sha512", bytes) {
-                Some(Suite::Two)
-            } else {
-                None
-            }
-        }
+        Word::Name(bytes) => suite_of_word(bytes),
         _ => None,
     }
 }
@@ -249,29 +175,12 @@ pub(crate) fn suite<'p>(text: &[u8], places: &'p [Place]) -> Result<(Suite, &'p 
     }
 }
 
-/// The kind of field that this is.
-fn kind_of(bytes: &[u8]) -> Option<FieldKind>
-    ensures { result ≡ word_kind bytes.now }
-{
-    if is_same(b"len", bytes) {
-        Some(FieldKind::Len)
-    } else if is_same(b"net", bytes) {
-        Some(FieldKind::Net)
-    } else if is_same(b"hex", bytes) {
-        Some(FieldKind::Hex)
-    } else if is_same(b"rest", bytes) {
-        Some(FieldKind::Rest)
-    } else {
-        None
-    }
-}
-
 /// Whether the word is a piece of a format.
 pub(crate) fn is_piece(text: &[u8], places: &[Place]) -> bool
     ensures { result ≡ is_piece (head (toks text.now places.now)) }
 {
     match first(text, places) {
-        Word::Name(bytes) => kind_of(bytes).is_some(),
+        Word::Name(bytes) => kind_of_word(bytes).is_some(),
         Word::Literal(_) => true,
         _ => false,
     }
@@ -320,14 +229,14 @@ pub(crate) fn piece<'p>(
     ensures { Finds (λ x. (x.0, toks text.now x.1.now)) result (piece_at (toks text.now places.now)) }
 {
     match first(text, places) {
-        Word::Name(bytes) => match kind_of(bytes) {
+        Word::Name(bytes) => match kind_of_word(bytes) {
             Some(kind) => Ok((Piece::Field(kind), others(places))),
             None => Err(refusal(text, places)),
         },
-        Word::Literal(at) => match literal(alloc, text, at) {
-            Ok(bytes) => Ok((literal_piece(bytes), others(places))),
-            Err(NoMemory) => Err(ReadNo::NoMemory),
-        },
+        Word::Literal(at) => {
+            let bytes = literal(alloc, text, at)?;
+            Ok((literal_piece(bytes), others(places)))
+        }
         _ => Err(refusal(text, places)),
     }
 }

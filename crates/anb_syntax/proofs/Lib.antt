@@ -5,3 +5,4 @@ pub mod Unique
 pub mod LiteralTokens
 pub mod Relexed
 pub mod Printed
+pub mod Names

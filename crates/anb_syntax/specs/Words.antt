@@ -1,5 +1,5 @@
 -- Words: what the tokens of a text are to the grammar.
-use Rattle.std.specs.Prelude.{◌≡◌, ℕ, List, [], ◌∷◌, Bool, true, false, ◌==◌, ◌&&◌, ◌||◌, not, codes, nat_le}
+use Rattle.std.specs.Prelude.{◌≡◌, ℕ, List, [], ◌∷◌, Bool, true, false, ◌==◌, ◌&&◌, ◌||◌, not, codes, nat_le, Option, Some, None, if◌then◌else◌}
 use Rattle.std.specs.List.{list_all, list_any}
 use Rattle.std.specs.Str.{bytes_eq}
 use Rattle.anb_base.specs.declared.content.Suite.{Suite}
@@ -102,6 +102,18 @@ kind_word Len = codes "len"
 kind_word Net = codes "net"
 kind_word Hex = codes "hex"
 kind_word Rest = codes "rest"
+
+-- the suite whose hash has this name
+abbrev pub suite_of_word : List ℕ → Option Suite
+suite_of_word b = if bytes_eq (hash_name One) b then Some One else (if bytes_eq (hash_name Two) b then Some Two else None)
+
+-- the kind of field with this word
+abbrev pub kind_of_word : List ℕ → Option FieldKind
+kind_of_word b =
+    if bytes_eq (kind_word Len) b then Some Len
+    else (if bytes_eq (kind_word Net) b then Some Net
+    else (if bytes_eq (kind_word Hex) b then Some Hex
+    else (if bytes_eq (kind_word Rest) b then Some Rest else None)))
 
 abbrev pub is_letter : ℕ → Bool
 is_letter b = (nat_le 65 b && nat_le b 90) || (nat_le 97 b && nat_le b 122)

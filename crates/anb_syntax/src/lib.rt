@@ -7,12 +7,14 @@
 mod laws;
 mod narration;
 mod tokens;
+mod words;
 mod writing;
 
 pub use laws::{canonical_is_text, literals_are_tokens, tokens_are_unique};
 pub use narration::{ActionItem, FormatItem, KnowItem, Narration, Sort, Tree, TypeItem};
 pub use tokens::{Next, Token, TokenKind, next_token};
-pub use writing::text_of;
+pub use words::{is_name, kind_of_word, name_text, suite_of_word};
+pub use writing::{put_piece, text_of};
 
 #[cfg(test)]
 mod tests;

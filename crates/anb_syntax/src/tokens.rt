@@ -1,9 +1,11 @@
 ghost use Rattle.std.specs.Prelude.{◌≡◌, ◌+◌, ◌<◌, ◌≤◌, ◌==◌, ◌∷◌, length, drop, option_map, IfSome, IfNone, None, true, false, ℕ, List};
 ghost use Rattle.std.specs.List.{prefix_len};
-ghost use Rattle.anb_syntax.specs.Words.{is_letter, is_name_byte, sign};
+ghost use Rattle.anb_syntax.specs.Words.{is_name_byte, sign};
 ghost use Rattle.anb_syntax.specs.Lexing.{is_blank, is_sign, gap_len, comment_len, token_here};
 ghost use Rattle.anb_syntax.specs.Scanning.{token_of, characters_len, escaped_len, closing, farther};
 ghost use Rattle.anb_syntax.specs.Nexts.{IsNext, IsWithin};
+
+use crate::words::{is_letter, is_name_byte};
 
 /// What kind of token it is. `Name` is a reserved word too.
 #[derive(Clone, Copy, Debug, PartialEq, Eq, Drop)]
@@ -39,18 +41,6 @@ fn is_blank(b: u8) -> bool
     ensures { result ≡ is_blank b }
 {
     b == b' ' || b == b'\t' || b == b'\n' || b == b'\r'
-}
-
-fn is_letter(b: u8) -> bool
-    ensures { result ≡ is_letter b }
-{
-    (b'A' <= b && b <= b'Z') || (b'a' <= b && b <= b'z')
-}
-
-fn is_name_byte(b: u8) -> bool
-    ensures { result ≡ is_name_byte b }
-{
-    is_letter(b) || (b'0' <= b && b <= b'9') || b == b'_'
 }
 
 /// The offset after the comment that has begun, behind its line.

@@ -1,8 +1,8 @@
 ghost use Rattle.std.specs.Prelude.{◌≡◌, ◌++◌, ◌∷◌, [], map, OnOk, IfOk, if◌then◌else◌};
 ghost use Rattle.std.specs.List.{flat_map};
 ghost use Rattle.anb_syntax.specs.Words.{close_sign};
-ghost use Rattle.anb_syntax.specs.Grammar.{trees_of, spell_tree, spell_trees};
-ghost use Rattle.anb_syntax.specs.Canon.{words_bytes, all_bytes, canon, spaced_first, lay_names, lay_type, lay_piece, lay_format, lay_know, lay_terms, lay_action, lay_suite, lay_formats, lay_knows};
+ghost use Rattle.anb_syntax.specs.Grammar.{trees_of, spell_tree, spell_trees, piece_word};
+ghost use Rattle.anb_syntax.specs.Canon.{word_bytes, words_bytes, all_bytes, canon, spaced_first, lay_names, lay_type, lay_piece, lay_format, lay_know, lay_terms, lay_action, lay_suite, lay_formats, lay_knows};
 ghost use Rattle.anb_syntax.specs.Views.{tree_of, type_of, format_of, know_of, action_of, narration_of};
 
 use crate::narration::{ActionItem, FormatItem, KnowItem, Narration, Sort, Tree, TypeItem};
@@ -117,8 +117,9 @@ fn put_pieces(alloc: Global, out: &mut Vec<u8>, pieces: &Vec<Piece>) -> Result<(
     Ok(())
 }
 
-fn put_piece(alloc: Global, out: &mut Vec<u8>, piece: &Piece) -> Result<(), NoMemory>
-    ensures { OnOk result (out.new.items ≡ out.old.items ++ all_bytes (lay_piece piece.now ∷ [])) }
+/// Appends a piece of a format, behind a space: its canonical literal, or the word of its kind.
+pub fn put_piece(alloc: Global, out: &mut Vec<u8>, piece: &Piece) -> Result<(), NoMemory>
+    ensures { OnOk result (out.new.items ≡ out.old.items ++ 32 ∷ word_bytes (piece_word piece.now)) }
 {
     out.extend_from_slice(b" ")?;
     match piece {

@@ -15,6 +15,7 @@ mod refusal;
 
 use anb_base::Text;
 pub use fitted::{Fitted, ValueList};
+pub use lines::is_label;
 pub use refusal::ValuesNo;
 use std::alloc::Global;
 

@@ -144,7 +144,8 @@ fn read_label(alloc: Global, text: &[u8]) -> Result<Option<Text>, NoMemory>
     Ok(Some(Text::new(label)))
 }
 
-fn is_label(bytes: &[u8]) -> bool
+/// Whether this is a label text: one or more letters, digits, `_`, `(`, `)` and `,`.
+pub fn is_label(bytes: &[u8]) -> bool
     ensures { IsTrue result ↔ IsLabel bytes.now }
 {
     !bytes.is_empty() && bytes.iter().all(|byte| is_label_byte(*byte))

@@ -8,7 +8,7 @@ use Rattle.anb_read.proofs.single.piece.Goals as goal
 pub returns-in-Some : goal.returns-in-Some
 returns-in-Some c = passes_kind c.in-Name.bytes.now c.in-Some.kind (toks c.args.text.now c.args.places.now) (toks c.args.text.now c.others.result.now) c.in-Name.ensures c.in-Some.ensures (c.others.ensures c.args.text.now)
 
-pub returns-in-Ok : goal.returns-in-Ok
-returns-in-Ok c =
-    passes_literal c.in-Ok.bytes (toks c.args.text.now c.args.places.now) (toks c.args.text.now c.others-in-Ok.result.now) (ap literal c.in-Ok.ensures ∙ c.in-Literal.ensures) (is_bytes-IsBytes c.in-Ok.bytes c.literal_piece.ensures.bytes) (c.others-in-Ok.ensures c.args.text.now)
-    ∙ ap (λ p. Ok (p, toks c.args.text.now c.others-in-Ok.result.now)) (sym c.literal_piece.ensures.piece)
+pub returns-in_ok-bytes-in-Literal : goal.returns-in_ok-bytes-in-Literal
+returns-in_ok-bytes-in-Literal c =
+    passes_literal c.in_ok-bytes-in-Literal.bytes (toks c.args.text.now c.args.places.now) (toks c.args.text.now c.others-in-Literal.result.now) (ap literal c.in_ok-bytes-in-Literal.ensures ∙ c.in-Literal.ensures) (is_bytes-IsBytes c.in_ok-bytes-in-Literal.bytes c.literal_piece.ensures.bytes) (c.others-in-Literal.ensures c.args.text.now)
+    ∙ ap (λ p. Ok (p, toks c.args.text.now c.others-in-Literal.result.now)) (sym c.literal_piece.ensures.piece)
