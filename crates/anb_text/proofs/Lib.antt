@@ -1,0 +1,16 @@
+pub mod Choices
+pub mod Words
+pub mod Registers
+pub mod Instrs
+pub mod OtherLines
+pub mod Pieces
+pub mod LineLemmas
+pub mod ReadFacts
+pub mod Texts
+pub mod StageLemmas
+pub mod Unique
+pub mod Progress
+pub mod Sizes
+pub mod Back
+pub mod Loaded
+pub mod Printed

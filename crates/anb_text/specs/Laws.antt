@@ -1,0 +1,26 @@
+-- What holds of role files whatever they say.
+use Rattle.std.specs.Prelude.{◌≡◌, ℕ, List}
+use Rattle.anb_base.specs.declared.TheConstants.{ARRIVAL, WIDE}
+use Rattle.anb_code.specs.CodeValue.{CodeValue}
+use Rattle.anb_code.specs.Verified.{IsVerifiedCode}
+use Rattle.anb_text.specs.declared.lines.Line.{Line}
+use Rattle.anb_text.specs.RoleFiles.{IsRoleFile, IsTextOf, lines_text}
+use Rattle.anb_text.specs.Refusals.{IsFirstFaulty}
+
+-- two role files with one text have the same lines, and so spell the same code, in the same version
+abbrev pub FilesAreUnique : Type 0
+FilesAreUnique = (one other : List Line) (is : IsRoleFile one) (also : IsRoleFile other) → lines_text one ≡ lines_text other
+    → (one ≡ other) × (is.raw ≡ also.raw)
+
+-- a role file has no faulty line
+abbrev pub NoneIsBoth : Type 0
+NoneIsBoth = (lines : List Line) (n : ℕ) → IsRoleFile lines → IsFirstFaulty (lines_text lines) n → ⊥
+
+-- a text has one first faulty line at most
+abbrev pub FaultsAreUnique : Type 0
+FaultsAreUnique = (text : List ℕ) (n m : ℕ) → IsFirstFaulty text n → IsFirstFaulty text m → n ≡ m
+
+-- two verified codes with a text in common are the same
+abbrev pub CodesAreUnique : Type 0
+CodesAreUnique = (text : List ℕ) (one other : CodeValue) → IsVerifiedCode ARRIVAL WIDE one → IsVerifiedCode ARRIVAL WIDE other
+    → IsTextOf text one → IsTextOf text other → one ≡ other

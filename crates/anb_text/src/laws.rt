@@ -1,0 +1,21 @@
+ghost use Rattle.anb_text.specs.Laws.{CodesAreUnique, FaultsAreUnique, FilesAreUnique, NoneIsBoth};
+
+/// Law: two role files with one text have the same lines and spell the same code.
+pub fn files_are_unique()
+    ensures { FilesAreUnique }
+{}
+
+/// Law: two verified codes with a text in common, of either version, are the same.
+pub fn codes_are_unique()
+    ensures { CodesAreUnique }
+{}
+
+/// Law: a role file has no faulty line.
+pub fn none_is_both()
+    ensures { NoneIsBoth }
+{}
+
+/// Law: a text has one first faulty line at most.
+pub fn faults_are_unique()
+    ensures { FaultsAreUnique }
+{}

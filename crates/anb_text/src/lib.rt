@@ -1,0 +1,22 @@
+//! Role files: how a role's code is written as a text, and read again.
+//!
+//! A role file has a line for its version, its protocol, its role and its suite, then one for each
+//! format, `code`, one for each instruction, and `end`. Each line ends with the byte 0A. Words are
+//! separated by one space, numbers are decimal, and registers are `r` and a number.
+#![tactic(auto)]
+
+mod laws;
+mod lines;
+mod loading;
+mod printing;
+mod reading;
+mod refusal;
+mod stages;
+
+pub use laws::{codes_are_unique, faults_are_unique, files_are_unique, none_is_both};
+pub use loading::load;
+pub use printing::{instr_text, print};
+pub use refusal::LoadNo;
+
+#[cfg(test)]
+mod tests;
