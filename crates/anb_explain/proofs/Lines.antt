@@ -1,0 +1,106 @@
+-- Lines, word by word.
+use Rattle.std.proofs.Common.{◌≡◌, ℕ, zero, suc, ◌+◌, ◌≤◌, ◌<◌, List, [], ◌∷◌, ◌++◌, length, map, take, drop, Some, Bool, true, false, cond, refl, sym, ap, ◌∙◌, arith, append_assoc}
+use Rattle.std.specs.Prelude.{slice_get, decimal, codes, count_by}
+use Rattle.std.specs.Option.{option_map_or}
+use Rattle.std.specs.List.{flat_map, range_with_len}
+use Rattle.std.proofs.lemmas.Grind.{flat_map-append}
+use Rattle.std.proofs.lemmas.List.{append-nil, length-map}
+use Rattle.std.proofs.lemmas.List.Folds.{flat_map-map}
+use Rattle.std.proofs.lemmas.List.Sums.{sum_by-append, sum_by-cons}
+use Rattle.anb_format.specs.Formats.{FormatValue}
+use Rattle.anb_term.specs.declared.term.Term.{Term}
+use Rattle.anb_term.specs.Tree.{Tree}
+use Rattle.anb_term.specs.View.{tree_of}
+use Rattle.anb_term.proofs.Lists.{slice_get-there, slice_get-map, map-take, map-drop}
+use Rattle.anb_resolve.specs.Choices.{each_after}
+use Rattle.anb_resolve.specs.Protocols.{ProtocolValue}
+use Rattle.anb_resolve.specs.Texts.{term_text}
+use Rattle.anb_resolve.specs.Plans.{PlanEvent}
+use Rattle.anb_code.specs.declared.instr.Instr.{Instr}
+use Rattle.anb_code.specs.RawValue.{RawInstrValue}
+use Rattle.anb_code.specs.Registers.{count_written}
+use Rattle.anb_code.specs.Spelling.{raw_instr, raw_instrs}
+use Rattle.anb_code.specs.Verified.{count_registers}
+use Rattle.anb_text.specs.Lines.{instr_line}
+use Rattle.anb_explain.specs.Explained.{line, event_line, note, register_text, instr_text}
+use Rattle.anb_explain.proofs.Loops.{drop_item, item_drop}
+
+abbrev pub behind : List ℕ → List ℕ
+behind text = 32 ∷ text
+
+-- a word, numbers and a text
+pub line_put : (word : List ℕ) (numbers : List ℕ) (text : List ℕ) → word ++ flat_map behind (map decimal numbers ++ text ∷ []) ≡ (word ++ flat_map (λ n. 32 ∷ decimal n) numbers) ++ 32 ∷ text
+line_put word numbers text =
+    let one : flat_map behind (text ∷ []) ≡ 32 ∷ text = append-nil (32 ∷ text) in
+    ap (λ l. word ++ l) (flat_map-append behind (map decimal numbers) (text ∷ []) ∙ ap (λ l. l ++ flat_map behind (text ∷ [])) (flat_map-map behind decimal numbers) ∙ ap (λ l. flat_map (λ n. 32 ∷ decimal n) numbers ++ l) one)
+    ∙ sym (append_assoc word (flat_map (λ n. 32 ∷ decimal n) numbers) (32 ∷ text))
+
+-- the note of some terms
+pub note_put : (p : ProtocolValue) (ts : List Term) → 0 < length ts → note (map (term_text p) (map tree_of ts)) ≡ codes " #" ++ flat_map (λ u. 32 ∷ term_text p (tree_of u)) ts
+note_put p [] some = absurd (omega arith)
+note_put p (t ∷ ts) some =
+    ap (λ l. codes " # " ++ (term_text p (tree_of t) ++ l)) (flat_map-map behind (term_text p) (map tree_of ts) ∙ flat_map-map (λ (u : Tree). behind (term_text p u)) tree_of ts)
+
+-- ---- one event more
+
+abbrev pub counted_one : Bool → ℕ
+counted_one b = cond b 1 0
+
+pub counted_on : (test : PlanEvent → Bool) (before : List PlanEvent) (e : PlanEvent) → count_by test (before ++ e ∷ []) ≡ count_by test before + counted_one (test e)
+counted_on test before e = omega (arith, sum_by-append (λ x. cond (test x) 1 0) before (e ∷ []), sum_by-cons (λ x. cond (test x) 1 0) e [])
+
+pub one_if : (b : Bool) → b ≡ true → counted_one b ≡ 1
+one_if true e = refl
+one_if false e = cc
+
+pub none_if : (b : Bool) → b ≡ false → counted_one b ≡ 0
+none_if true e = cc
+none_if false e = refl
+
+pub at_most_one : (b : Bool) → counted_one b ≤ 1
+at_most_one true = omega arith
+at_most_one false = omega arith
+
+pub event_put : (p : ProtocolValue) (before rest : List PlanEvent) (e : PlanEvent) (old new whole : List ℕ) → new ≡ old ++ event_line p before e
+    → old ++ each_after (event_line p) before (e ∷ rest) ≡ whole → new ++ each_after (event_line p) (before ++ e ∷ []) rest ≡ whole
+event_put p before rest e old new whole is joined =
+    ap (λ l. l ++ each_after (event_line p) (before ++ e ∷ []) rest) is ∙ append_assoc old (event_line p before e) (each_after (event_line p) (before ++ e ∷ []) rest) ∙ joined
+
+-- ---- one instruction more
+
+-- the registers from one on have the texts of the terms from there on
+pub texts_on : (f : Tree → List ℕ) (ts : List Tree) (next n : ℕ) → next + n ≤ length ts → map (λ r. option_map_or f (slice_get ts r) []) (range_with_len next n) ≡ map f (take n (drop next ts))
+texts_on f ts next zero h = refl
+texts_on f ts next (suc n) h =
+    let t = slice_get-there ts next (omega arith) in
+    rw (t.1, drop_item ts next t.0 t.1) (ap (λ l. f t.0 ∷ l) (texts_on f ts (next + 1) n (omega arith)))
+
+-- what a loop over the instructions keeps
+pub record Written (p : ProtocolValue) (formats : List FormatValue) (ts : List Term) (instrs : List Instr) (raws : List RawInstrValue) (i next : ℕ) (out whole : List ℕ) : Type 0 where
+  pub spelled : drop i raws ≡ raw_instrs formats next (drop i instrs)
+  pub counted : next + count_registers formats (drop i instrs) ≡ length ts
+  pub joined : out ++ flat_map (instr_text p (map tree_of ts)) (drop i raws) ≡ whole
+
+pub instr_put : (p : ProtocolValue) (formats : List FormatValue) (ts : List Term) (instrs : List Instr) (raws : List RawInstrValue) (i next k : ℕ) (x : Instr) (text old new whole : List ℕ)
+    → slice_get instrs i ≡ Some x → k ≡ count_written formats x → slice_get (map instr_line raws) i ≡ Some text
+    → new ≡ old ++ line (text ++ note (map (term_text p) (map tree_of (take k (drop next ts)))))
+    → Written p formats ts instrs raws i next old whole → Written p formats ts instrs raws (i + 1) (next + k) new whole
+instr_put p formats ts instrs raws i next k x text old new whole at many said is w =
+    let rest = drop (i + 1) instrs in
+    let left = drop_item instrs i x at in
+    let raw = raw_instr formats next x in
+    let later = raw_instrs formats (next + count_written formats x) rest in
+    let here = item_drop raws later i raw (w.spelled ∙ ap (raw_instrs formats next) left) in
+    let text_is : text ≡ instr_line raw = (let e = sym said ∙ slice_get-map instr_line raws i raw here.0 in cc) in
+    let counts : next + (count_written formats x + count_registers formats rest) ≡ length ts = ap (λ n. next + n) (sym (ap (count_registers formats) left ∙ sum_by-cons (count_written formats) x rest)) ∙ w.counted in
+    let trees = map tree_of ts in
+    let size = length-map ts tree_of in
+    let moved : map tree_of (take k (drop next ts)) ≡ take (count_written formats x) (drop next trees) = map-take tree_of k (drop next ts) ∙ ap (take k) (map-drop tree_of next ts) ∙ ap (λ n. take n (drop next trees)) many in
+    let noted : map (term_text p) (map tree_of (take k (drop next ts))) ≡ map (register_text p trees) raw.to = ap (map (term_text p)) moved ∙ sym (texts_on (term_text p) trees next (count_written formats x) (omega (arith, counts, size))) in
+    let put : new ≡ old ++ instr_text p trees raw = is ∙ ap (λ l. old ++ line (l ++ note (map (term_text p) (map tree_of (take k (drop next ts)))))) text_is ∙ ap (λ l. old ++ line (instr_line raw ++ note l)) noted in
+    record {
+      spelled = here.1 ∙ ap (λ n. raw_instrs formats (next + n) rest) (sym many);
+      counted = omega (arith, counts, many);
+      joined = ap (λ l. l ++ flat_map (instr_text p trees) (drop (i + 1) raws)) put ∙ append_assoc old (instr_text p trees raw) (flat_map (instr_text p trees) (drop (i + 1) raws))
+          ∙ ap (λ l. old ++ flat_map (instr_text p trees) l) (sym (drop_item raws i raw here.0)) ∙ w.joined;
+    }

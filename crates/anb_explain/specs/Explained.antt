@@ -1,0 +1,90 @@
+-- What a role does, as a text.
+use Rattle.std.specs.Prelude.{◌≡◌, ℕ, ◌+◌, List, [], ◌∷◌, ◌++◌, map, codes, decimal, count_by, Bool, true, false, Option, Some, slice_get}
+use Rattle.std.specs.Option.{option_map, option_map_or}
+use Rattle.std.specs.List.{flat_map, join_by}
+use Rattle.anb_term.specs.Tree.{Tree}
+use Rattle.anb_term.specs.Value.{values, recipe_trees}
+use Rattle.anb_term.specs.FreeAlgebra.{terms_over}
+use Rattle.anb_algebra.specs.ByteMeaning.{has_operator}
+use Rattle.anb_resolve.specs.Choices.{each_after}
+use Rattle.anb_resolve.specs.Protocols.{ProtocolValue}
+use Rattle.anb_resolve.specs.Texts.{term_text}
+use Rattle.anb_resolve.specs.Plans.{PlanEvent, to_know, to_make, to_send, to_receive, plan_of}
+use Rattle.anb_resolve.specs.Plays.{events_of}
+use Rattle.anb_code.specs.CodeValue.{CodeValue}
+use Rattle.anb_code.specs.RawValue.{RawInstrValue}
+use Rattle.anb_code.specs.Meaning.{acts_of}
+use Rattle.anb_code.specs.Spelling.{raw_of}
+use Rattle.anb_compile.specs.Registers.{register_recipes, all_labels}
+use Rattle.anb_text.specs.Lines.{instr_line}
+
+-- these texts with one space between two
+abbrev pub spaced : List (List ℕ) → List ℕ
+spaced texts = join_by (λ text. text) (32 ∷ []) texts
+
+-- a line, which ends with the byte 0A
+abbrev pub line : List ℕ → List ℕ
+line text = text ++ 10 ∷ []
+
+-- ---- the plan
+
+-- what is known, made or received has a label
+abbrev pub has_label : PlanEvent → Bool
+has_label (to_know t) = true
+has_label (to_make t) = true
+has_label (to_send action t) = false
+has_label (to_receive action t) = true
+
+-- what is sent or received is a message
+abbrev pub is_message : PlanEvent → Bool
+is_message (to_know t) = false
+is_message (to_make t) = false
+is_message (to_send action t) = true
+is_message (to_receive action t) = true
+
+-- what is said of an event behind so many labels, which are numbered from 0, and so many messages, which are numbered from 1
+abbrev pub event_words : ProtocolValue → ℕ → ℕ → PlanEvent → List (List ℕ)
+event_words p labels messages (to_know t) = codes "know" ∷ decimal labels ∷ term_text p t ∷ []
+event_words p labels messages (to_make t) = codes "fresh" ∷ decimal labels ∷ term_text p t ∷ []
+event_words p labels messages (to_send action t) = codes "send" ∷ decimal (messages + 1) ∷ term_text p t ∷ []
+event_words p labels messages (to_receive action t) = codes "recv" ∷ decimal (messages + 1) ∷ decimal labels ∷ term_text p t ∷ []
+
+-- the line of an event, with those before it
+abbrev pub event_line : ProtocolValue → List PlanEvent → PlanEvent → List ℕ
+event_line p before e = line (spaced (event_words p (count_by has_label before) (count_by is_message before) e))
+
+abbrev pub plan_text : ProtocolValue → List PlanEvent → List ℕ
+plan_text p plan = each_after (event_line p) [] plan
+
+-- ---- the code
+
+-- behind ` # ` these texts, where there are any
+abbrev pub note : List (List ℕ) → List ℕ
+note [] = []
+note (text ∷ texts) = codes " # " ++ spaced (text ∷ texts)
+
+-- the text of a register's term
+abbrev pub register_text : ProtocolValue → List Tree → ℕ → List ℕ
+register_text p terms r = option_map_or (term_text p) (slice_get terms r) []
+
+-- an instruction, and the terms of the registers that it writes
+abbrev pub instr_text : ProtocolValue → List Tree → RawInstrValue → List ℕ
+instr_text p terms i = line (instr_line i ++ note (map (register_text p terms) i.to))
+
+abbrev pub code_text : ProtocolValue → List Tree → CodeValue → List ℕ
+code_text p terms code = flat_map (instr_text p terms) (raw_of code).code
+
+-- ---- all
+
+-- where the registers have these terms
+abbrev pub explained : ProtocolValue → ℕ → CodeValue → List Tree → List ℕ
+explained p role code terms =
+    line (codes "role " ++ code.role) ++ (plan_text p (plan_of p role) ++ (line (codes "code") ++ code_text p terms code))
+
+-- the terms of the registers, in the order of writing: what their recipes are worth in terms, over all labels of the plan
+abbrev pub register_terms : ProtocolValue → ℕ → CodeValue → Option (List Tree)
+register_terms p role code = values (terms_over (has_operator code.formats)) (all_labels (events_of p role)) (recipe_trees (register_recipes (acts_of code)))
+
+-- the text has the terms of the registers, each of which has one
+abbrev pub IsExplained : ProtocolValue → ℕ → CodeValue → List ℕ → Type 0
+IsExplained p role code text = option_map (explained p role code) (register_terms p role code) ≡ Some text
