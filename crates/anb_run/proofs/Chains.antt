@@ -1,5 +1,5 @@
 -- Steps one after another.
-use Rattle.std.proofs.Common.{◌≡◌, ℕ, List, Option, Some, None, refl, inl, inr}
+use Rattle.std.proofs.Common.{ℕ, List, Option, Some, None, refl, inl, inr}
 use Rattle.anb_run.specs.declared.status.Status.{Status}
 use Rattle.anb_run.specs.Fetches.{IfTold}
 use Rattle.anb_run.specs.Steps.{Answer, refused, given, Then}

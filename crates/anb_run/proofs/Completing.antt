@@ -1,15 +1,12 @@
 -- A play that hears all it waits for, and where everything agrees, is done.
-use Rattle.std.proofs.Common.{◌≡◌, ℕ, ◌+◌, ◌⊎◌, Bool, true, false, List, [], ◌∷◌, ◌++◌, All, Option, Some, None, refl, sym, ap, ◌∙◌, subst, inl, inr, append_assoc}
-use Rattle.std.proofs.lemmas.Grind.{flat_map-append}
+use Rattle.std.proofs.Common.{◌≡◌, ℕ, ◌+◌, ◌⊎◌, Bool, true, false, List, [], ◌∷◌, ◌++◌, Option, Some, None, refl, sym, ap, ◌∙◌, subst, inl, inr}
 use Rattle.std.proofs.lemmas.List.{append_cancel_left, append_cancel_right}
-use Rattle.std.proofs.lemmas.List.Elements.{All-append}
 use Rattle.anb_base.specs.Bytes.{IsBytes}
 use Rattle.anb_base.specs.declared.TheConstants.{ARRIVAL}
 use Rattle.anb_base.specs.declared.place.Place.{Place}
 use Rattle.anb_frame.specs.Frames.{frame, frames}
 use Rattle.anb_frame.specs.Cuts.{Tail, Cut, HasCut}
 use Rattle.anb_seal.specs.Streams.{draw_of}
-use Rattle.anb_term.specs.Agree.{Agree}
 use Rattle.anb_term.specs.Tree.{Tree}
 use Rattle.anb_term.specs.Value.{Meaning}
 use Rattle.anb_plays.specs.Plans.{Event, know, fresh, send, recv, known}
@@ -19,7 +16,8 @@ use Rattle.anb_resolve.specs.Plays.{events_of, meaning_of}
 use Rattle.anb_values.specs.Fit.{FitIsUnique}
 use Rattle.anb_run.specs.Completions.{AgreesAfterEach, AgreesThroughout, CompletesPlay, HasAll}
 use Rattle.anb_run.specs.Jobs.{Job, JobIs}
-use Rattle.anb_run.specs.PlayCommand.{DoesPlay, IsPlayed, IsPlayOf, LeavesAt, Outcome, PlayOf, status_at}
+use Rattle.anb_run.specs.Outcomes.{IsOutcome, IsPlayed, LeavesAt, status_at}
+use Rattle.anb_run.specs.PlayCommand.{DoesPlay, PlayOf}
 use Rattle.anb_run.specs.Statuses.{is_fault}
 use Rattle.anb_run.specs.Steps.{Answer, refused, given, IsOne}
 use Rattle.anb_run.specs.Words.{play}
@@ -68,17 +66,17 @@ leaves_later e left later rest heard more unused tail ends unused_is is leaves =
 module _ (Asks : Answer Job → Type 0) (one : IsOne Asks) (exists : HasCut ARRIVAL) where
   -- an input that has all is cut so that the play over it is done
   completes_over : (left : List ℕ) (now written written_now : Option (List ℕ)) (s : Status)
-      → ((arrivals : List (List ℕ)) (tail : Tail) → IsBytes left → Cut ARRIVAL left arrivals tail → IsPlayOf Asks left arrivals tail s now written written_now)
+      → ((arrivals : List (List ℕ)) (tail : Tail) → IsBytes left → Cut ARRIVAL left arrivals tail → IsOutcome PlayOf Asks left arrivals tail s now written written_now)
       → (is_fault s ≡ true → s ≡ NoMemory) → (job : Job) (later : List ℕ) → IsBytes left → Asks (given job) → HasAll job left later
       → ((s ≡ Done) × (now ≡ Some later)) ⊎ (s ≡ NoMemory)
   completes_over left now written written_now s does only_memory job later bytes asks all = by (is_fault s) refl where
     cut_later : (bs : List (List ℕ)) × (tail : Tail) × Cut ARRIVAL later bs tail
     cut_later = exists later (bytes_right (frames all.heard) later (subst IsBytes all.is bytes))
 
-    over : IsPlayOf Asks left (all.heard ++ cut_later.0) cut_later.1 s now written written_now
+    over : IsOutcome PlayOf Asks left (all.heard ++ cut_later.0) cut_later.1 s now written written_now
     over = does (all.heard ++ cut_later.0) cut_later.1 bytes (cut_behind left later all.heard cut_later.0 cut_later.1 all.short all.is cut_later.2)
 
-    finished : (rest : List ℕ) (other : Job) → Asks (given other) → now ≡ Some rest → (out : List ℕ) → IsPlayed other left (all.heard ++ cut_later.0) cut_later.1 s out rest → (s ≡ Done) × (now ≡ Some later)
+    finished : (rest : List ℕ) (other : Job) → Asks (given other) → now ≡ Some rest → (out : List ℕ) → IsPlayed PlayOf other left (all.heard ++ cut_later.0) cut_later.1 s out rest → (s ≡ Done) × (now ≡ Some later)
     finished rest other asks' now_is out played =
         let is_job : other ≡ job = same_given other job (one (given other) (given job) asks' asks) in
         let plays : PlayOf job (all.heard ++ cut_later.0) played.play = subst (λ (j : Job). PlayOf j (all.heard ++ cut_later.0) played.play) is_job played.plays in

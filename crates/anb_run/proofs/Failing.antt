@@ -1,5 +1,5 @@
 -- Why a step fails.
-use Rattle.std.proofs.Common.{◌≡◌, ℕ, ◌≤◌, List, inl, inr, arith}
+use Rattle.std.proofs.Common.{ℕ, ◌≤◌, List, inl, inr, arith}
 use Rattle.anb_base.specs.Moves.{Rose}
 use Rattle.anb_run.specs.declared.status.Status.{Status}
 use Rattle.anb_run.specs.declared.status.Status.TheVariants.{FileFault, NoMemory}

@@ -1,6 +1,7 @@
 pub mod Chains
 pub mod Completing
 pub mod Cutting
+pub mod Enacting
 pub mod Failing
 pub mod Lines
 pub mod Ones

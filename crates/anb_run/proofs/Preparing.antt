@@ -1,29 +1,26 @@
 -- From the steps of a play's preparation to what is asked.
-use Rattle.std.proofs.Common.{◌≡◌, ℕ, ◌<◌, ◌≤◌, ◌⊎◌, ◌↔◌, List, [], ◌∷◌, length, map, Bool, Option, Some, None, Result, Ok, Err, IfOk, refl, ap, sym, ◌∙◌, subst, inl, inr}
+use Rattle.std.proofs.Common.{◌≡◌, ℕ, ◌<◌, ◌⊎◌, List, [], ◌∷◌, length, map, Bool, Option, Some, None, Result, Ok, Err, IfOk, refl, ap, sym, ◌∙◌, subst, inl, inr}
 use Rattle.std.proofs.lemmas.List.{length-map}
 use Rattle.std.specs.Prelude.{IfErr, slice_get, slice_index_or, ◌||◌}
 use Rattle.std.specs.List.{AllByRecursion, list_any}
 use Rattle.std.proofs.lemmas.Option.{slice_get-get_or}
 use Rattle.anb_base.specs.Bytes.{IsBytes}
 use Rattle.anb_plays.specs.Plays.{Played}
-use Rattle.anb_plays.specs.Runs.{without_place}
 use Rattle.anb_code.specs.CodeValue.{CodeValue}
 use Rattle.anb_code.specs.Taking.{take_texts}
-use Rattle.anb_machine.specs.ByteRuns.{run_bytes}
-use Rattle.anb_resolve.specs.Plays.{IsSendable}
 use Rattle.anb_resolve.specs.Protocols.{ProtocolValue}
 use Rattle.anb_resolve.specs.Texts.{known_by, known_texts, term_text}
 use Rattle.anb_compile.specs.Fitting.{FitsRole}
 use Rattle.anb_compile.specs.Laws.{FittingCodesPlay}
 use Rattle.anb_values.specs.declared.fitted.Fitted.{Fitted}
 use Rattle.anb_run.specs.declared.status.Status.{Status}
-use Rattle.anb_run.specs.declared.status.Status.TheVariants.{NoRole, NoMemory}
+use Rattle.anb_run.specs.declared.status.Status.TheVariants.{NoMemory}
 use Rattle.anb_run.specs.Fetches.{IfTold}
-use Rattle.anb_run.specs.Files.{ProtocolInFile, ValuesInFile}
-use Rattle.anb_run.specs.Jobs.{AllSend, IsRead, Job, JobIs, JobOf, Part, PartInFile, PartOf, RoleIs, SeedIs, makes_names}
+use Rattle.anb_run.specs.Files.{ValuesInFile}
+use Rattle.anb_run.specs.Jobs.{IsRead, Job, JobIs, JobOf, Part, PartInFile, SeedIs, makes_names}
 use Rattle.anb_run.specs.PlayCommand.{PlayOf}
-use Rattle.anb_run.specs.Prepared.{IsReady, PlaysAs}
-use Rattle.anb_run.specs.Steps.{Answer, refused, given, Fails}
+use Rattle.anb_run.specs.Prepared.{ComesAs, IsPlayable, play_by}
+use Rattle.anb_run.specs.Steps.{refused, given, Fails}
 use Rattle.anb_run.proofs.Chains.{Files, told_map}
 
 -- ---- small facts
@@ -68,7 +65,7 @@ pub count_takes : (p : ProtocolValue) (role : ℕ) (code : CodeValue) (initial n
 count_takes p role code initial names fits are each = each ∙ ap length (are ∙ sym fits.texts)
 
 pub plays_as : (p : ProtocolValue) (role : ℕ) (code : CodeValue) (initial : List (List ℕ)) (seed : List ℕ) → FittingCodesPlay p → FitsRole p role code
-    → length initial ≡ length (known_by p role) → AllByRecursion IsBytes initial → PlaysAs (record { protocol = p; role = role; initial = initial; seed = seed }) code initial seed
+    → length initial ≡ length (known_by p role) → AllByRecursion IsBytes initial → ComesAs PlayOf (record { protocol = p; role = role; initial = initial; seed = seed }) (play_by code initial seed)
 plays_as p role code initial seed law fits count bytes arrivals are_bytes q =
     let both = law role code initial seed 0 arrivals fits count bytes are_bytes in
     let J : Job = record { protocol = p; role = role; initial = initial; seed = seed } in
@@ -86,12 +83,12 @@ module _ (told : Option Files) (values : List ℕ) (handed : Option (List ℕ)) 
 
   pub job_ready : (fitted : Fitted) (seed : List ℕ) (code : CodeValue) → IfTold told (λ files. ValuesInFile files values names (given fitted)) → SeedIs (makes_names p role) fitted.seed handed (given seed)
       → FittingCodesPlay p → FitsRole p role code → length fitted.values ≡ length names → AllByRecursion IsBytes fitted.values
-      → IfTold told (λ files. IsReady (JobOf files values handed (record { protocol = p; role = role })) code fitted.values seed)
+      → IfTold told (λ files. IsPlayable (JobOf files values handed (record { protocol = p; role = role })) code fitted.values seed)
   job_ready fitted seed code first next law fits each bytes =
       told_map told (λ files f. record {
-        job = record { protocol = p; role = role; initial = fitted.values; seed = seed };
+        asked = record { protocol = p; role = role; initial = fitted.values; seed = seed };
         asks = inr (fitted, subst (λ (ns : List (List ℕ)). ValuesInFile files values ns (given fitted)) are f, inr (seed, next, refl));
-        plays = plays_as p role code fitted.values seed law fits (count_known p role fitted.values names are each) bytes;
+        comes = plays_as p role code fitted.values seed law fits (count_known p role fitted.values names are each) bytes;
       }) first
 
 -- ---- all steps
@@ -105,8 +102,8 @@ module _ (told : Option Files) (narration name values : List ℕ) (handed : Opti
   job_refused part s first next = told_both told (λ files f n. inr (part, f, n)) first next
 
   pub whole_ready : (part : Part) (code : CodeValue) (initial : List (List ℕ)) (seed : List ℕ) → IfTold told (λ files. PartInFile files narration name (given part))
-      → IfTold told (λ files. IsReady (JobOf files values handed part) code initial seed) → IfTold told (λ files. IsReady (JobIs files narration name values handed) code initial seed)
-  whole_ready part code initial seed first next = told_both told (λ files f n. record { job = n.job; asks = inr (part, f, n.asks); plays = n.plays }) first next
+      → IfTold told (λ files. IsPlayable (JobOf files values handed part) code initial seed) → IfTold told (λ files. IsPlayable (JobIs files narration name values handed) code initial seed)
+  whole_ready part code initial seed first next = told_both told (λ files f n. record { asked = n.asked; asks = inr (part, f, n.asks); comes = n.comes }) first next
 
   pub narration_read : (file : List ℕ) → file ≡ narration → IfTold told (λ files. IsRead files narration name values file)
   narration_read file is = by told where

@@ -1,6 +1,6 @@
 -- Which role sends an action, and that all can be sent where no action can't.
-use Rattle.std.proofs.Common.{◌≡◌, ℕ, zero, suc, ◌+◌, ◌<◌, ◌≤◌, List, [], ◌∷◌, ◌++◌, length, map, Bool, true, false, Some, refl, sym, ap, ◌∙◌, subst, arith, ◌⊎◌, inl, inr, append_assoc, length-append, if◌then◌else◌}
-use Rattle.std.specs.Prelude.{◌==◌, slice_get, cond}
+use Rattle.std.proofs.Common.{◌≡◌, ℕ, ◌+◌, ◌≤◌, List, [], ◌∷◌, ◌++◌, length, map, Bool, true, false, refl, sym, ap, ◌∙◌, subst, arith, ◌⊎◌, inl, inr, append_assoc, length-append}
+use Rattle.std.specs.Prelude.{◌==◌, cond}
 use Rattle.std.proofs.lemmas.Bool.{eqb-true, cases_order}
 use Rattle.std.proofs.lemmas.Grind.{flat_map-append}
 use Rattle.std.proofs.lemmas.List.{append-nil}
@@ -8,10 +8,10 @@ use Rattle.anb_term.specs.declared.term.Op.{Op}
 use Rattle.anb_term.specs.Tree.{Tree, leaf}
 use Rattle.anb_term.specs.Agree.{HasRecipe}
 use Rattle.anb_algebra.specs.ByteMeaning.{has_operator}
-use Rattle.anb_plays.specs.Plans.{Event, know, fresh, send, recv, known, CanSend, Sendable}
+use Rattle.anb_plays.specs.Plans.{known, CanSend, Sendable}
 use Rattle.anb_resolve.specs.Choices.{each_after}
 use Rattle.anb_resolve.specs.Plans.{PlanEvent, to_know, to_make, to_send, to_receive, events_at, own_events, made, plan_of}
-use Rattle.anb_resolve.specs.Plays.{event_of, events_of, IsSendable}
+use Rattle.anb_resolve.specs.Plays.{event_of, events_of}
 use Rattle.anb_resolve.specs.Protocols.{ActionValue, ProtocolValue}
 use Rattle.anb_resolve.specs.Texts.{known_by}
 use Rattle.anb_compile.specs.Unsent.{IsUnsent, IsFirstUnsentOfAll, label_of, labels_of}

@@ -7,7 +7,6 @@ use Rattle.anb_resolve.specs.Plays.{IsSendable}
 use Rattle.anb_resolve.specs.Protocols.{ProtocolValue}
 use Rattle.anb_resolve.specs.Texts.{known_texts}
 use Rattle.anb_compile.specs.Unsent.{IsFirstUnsentOfAll}
-use Rattle.anb_values.specs.declared.fitted.Fitted.{Fitted}
 use Rattle.anb_run.specs.declared.status.Status.{Status}
 use Rattle.anb_run.specs.declared.status.Status.TheVariants.{NoRole, CannotSend, NoSeed}
 use Rattle.anb_run.specs.Files.{ProtocolInFile, ValuesInFile}
@@ -87,7 +86,7 @@ module _ (files : List ℕ → Option (List ℕ)) where
   IsRead narration name values file = (file ≡ narration) ⊎ ((file ≡ values) × ((part : Part) × PartInFile narration name (given part)))
 
 -- the refusals of words and files are those that are asked for, in both directions
-pub record IsRefusing (Asks : Answer Job → Type 0) (Reads : List ℕ → Type 0) (result : Status) : Type 0 where
+pub record IsRefusing {A : Type 0} (Asks : Answer A → Type 0) (Reads : List ℕ → Type 0) (result : Status) : Type 0 where
   -- a refusal is one
   pub is : phase_of result ≡ before_reach → is_fault result ≡ false → Asks (refused result)
   -- and each one is the answer, unless a file failed or memory was wanting

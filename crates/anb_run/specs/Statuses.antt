@@ -1,5 +1,5 @@
 -- The number of each status, its line on the error sink, and when it may come.
-use Rattle.std.specs.Prelude.{◌≡◌, ◌⊎◌, ℕ, Bool, true, false, List, [], ◌∷◌, ◌++◌, codes, decimal}
+use Rattle.std.specs.Prelude.{◌≡◌, ◌⊎◌, ℕ, Bool, true, false, List, [], ◌∷◌, ◌++◌, ◌==◌, codes, decimal, if◌then◌else◌}
 use Rattle.anb_base.specs.declared.place.Place.{Place}
 use Rattle.anb_base.specs.declared.place.Place.TheVariants.{Stdio, Dial, Listen}
 use Rattle.anb_format.specs.declared.pieces.FormatNo.{FormatNo}
@@ -7,6 +7,10 @@ use Rattle.anb_format.specs.declared.pieces.FormatNo.TheVariants.{NoHead, RestNo
 use Rattle.anb_read.specs.declared.refusal.ReadNo.{ReadNo}
 use Rattle.anb_read.specs.declared.refusal.ReadNo.TheVariants.{Token, Grammar, Deep}
 use Rattle.anb_read.specs.declared.refusal.ReadNo.TheVariants as reading
+use Rattle.anb_code.specs.declared.refusal.CodeNo.{CodeNo}
+use Rattle.anb_code.specs.declared.refusal.CodeNo.TheVariants as verifying
+use Rattle.anb_text.specs.declared.refusal.LoadNo.{LoadNo}
+use Rattle.anb_text.specs.declared.refusal.LoadNo.TheVariants as loading
 use Rattle.anb_resolve.specs.declared.refusals.Kind.{Kind}
 use Rattle.anb_resolve.specs.declared.refusals.Kind.TheVariants as kind
 use Rattle.anb_resolve.specs.declared.refusals.Item.{Item}
@@ -18,7 +22,7 @@ use Rattle.anb_values.specs.declared.refusal.ValuesNo.TheVariants as fitting
 use Rattle.anb_run.specs.declared.status.NarrationNo.{NarrationNo}
 use Rattle.anb_run.specs.declared.status.NarrationNo.TheVariants.{Read, Resolve}
 use Rattle.anb_run.specs.declared.status.Status.{Status}
-use Rattle.anb_run.specs.declared.status.Status.TheVariants.{Done, Usage, FileFault, FileLong, BadNarration, NoRole, CannotSend, BadValues, NoSeed, Unreached, Stopped, Waiting, Truncated, TooLarge, ReadFault, WriteFault, NoMemory}
+use Rattle.anb_run.specs.declared.status.Status.TheVariants.{Done, Usage, FileFault, FileLong, BadNarration, NoRole, CannotSend, BadValues, NoSeed, Unreached, Stopped, Waiting, Truncated, TooLarge, ReadFault, WriteFault, BadRoleFile, NoMemory}
 
 abbrev pub number_of : Status → ℕ
 number_of Done = 0
@@ -37,6 +41,7 @@ number_of (Truncated have need) = 12
 number_of (TooLarge len) = 13
 number_of ReadFault = 14
 number_of WriteFault = 15
+number_of (BadRoleFile why) = 16
 number_of NoMemory = 99
 
 -- why a text is no narration
@@ -91,6 +96,29 @@ why_unfit (fitting.Long name) = name ++ codes " is too long"
 why_unfit (fitting.Missing name) = name ++ codes " is missing"
 why_unfit fitting.NoMemory = codes "no memory"
 
+-- why a code isn't accepted
+abbrev pub why_unaccepted : CodeNo → List ℕ
+why_unaccepted (verifying.Many f) = codes "format " ++ (decimal f ++ codes " is too much")
+why_unaccepted (verifying.Twice f) = codes "format " ++ (decimal f ++ codes " has an earlier name")
+why_unaccepted (verifying.Shape f why) = codes "format " ++ (decimal f ++ codes " has no shape")
+why_unaccepted (verifying.Late at) = codes "instruction " ++ (decimal at ++ codes ": late take")
+why_unaccepted (verifying.TakeTwice at) = codes "instruction " ++ (decimal at ++ codes ": take twice")
+why_unaccepted (verifying.BadFormat at) = codes "instruction " ++ (decimal at ++ codes ": bad format")
+why_unaccepted (verifying.Unwritten at) = codes "instruction " ++ (decimal at ++ codes ": unwritten")
+why_unaccepted (verifying.Order at) = codes "instruction " ++ (decimal at ++ codes ": out of order")
+why_unaccepted (verifying.Wide at) = codes "instruction " ++ (decimal at ++ codes ": too wide")
+why_unaccepted verifying.NoMemory = codes "no memory"
+
+-- why a role file gives no code
+abbrev pub why_unloaded : LoadNo → List ℕ
+why_unloaded (loading.Line n) = codes "line " ++ decimal n
+why_unloaded (loading.Code why) = why_unaccepted why
+why_unloaded loading.NoMemory = codes "no memory"
+
+-- the instruction of a stop, where one is told
+abbrev pub instruction_text : ℕ → List ℕ
+instruction_text at = if at == 0 then [] else codes ", instruction " ++ decimal at
+
 abbrev pub where_text : Place → List ℕ
 where_text Stdio = codes "stdio"
 where_text (Dial at) = at
@@ -108,12 +136,13 @@ text_of (CannotSend action role) = role ++ (codes " can't compose the message of
 text_of (BadValues why) = codes "values: " ++ why_unfit why
 text_of NoSeed = codes "no seed"
 text_of (Unreached place) = codes "can't reach " ++ where_text place
-text_of (Stopped halt) = codes "stopped at event " ++ decimal halt.event
+text_of (Stopped halt) = codes "stopped at event " ++ (decimal halt.event ++ instruction_text halt.at)
 text_of (Waiting event) = codes "waiting at event " ++ decimal event
 text_of (Truncated have need) = codes "input ends after " ++ (decimal have ++ (codes " of " ++ (decimal need ++ codes " bytes")))
 text_of (TooLarge len) = codes "a frame of " ++ (decimal len ++ codes " bytes")
 text_of ReadFault = codes "read failed"
 text_of WriteFault = codes "write failed"
+text_of (BadRoleFile why) = codes "role file: " ++ why_unloaded why
 text_of NoMemory = codes "no memory"
 
 -- its line; there is none where all was done
@@ -156,6 +185,7 @@ phase_of (NoRole name) = before_reach
 phase_of (CannotSend action role) = before_reach
 phase_of (BadValues why) = before_reach
 phase_of NoSeed = before_reach
+phase_of (BadRoleFile why) = before_reach
 phase_of (Unreached place) = at_reach
 phase_of NoMemory = at_any_time
 phase_of status = after_reach

@@ -1,13 +1,17 @@
 -- The words that are accepted, and what they ask for.
 use Rattle.std.specs.Prelude.{ℕ, Bool, true, false, not, ◌&&◌, ◌==◌, List, [], ◌∷◌, codes, bytes_eq, Option, Some, None, if◌then◌else◌}
-use Rattle.std.specs.Option.{option_map, option_and_then}
+use Rattle.std.specs.Option.{option_map}
 use Rattle.anb_base.specs.declared.place.Place.{Place}
 use Rattle.anb_base.specs.declared.place.Place.TheVariants.{Stdio, Dial, Listen}
+use Rattle.anb_run.specs.declared.words.RoleText.{RoleText}
+use Rattle.anb_run.specs.declared.words.RoleText.TheVariants.{RoleFile, Explanation}
 
 -- what a word list asks for: the names of its files as they are given, a role, and the place of the wire
 pub data Asked : Type 0 where
   fmt : (narration : List ℕ) → Asked
+  show : RoleText → (narration role : List ℕ) → Asked
   play : (narration role values : List ℕ) → Place → Asked
+  enact : (code values : List ℕ) → Place → Asked
   help : Asked
 
 -- a name may be any word that isn't empty and doesn't begin with `-`
@@ -29,10 +33,19 @@ abbrev pub fmt_in : List (List ℕ) → Option Asked
 fmt_in (narration ∷ []) = if is_operand narration then Some (fmt narration) else None
 fmt_in words = None
 
+abbrev pub show_in : RoleText → List (List ℕ) → Option Asked
+show_in text (narration ∷ role ∷ []) = if is_operand narration && is_operand role then Some (show text narration role) else None
+show_in text words = None
+
 abbrev pub play_in : List (List ℕ) → Option Asked
 play_in (narration ∷ role ∷ values ∷ place) =
     if is_operand narration && is_operand role && is_operand values then option_map (play narration role values) (place_in place) else None
 play_in words = None
+
+abbrev pub enact_in : List (List ℕ) → Option Asked
+enact_in (code ∷ values ∷ place) =
+    if is_operand code && is_operand values then option_map (enact code values) (place_in place) else None
+enact_in words = None
 
 abbrev pub help_in : List (List ℕ) → Option Asked
 help_in [] = Some help
@@ -42,7 +55,10 @@ abbrev pub asked_of : List (List ℕ) → Option Asked
 asked_of [] = None
 asked_of (command ∷ words) =
     if bytes_eq command (codes "fmt") then fmt_in words
+    else if bytes_eq command (codes "compile") then show_in RoleFile words
+    else if bytes_eq command (codes "explain") then show_in Explanation words
     else if bytes_eq command (codes "play") then play_in words
+    else if bytes_eq command (codes "enact") then enact_in words
     else if bytes_eq command (codes "help") then help_in words
     else None
 
@@ -50,16 +66,21 @@ asked_of (command ∷ words) =
 abbrev pub files_of : Option Asked → List (List ℕ)
 files_of None = []
 files_of (Some (fmt narration)) = narration ∷ []
+files_of (Some (show text narration role)) = narration ∷ []
 files_of (Some (play narration role values place)) = narration ∷ values ∷ []
+files_of (Some (enact code values place)) = code ∷ values ∷ []
 files_of (Some help) = []
 
 -- the place that is reached
 abbrev pub place_of : Asked → Place
 place_of (fmt narration) = Stdio
+place_of (show text narration role) = Stdio
 place_of (play narration role values place) = place
+place_of (enact code values place) = place
 place_of help = Stdio
 
 -- whether the input is read
 abbrev pub is_reading : Option Asked → Bool
 is_reading (Some (play narration role values place)) = true
+is_reading (Some (enact code values place)) = true
 is_reading asked = false

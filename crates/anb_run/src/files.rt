@@ -7,16 +7,18 @@ ghost use Rattle.anb_syntax.specs.Grammar.{IsSpellable};
 ghost use Rattle.anb_syntax.specs.Sizes.{size};
 ghost use Rattle.anb_syntax.specs.Views.{narration_of};
 ghost use Rattle.anb_run.specs.Fetches.{Fetches, IfTold};
-ghost use Rattle.anb_run.specs.Files.{HasFile, HasLonger, NarrationIs, NarrationInFile, ProtocolIs, ProtocolInFile, ValuesAre, ValuesInFile};
+ghost use Rattle.anb_run.specs.Files.{CodeInFile, CodeIs, HasFile, HasLonger, NarrationIs, NarrationInFile, ProtocolIs, ProtocolInFile, ValuesAre, ValuesInFile};
 ghost use Rattle.anb_run.specs.Statuses.{IsEarly};
 ghost use Rattle.anb_run.specs.Steps.{Fails, refused, given};
 ghost use Rattle.anb_run.specs.declared.status.Status.TheVariants as status;
 
-use crate::{NARRATION_LIMIT, NarrationNo, Status, VALUES_LIMIT};
+use crate::{NARRATION_LIMIT, NarrationNo, ROLE_FILE_LIMIT, Status, VALUES_LIMIT};
 use anb_base::{Bytes, NoMemory, Shelf, ShelfNo, Text};
+use anb_code::RoleCode;
 use anb_read::{ReadNo, read};
 use anb_resolve::{Protocol, ResolveNo, resolve, small_is_countable};
 use anb_syntax::Narration;
+use anb_text::{LoadNo, load};
 use anb_values::{Fitted, ValuesNo, values};
 use std::alloc::Global;
 
@@ -131,6 +133,42 @@ fn protocol_of_narration(alloc: Global, narration: &Narration) -> Result<Protoco
         Ok(protocol) => Ok(protocol),
         Err(ResolveNo::NoMemory) => Err(Status::NoMemory),
         Err(why) => Err(Status::BadNarration(NarrationNo::Resolve(why))),
+    }
+}
+
+/// The code in the role file.
+pub(crate) fn code_in_file<F: Shelf>(
+    alloc: Global,
+    shelf: &mut F,
+    name: &Text,
+) -> Result<RoleCode, Status>
+    ensures given { IfOk result (λ code. IfTold (F.files shelf.old) (λ files. CodeInFile files name.now (given code))) }
+    ensures refused { IfErr result (λ status. Fails status
+        (λ file. (file ≡ name.now) × Rose (F.faults shelf.old file) (F.faults shelf.new file))
+        (IfTold (F.files shelf.old) (λ files. CodeInFile files name.now (refused status)))) }
+    ensures early { IfErr result IsEarly }
+    ensures fetches { Fetches (name.now ∷ []) (F.files shelf.old) (F.files shelf.new) (F.faults shelf.old) (F.faults shelf.new) }
+{
+    match fetch_file(alloc, shelf, name, ROLE_FILE_LIMIT) {
+        Ok(text) => code_of_text(alloc, text.as_slice()),
+        Err(status) => Err(status),
+    }
+}
+
+/// The code that the text is a role file of.
+fn code_of_text(alloc: Global, text: &[u8]) -> Result<RoleCode, Status>
+    requires { length text.now ≤ ROLE_FILE_LIMIT }
+    ensures given { IfOk result (λ code. CodeIs text.now (given code)) }
+    ensures refused { IfErr result (λ status. Fails status (λ file. ⊥) (CodeIs text.now (refused status))) }
+    ensures early { IfErr result IsEarly }
+{
+    match load(alloc, text) {
+        Ok(code) => {
+            let _ = code.instrs();
+            Ok(code)
+        }
+        Err(LoadNo::NoMemory) => Err(Status::NoMemory),
+        Err(why) => Err(Status::BadRoleFile(why)),
     }
 }
 

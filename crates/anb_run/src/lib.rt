@@ -8,33 +8,39 @@
 ghost use Rattle.std.specs.Prelude.{◌≡◌, ◌≤◌, ◌↔◌, ℕ, List, true, false, None};
 ghost use Rattle.anb_base.specs.Moves.{Rose};
 ghost use Rattle.anb_run.specs.Completions.{CompletesPlay, Rests};
+ghost use Rattle.anb_run.specs.EnactCommand.{DoesEnact};
+ghost use Rattle.anb_run.specs.Errands.{RefusesEnact};
 ghost use Rattle.anb_run.specs.Fetches.{Fetches, IsOneOf};
 ghost use Rattle.anb_run.specs.Jobs.{RefusesPlay};
 ghost use Rattle.anb_run.specs.Lines.{Tells};
 ghost use Rattle.anb_run.specs.PlayCommand.{DoesPlay};
 ghost use Rattle.anb_run.specs.Reaches.{IsPlaceOf, Reaches};
 ghost use Rattle.anb_run.specs.Statuses.{OnFileFault, OnUnreached, before_reach, is_untouched, line_of, phase_of};
-ghost use Rattle.anb_run.specs.TextCommands.{DoesFmt, DoesHelp};
+ghost use Rattle.anb_run.specs.TextCommands.{DoesFmt, DoesHelp, DoesShow};
 ghost use Rattle.anb_run.specs.Words.{asked_of, files_of, is_reading};
 ghost use Rattle.anb_run.specs.declared.status.Status.TheVariants.{Usage, ReadFault, WriteFault};
 
+mod enact;
 mod files;
 mod limits;
 mod line;
+mod over;
 mod play;
+mod playable;
 mod prepare;
 mod status;
 mod words;
 mod writing;
 
 use anb_base::{Shelf, Sink, Text, Wire};
-pub use limits::{NARRATION_LIMIT, VALUES_LIMIT};
+use enact::enact;
+pub use limits::{NARRATION_LIMIT, ROLE_FILE_LIMIT, VALUES_LIMIT};
 use line::tell;
 use play::play;
 pub use status::{Halt, NarrationNo, Status};
 use std::alloc::Global;
 use words::Command;
-use writing::{HELP, fmt, write_text};
+use writing::{HELP, fmt, show, write_text};
 
 /// Does what the words ask for. The words are those after the program's name. The files are fetched
 /// from the shelf, what a role sends and receives goes over the wire, and the line of a status other
@@ -50,12 +56,15 @@ pub fn run<F: Shelf, W: Wire, E: Sink>(
 ) -> Status
     // What each command does.
     ensures fmt { DoesFmt (asked_of words.now) (F.files shelf.old) (W.written wire.old) (W.written wire.new) result }
+    ensures compile_and_explain { DoesShow (asked_of words.now) (F.files shelf.old) (W.written wire.old) (W.written wire.new) result }
     ensures play { DoesPlay (asked_of words.now) (F.files shelf.old) seed (W.left wire.old) (W.left wire.new) (W.written wire.old) (W.written wire.new) result }
     ensures play_refuses { RefusesPlay (asked_of words.now) (F.files shelf.old) seed result }
     ensures play_completes { Rests (W.reach_faults wire.old) (W.reach_faults wire.new) → Rests (W.Source.faults wire.old) (W.Source.faults wire.new)
         → Rests (W.Sink.faults wire.old) (W.Sink.faults wire.new)
         → ((file : List ℕ) → IsOneOf (files_of (asked_of words.now)) file → Rests (F.faults shelf.old file) (F.faults shelf.new file))
         → CompletesPlay (asked_of words.now) (F.files shelf.old) seed (W.left wire.old) (W.left wire.new) result }
+    ensures enact { DoesEnact (asked_of words.now) (F.files shelf.old) seed (W.left wire.old) (W.left wire.new) (W.written wire.old) (W.written wire.new) result }
+    ensures enact_refuses { RefusesEnact (asked_of words.now) (F.files shelf.old) seed result }
     ensures help { DoesHelp (asked_of words.now) (W.written wire.old) (W.written wire.new) result }
 
     // When each fault may come.
@@ -89,7 +98,15 @@ pub fn run<F: Shelf, W: Wire, E: Sink>(
     let status = match Command::read(words) {
         None => Status::Usage,
         Some(Command::Fmt { narration }) => fmt(alloc, shelf, wire, narration),
+        Some(
+            Command::Show {
+                text,
+                narration,
+                role,
+            },
+        ) => show(alloc, shelf, wire, text, narration, role),
         Some(Command::Play(role)) => play(alloc, shelf, wire, role, seed),
+        Some(Command::Enact(file)) => enact(alloc, shelf, wire, file, seed),
         Some(Command::Help) => write_text(wire, HELP.as_bytes()),
     };
     tell(err, &status);
@@ -97,8 +114,12 @@ pub fn run<F: Shelf, W: Wire, E: Sink>(
 }
 
 #[cfg(test)]
+mod enacts;
+#[cfg(test)]
 mod plays;
 #[cfg(test)]
 mod running;
+#[cfg(test)]
+mod shows;
 #[cfg(test)]
 mod tests;

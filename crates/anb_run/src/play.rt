@@ -4,26 +4,25 @@ ghost use Rattle.anb_base.specs.Moves.{Rose};
 ghost use Rattle.anb_base.specs.declared.TheConstants.{ARRIVAL};
 ghost use Rattle.anb_code.specs.Taking.{take_texts};
 ghost use Rattle.anb_frame.specs.Cuts.{Tail, CutLeft};
-ghost use Rattle.anb_machine.specs.ByteRuns.{run_bytes};
 ghost use Rattle.anb_run.specs.Commands.{place_by};
 ghost use Rattle.anb_run.specs.Completions.{CompletesPlay};
 ghost use Rattle.anb_run.specs.Fetches.{Fetches, IsOneOf};
 ghost use Rattle.anb_run.specs.Jobs.{RefusesPlay};
 ghost use Rattle.anb_run.specs.PlayCommand.{DoesPlay};
-ghost use Rattle.anb_run.specs.Prepared.{RunsTo, status_of};
+ghost use Rattle.anb_run.specs.Prepared.{RunsTo, play_by};
 ghost use Rattle.anb_run.specs.Reaches.{ReachedIn};
 ghost use Rattle.anb_run.specs.Statuses.{OnFileFault, OnUnreached, before_reach, is_fault, is_untouched, phase_of};
 ghost use Rattle.anb_run.specs.Words.{play as asked};
 ghost use Rattle.anb_run.specs.declared.status.Status.TheVariants as status;
 
 use crate::Status;
+use crate::over::run_over;
 use crate::prepare::{Prepared, prepare};
 use crate::words::{Role, Spot};
-use anb_base::{ARRIVAL, Failed, NoMemory, Shelf, Wire};
+use anb_base::{ARRIVAL, Shelf, Wire};
 use anb_frame::one_cut;
-use anb_machine::{Halt, Machine};
+use anb_machine::Halt;
 use anb_read::{narrations_are_unique, none_is_both, refusals_are_unique};
-use anb_session::PlayEnd;
 use anb_values::one_fit;
 use std::alloc::Global;
 
@@ -67,11 +66,11 @@ pub(crate) fn play<F: Shelf, W: Wire>(
     }
 }
 
-/// Runs the role's code over the wire, which it reaches at the place.
+/// Plays the role's code over the wire, which it reaches at the place. A stop tells no instruction.
 fn play_over<W: Wire>(alloc: Global, wire: &mut W, spot: Spot, prepared: &Prepared) -> Status
     requires { length prepared.now.initial ≡ length (take_texts prepared.now.code.instrs) }
     ensures runs { (arrivals : List (List ℕ)) (tail : Tail) → CutLeft ARRIVAL (W.left wire.old) arrivals tail
-        → RunsTo (run_bytes prepared.now.code prepared.now.initial prepared.now.seed 0) arrivals tail (W.left wire.old) (W.left wire.new) (W.written wire.old) (W.written wire.new) result }
+        → RunsTo (play_by prepared.now.code prepared.now.initial prepared.now.seed) arrivals tail (W.left wire.old) (W.left wire.new) (W.written wire.old) (W.written wire.new) result }
     ensures read_fault { result ≡ status.ReadFault → Rose (W.Source.faults wire.old) (W.Source.faults wire.new) }
     ensures write_fault { result ≡ status.WriteFault → Rose (W.Sink.faults wire.old) (W.Sink.faults wire.new) }
     ensures unreached { OnUnreached result (λ at. (at ≡ place_by spot.entry) × Rose (W.reach_faults wire.old) (W.reach_faults wire.new)) }
@@ -85,36 +84,11 @@ fn play_over<W: Wire>(alloc: Global, wire: &mut W, spot: Spot, prepared: &Prepar
     ensures writing_never_falls { W.Sink.faults wire.old ≤ W.Sink.faults wire.new }
     ensures reaching_never_falls { W.reach_faults wire.old ≤ W.reach_faults wire.new }
 {
-    let place = match spot.place(alloc) {
-        Ok(place) => place,
-        Err(NoMemory) => return Status::NoMemory,
-    };
-    let initial = prepared.initial.as_slice();
-    let mut machine = match Machine::start(alloc, &prepared.code, initial, &prepared.seed, 0) {
-        Ok(machine) => machine,
-        Err(NoMemory) => return Status::NoMemory,
-    };
-    match wire.reach(&place) {
-        Ok(()) => status_of(anb_session::play(alloc, &mut machine, wire)),
-        Err(Failed) => Status::Unreached(place),
-    }
-}
-
-/// The status of a play that ended so.
-fn status_of(end: PlayEnd) -> Status
-    ensures { result ≡ status_of end }
-{
-    match end {
-        PlayEnd::Done => Status::Done,
-        PlayEnd::Stopped(halt) => Status::Stopped(Halt {
+    match run_over(alloc, wire, spot, prepared) {
+        Status::Stopped(halt) => Status::Stopped(Halt {
             event: halt.event,
             at: 0,
         }),
-        PlayEnd::Waiting(event) => Status::Waiting(event),
-        PlayEnd::Truncated { have, need } => Status::Truncated { have, need },
-        PlayEnd::TooLarge(len) => Status::TooLarge(len),
-        PlayEnd::ReadFault => Status::ReadFault,
-        PlayEnd::WriteFault => Status::WriteFault,
-        PlayEnd::NoMemory => Status::NoMemory,
+        status => status,
     }
 }

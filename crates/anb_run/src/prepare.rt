@@ -1,5 +1,5 @@
 //! What a play needs before the wire is touched.
-ghost use Rattle.std.specs.Prelude.{◌≡◌, ◌≢◌, ◌⊎◌, ◌<◌, ℕ, List, [], ◌∷◌, length, slice_get, AllPairs, Some, IfOk, IfErr};
+ghost use Rattle.std.specs.Prelude.{◌≡◌, ◌≢◌, ◌⊎◌, ◌<◌, ℕ, List, [], ◌∷◌, length, AllPairs, IfOk, IfErr};
 ghost use Rattle.std.specs.List.{list_any};
 ghost use Rattle.anb_base.specs.Moves.{Rose};
 ghost use Rattle.anb_code.specs.Taking.{take_texts};
@@ -8,24 +8,23 @@ ghost use Rattle.anb_resolve.specs.Plans.{is_to_make};
 ghost use Rattle.anb_resolve.specs.Texts.{known_texts};
 ghost use Rattle.anb_resolve.specs.Views.{plan_event};
 ghost use Rattle.anb_run.specs.Fetches.{Fetches, IfTold};
-ghost use Rattle.anb_run.specs.Jobs.{AllSend, IsRead, JobIs, JobOf, PartInFile, PartOf, RoleIs, SeedIs, makes_names};
-ghost use Rattle.anb_run.specs.Prepared.{IsReady};
+ghost use Rattle.anb_run.specs.Jobs.{IsRead, JobIs, JobOf, SeedIs, makes_names};
+ghost use Rattle.anb_run.specs.Prepared.{IsPlayable};
 ghost use Rattle.anb_run.specs.Statuses.{IsEarly};
 ghost use Rattle.anb_run.specs.Steps.{Fails, refused, given};
-ghost use Rattle.anb_run.specs.declared.status.Status.TheVariants as status;
 
 use crate::Status;
-use crate::files::{protocol_in_file, values_in_file};
+use crate::files::values_in_file;
+use crate::playable::{Playable, playable_in_file};
 use crate::words::Role;
 use anb_base::{Bytes, NoMemory, Shelf, Text};
 use anb_code::RoleCode;
-use anb_compile::{CompileNo, compile_all, fitting_codes_play};
+use anb_compile::fitting_codes_play;
 use anb_resolve::{Event, Protocol, known_texts_differ};
 use anb_values::ValueList;
 use std::alloc::Global;
 
-/// All that a play takes from its files: the role's code, its initial values, and the seed of its
-/// draws.
+/// All that a run takes from its files: the code, its initial values, and the seed of its draws.
 #[derive(Drop)]
 pub(crate) struct Prepared {
     pub(crate) code: RoleCode,
@@ -41,7 +40,7 @@ pub(crate) fn prepare<F: Shelf>(
     handed: Option<[u8; 32]>,
 ) -> Result<Prepared, Status>
     ensures ready { IfOk result (λ p. IfTold (F.files shelf.old) (λ files.
-        IsReady (JobIs files role.entry.narration.now role.entry.name.now role.entry.values.now handed) p.code p.initial p.seed)) }
+        IsPlayable (JobIs files role.entry.narration.now role.entry.name.now role.entry.values.now handed) p.code p.initial p.seed)) }
     ensures takes { IfOk result (λ p. length p.initial ≡ length (take_texts p.code.instrs)) }
     ensures refused { IfErr result (λ status. Fails status
         (λ file. ((file ≡ role.entry.narration.now) ⊎ (file ≡ role.entry.values.now)) × Rose (F.faults shelf.old file) (F.faults shelf.new file)
@@ -52,58 +51,6 @@ pub(crate) fn prepare<F: Shelf>(
 {
     match playable_in_file(alloc, shelf, role.narration, role.name) {
         Ok(playable) => fit_values(alloc, shelf, role.values, playable, handed),
-        Err(status) => Err(status),
-    }
-}
-
-/// A role of a protocol whose roles can all send what they must, and its code.
-#[derive(Drop)]
-struct Playable {
-    protocol: Protocol,
-    role: u32,
-    code: RoleCode,
-}
-
-/// The role with this name in a narration's file.
-fn playable_in_file<F: Shelf>(
-    alloc: Global,
-    shelf: &mut F,
-    narration: &Text,
-    name: &Text,
-) -> Result<Playable, Status>
-    ensures given { IfOk result (λ p. IfTold (F.files shelf.old) (λ files. PartInFile files narration.now name.now (given (record { protocol = p.protocol; role = p.role })))) }
-    ensures within { IfOk result (λ p. p.role < length p.protocol.roles) }
-    ensures fits { IfOk result (λ p. FitsRole p.protocol p.role p.code) }
-    ensures refused { IfErr result (λ status. Fails status
-        (λ file. (file ≡ narration.now) × Rose (F.faults shelf.old file) (F.faults shelf.new file))
-        (IfTold (F.files shelf.old) (λ files. PartInFile files narration.now name.now (refused status)))) }
-    ensures early { IfErr result IsEarly }
-    ensures fetches { Fetches (narration.now ∷ []) (F.files shelf.old) (F.files shelf.new) (F.faults shelf.old) (F.faults shelf.new) }
-{
-    match protocol_in_file(alloc, shelf, narration) {
-        Ok(protocol) => playable_of(alloc, protocol, name),
-        Err(status) => Err(status),
-    }
-}
-
-/// The protocol's role with this name.
-fn playable_of(alloc: Global, protocol: Protocol, name: &Text) -> Result<Playable, Status>
-    ensures given { IfOk result (λ p. PartOf protocol name.now (given (record { protocol = p.protocol; role = p.role }))) }
-    ensures within { IfOk result (λ p. p.role < length p.protocol.roles) }
-    ensures fits { IfOk result (λ p. FitsRole p.protocol p.role p.code) }
-    ensures refused { IfErr result (λ status. Fails status (λ file. ⊥) (PartOf protocol name.now (refused status))) }
-    ensures early { IfErr result IsEarly }
-{
-    let role = match role_named(alloc, &protocol, name) {
-        Ok(role) => role,
-        Err(status) => return Err(status),
-    };
-    match code_of(alloc, &protocol, role) {
-        Ok(code) => Ok(Playable {
-            protocol,
-            role,
-            code,
-        }),
         Err(status) => Err(status),
     }
 }
@@ -119,7 +66,7 @@ fn fit_values<F: Shelf>(
     requires within { playable.role < length playable.protocol.roles }
     requires fits { FitsRole playable.protocol playable.role playable.code }
     ensures ready { IfOk result (λ p. IfTold (F.files shelf.old) (λ files.
-        IsReady (JobOf files values.now handed (record { protocol = playable.protocol; role = playable.role })) p.code p.initial p.seed)) }
+        IsPlayable (JobOf files values.now handed (record { protocol = playable.protocol; role = playable.role })) p.code p.initial p.seed)) }
     ensures takes { IfOk result (λ p. length p.initial ≡ length (take_texts p.code.instrs)) }
     ensures refused { IfErr result (λ status. Fails status
         (λ file. (file ≡ values.now) × Rose (F.faults shelf.old file) (F.faults shelf.new file))
@@ -140,7 +87,11 @@ fn fit_values<F: Shelf>(
         Ok(fitted) => fitted,
         Err(status) => return Err(status),
     };
-    let seed = match seed_of(alloc, &protocol, role, fitted.seed, handed) {
+    let makes = match makes_names(alloc, &protocol, role) {
+        Ok(makes) => makes,
+        Err(NoMemory) => return Err(Status::NoMemory),
+    };
+    let seed = match seed_of(makes, fitted.seed, handed) {
         Ok(seed) => seed,
         Err(status) => return Err(status),
     };
@@ -150,57 +101,6 @@ fn fit_values<F: Shelf>(
         initial: fitted.values,
         seed,
     })
-}
-
-/// The number of the role with this name.
-fn role_named(alloc: Global, protocol: &Protocol, name: &Text) -> Result<u32, Status>
-    ensures given { IfOk result (λ role. RoleIs protocol.now name.now (given role)) }
-    ensures within { IfOk result (λ role. role < length protocol.now.roles) }
-    ensures refused { IfErr result (λ status. Fails status (λ file. ⊥) (RoleIs protocol.now name.now (refused status))) }
-    ensures early { IfErr result IsEarly }
-{
-    match protocol.role_of(name.as_str().as_bytes()) {
-        Some(role) => Ok(role),
-        None => Err(no_role(alloc, name)),
-    }
-}
-
-/// The status of a name that no role has.
-fn no_role(alloc: Global, name: &Text) -> Status
-    ensures { (result ≡ status.NoRole name.now) ⊎ (result ≡ status.NoMemory) }
-{
-    match name.copy(alloc) {
-        Ok(name) => Status::NoRole(name),
-        Err(NoMemory) => Status::NoMemory,
-    }
-}
-
-/// The role's code, where all roles can send what they must.
-fn code_of(alloc: Global, protocol: &Protocol, role: u32) -> Result<RoleCode, Status>
-    requires { role < length protocol.now.roles }
-    ensures given { IfOk result (λ code. AllSend protocol.now (given tt)) }
-    ensures fits { IfOk result (λ code. FitsRole protocol.now role code) }
-    ensures refused { IfErr result (λ status. Fails status (λ file. ⊥) (AllSend protocol.now (refused status))) }
-    ensures early { IfErr result IsEarly }
-{
-    match compile_all(alloc, protocol) {
-        Ok(mut codes) => Ok(codes.swap_remove(role as usize)),
-        Err(CompileNo::CannotSend { action, role }) => {
-            Err(cannot_send(alloc, protocol, action, role))
-        }
-        Err(CompileNo::NoMemory) => Err(Status::NoMemory),
-    }
-}
-
-/// The status of a message that its sender can't compose.
-fn cannot_send(alloc: Global, protocol: &Protocol, action: u32, role: u32) -> Status
-    requires { role < length protocol.now.roles }
-    ensures { (result ≡ status.NoMemory) ⊎ ((name : List ℕ) × (slice_get protocol.now.roles role ≡ Some name) × (result ≡ status.CannotSend action name)) }
-{
-    match protocol.roles()[role as usize].copy(alloc) {
-        Ok(role) => Status::CannotSend { action, role },
-        Err(NoMemory) => Status::NoMemory,
-    }
 }
 
 /// The names that the role's values file gives values to.
@@ -214,17 +114,14 @@ fn names_of(alloc: Global, protocol: &Protocol, role: u32) -> Result<Vec<Text>, 
     protocol.known(alloc, role)
 }
 
-/// The seed of the role's draws.
-fn seed_of(
-    alloc: Global,
-    protocol: &Protocol,
-    role: u32,
+/// The seed of the draws, where a name is made or where it isn't.
+pub(crate) fn seed_of(
+    makes: bool,
     told: Option<[u8; 32]>,
     handed: Option<[u8; 32]>,
 ) -> Result<[u8; 32], Status>
-    requires { role < length protocol.now.roles }
-    ensures given { IfOk result (λ seed. SeedIs (makes_names protocol.now role) told handed (given seed)) }
-    ensures refused { IfErr result (λ status. Fails status (λ file. ⊥) (SeedIs (makes_names protocol.now role) told handed (refused status))) }
+    ensures given { IfOk result (λ seed. SeedIs makes told handed (given seed)) }
+    ensures refused { IfErr result (λ status. Fails status (λ file. ⊥) (SeedIs makes told handed (refused status))) }
     ensures early { IfErr result IsEarly }
 {
     if let Some(seed) = told {
@@ -233,10 +130,10 @@ fn seed_of(
     if let Some(seed) = handed {
         return Ok(seed);
     }
-    match makes_names(alloc, protocol, role) {
-        Ok(true) => Err(Status::NoSeed),
-        Ok(false) => Ok([0; 32]),
-        Err(NoMemory) => Err(Status::NoMemory),
+    if makes {
+        Err(Status::NoSeed)
+    } else {
+        Ok([0; 32])
     }
 }
 

@@ -1,11 +1,13 @@
 ghost use Rattle.std.specs.Prelude.{◌≡◌, ◌++◌};
-ghost use Rattle.anb_run.specs.Statuses.{item_text, kind_text, where_text, why_ill_formed, why_misshapen, why_unfit, why_unread};
+ghost use Rattle.anb_run.specs.Statuses.{instruction_text, item_text, kind_text, where_text, why_ill_formed, why_misshapen, why_unaccepted, why_unfit, why_unloaded, why_unread};
 
 use anb_base::{NoMemory, Place, Text};
+use anb_code::CodeNo;
 use anb_format::FormatNo;
 pub use anb_machine::Halt;
 use anb_read::ReadNo;
 use anb_resolve::{Item, Kind, ResolveNo};
+use anb_text::LoadNo;
 use anb_values::ValuesNo;
 use itoa::Buffer;
 
@@ -41,7 +43,7 @@ pub enum Status {
     NoSeed,
     /// The place of the words couldn't be reached.
     Unreached(Place),
-    /// The checks of the role failed at this event.
+    /// The checks of the role failed at this event, and at this instruction where a code is enacted.
     Stopped(Halt),
     /// The input ended before the arrival of this event.
     Waiting(u32),
@@ -54,6 +56,8 @@ pub enum Status {
     ReadFault,
     /// Writing to the wire failed.
     WriteFault,
+    /// The role file gives no code.
+    BadRoleFile(LoadNo),
     /// No memory was left.
     NoMemory,
 }
@@ -113,6 +117,7 @@ impl Status {
             Status::TooLarge(_) => 13,
             Status::ReadFault => 14,
             Status::WriteFault => 15,
+            Status::BadRoleFile(_) => 16,
             Status::NoMemory => 99,
         }
     }
@@ -145,7 +150,16 @@ impl Status {
             }
             Status::NoSeed => ("no seed", "", "", "", ""),
             Status::Unreached(place) => ("can't reach ", where_text(place), "", "", ""),
-            Status::Stopped(halt) => ("stopped at event ", first.format(halt.event), "", "", ""),
+            Status::Stopped(halt) => {
+                let (what, which) = instruction(halt.at, second);
+                (
+                    "stopped at event ",
+                    first.format(halt.event),
+                    what,
+                    which,
+                    "",
+                )
+            }
             Status::Waiting(event) => ("waiting at event ", first.format(*event), "", "", ""),
             Status::Truncated { have, need } => (
                 "input ends after ",
@@ -157,6 +171,10 @@ impl Status {
             Status::TooLarge(len) => ("a frame of ", first.format(*len), " bytes", "", ""),
             Status::ReadFault => ("read failed", "", "", "", ""),
             Status::WriteFault => ("write failed", "", "", "", ""),
+            Status::BadRoleFile(why) => {
+                let (what, which, is) = unloaded(*why, first);
+                ("role file: ", what, which, is, "")
+            }
             Status::NoMemory => ("no memory", "", "", "", ""),
         }
     }
@@ -269,6 +287,46 @@ fn unfit<'a>(why: &'a ValuesNo, digits: &'a mut Buffer) -> (&'a str, &'a str)
         ValuesNo::Long(name) => (name.as_str(), " is too long"),
         ValuesNo::Missing(name) => (name.as_str(), " is missing"),
         ValuesNo::NoMemory => ("no memory", ""),
+    }
+}
+
+/// Why a role file gives no code.
+fn unloaded(why: LoadNo, digits: &mut Buffer) -> (&str, &str, &str)
+    ensures { why_unloaded why ≡ result.0.now ++ (result.1.now ++ result.2.now) }
+{
+    match why {
+        LoadNo::Line(n) => ("line ", digits.format(n), ""),
+        LoadNo::Code(why) => unaccepted(why, digits),
+        LoadNo::NoMemory => ("no memory", "", ""),
+    }
+}
+
+/// Why a code isn't accepted.
+fn unaccepted(why: CodeNo, digits: &mut Buffer) -> (&str, &str, &str)
+    ensures { why_unaccepted why ≡ result.0.now ++ (result.1.now ++ result.2.now) }
+{
+    match why {
+        CodeNo::Many(f) => ("format ", digits.format(f), " is too much"),
+        CodeNo::Twice(f) => ("format ", digits.format(f), " has an earlier name"),
+        CodeNo::Shape(f, _) => ("format ", digits.format(f), " has no shape"),
+        CodeNo::Late(at) => ("instruction ", digits.format(at), ": late take"),
+        CodeNo::TakeTwice(at) => ("instruction ", digits.format(at), ": take twice"),
+        CodeNo::BadFormat(at) => ("instruction ", digits.format(at), ": bad format"),
+        CodeNo::Unwritten(at) => ("instruction ", digits.format(at), ": unwritten"),
+        CodeNo::Order(at) => ("instruction ", digits.format(at), ": out of order"),
+        CodeNo::Wide(at) => ("instruction ", digits.format(at), ": too wide"),
+        CodeNo::NoMemory => ("no memory", "", ""),
+    }
+}
+
+/// At which instruction a run stopped, where that is told.
+fn instruction(at: u32, digits: &mut Buffer) -> (&str, &str)
+    ensures { instruction_text at ≡ result.0.now ++ result.1.now }
+{
+    if at == 0 {
+        ("", "")
+    } else {
+        (", instruction ", digits.format(at))
     }
 }
 

@@ -356,7 +356,7 @@ fn help_names_each_command(rt: HostRuntime) -> Result<(), Fail> {
     assert_eq!(rt; ran.number, 0);
     assert_eq!(rt;
         ran.wire.written(),
-        b"anb fmt <narration>\nanb play <narration> <role> <values> [place]\nanb help\n".as_slice()
+        b"anb fmt <narration>\nanb compile <narration> <role>\nanb explain <narration> <role>\nanb play <narration> <role> <values> [place]\nanb enact <rolefile> <values> [place]\nanb help\n".as_slice()
     );
     Ok(())
 }
@@ -382,6 +382,11 @@ fn words_that_fit_no_command(rt: HostRuntime) -> Result<(), Fail> {
         ["fmt"].as_slice(),
         &["fmt", "-n"],
         &["fmt", "n", "n"],
+        &["compile", "n"],
+        &["compile", "n", "A", "v"],
+        &["compile", "n", "-A"],
+        &["compile", "", "A"],
+        &["explain", "n"],
         &["help", "n"],
         &["--help"],
         &["play", "n", "A", "v", "--dial"],

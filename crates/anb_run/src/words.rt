@@ -7,9 +7,26 @@ use std::alloc::Global;
 
 /// What the words ask for.
 pub(crate) enum Command<'w> {
-    Fmt { narration: &'w Text },
+    Fmt {
+        narration: &'w Text,
+    },
+    Show {
+        text: RoleText,
+        narration: &'w Text,
+        role: &'w Text,
+    },
     Play(Role<'w>),
+    Enact(RoleFile<'w>),
     Help,
+}
+
+/// What is written of a role.
+#[derive(Clone, Copy, Debug, PartialEq, Eq, Drop)]
+pub(crate) enum RoleText {
+    /// The role file of its code.
+    RoleFile,
+    /// Its plan and its code, with the terms of the registers.
+    Explanation,
 }
 
 /// A role that is to be played: the names of its files, its own, and the place.
@@ -17,6 +34,14 @@ pub(crate) enum Command<'w> {
 pub(crate) struct Role<'w> {
     pub(crate) narration: &'w Text,
     pub(crate) name: &'w Text,
+    pub(crate) values: &'w Text,
+    pub(crate) spot: Spot<'w>,
+}
+
+/// A role file whose code is to be run: its name, that of its values, and the place.
+#[derive(Clone, Copy)]
+pub(crate) struct RoleFile<'w> {
+    pub(crate) code: &'w Text,
     pub(crate) values: &'w Text,
     pub(crate) spot: Spot<'w>,
 }
@@ -32,7 +57,7 @@ pub(crate) enum Spot<'w> {
 impl<'w> Command<'w> {
     ghost use Rattle.std.specs.Prelude.{◌≡◌};
     ghost use Rattle.anb_run.specs.Commands.{asked_by};
-    ghost use Rattle.anb_run.specs.Words.{asked_of, fmt_in, help_in, play_in};
+    ghost use Rattle.anb_run.specs.Words.{asked_of, enact_in, fmt_in, help_in, play_in, show_in};
 
     /// Reads a whole word list.
     pub(crate) fn read(words: &'w [Text]) -> Option<Self>
@@ -43,7 +68,10 @@ impl<'w> Command<'w> {
         };
         match command.as_str() {
             "fmt" => Self::read_fmt(words),
+            "compile" => Self::read_show(RoleText::RoleFile, words),
+            "explain" => Self::read_show(RoleText::Explanation, words),
             "play" => Self::read_play(words),
+            "enact" => Self::read_enact(words),
             "help" => Self::read_help(words),
             _ => None,
         }
@@ -54,6 +82,21 @@ impl<'w> Command<'w> {
     {
         match words {
             [narration] if is_operand(narration) => Some(Command::Fmt { narration }),
+            _ => None,
+        }
+    }
+
+    fn read_show(text: RoleText, words: &'w [Text]) -> Option<Self>
+        ensures { asked_by result ≡ show_in text words.now }
+    {
+        match words {
+            [narration, role] if is_operand(narration) && is_operand(role) => {
+                Some(Command::Show {
+                    text,
+                    narration,
+                    role,
+                })
+            }
             _ => None,
         }
     }
@@ -74,6 +117,19 @@ impl<'w> Command<'w> {
             values,
             spot,
         }))
+    }
+
+    fn read_enact(words: &'w [Text]) -> Option<Self>
+        ensures { asked_by result ≡ enact_in words.now }
+    {
+        let [code, values, place @ ..] = words else {
+            return None;
+        };
+        if !(is_operand(code) && is_operand(values)) {
+            return None;
+        }
+        let spot = Spot::read(place)?;
+        Some(Command::Enact(RoleFile { code, values, spot }))
     }
 
     fn read_help(words: &'w [Text]) -> Option<Self>

@@ -1,8 +1,8 @@
-use Rattle.std.proofs.Common.{inl, inr}
+use Rattle.std.proofs.Common.{inr}
 use Rattle.anb_run.proofs.Chains.{told_map}
 use Rattle.anb_run.proofs.Failing.{Fails-map}
 use Rattle.anb_run.proofs.Preparing.{if_ok_map, if_err_map}
-use Rattle.anb_run.proofs.prepare.playable_in_file.Goals as goal
+use Rattle.anb_run.proofs.playable.playable_in_file.Goals as goal
 
 pub returns-in-Ok-clause-given : goal.returns-in-Ok-clause-given
 returns-in-Ok-clause-given g c =

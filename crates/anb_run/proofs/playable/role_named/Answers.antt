@@ -1,7 +1,7 @@
 use Rattle.std.proofs.Common.{◌≡◌, ℕ, List, None, refl, sym, ◌∙◌, subst}
 use Rattle.anb_run.specs.Jobs.{role_named}
 use Rattle.anb_run.proofs.Preparing.{fails_by}
-use Rattle.anb_run.proofs.prepare.role_named.Goals as goal
+use Rattle.anb_run.proofs.playable.role_named.Goals as goal
 
 pub returns-in-None-clause-refused : goal.returns-in-None-clause-refused
 returns-in-None-clause-refused c =

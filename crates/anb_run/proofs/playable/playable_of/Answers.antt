@@ -1,6 +1,6 @@
 use Rattle.std.proofs.Common.{refl, inl, inr}
 use Rattle.anb_run.proofs.Failing.{Fails-map}
-use Rattle.anb_run.proofs.prepare.playable_of.Goals as goal
+use Rattle.anb_run.proofs.playable.playable_of.Goals as goal
 
 pub returns-in-Ok-code_of-clause-given : goal.returns-in-Ok-code_of-clause-given
 returns-in-Ok-code_of-clause-given c = inr (c.in-Ok.role, c.in-Ok.ensures.given, inr (tt, c.in-Ok-code_of.ensures.given, refl))

@@ -2,7 +2,7 @@ use Rattle.std.proofs.Common.{List, ℕ, subst, ◌≡◌}
 use Rattle.anb_machine.specs.ByteRuns.{run_bytes}
 use Rattle.anb_machine.specs.Machines.{gives}
 use Rattle.anb_run.proofs.Playing.{over_wire}
-use Rattle.anb_run.proofs.play.play_over.Goals as goal
+use Rattle.anb_run.proofs.over.run_over.Goals as goal
 
 pub returns-in-Ok-reach-clause-runs : goal.returns-in-Ok-reach-clause-runs
 returns-in-Ok-reach-clause-runs g c =

@@ -1,6 +1,6 @@
-use Rattle.std.proofs.Common.{sym, ap, length, arith}
+use Rattle.std.proofs.Common.{arith}
 use Rattle.anb_run.proofs.Preparing.{item_at}
-use Rattle.anb_run.proofs.prepare.code_of.Goals as goal
+use Rattle.anb_run.proofs.playable.code_of.Goals as goal
 
 pub returns-in-Ok-clause-fits : goal.returns-in-Ok-clause-fits
 returns-in-Ok-clause-fits c =
