@@ -1,8 +1,8 @@
 -- Two steps of a source or a sink are one.
-use Rattle.std.proofs.Common.{◌≡◌, ℕ, ◌+◌, ◌-◌, ◌≤◌, List, [], ◌++◌, length, take, drop, Option, Some, None, refl, ap, sym, ◌∙◌, append_assoc, arith}
+use Rattle.std.proofs.Common.{◌≡◌, ℕ, ◌+◌, ◌≤◌, List, ◌++◌, length, take, drop, Option, Some, None, ap, sym, ◌∙◌, subst, append_assoc, arith}
 use Rattle.std.proofs.Math.Seq.{take-append-add, take-append_seam}
-use Rattle.std.proofs.lemmas.List.{length-take-le, take-append-le, length-drop, take-append-drop, drop-drop}
-use Rattle.anb_base.specs.Moves.{Took, Put}
+use Rattle.std.proofs.lemmas.List.{length-take-le, take-append-le, length-drop, take-append-drop, drop-drop, replicate-append-replicate}
+use Rattle.anb_base.specs.Moves.{Took, Put, Stamped}
 
 pub Took-joined : (a b c : Option (List ℕ)) (x y : List ℕ) → Took a b x → Took b c y → Took a c (x ++ y)
 Took-joined None b c x y p q = rw p at q
@@ -13,6 +13,9 @@ Took-joined (Some o) (Some n) (Some m) x y p q = p ∙ ap (λ t. x ++ t) q ∙ s
 pub Put-joined : (a b c : Option (List ℕ)) (x y : List ℕ) → Put a b x → Put b c y → Put a c (x ++ y)
 Put-joined None b c x y p q = rw p at q
 Put-joined (Some o) b c x y p q = let r : c ≡ Some ((o ++ x) ++ y) = rw p at q in r ∙ ap Some (append_assoc o x y)
+
+pub Stamped-joined : (a b c : Option (List ℕ)) (written m n : ℕ) → Stamped a b written m → Stamped b c written n → Stamped a c written (m + n)
+Stamped-joined a b c written m n p q = subst (Put a c) (replicate-append-replicate m n written) (Put-joined a b c _ _ p q)
 
 -- the front of a list with a part written over: the part before, and the part's front
 pub taken : (a n : ℕ) (xs ys zs : List ℕ) → a ≤ length xs → n ≤ length ys → take (a + n) (take a xs ++ (ys ++ zs)) ≡ take a xs ++ take n ys

@@ -20,4 +20,6 @@ IsBytes-pass (x ∷ xs) passes (suc i) = IsBytes-pass xs (grind (arith, passes))
 -- a string of bytes passes the test
 pub is_bytes-IsBytes : (xs : List ℕ) → IsBytes xs → is_bytes xs ≡ true
 is_bytes-IsBytes [] bytes = refl
-is_bytes-IsBytes (x ∷ xs) bytes = let rest = is_bytes-IsBytes xs (λ i. bytes (suc i)) in let first = bytes 0 in grind arith
+is_bytes-IsBytes (x ∷ xs) bytes =
+    let rest = is_bytes-IsBytes xs (λ i. bytes (suc i)) in
+    let first = bytes 0 in grind arith

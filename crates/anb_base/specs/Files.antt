@@ -9,4 +9,5 @@ Holds (Some files) name content = files name ≡ Some content
 -- the file of this name has more bytes than the limit
 abbrev pub HoldsLonger : Option (List ℕ → Option (List ℕ)) → List ℕ → ℕ → Type 0
 HoldsLonger None name limit = Unit {0}
-HoldsLonger (Some files) name limit = (content : List ℕ) × (files name ≡ Some content) × (limit < length content)
+HoldsLonger (Some files) name limit =
+    (content : List ℕ) × (files name ≡ Some content) × (limit < length content)

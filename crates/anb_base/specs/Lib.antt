@@ -4,4 +4,4 @@ pub mod Memory
 pub mod MemoryViews
 pub mod Moves
 pub mod Places
-pub mod Real
+pub mod Wires

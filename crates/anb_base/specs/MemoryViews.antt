@@ -1,5 +1,5 @@
 -- What the fields of a wire in memory stand for.
-use Rattle.std.specs.Prelude.{◌≡◌, ◌≤◌, ◌<◌, length, drop}
+use Rattle.std.specs.Prelude.{◌≡◌, ◌≤◌, ◌<◌, length, take, drop}
 use Rattle.anb_base.specs.Memory.{MemoryWire}
 use Rattle.anb_base.specs.declared.memory.wire.MemWire.TheInside.{Inside}
 
@@ -8,6 +8,7 @@ wire_of wire = record {
   left = drop wire.read wire.input;
   written = wire.written.bytes.items;
   reached = wire.reached.bytes.items;
+  taken_at = take wire.read wire.stamps.items;
   piece = wire.piece;
   room = wire.written.limit;
   calls = wire.calls.count;
@@ -19,5 +20,6 @@ wire_of wire = record {
 
 pub record IsWithin (wire : Inside) : Type 0 where
   pub read : wire.read ≤ length wire.input
+  pub stamps : length wire.stamps.items ≡ length wire.input
   pub moves : 0 < wire.piece
   pub one_room : wire.reached.limit ≡ wire.written.limit

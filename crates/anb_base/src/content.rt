@@ -1,3 +1,5 @@
+//! Bytes, texts and the other plain values that every crate shares.
+
 ghost use Rattle.std.specs.Prelude.{◌≡◌, ℕ, List, string_bytes, IfOk};
 
 use std::alloc::{AllocError, AllocFailed, Global};

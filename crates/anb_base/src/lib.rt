@@ -1,5 +1,5 @@
 //! What every crate of anb stands on: bytes and texts, and the traits through which a role meets
-//! the outside, with their forms in memory and over the machine.
+//! the outside, with their forms in memory.
 //!
 //! A fault of the outside is answered by `Failed`, and only where a count of faults rose. So the
 //! cause of each fault can be told from the object that was handed in.
@@ -9,7 +9,6 @@ mod content;
 mod memory;
 mod never;
 mod place;
-mod real;
 mod shelf;
 mod wire;
 
@@ -17,7 +16,6 @@ pub use content::{Bytes, Failed, NoMemory, Sent, Suite, Text};
 pub use memory::{MemShelf, MemWire};
 pub use never::NeverFails;
 pub use place::Place;
-pub use real::{RealShelf, RealWire};
 pub use shelf::{Shelf, ShelfNo};
 pub use wire::{Sink, Source, Wire, read_full, write_whole};
 

@@ -1,3 +1,5 @@
+//! The wire and the shelf in memory, which tell all that they hold.
+
 pub(crate) mod calls;
 mod shelf;
 mod wire;

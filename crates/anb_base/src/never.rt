@@ -1,10 +1,12 @@
+//! A wire on which no call fails.
+
 ghost use Rattle.std.specs.Prelude.{◌≡◌, ◌<◌, ◌≤◌, ℕ, List, [], ◌∷◌, ◌++◌, length, take, drop, min, Some, None, IsOk, IfOk, refl};
 
 use crate::{Bytes, Failed, Place, Sink, Source, Wire};
 use std::marker::Model;
 
 /// A wire in memory whose counts of faults are the constant 0, so that no call of it ever fails.
-/// What is written and reached is dropped and isn't told.
+/// What is written and reached is dropped and isn't told, and so isn't when bytes were taken.
 #[derive(Debug, Drop)]
 pub struct NeverFails {
     input: Bytes,
@@ -32,6 +34,8 @@ impl NeverFails {
 impl Source for NeverFails {
     ghost left = { λ wire. Some wire };
 
+    ghost taken_at = { λ _. None };
+
     ghost faults = { λ _. 0 };
 
     ghost kept = { λ _. (None, 0) ∷ (None, 0) ∷ [] };
@@ -55,7 +59,7 @@ impl Sink for NeverFails {
 
     ghost faults = { λ _. 0 };
 
-    ghost kept = { λ wire. (Some wire, 0) ∷ (None, 0) ∷ [] };
+    ghost kept = { λ wire. (Some wire, 0) ∷ (None, 0) ∷ (None, 0) ∷ [] };
 
     fn write(&mut self, piece: &[u8]) -> Result<usize, Failed>
         ensures all { IfOk result (λ n. n ≡ length piece.now) }
@@ -71,6 +75,18 @@ impl Wire for NeverFails {
 
     ghost reach_faults = { λ _. 0 };
 
+    ghost state = { λ wire. record {
+      left = Some wire;
+      taken_at = None;
+      read_faults = 0;
+      written = None;
+      write_faults = 0;
+      reached = None;
+      reach_faults = 0;
+    } };
+
+    ghost state_tells = { λ _. refl };
+
     ghost beside_source = { λ _. refl };
 
     ghost beside_sink = { λ _. refl };
@@ -81,4 +97,8 @@ impl Wire for NeverFails {
     {
         Ok(())
     }
+
+    fn wait_at_most(&mut self, _seconds: u32)
+        ensures { self.new ≡ self.old }
+    {}
 }

@@ -1,3 +1,5 @@
+//! Where a wire is reached.
+
 ghost use Rattle.std.specs.Prelude.{◌≡◌, ◌<◌, ◌++◌, ◌∷◌, [], length};
 
 use crate::Text;

@@ -1,3 +1,5 @@
+//! Files by name.
+
 ghost use Rattle.std.specs.Prelude.{◌≡◌, ◌≢◌, ◌≤◌, ◌<◌, ℕ, List, length, Option, Some, None, IfOk, IfSome, IsErrOf};
 ghost use Rattle.anb_base.specs.Moves.{Rose};
 ghost use Rattle.anb_base.specs.Files.{Holds, HoldsLonger};
@@ -36,9 +38,12 @@ pub trait Shelf {
     fn fetch(&mut self, alloc: Global, name: &str, limit: u32) -> Result<Bytes, ShelfNo>
         ensures content { IfOk result (λ bytes. Holds (files self.old) name.now bytes) }
         ensures within { IfOk result (λ bytes. length bytes ≤ limit) }
-        ensures long { IsErrOf result ShelfNo.Long → HoldsLonger (files self.old) name.now limit }
-        ensures cause { IsErrOf result ShelfNo.Failed → Rose (faults self.old name.now) (faults self.new name.now) }
+        ensures long { IsErrOf result ShelfNo.Long
+            → HoldsLonger (files self.old) name.now limit }
+        ensures cause { IsErrOf result ShelfNo.Failed
+            → Rose (faults self.old name.now) (faults self.new name.now) }
         ensures never_falls { (each : List ℕ) → faults self.old each ≤ faults self.new each }
         ensures files { files self.new ≡ files self.old }
-        ensures others { IfSome (files self.old) (λ _. (other : List ℕ) → other ≢ name.now → faults self.new other ≡ faults self.old other) };
+        ensures others { IfSome (files self.old) (λ _. (other : List ℕ) → other ≢ name.now
+            → faults self.new other ≡ faults self.old other) };
 }

@@ -1,8 +1,6 @@
+//! Each call in memory.
 use super::*;
 use std::alloc::Global;
-use std::fs;
-use std::io::{Read, Write};
-use std::net::{OpenListener, TcpListener};
 use std::test::Fail;
 
 fn text(alloc: Global, s: &str) -> Result<Text, NoMemory> {
@@ -40,6 +38,21 @@ fn a_wire_in_memory_moves_pieces_and_fails_by_number(rt: HostRuntime) -> Result<
     assert_eq!(rt; wire.write(b"w"), Err(Failed));
     assert_eq!(rt; wire.write(b""), Ok(0));
     assert_eq!(rt; wire.written(), b"xyz".as_slice());
+    Ok(())
+}
+
+#[test]
+fn each_byte_is_taken_when_so_many_are_written(rt: HostRuntime) -> Result<(), Fail> {
+    let alloc = rt.alloc();
+    let mut wire = MemWire::new(alloc, bytes(alloc, b"abcd")?, 9, 9, Vec::new(alloc))?;
+    let mut buf = [0u8; 2];
+    wire.wait_at_most(1);
+    assert_eq!(rt; wire.read(&mut buf[..1]), Ok(1));
+    assert_eq!(rt; wire.write(b"xyz"), Ok(3));
+    assert_eq!(rt; wire.read(&mut buf), Ok(2));
+    assert_eq!(rt; wire.write(b"w"), Ok(1));
+    assert_eq!(rt; wire.read(&mut buf), Ok(1));
+    assert_eq!(rt; wire.taken_at(), [0, 3, 3, 4].as_slice());
     Ok(())
 }
 
@@ -85,51 +98,5 @@ fn a_wire_that_never_fails_reads_its_input(rt: HostRuntime) -> Result<(), Fail> 
     assert_eq!(rt; buf, *b"ab");
     assert_eq!(rt; write_whole(&mut wire, b"xyz"), Ok(()));
     assert_eq!(rt; read_full(&mut wire, &mut buf), Ok(1));
-    Ok(())
-}
-
-#[test]
-fn a_real_wire_talks_over_loopback(rt: HostRuntime) -> Result<(), Fail> {
-    let alloc = rt.alloc();
-    let listener = TcpListener::bind(&rt, "127.0.0.1:0")?;
-    let at = format!(in alloc; "{}", listener.local_addr()?)?;
-    let mut wire = RealWire::new(rt.clone()?);
-    assert_eq!(rt; wire.reach(&Place::Dial(Text::new(at))), Ok(()));
-    let (mut peer, _) = listener.accept()?;
-    peer.write_all(b"ping")?;
-    let mut buf = [0u8; 4];
-    assert_eq!(rt; read_full(&mut wire, &mut buf), Ok(4));
-    assert_eq!(rt; buf, *b"ping");
-    assert_eq!(rt; write_whole(&mut wire, b"pong"), Ok(()));
-    peer.read_exact(&mut buf)?;
-    assert_eq!(rt; buf, *b"pong");
-    assert_eq!(rt;
-        wire.reach(&Place::Dial(text(alloc, "nowhere")?)),
-        Err(Failed)
-    );
-    Ok(())
-}
-
-#[test]
-fn a_real_shelf_fetches_a_file_up_to_its_limit(rt: HostRuntime) -> Result<(), Fail> {
-    let alloc = rt.alloc();
-    fs::write(&rt, "shelf_test_file", b"four")?;
-    let mut shelf = RealShelf::new(rt.clone()?);
-    let fetched = shelf
-        .fetch(alloc, "shelf_test_file", 4)
-        .map(Bytes::into_vec);
-    let long = matches!(shelf.fetch(alloc, "shelf_test_file", 3), Err(ShelfNo::Long));
-    fs::remove_file(&rt, "shelf_test_file")?;
-    assert_eq!(rt;
-        fetched.map_err(|_| "fetch")?.as_slice(),
-        b"four".as_slice()
-    );
-    assert!(rt; long);
-    assert!(rt;
-        matches!(
-            shelf.fetch(alloc, "shelf_test_file", 4),
-            Err(ShelfNo::Failed)
-        )
-    );
     Ok(())
 }

@@ -1,3 +1,5 @@
+//! Which calls of a wire or a shelf in memory fail, and counts of faults.
+
 ghost use Rattle.std.specs.Prelude.{◌≡◌, ◌≤◌, ◌^◌, ◌-◌};
 ghost use Rattle.anb_base.specs.Memory.{raised, fails_after};
 ghost use Rattle.anb_base.specs.Moves.{Rose};

@@ -1,5 +1,7 @@
+//! A shelf in memory.
+
 ghost use Rattle.std.specs.Prelude.{◌≡◌, ◌≢◌, ℕ, ◌<◌, ◌≤◌, ◌↔◌, ◌⊎◌, List, length, Some, None, IsTrue, IfOk, IsErrOf, replicate, IfSome};
-ghost use Rattle.anb_base.specs.Memory.{NamesDiffer, place_of, content_at, content_of, faults_at, faults_of, fetched, failed_at, failed_for, fails_after};
+ghost use Rattle.anb_base.specs.Memory.{NamesDiffer, place_of, content_at, content_of, faults_at, faults_of, fetched, failed_at, failed_for, FetchFails};
 ghost use Rattle.anb_base.specs.Moves.{Rose};
 
 use super::calls::{Calls, one_more};
@@ -22,7 +24,12 @@ impl Model for MemShelf {
 
     ghost Value = { MemoryShelf };
 
-    ghost view = { λ shelf. record { files = shelf.files.items; faults = shelf.faults.items; calls = shelf.calls.count; fails = shelf.calls.fails.items } };
+    ghost view = { λ shelf. record {
+      files = shelf.files.items;
+      faults = shelf.faults.items;
+      calls = shelf.calls.count;
+      fails = shelf.calls.fails.items;
+    } };
 
     ghost invariant = { λ shelf. length shelf.faults.items ≡ length shelf.files.items };
 }
@@ -64,8 +71,10 @@ impl MemShelf {
         requires { place < length self.old.files }
         ensures failed { self.new ≡ failed_at self.old (Some place) }
         ensures cause { Rose (faults_at self.old (Some place)) (faults_at self.new (Some place)) }
-        ensures never_falls { (each : List ℕ) → faults_of self.old each ≤ faults_of self.new each }
-        ensures others { (other : List ℕ) → place_of self.old other ≢ Some place → faults_of self.new other ≡ faults_of self.old other }
+        ensures never_falls { (each : List ℕ)
+            → faults_of self.old each ≤ faults_of self.new each }
+        ensures others { (other : List ℕ) → place_of self.old other ≢ Some place
+            → faults_of self.new other ≡ faults_of self.old other }
     {
         self.faults[place] = one_more(self.faults[place]);
     }
@@ -79,13 +88,19 @@ impl Shelf for MemShelf {
     fn fetch(&mut self, alloc: Global, name: &str, limit: u32) -> Result<Bytes, ShelfNo>
         ensures content { IfOk result (λ bytes. content_of self.old name.now ≡ Some bytes) }
         ensures within { IfOk result (λ bytes. length bytes ≤ limit) }
-        ensures long { IsErrOf result ShelfNo.Long → IfSome (content_of self.old name.now) (λ bytes. limit < length bytes) }
-        ensures fails { IsErrOf result ShelfNo.Failed ↔ ((place_of self.old name.now ≡ None) ⊎ IsTrue (fails_after self.old.calls self.old.fails)) }
-        ensures failed { IsErrOf result ShelfNo.Failed → self.new ≡ failed_for self.old name.now }
-        ensures cause { IsErrOf result ShelfNo.Failed → Rose (faults_of self.old name.now) (faults_of self.new name.now) }
-        ensures never_falls { (each : List ℕ) → faults_of self.old each ≤ faults_of self.new each }
-        ensures others { (other : List ℕ) → other ≢ name.now → faults_of self.new other ≡ faults_of self.old other }
-        ensures counted { (IsErrOf result ShelfNo.Failed → ⊥) → self.new ≡ fetched self.old }
+        ensures long { IsErrOf result ShelfNo.Long
+            → IfSome (content_of self.old name.now) (λ bytes. limit < length bytes) }
+        ensures fails { IsErrOf result ShelfNo.Failed ↔ FetchFails self.old name.now }
+        ensures failed { IsErrOf result ShelfNo.Failed
+            → self.new ≡ failed_for self.old name.now }
+        ensures cause { IsErrOf result ShelfNo.Failed
+            → Rose (faults_of self.old name.now) (faults_of self.new name.now) }
+        ensures never_falls { (each : List ℕ)
+            → faults_of self.old each ≤ faults_of self.new each }
+        ensures others { (other : List ℕ) → other ≢ name.now
+            → faults_of self.new other ≡ faults_of self.old other }
+        ensures counted { (IsErrOf result ShelfNo.Failed → ⊥)
+            → self.new ≡ fetched self.old }
     {
         let fails = self.calls.next_fails();
         let Some(place) = self.place(name) else {

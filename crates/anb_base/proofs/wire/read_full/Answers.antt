@@ -1,6 +1,6 @@
-use Rattle.std.proofs.Common.{◌≡◌, ◌+◌, ◌-◌, ◌≤◌, ◌++◌, ℕ, List, take, length, arith, length-append, sym}
+use Rattle.std.proofs.Common.{ℕ, arith, length-append}
 use Rattle.std.proofs.lemmas.List.{length-take}
-use Rattle.anb_base.proofs.Joined.{Took-joined, taken}
+use Rattle.anb_base.proofs.Joined.{Took-joined, Stamped-joined, taken}
 use Rattle.anb_base.proofs.wire.read_full.Goals as goal
 
 pub loop-have-preserved : goal.loop-have-preserved
@@ -9,6 +9,9 @@ loop-have-preserved g c =
     let within = c.in_ok-n.ensures.within in record {
       within = omega (arith, length-append {A = ℕ}, length-take {A = ℕ}, there, within);
       took = rw (taken c.loop-have.have c.in_ok-n.n _ _ _ there within) (Took-joined _ _ _ _ _ c.loop-have.invariant.took c.in_ok-n.ensures.took);
+      stamped =
+          let w = c.loop-have.invariant.kept in
+          Stamped-joined _ _ _ _ c.loop-have.have c.in_ok-n.n c.loop-have.invariant.stamped (rw w at c.in_ok-n.ensures.stamped);
       never_falls = omega (arith, c.loop-have.invariant.never_falls, c.read.ensures.never_falls);
       kept = cc;
     }

@@ -1,32 +1,38 @@
-ghost use Rattle.std.specs.Prelude.{◌≡◌, ◌<◌, ◌≤◌, ℕ, List, [], ◌∷◌, None, refl};
-ghost use Rattle.anb_base.specs.Memory.{raised};
+//! The wire over standard input and output, or over one TCP connection.
 
-use crate::memory::one_more;
-use crate::{Bytes, Failed, Place, Shelf, ShelfNo, Sink, Source, Wire};
-use std::alloc::Global;
-use std::fs::File;
-use std::io;
+ghost use Rattle.std.specs.Prelude.{◌≡◌, ◌<◌, ◌≤◌, ℕ, List, [], ◌∷◌, None, refl};
+
+use crate::connection::{connect, finish, limit_waits};
+use crate::faults::one_more;
+use anb_base::{Failed, Place, Sink, Source, Wire};
 use std::io::{Read, Write};
 use std::marker::Model;
-use std::net::{Net, OpenListener, TcpListener, TcpStream};
+use std::net::TcpStream;
+use std::time::Duration;
 
 /// The wire over standard input and output or, once it has reached another place, over one TCP
-/// connection. It tells nothing of the bytes. Each count rises by one with each fault.
+/// connection. It tells nothing of the bytes. Each count rises by one with each fault. A limit on
+/// waiting holds for reaching a place and for each single wait of a connection.
 #[derive(Drop)]
 pub struct RealWire {
     rt: HostRuntime,
     connection: Option<TcpStream>,
+    wait: Option<Duration>,
     read_faults: u64,
     write_faults: u64,
     reach_faults: u64,
 }
 
 impl Model for RealWire {
-    ghost use Rattle.anb_base.specs.Real.{Faults};
+    ghost use Rattle.anb_real.specs.Faults.{Faults};
 
     ghost Value = { Faults };
 
-    ghost view = { λ wire. record { reads = wire.read_faults; writes = wire.write_faults; reaches = wire.reach_faults } };
+    ghost view = { λ wire. record {
+      reads = wire.read_faults;
+      writes = wire.write_faults;
+      reaches = wire.reach_faults;
+    } };
 }
 
 impl RealWire {
@@ -36,28 +42,28 @@ impl RealWire {
         RealWire {
             rt,
             connection: None,
+            wait: None,
             read_faults: 0,
             write_faults: 0,
             reach_faults: 0,
         }
     }
-}
 
-/// The connection of the place, or none where it is standard input and output.
-fn connect(rt: &HostRuntime, place: &Place) -> io::Result<Option<TcpStream>> {
-    match place {
-        Place::Stdio => Ok(None),
-        Place::Dial(at) => Ok(Some(TcpStream::connect(rt, at.as_str())?)),
-        Place::Listen(at) => {
-            let listener = TcpListener::bind(rt, at.as_str())?;
-            let (connection, _) = listener.accept()?;
-            Ok(Some(connection))
+    /// Ends the wire. Of a connection the sending side is shut, and what the peer still sends is
+    /// read and dropped for two seconds and four mebibytes at most, so that all that was written
+    /// comes through.
+    pub fn finish(self) {
+        if let Some(connection) = self.connection {
+            // A connection that fails now is over all the same.
+            let _ = finish(&self.rt, connection);
         }
     }
 }
 
 impl Source for RealWire {
     ghost left = { λ _. None };
+
+    ghost taken_at = { λ _. None };
 
     ghost faults = { λ wire. wire.reads };
 
@@ -83,7 +89,7 @@ impl Sink for RealWire {
 
     ghost faults = { λ wire. wire.writes };
 
-    ghost kept = { λ wire. (None, wire.reads) ∷ (None, wire.reaches) ∷ [] };
+    ghost kept = { λ wire. (None, wire.reads) ∷ (None, wire.reaches) ∷ (None, 0) ∷ [] };
 
     fn write(&mut self, piece: &[u8]) -> Result<usize, Failed> {
         let put = match &mut self.connection {
@@ -105,12 +111,24 @@ impl Wire for RealWire {
 
     ghost reach_faults = { λ wire. wire.reaches };
 
+    ghost state = { λ wire. record {
+      left = None;
+      taken_at = None;
+      read_faults = wire.reads;
+      written = None;
+      write_faults = wire.writes;
+      reached = None;
+      reach_faults = wire.reaches;
+    } };
+
+    ghost state_tells = { λ _. refl };
+
     ghost beside_source = { λ _. refl };
 
     ghost beside_sink = { λ _. refl };
 
     fn reach(&mut self, place: &Place) -> Result<(), Failed> {
-        match connect(&self.rt, place) {
+        match connect(&self.rt, place, self.wait) {
             Ok(connection) => {
                 self.connection = connection;
                 Ok(())
@@ -121,50 +139,13 @@ impl Wire for RealWire {
             }
         }
     }
-}
 
-/// The files of the machine. A file that isn't there is a fault, and all names share one count.
-#[derive(Drop)]
-pub struct RealShelf {
-    rt: HostRuntime,
-    faults: u64,
-}
-
-impl Model for RealShelf {
-    ghost Value = { ℕ };
-
-    ghost view = { λ shelf. shelf.faults };
-}
-
-impl RealShelf {
-    pub fn new(rt: HostRuntime) -> Self
-        ensures { result ≡ 0 }
-    {
-        RealShelf { rt, faults: 0 }
-    }
-}
-
-/// Puts the start of the file, up to so many bytes, at the end of the buffer.
-fn read_start(rt: &HostRuntime, name: &str, most: u64, buf: &mut Vec<u8>) -> io::Result<()> {
-    File::open(rt, name)?.take(most).read_to_end(buf)?;
-    Ok(())
-}
-
-impl Shelf for RealShelf {
-    ghost files = { λ _. None };
-
-    ghost faults = { λ faults _. faults };
-
-    fn fetch(&mut self, alloc: Global, name: &str, limit: u32) -> Result<Bytes, ShelfNo> {
-        let mut bytes = Vec::new(alloc);
-        match read_start(&self.rt, name, u64::from(limit) + 1, &mut bytes) {
-            Ok(()) if bytes.len() <= limit as usize => Ok(Bytes::new(bytes)),
-            Ok(()) => Err(ShelfNo::Long),
-            Err(error) if error.kind() == io::ErrorKind::OutOfMemory => Err(ShelfNo::NoMemory),
-            Err(_) => {
-                self.faults = one_more(self.faults);
-                Err(ShelfNo::Failed)
-            }
+    /// Standard input and output have no limit.
+    fn wait_at_most(&mut self, seconds: u32) {
+        self.wait = Some(Duration::from_secs(u64::from(seconds)));
+        if let Some(connection) = &self.connection {
+            // Where the limit can't be set a wait has none.
+            let _ = limit_waits(connection, self.wait);
         }
     }
 }
