@@ -1,3 +1,4 @@
+//! The algebra of byte strings: each operator by the primitives of a suite.
 ghost use Rattle.std.specs.Prelude.{◌≡◌, ◌↔◌, ◌<◌, ℕ, List, ◌∷◌, [], length, IsTrue, IfOk, Some, slice_get};
 ghost use Rattle.std.specs.Option.{option_map};
 ghost use Rattle.std.specs.List.{All};
@@ -35,7 +36,8 @@ impl<'a> ByteAlgebra<'a> {
     pub fn new(formats: &'a [Format], suite: Suite) -> Self
         ensures formats { result.formats ≡ formats.now }
         ensures suite { result.suite ≡ suite }
-        ensures operators { (i arity : ℕ) → IsTrue (has_operator formats.now (Op.Format i arity)) ↔ StandsAt formats.now i arity }
+        ensures operators { (i arity : ℕ) → IsTrue (has_operator formats.now (Op.Format i arity))
+            ↔ StandsAt formats.now i arity }
     {
         // Each format is sound, as a look at its pieces tells.
         for format in formats {
@@ -135,20 +137,23 @@ fn build_format(
 ) -> Result<Bytes, NoMemory>
     requires within { All (λ i. i < length table.now) at.now }
     requires count { length at.now ≡ field_count format.now.pieces }
-    ensures { IfOk result (λ bytes. bytes ≡ format_bytes format.now.pieces (picked table.now at.now)) }
+    ensures { IfOk result (λ bytes.
+        bytes ≡ format_bytes format.now.pieces (picked table.now at.now)) }
 {
     format.build(alloc, table, at).map_err(|_| NoMemory)
 }
 
 fn undo_format(alloc: Global, format: &Format, bytes: &[u8]) -> Result<Option<Vec<Bytes>>, NoMemory>
-    ensures { IfOk result (λ r. option_map (λ parts. parts.items) r ≡ parts_of format.now.pieces bytes.now) }
+    ensures { IfOk result (λ r.
+        option_map (λ parts. parts.items) r ≡ parts_of format.now.pieces bytes.now) }
 {
     format.parts(alloc, bytes).map_err(|_| NoMemory)
 }
 
 /// An opened message as the one part that it is.
 fn one_part(alloc: Global, opened: Option<Bytes>) -> Result<Option<Vec<Bytes>>, NoMemory>
-    ensures { IfOk result (λ r. option_map (λ parts. parts.items) r ≡ option_map (λ m. m ∷ []) opened) }
+    ensures { IfOk result (λ r.
+        option_map (λ parts. parts.items) r ≡ option_map (λ m. m ∷ []) opened) }
 {
     match opened {
         None => Ok(None),

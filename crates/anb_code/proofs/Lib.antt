@@ -3,7 +3,9 @@ pub mod Rows
 pub mod Numbers
 pub mod Naming
 pub mod Steps
-pub mod Takes
+pub mod Taking
+pub mod TakenTexts
+pub mod LastUses
 pub mod Accepted
 pub mod Widening
 pub mod Runnable

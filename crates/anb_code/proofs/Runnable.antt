@@ -17,7 +17,7 @@ use Rattle.anb_code.specs.Meaning.{IsOperator, act_of, acts_of}
 use Rattle.anb_code.specs.Registers.{count_written, operands, pieces_at}
 use Rattle.anb_code.specs.Taking.{take_texts}
 use Rattle.anb_code.specs.Verified.{EachAfter, IsFormatAfter, IsInstrAfter, IsVerifiedCode, count_registers}
-use Rattle.anb_code.proofs.Takes.{no_takes, other_last}
+use Rattle.anb_code.proofs.Taking.{no_takes, other_last}
 
 sound_at : (before formats : List FormatValue) (f : ℕ) (format : FormatValue) → EachAfter IsFormatAfter before formats → slice_get formats f ≡ Some format → IsSound format.pieces
 sound_at before [] f format each e = cc

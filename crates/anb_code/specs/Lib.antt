@@ -2,6 +2,7 @@ pub mod CodeValue
 pub mod RawValue
 pub mod Registers
 pub mod Spelling
+pub mod Uses
 pub mod Table
 pub mod Verified
 pub mod Taking

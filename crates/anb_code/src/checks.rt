@@ -1,3 +1,4 @@
+//! The check of a code, row by row of the table of faults.
 ghost use Rattle.std.specs.Prelude.{◌≡◌, ◌≢◌, ◌<◌, ◌≤◌, ◌+◌, ◌^◌, ◌==◌, ◌&&◌, ◌||◌, ◌↔◌, not, nat_lt, ℕ, List, [], ◌∷◌, ◌++◌, length, map, replicate, slice_get, slice_index, vec_len, find, option_copied, Some, All, Any, SomeIff, nat_le, IfOk, IfErr, OnOk, IsTrue};
 ghost use Rattle.std.specs.List.{list_any, range_with_len};
 ghost use Rattle.std.specs.Str.{bytes_eq};
@@ -7,8 +8,9 @@ ghost use Rattle.anb_code.specs.RawValue.{RawInstrValue};
 ghost use Rattle.anb_code.specs.Registers.{count_written, pieces_at, register_widths, width_of, written_widths};
 ghost use Rattle.anb_code.specs.Spelling.{instr_of, is_named, place_of};
 ghost use Rattle.anb_code.specs.Table.{BeginsWith, HasCounts, faults_from, format_faults, has_fields, has_its_format, instr_faults, is_late, is_take, is_taken, reads_unwritten, shape_faults, written};
-ghost use Rattle.anb_code.specs.Checking.{Knows};
+ghost use Rattle.anb_code.specs.Checking.{Knows, KnowsTakes};
 
+use crate::takes::Takes;
 use crate::{CodeNo, RawFormat, RawInstr, What};
 use anb_base::{ARRIVAL, NoMemory, WIDE};
 use anb_format::{Format, FormatNo, Piece};
@@ -55,7 +57,7 @@ fn check_format(before: &[RawFormat], format: &RawFormat) -> Result<(), CodeNo>
 fn are_many(before: &[RawFormat], format: &RawFormat) -> bool
     ensures { result ≡ (length before.now == 64 || nat_lt 32 (field_count format.now.pieces)) }
 {
-    before.len() == FORMATS || fields(&format.pieces) > FIELDS
+    before.len() == FORMATS || count_fields(&format.pieces) > FIELDS
 }
 
 fn is_named_before(before: &[RawFormat], format: &RawFormat) -> bool
@@ -79,7 +81,7 @@ fn check_shape(format: &RawFormat) -> Result<(), FormatNo>
     Format::check(&format.pieces)
 }
 
-fn fields(pieces: &[Piece]) -> usize
+pub(crate) fn count_fields(pieces: &[Piece]) -> usize
     ensures { result ≡ field_count pieces.now }
 {
     let mut count = 0;
@@ -95,12 +97,16 @@ pub(crate) fn check_code(alloc: Global, formats: &[Format], code: &[RawInstr]) -
     requires counts { All HasCounts code.now }
     requires instrs { length code.now + 1 < 2 ^ 32 }
     requires destinations { length (written code.now) + 1 < 2 ^ 32 }
-    ensures fine { OnOk result (faults_from (instr_faults ARRIVAL WIDE formats.now) [] code.now ≡ []) }
-    ensures refused { IfErr result (λ no. no ≢ CodeNo.NoMemory → BeginsWith (faults_from (instr_faults ARRIVAL WIDE formats.now) [] code.now) no) }
+    ensures fine { OnOk result (faults_from (instr_faults ARRIVAL WIDE formats.now) [] code.now
+        ≡ []) }
+    ensures refused { IfErr result (λ no. no ≢ CodeNo.NoMemory
+        → BeginsWith (faults_from (instr_faults ARRIVAL WIDE formats.now) [] code.now) no) }
 {
     let mut widths = Vec::new(alloc);
+    let mut takes = Takes::new(alloc);
     for (i, instr) in code.iter().enumerate() {
-        check_instr(alloc, &mut widths, formats, &code[..i], instr)?;
+        check_instr(alloc, &mut widths, &takes, formats, &code[..i], instr)?;
+        takes.push(instr)?;
     }
     Ok(())
 }
@@ -110,6 +116,7 @@ pub(crate) fn check_code(alloc: Global, formats: &[Format], code: &[RawInstr]) -
 fn check_instr(
     alloc: Global,
     widths: &mut Vec<u32>,
+    takes: &Takes<'_>,
     formats: &[Format],
     before: &[RawInstr],
     instr: &RawInstr,
@@ -118,16 +125,19 @@ fn check_instr(
     requires instrs { length before.now + 2 < 2 ^ 32 }
     requires destinations { length (written before.now) + length instr.now.to + 1 < 2 ^ 32 }
     requires known { Knows formats.now before.now widths.old.items }
+    requires takes { KnowsTakes before.now takes.now }
     ensures fine { OnOk result (instr_faults ARRIVAL WIDE formats.now before.now instr.now ≡ []) }
-    ensures known { OnOk result (Knows formats.now (before.now ++ instr.now ∷ []) widths.new.items) }
-    ensures refused { IfErr result (λ no. no ≢ CodeNo.NoMemory → BeginsWith (instr_faults ARRIVAL WIDE formats.now before.now instr.now) no) }
+    ensures known { OnOk result
+        (Knows formats.now (before.now ++ instr.now ∷ []) widths.new.items) }
+    ensures refused { IfErr result (λ no. no ≢ CodeNo.NoMemory
+        → BeginsWith (instr_faults ARRIVAL WIDE formats.now before.now instr.now) no) }
 {
     let at = before.len() as u32 + 1;
     let registers = widths.len() as u32;
-    if is_late(before, instr) {
+    if takes.is_late(instr) {
         return Err(CodeNo::Late(at));
     }
-    if is_taken(before, instr) {
+    if takes.is_taken(instr) {
         return Err(CodeNo::TakeTwice(at));
     }
     if !has_its_format(formats, instr) {
@@ -142,39 +152,8 @@ fn check_instr(
     let Some(width) = width_of(alloc, formats, widths, instr)? else {
         return Err(CodeNo::Wide(at));
     };
-    put_widths(widths, width, count_destinations(instr))?;
+    put_copies(widths, width, count_destinations(instr))?;
     Ok(())
-}
-
-fn is_take(instr: &RawInstr) -> bool
-    ensures { result ≡ is_take instr.now.what }
-{
-    instr.what == What::Take
-}
-
-fn is_late(before: &[RawInstr], instr: &RawInstr) -> bool
-    ensures { result ≡ is_late before.now instr.now }
-{
-    is_take(instr) && has_others(before)
-}
-
-/// Whether one of them is no take.
-fn has_others(before: &[RawInstr]) -> bool
-    ensures { result ≡ list_any (λ earlier. not (is_take earlier.what)) before.now }
-{
-    before.iter().any(|earlier| !is_take(earlier))
-}
-
-fn is_taken(before: &[RawInstr], instr: &RawInstr) -> bool
-    ensures { result ≡ is_taken before.now instr.now }
-{
-    is_take(instr) && takes_text(before, instr.name.as_str())
-}
-
-fn takes_text(before: &[RawInstr], text: &str) -> bool
-    ensures { result ≡ list_any (λ earlier. is_take earlier.what && bytes_eq earlier.name text.now) before.now }
-{
-    before.iter().any(|earlier| is_take(earlier) && earlier.name.as_str() == text)
 }
 
 fn has_its_format(formats: &[Format], instr: &RawInstr) -> bool
@@ -192,7 +171,7 @@ fn has_fields(formats: &[Format], name: &str, count: usize) -> bool
     ensures { result ≡ has_fields (find (is_named name.now) formats.now) count }
 {
     match named(formats, name) {
-        Some(format) => fields(format.pieces()) == count,
+        Some(format) => count_fields(format.pieces()) == count,
         None => false,
     }
 }
@@ -246,7 +225,9 @@ fn width_of(
     requires written { All (λ r. r < length widths.now) instr.now.args }
     requires format { IsTrue (has_its_format formats.now instr.now instr.now.what) }
     requires narrow { All (λ width. width ≤ WIDE) widths.now }
-    ensures { IfOk result (λ r. let width = width_of ARRIVAL formats.now widths.now (instr_of formats.now instr.now) in SomeIff r (width ≤ WIDE) width) }
+    ensures { IfOk result (λ r.
+        let width = width_of ARRIVAL formats.now widths.now
+        (instr_of formats.now instr.now) in SomeIff r (width ≤ WIDE) width) }
 {
     let args = &instr.args;
     let width = match instr.what {
@@ -278,7 +259,9 @@ fn built_width(
 ) -> Result<Option<u32>, NoMemory>
     requires written { All (λ r. r < length widths.now) args.now }
     requires format { IsTrue (has_fields (find (is_named name.now) formats.now) (length args.now)) }
-    ensures { IfOk result (λ r. let width = format_width ARRIVAL (pieces_at formats.now (place_of formats.now name.now)) (map (slice_index widths.now) args.now)
+    ensures { IfOk result (λ r.
+        let width = format_width ARRIVAL (pieces_at formats.now (place_of formats.now name.now))
+        (map (slice_index widths.now) args.now)
         in SomeIff r (width ≤ WIDE) width) }
 {
     let operands = widths_at(alloc, widths, args)?;
@@ -299,12 +282,12 @@ fn widths_at(alloc: Global, widths: &[u32], registers: &[u32]) -> Result<Vec<u32
     Ok(found)
 }
 
-/// Appends this width so many times.
-fn put_widths(widths: &mut Vec<u32>, width: u32, count: usize) -> Result<(), NoMemory>
-    ensures { OnOk result (widths.new.items ≡ widths.old.items ++ replicate count width) }
+/// Appends this number so many times.
+pub(crate) fn put_copies(numbers: &mut Vec<u32>, number: u32, count: usize) -> Result<(), NoMemory>
+    ensures { OnOk result (numbers.new.items ≡ numbers.old.items ++ replicate count number) }
 {
     for done in 0..count {
-        widths.push(width)?;
+        numbers.push(number)?;
     }
     Ok(())
 }

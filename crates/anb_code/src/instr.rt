@@ -1,3 +1,4 @@
+//! Instructions over registers.
 ghost use Rattle.std.specs.Prelude.{◌≡◌, ℕ, List};
 
 use anb_base::Text;

@@ -1,3 +1,4 @@
+//! Laws of codes, each a function that does nothing.
 ghost use Rattle.anb_code.specs.Laws.{QuarterAccepts, VerifiedIsRunnable, VerifiedIsSpelled, WiderAccepts};
 
 /// Laws on the two limits: a code that is accepted with some limits is accepted with wider ones.

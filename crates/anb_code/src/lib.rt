@@ -11,6 +11,8 @@ mod laws;
 mod raw;
 mod refusal;
 mod spelling;
+mod takes;
+mod uses;
 
 pub use code::{RoleCode, verify};
 pub use instr::{Instr, Registers};

@@ -1,3 +1,4 @@
+//! A code that wasn't verified.
 use anb_base::{Suite, Text};
 use anb_format::Piece;
 use std::marker::Model;
@@ -51,7 +52,13 @@ impl Model for RawInstr {
 
     ghost Value = { RawInstrValue };
 
-    ghost view = { λ i. record { to = i.to.items; what = i.what; name = i.name; args = i.args.items } };
+    ghost view = { λ i. record {
+      to = i.to.items;
+      what = i.what;
+      name = i.name;
+      args =
+          i.args.items;
+    } };
 }
 
 /// A code that wasn't verified.
@@ -69,5 +76,12 @@ impl Model for RawCode {
 
     ghost Value = { RawValue };
 
-    ghost view = { λ r. record { protocol = r.protocol; role = r.role; suite = r.suite; formats = r.formats.items; code = r.code.items } };
+    ghost view = { λ r. record {
+      protocol = r.protocol;
+      role = r.role;
+      suite = r.suite;
+      formats =
+          r.formats.items;
+      code = r.code.items;
+    } };
 }

@@ -1,3 +1,4 @@
+//! Why a code isn't accepted.
 ghost use Rattle.std.specs.Prelude.{◌≡◌};
 ghost use Rattle.anb_code.specs.declared.refusal.CodeNo.TheVariants as refusal;
 

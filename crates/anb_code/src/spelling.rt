@@ -1,3 +1,4 @@
+//! Names of formats are turned into their numbers.
 ghost use Rattle.std.specs.Prelude.{◌≡◌, ◌<◌, ◌≤◌, ◌^◌, length, map, position, All, IfOk};
 ghost use Rattle.anb_format.specs.Formats.{IsSound};
 ghost use Rattle.anb_code.specs.Spelling.{instr_of, is_named, place_of};

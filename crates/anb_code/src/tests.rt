@@ -1,3 +1,4 @@
+//! The check of codes, row by row.
 ghost use Rattle.std.specs.Prelude.{◌≡◌, ◌<◌, ◌≤◌, ◌*◌, ◌^◌, length, All, IsTrue};
 ghost use Rattle.anb_code.specs.Table.{HasCounts, written};
 

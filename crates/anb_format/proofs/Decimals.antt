@@ -1,5 +1,6 @@
 -- Decimal digits: what they are, and that they are read as their number.
-use Rattle.std.proofs.Common.{◌≡◌, ◌≢◌, ◌==◌, ◌<◌, ◌≤◌, ◌+◌, ◌-◌, ◌*◌, ◌/◌, ◌%◌, ◌^◌, ℕ, zero, suc, List, [], ◌∷◌, ◌++◌, true, false, nat_lt, refl, ◌∙◌, arith, append_assoc, inl, inr}
+use Rattle.std.proofs.Common.{◌≡◌, ◌≢◌, ◌==◌, ◌<◌, ◌≤◌, ◌+◌, ◌-◌, ◌*◌, ◌/◌, ◌%◌, ◌^◌, ℕ, zero, suc, List, [], ◌∷◌, ◌++◌, true, false, nat_lt, refl, subst, ◌∙◌, arith, append_assoc, inl, inr, length, length-append, add-one}
+use Rattle.std.proofs.Math.Nat.{pow-suc}
 use Rattle.std.specs.List.{AllByRecursion}
 use Rattle.std.specs.Fmt.{decimal}
 use Rattle.std.specs.Str.{IsUtf8}
@@ -18,6 +19,21 @@ one_digit more n small = let yes : nat_lt n 10 ≡ true = grind (arith, nat_test
 more_digits : (more n : ℕ) → 10 ≤ n → digits_within (suc more) n ≡ digits_within more (n / 10) ++ (48 + n % 10) ∷ []
 unfolding digits_within
 more_digits more n large = let absent : nat_lt n 10 ≡ false = grind (arith, nat_tests) in rw absent refl
+
+-- a number below 10 ^ (k + 1) has at most k + 1 digits
+pub few_digits : (k more n : ℕ) → n < 10 ^ (k + 1) → length (digits_within more n) ≤ k + 1
+unfolding digits_within
+few_digits k zero n h = omega arith
+few_digits zero (suc more) n h = rw (one_digit more n (omega (arith, h))) (omega arith)
+few_digits (suc k) (suc more) n h = elim (cases_lt n 10) [
+  | inl small ↦ rw (one_digit more n small) (omega arith)
+  | inr large ↦
+      let step : 10 ^ (suc k + 1) ≡ 10 ^ suc k * 10 = rw (add-one, pow-suc) refl in
+      let one : suc k ≡ k + 1 = omega arith in
+      let less : n / 10 < 10 ^ suc k = omega (arith, step, h) in
+      let bound : n / 10 < 10 ^ (k + 1) = subst (λ j. n / 10 < 10 ^ j) one less in
+      rw (more_digits more n large) (omega (arith, length-append (digits_within more (n / 10)) ((48 + n % 10) ∷ []), few_digits k more (n / 10) bound))
+]
 
 -- below 2 ^ 64 they are what std writes
 pub as_std : (n : ℕ) → n < 2 ^ 64 → decimal_digits n ≡ decimal n

@@ -7,5 +7,6 @@ pub mod Facts
 pub mod Hexadecimals
 pub mod Leb128
 pub mod LiteralLemmas
+pub mod Narrow
 pub mod ReadingLemmas
 pub mod Splitting

@@ -1,3 +1,4 @@
+//! What a field writes for its argument, and how it is read back.
 ghost use Rattle.std.specs.Prelude.{◌≡◌, ◌≢◌, ◌≤◌, ◌<◌, ◌+◌, ◌^◌, ◌++◌, ◌∷◌, [], ℕ, List, length, IfOk, OnOk, IfSome, IsSomeAnd, Some, ◌==◌, position};
 ghost use Rattle.std.specs.List.{AllByRecursion};
 ghost use Rattle.std.specs.Fmt.{decimal};
@@ -61,7 +62,8 @@ pub(crate) fn field_at(
     bytes: &[u8],
 ) -> Result<Option<(Bytes, &[u8])>, NoMemory>
     ensures strings { IfOk result (λ r. IfSome r (λ x. IsBytes x.0)) }
-    ensures again { IfOk result (λ r. (b rest : List ℕ) → IsBytes b → (kind ≡ FieldKind.Rest → rest ≡ []) → bytes.now ≡ field_bytes kind b ++ rest
+    ensures again { IfOk result (λ r. (b rest : List ℕ) → IsBytes b
+        → (kind ≡ FieldKind.Rest → rest ≡ []) → bytes.now ≡ field_bytes kind b ++ rest
         → IsSomeAnd r (λ x. (x.0 ≡ b) × (x.1.now ≡ rest))) }
 {
     match kind {
@@ -81,7 +83,9 @@ fn copied<'a>(
     found: Option<(&[u8], &'a [u8])>,
 ) -> Result<Option<(Bytes, &'a [u8])>, NoMemory>
     ensures strings { IfOk result (λ r. IfSome r (λ x. IsBytes x.0)) }
-    ensures same { IfOk result (λ r. (b rest : List ℕ) → IsSomeAnd found.entry (λ x. (x.0.now ≡ b) × (x.1.now ≡ rest)) → IsSomeAnd r (λ x. (x.0 ≡ b) × (x.1.now ≡ rest))) }
+    ensures same { IfOk result (λ r. (b rest : List ℕ)
+        → IsSomeAnd found.entry (λ x. (x.0.now ≡ b) × (x.1.now ≡ rest))
+        → IsSomeAnd r (λ x. (x.0 ≡ b) × (x.1.now ≡ rest))) }
 {
     let Some((argument, rest)) = found else {
         return Ok(None);
@@ -91,7 +95,8 @@ fn copied<'a>(
 
 /// The argument after its length in LEB128, and what follows it.
 fn len_at(bytes: &[u8]) -> Option<(&[u8], &[u8])>
-    ensures again { (b rest : List ℕ) → bytes.now ≡ len_bytes b ++ rest → IsSomeAnd result (λ x. (x.0.now ≡ b) × (x.1.now ≡ rest)) }
+    ensures again { (b rest : List ℕ) → bytes.now ≡ len_bytes b ++ rest
+        → IsSomeAnd result (λ x. (x.0.now ≡ b) × (x.1.now ≡ rest)) }
 {
     let (n, after) = leb128_at(bytes, 8)?;
     let n = usize::try_from(n).ok()?;
@@ -106,7 +111,8 @@ fn len_at(bytes: &[u8]) -> Option<(&[u8], &[u8])>
 fn leb128_at(bytes: &[u8], more: u8) -> Option<(u64, &[u8])>
     requires { more ≤ 8 }
     ensures bound { IfSome result (λ x. x.0 < 128 ^ (more + 1)) }
-    ensures again { (n : ℕ) (rest : List ℕ) → n < 128 ^ (more + 1) → bytes.now ≡ leb128 n ++ rest → IsSomeAnd result (λ x. (x.0 ≡ n) × (x.1.now ≡ rest)) }
+    ensures again { (n : ℕ) (rest : List ℕ) → n < 128 ^ (more + 1) → bytes.now ≡ leb128 n ++ rest
+        → IsSomeAnd result (λ x. (x.0 ≡ n) × (x.1.now ≡ rest)) }
 {
     let (first, rest) = bytes.split_first()?;
     if *first < 128 {
@@ -121,7 +127,8 @@ fn leb128_at(bytes: &[u8], more: u8) -> Option<(u64, &[u8])>
 
 /// The argument of a netstring, and what follows the netstring.
 fn net_at(bytes: &[u8]) -> Option<(&[u8], &[u8])>
-    ensures again { (b rest : List ℕ) → bytes.now ≡ net_bytes b ++ rest → IsSomeAnd result (λ x. (x.0.now ≡ b) × (x.1.now ≡ rest)) }
+    ensures again { (b rest : List ℕ) → bytes.now ≡ net_bytes b ++ rest
+        → IsSomeAnd result (λ x. (x.0.now ≡ b) × (x.1.now ≡ rest)) }
 {
     let (digits, after) = split_at_first(bytes, b':')?;
     let n = number(digits)?;
@@ -144,7 +151,8 @@ fn number(digits: &[u8]) -> Option<usize>
 /// The argument in hexadecimal before the first `;`, and what follows that.
 fn hex_at(alloc: Global, bytes: &[u8]) -> Result<Option<(Bytes, &[u8])>, NoMemory>
     ensures strings { IfOk result (λ r. IfSome r (λ x. IsBytes x.0)) }
-    ensures again { IfOk result (λ r. (b rest : List ℕ) → IsBytes b → bytes.now ≡ hex_bytes b ++ rest → IsSomeAnd r (λ x. (x.0 ≡ b) × (x.1.now ≡ rest))) }
+    ensures again { IfOk result (λ r. (b rest : List ℕ) → IsBytes b
+        → bytes.now ≡ hex_bytes b ++ rest → IsSomeAnd r (λ x. (x.0 ≡ b) × (x.1.now ≡ rest))) }
 {
     let Some((digits, rest)) = split_at_first(bytes, b';') else {
         return Ok(None);
@@ -158,7 +166,8 @@ fn hex_at(alloc: Global, bytes: &[u8]) -> Result<Option<(Bytes, &[u8])>, NoMemor
 /// The bytes of these hexadecimal digits, which may be of either case.
 fn decoded(alloc: Global, digits: &[u8]) -> Result<Option<Bytes>, NoMemory>
     ensures strings { IfOk result (λ r. IfSome r IsBytes) }
-    ensures again { IfOk result (λ r. (b : List ℕ) → IsBytes b → digits.now ≡ encode_lower b → IsSomeAnd r (λ x. x ≡ b)) }
+    ensures again { IfOk result (λ r. (b : List ℕ) → IsBytes b → digits.now ≡ encode_lower b
+        → IsSomeAnd r (λ x. x ≡ b)) }
 {
     match hex::decode(alloc, digits) {
         Ok(bytes) => Ok(Some(string(bytes))),
@@ -185,7 +194,8 @@ pub(crate) fn tell_bytes(_bytes: &[u8])
 
 /// What stands before the first such byte, and what follows it.
 fn split_at_first(bytes: &[u8], separator: u8) -> Option<(&[u8], &[u8])>
-    ensures again { (front rest : List ℕ) → AllByRecursion (λ b. b ≢ separator) front → bytes.now ≡ front ++ separator ∷ rest
+    ensures again { (front rest : List ℕ) → AllByRecursion (λ b. b ≢ separator) front
+        → bytes.now ≡ front ++ separator ∷ rest
         → IsSomeAnd result (λ x. (x.0.now ≡ front) × (x.1.now ≡ rest)) }
 {
     let at = first_place(bytes, separator)?;

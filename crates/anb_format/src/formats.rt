@@ -1,3 +1,4 @@
+//! Formats: checked, built, and taken apart.
 ghost use Rattle.std.specs.Prelude.{◌≡◌, ◌≢◌, ◌↔◌, ◌≤◌, ◌<◌, ◌^◌, ◌+◌, ◌++◌, ◌∷◌, ℕ, List, [], length, drop, min, IsSomeAnd, OnSome, vec_len, slice_get, filter_map, All, IsTrue, IsOk, IfOk, IfSome, IfNone, Some};
 ghost use Rattle.std.specs.Option.{option_map, SomeIff};
 ghost use Rattle.std.specs.List.{AllByRecursion};
@@ -38,7 +39,8 @@ impl Format {
         requires { length pieces.now < 2 ^ 32 }
         ensures sound { IsOk result ↔ IsSound pieces.now }
         ensures no_head { (result ≡ Err FormatNo.NoHead) ↔ (head pieces.now ≡ []) }
-        ensures rest_not_last { (i : ℕ) → (result ≡ Err (FormatNo.RestNotLast i)) ↔ ((head pieces.now ≢ []) × IsFirstEarlyRest pieces.now i) }
+        ensures rest_not_last { (i : ℕ) → (result ≡ Err (FormatNo.RestNotLast i))
+            ↔ ((head pieces.now ≢ []) × IsFirstEarlyRest pieces.now i) }
     {
         if Head::new(pieces).next().is_none() {
             return Err(FormatNo::NoHead);
@@ -93,7 +95,8 @@ impl Format {
     /// [`WIDE`]. A width bounds a number of bytes, and none is below [`ARRIVAL`].
     pub fn width(&self, widths: &[u32]) -> Option<u32>
         requires { length widths.now ≡ field_count self.now.pieces }
-        ensures { SomeIff result (format_width ARRIVAL self.now.pieces widths.now ≤ WIDE) (format_width ARRIVAL self.now.pieces widths.now) }
+        ensures { SomeIff result (format_width ARRIVAL self.now.pieces widths.now ≤ WIDE)
+            (format_width ARRIVAL self.now.pieces widths.now) }
     {
         let mut sum = 0;
         let mut left = widths;
@@ -108,13 +111,15 @@ impl Format {
         }
     }
 
-    /// The bytes of the arguments that stand at these places of the table.
+    /// The bytes of the arguments that stand at these places of the table. The memory for them is
+    /// taken at once.
     pub fn build(&self, alloc: Global, table: &[Bytes], at: &[u32]) -> Result<Bytes, NoMemory>
         requires within { All (λ i. i < length table.now) at.now }
         requires count { length at.now ≡ field_count self.now.pieces }
-        ensures { IfOk result (λ bytes. bytes ≡ format_bytes self.now.pieces (filter_map (slice_get table.now) at.now)) }
+        ensures { IfOk result (λ bytes.
+            bytes ≡ format_bytes self.now.pieces (filter_map (slice_get table.now) at.now)) }
     {
-        let mut out = Vec::new(alloc);
+        let mut out = Vec::with_capacity(alloc, room(&self.pieces, table, at))?;
         let mut left = at;
         for piece in &self.pieces {
             left = put_piece(alloc, &mut out, piece, table, left)?;
@@ -124,9 +129,13 @@ impl Format {
 
     /// The arguments that build these bytes, where there are any.
     pub fn parts(&self, alloc: Global, bytes: &[u8]) -> Result<Option<Vec<Bytes>>, NoMemory>
-        ensures some { IfOk result (λ r. IfSome r (λ parts. IsParts self.now.pieces bytes.now parts.items)) }
-        ensures none { IfOk result (λ r. IfNone r ((arguments : List (List ℕ)) → IsParts self.now.pieces bytes.now arguments → ⊥)) }
-        ensures computed { IfOk result (λ r. option_map (λ parts. parts.items) r ≡ parts_of self.now.pieces bytes.now) }
+        ensures some { IfOk result (λ r.
+            IfSome r (λ parts. IsParts self.now.pieces bytes.now parts.items)) }
+        ensures none { IfOk result (λ r.
+            IfNone r ((arguments : List (List ℕ)) → IsParts self.now.pieces bytes.now arguments
+            → ⊥)) }
+        ensures computed { IfOk result (λ r.
+            option_map (λ parts. parts.items) r ≡ parts_of self.now.pieces bytes.now) }
     {
         let Some(parts) = arguments_at(alloc, self.pieces.as_slice(), bytes)? else {
             return Ok(None);
@@ -154,6 +163,38 @@ pub fn apart(f: &Format, g: &Format) -> bool
         }
     }
     false
+}
+
+/// At least as many bytes as these pieces build of the arguments at these places, for large ones
+/// few more.
+fn room(pieces: &[Piece], table: &[Bytes], at: &[u32]) -> usize {
+    let mut sum = 0usize;
+    let mut left = at;
+    for piece in pieces {
+        match piece {
+            Piece::Lit(text) => sum = sum.saturating_add(text.as_slice().len()),
+            Piece::Field(kind) => {
+                if let Some((i, rest)) = left.split_first() {
+                    sum = sum.saturating_add(field_room(*kind, table.get(*i as usize)));
+                    left = rest;
+                }
+            }
+        }
+    }
+    sum
+}
+
+fn field_room(kind: FieldKind, argument: Option<&Bytes>) -> usize {
+    let Some(argument) = argument else {
+        return 0;
+    };
+    let length = argument.as_slice().len();
+    match kind {
+        FieldKind::Len => length.saturating_add(10),
+        FieldKind::Net => length.saturating_add(22),
+        FieldKind::Hex => length.saturating_mul(2).saturating_add(1),
+        FieldKind::Rest => length,
+    }
 }
 
 /// Does nothing. Contracts then know that each literal is a string of bytes.
@@ -199,8 +240,10 @@ fn put_piece<'a>(
     requires within { All (λ i. i < length table.now) at.now }
     requires some { field_count (piece.now ∷ []) ≤ length at.now }
     ensures left { IfOk result (λ left. left.now ≡ drop (field_count (piece.now ∷ [])) at.now) }
-    ensures put { IfOk result (λ left. (pieces : List Piece) → out.new.items ++ format_bytes pieces (filter_map (slice_get table.now) left.now)
-        ≡ out.old.items ++ format_bytes (piece.now ∷ pieces) (filter_map (slice_get table.now) at.now)) }
+    ensures put { IfOk result (λ left. (pieces : List Piece)
+        → out.new.items ++ format_bytes pieces (filter_map (slice_get table.now) left.now)
+        ≡ out.old.items ++ format_bytes (piece.now ∷ pieces)
+        (filter_map (slice_get table.now) at.now)) }
 {
     match piece {
         Piece::Lit(text) => {
@@ -254,9 +297,12 @@ fn arguments_at(
     bytes: &[u8],
 ) -> Result<Option<Vec<Bytes>>, NoMemory>
     requires { (i : ℕ) → IsEarlyRest pieces.now i → ⊥ }
-    ensures count { IfOk result (λ r. IfSome r (λ arguments. length arguments.items ≡ field_count pieces.now)) }
-    ensures strings { IfOk result (λ r. IfSome r (λ arguments. AllByRecursion IsBytes arguments.items)) }
-    ensures again { IfOk result (λ r. (wanted : List (List ℕ)) → IsParts pieces.now bytes.now wanted → IsSomeAnd r (λ arguments. arguments.items ≡ wanted)) }
+    ensures count { IfOk result (λ r.
+        IfSome r (λ arguments. length arguments.items ≡ field_count pieces.now)) }
+    ensures strings { IfOk result (λ r.
+        IfSome r (λ arguments. AllByRecursion IsBytes arguments.items)) }
+    ensures again { IfOk result (λ r. (wanted : List (List ℕ)) → IsParts pieces.now bytes.now wanted
+        → IsSomeAnd r (λ arguments. arguments.items ≡ wanted)) }
 {
     let mut arguments = Vec::new(alloc);
     let mut rest = bytes;
@@ -277,11 +323,17 @@ fn take_piece<'a>(
     piece: &Piece,
     bytes: &'a [u8],
 ) -> Result<Option<&'a [u8]>, NoMemory>
-    ensures count { IfOk result (λ r. OnSome r (length arguments.new.items ≡ length arguments.old.items + field_count (piece.now ∷ []))) }
-    ensures strings { IfOk result (λ r. OnSome r (AllByRecursion IsBytes arguments.old.items → AllByRecursion IsBytes arguments.new.items)) }
-    ensures again { IfOk result (λ r. (pieces : List Piece) (wanted : List (List ℕ)) → (piece.now ≡ Piece.Field FieldKind.Rest → pieces ≡ [])
+    ensures count { IfOk result (λ r.
+        OnSome r (length arguments.new.items
+        ≡ length arguments.old.items + field_count (piece.now ∷ []))) }
+    ensures strings { IfOk result (λ r.
+        OnSome r (AllByRecursion IsBytes arguments.old.items
+        → AllByRecursion IsBytes arguments.new.items)) }
+    ensures again { IfOk result (λ r. (pieces : List Piece) (wanted : List (List ℕ))
+        → (piece.now ≡ Piece.Field FieldKind.Rest → pieces ≡ [])
         → IsParts (piece.now ∷ pieces) bytes.now wanted
-        → IsSomeAnd r (λ after. HasParts pieces after.now arguments.new.items (arguments.old.items ++ wanted))) }
+        → IsSomeAnd r (λ after.
+        HasParts pieces after.now arguments.new.items (arguments.old.items ++ wanted))) }
 {
     match piece {
         Piece::Lit(text) => Ok(bytes.strip_prefix(text.as_slice())),
@@ -300,7 +352,8 @@ fn every_place(alloc: Global, table: &Vec<Bytes>) -> Result<Vec<u32>, NoMemory>
     requires { vec_len table.now < 2 ^ 32 }
     ensures within { IfOk result (λ places. All (λ i. i < vec_len table.now) places.items) }
     ensures count { IfOk result (λ places. length places.items ≡ vec_len table.now) }
-    ensures whole { IfOk result (λ places. filter_map (slice_get table.now.items) places.items ≡ table.now.items) }
+    ensures whole { IfOk result (λ places.
+        filter_map (slice_get table.now.items) places.items ≡ table.now.items) }
 {
     let mut places = Vec::new(alloc);
     for i in 0..table.len() as u32 {

@@ -1,3 +1,4 @@
+//! The head of a format: the bytes of its first literals.
 ghost use Rattle.std.specs.Prelude.{◌≡◌, ◌++◌, ◌∷◌, [], ℕ, List, MatchOption};
 ghost use Rattle.anb_format.specs.Formats.{head};
 

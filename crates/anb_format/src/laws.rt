@@ -1,4 +1,7 @@
-ghost use Rattle.anb_format.specs.Laws.{ApartSharesNothing, BuiltIsBytes, CanonicalIsLiteral, LiteralsAreUnique, PartsAreExact, PartsAreUnique};
+//! Laws of formats and literals, each a function that does nothing.
+ghost use Rattle.anb_format.specs.Laws.{ApartSharesNothing, BuiltIsBytes, BuiltIsWithin};
+ghost use Rattle.anb_format.specs.Laws.{CanonicalIsLiteral, LiteralsAreUnique};
+ghost use Rattle.anb_format.specs.Laws.{PartsAreExact, PartsAreUnique, PartsAreWithin};
 
 /// A law: some bytes are built from one list of arguments at most.
 pub fn parts_are_unique()
@@ -14,6 +17,12 @@ pub fn parts_are_exact()
 /// A law: what a format builds of byte strings is a byte string.
 pub fn built_is_bytes()
     ensures { BuiltIsBytes }
+{}
+
+/// Laws on lengths: a format's width bounds what it builds, and no argument is longer than that.
+pub fn widths_bound_bytes()
+    ensures built { BuiltIsWithin }
+    ensures parts { PartsAreWithin }
 {}
 
 /// A law: formats that are apart build no bytes in common.

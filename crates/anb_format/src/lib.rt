@@ -15,7 +15,7 @@ mod pieces;
 pub use formats::{Format, apart};
 pub use laws::{
     apart_shares_nothing, built_is_bytes, canonical_is_literal, literals_are_unique,
-    parts_are_exact, parts_are_unique,
+    parts_are_exact, parts_are_unique, widths_bound_bytes,
 };
 pub use literals::{Literal, literal_text, read_literal};
 pub use pieces::{FieldKind, FormatNo, Piece};

@@ -1,3 +1,4 @@
+//! Literals of narrations: read, and written in one way.
 ghost use Rattle.std.specs.Prelude.{◌≡◌, ◌≤◌, ◌<◌, ◌+◌, ℕ, List, ◌∷◌, ◌++◌, length, drop, MatchOption, IfOk, OnOk, IfSome, IfNone, IsSomeAnd};
 ghost use Rattle.anb_base.specs.Bytes.{IsBytes};
 ghost use Rattle.hex.specs.Hex.{hex_digit_value};
@@ -21,10 +22,14 @@ pub struct Literal {
 pub fn read_literal(alloc: Global, text: &[u8], from: u32) -> Result<Option<Literal>, NoMemory>
     requires from { from ≤ length text.now }
     requires size { length text.now ≤ 16777216 }
-    ensures some { IfOk result (λ r. IfSome r (λ literal. IsLiteralAt text.now from literal.bytes literal.end)) }
-    ensures none { IfOk result (λ r. IfNone r ((bytes : List ℕ) (end : ℕ) → IsLiteralAt text.now from bytes end → ⊥)) }
-    ensures canonical { (bytes rest : List ℕ) → IsBytes bytes → drop from text.now ≡ canonical_literal bytes ++ rest
-        → IfOk result (λ r. IsSomeAnd r (λ literal. (literal.bytes ≡ bytes) × (literal.end ≡ from + length (canonical_literal bytes)))) }
+    ensures some { IfOk result (λ r.
+        IfSome r (λ literal. IsLiteralAt text.now from literal.bytes literal.end)) }
+    ensures none { IfOk result (λ r.
+        IfNone r ((bytes : List ℕ) (end : ℕ) → IsLiteralAt text.now from bytes end → ⊥)) }
+    ensures canonical { (bytes rest : List ℕ) → IsBytes bytes
+        → drop from text.now ≡ canonical_literal bytes ++ rest
+        → IfOk result (λ r. IsSomeAnd r (λ literal. (literal.bytes ≡ bytes)
+        × (literal.end ≡ from + length (canonical_literal bytes)))) }
 {
     let Some(body) = after_quote(&text[from as usize..]) else {
         return Ok(None);
@@ -42,7 +47,8 @@ pub fn read_literal(alloc: Global, text: &[u8], from: u32) -> Result<Option<Lite
 
 /// What follows the quote at the front.
 fn after_quote(text: &[u8]) -> Option<&[u8]>
-    ensures { MatchOption result ((rest : List ℕ) → text.now ≡ 34 ∷ rest → ⊥) (λ rest. text.now ≡ 34 ∷ rest.now) }
+    ensures { MatchOption result ((rest : List ℕ) → text.now ≡ 34 ∷ rest
+        → ⊥) (λ rest. text.now ≡ 34 ∷ rest.now) }
 {
     match text {
         [b'"', rest @ ..] => Some(rest),

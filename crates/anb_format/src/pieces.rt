@@ -1,3 +1,4 @@
+//! The pieces of a format, and why a list of pieces is none.
 use anb_base::Bytes;
 
 /// How a field writes its argument.

@@ -1,6 +1,7 @@
 -- One instruction of a run.
 use Rattle.std.proofs.Common.{◌≡◌, ◌<◌, ◌≤◌, ℕ, zero, suc, ◌+◌, List, [], ◌∷◌, ◌++◌, length, map, Bool, true, false, cond, Option, Some, None, option_map, refl, sym, ap, ◌∙◌, subst, arith, length-append}
 use Rattle.std.specs.Prelude.{slice_get, vec_capacity}
+use Rattle.std.proofs.lemmas.List.{append-nil}
 use Rattle.anb_format.specs.Formats.{FormatValue}
 use Rattle.anb_seal.specs.Streams.{draw_of}
 use Rattle.anb_algebra.specs.ByteMeaning.{byte_meaning, has_operator}
@@ -14,7 +15,7 @@ use Rattle.anb_plays.specs.Exec.{exec, worked, IsVerified}
 use Rattle.anb_code.specs.declared.instr.Instr.{Instr}
 use Rattle.anb_code.specs.declared.instr.Instr.TheVariants.{Take, Fresh, Recv, Send}
 use Rattle.anb_code.specs.Meaning.{act_of}
-use Rattle.anb_machine.specs.declared.going.Going.{Going}
+use Rattle.anb_machine.specs.declared.state.RunState.{RunState}
 use Rattle.anb_machine.specs.declared.turn.Turn.{Turn}
 use Rattle.anb_machine.specs.declared.turn.Turn.TheVariants.{Message, Wants, Done, Stopped, NoMemory}
 use Rattle.anb_machine.proofs.Works.{written_count}
@@ -29,7 +30,7 @@ acts_at formats (y ∷ ys) (suc n) x e = rw (after n) (acts_at formats ys n x e)
   after : (k : ℕ) → suc k + 1 ≡ suc (k + 1)
   after k = omega arith
 
-pub at_next : (s : Going) (x : Instr) → slice_get s.code.now.instrs s.next ≡ Some x → IsNext s (act_of s.algebra.formats x)
+pub at_next : (s : RunState) (x : Instr) → slice_get s.code.now.instrs s.next ≡ Some x → IsNext s (act_of s.algebra.formats x)
 at_next s x e = record {
   within = slice_get-within s.code.now.instrs s.next x e;
   acts = acts_at s.algebra.formats s.code.now.instrs s.next x e;
@@ -52,13 +53,13 @@ receives_next formats (y ∷ ys) (suc n) h = let ih = receives_next formats ys n
   after : (k : ℕ) → suc k + 1 ≡ suc (k + 1)
   after k = omega arith
 
-pub at_receive : (s : Going) → AtReceive (acts_left s) → IsNext s receives
+pub at_receive : (s : RunState) → AtReceive (acts_left s) → IsNext s receives
 at_receive s h = let r = receives_next s.algebra.formats s.code.now.instrs s.next h in record { within = r.0; acts = r.1 }
 
 -- ---- after an instruction
 
 -- t is s after its next instruction, which wrote these values, after e sends and receives and i draws
-pub record IsAfter (s t : Going) (ws : List (List ℕ)) (e i : ℕ) : Type 0 where
+pub record IsAfter (s t : RunState) (ws : List (List ℕ)) (e i : ℕ) : Type 0 where
   pub same : IsSameRun s t
   pub next : t.next ≡ s.next + 1
   pub event : t.event ≡ e
@@ -73,7 +74,7 @@ rest_verified has receives acts n v = v
 rest_verified has (sends r) acts n v = let none : n ≡ n + 0 = omega arith in subst (IsVerified has acts) none v.1
 rest_verified has (works w) acts n v = v.1
 
-pub kept_after : (s t : Going) (act : Act) (ws : List (List ℕ)) (e i : ℕ) → IsKept s → IsNext s act → IsAfter s t ws e i → length ws ≡ registers_of act → e ≤ s.event + 1 → i ≤ s.drawn + 1 → IsKept t
+pub kept_after : (s t : RunState) (act : Act) (ws : List (List ℕ)) (e i : ℕ) → IsKept s → IsNext s act → IsAfter s t ws e i → length ws ≡ registers_of act → e ≤ s.event + 1 → i ≤ s.drawn + 1 → IsKept t
 kept_after s t act ws e i kept next after count few_events few_draws =
     let same = after.same in
     let formats : t.algebra.formats ≡ s.algebra.formats = ap (λ a. a.formats) same.algebra in
@@ -98,23 +99,32 @@ kept_after s t act ws e i kept next after count few_events few_draws =
     }
 
 -- what comes of t, in terms of s
-comes_after : (s t : Going) (ws : List (List ℕ)) (e i : ℕ) → IsAfter s t ws e i → (arrivals : List (List ℕ))
+comes_after : (s t : RunState) (ws : List (List ℕ)) (e i : ℕ) → IsAfter s t ws e i → (arrivals : List (List ℕ))
     → coming t arrivals ≡ exec (byte_meaning s.algebra.formats s.algebra.suite) (draw_of s.seed s.session) (acts_after s) (s.registers.items ++ ws) e (s.next + 1) i arrivals
 comes_after s t ws e i after arrivals = let same = after.same in rw (same.algebra, same.code, same.seed, same.session, after.next, after.event, after.drawn, after.table) refl
 
 -- what comes of s, with its next act in front
-comes_from : (s : Going) (act : Act) → IsNext s act → (arrivals : List (List ℕ))
+comes_from : (s : RunState) (act : Act) → IsNext s act → (arrivals : List (List ℕ))
     → coming s arrivals ≡ exec (byte_meaning s.algebra.formats s.algebra.suite) (draw_of s.seed s.session) (act ∷ acts_after s) s.registers.items s.event s.next s.drawn arrivals
 comes_from s act next arrivals = ap (λ l. exec (byte_meaning s.algebra.formats s.algebra.suite) (draw_of s.seed s.session) l s.registers.items s.event s.next s.drawn arrivals) next.acts
 
-pub received : (s t : Going) (x : List ℕ) → IsNext s receives → IsAfter s t (x ∷ []) (s.event + 1) s.drawn → (arrivals : List (List ℕ)) → coming s (x ∷ arrivals) ≡ coming t arrivals
+pub received : (s t : RunState) (x : List ℕ) → IsNext s receives → IsAfter s t (x ∷ []) (s.event + 1) s.drawn → (arrivals : List (List ℕ)) → coming s (x ∷ arrivals) ≡ coming t arrivals
 received s t x next after arrivals = comes_from s receives next (x ∷ arrivals) ∙ sym (comes_after s t (x ∷ []) (s.event + 1) s.drawn after arrivals)
 
-pub received_kept : (s t : Going) (x : List ℕ) → IsKept s → IsNext s receives → IsAfter s t (x ∷ []) (s.event + 1) s.drawn → IsKept t
+pub received_kept : (s t : RunState) (x : List ℕ) → IsKept s → IsNext s receives → IsAfter s t (x ∷ []) (s.event + 1) s.drawn → IsKept t
 received_kept s t x kept next after = kept_after s t receives (x ∷ []) (s.event + 1) s.drawn kept next after refl (omega arith) (omega arith)
 
+-- a take writes nothing here
+pub took : (s t : RunState) → IsKept s → IsNext s takes → IsAfter s t [] s.event s.drawn → IsKept t × ComesSame s t
+took s t kept next after = (
+  kept_after s t takes [] s.event s.drawn kept next after refl (omega arith) (omega arith),
+  λ arrivals. comes_from s takes next arrivals
+      ∙ ap (λ table. exec (byte_meaning s.algebra.formats s.algebra.suite) (draw_of s.seed s.session) (acts_after s) table s.event (s.next + 1) s.drawn arrivals) (sym (append-nil s.registers.items))
+      ∙ sym (comes_after s t [] s.event s.drawn after arrivals),
+)
+
 -- a table with room for what is to come has room for an arrival
-pub room_for_one : (s : Going) → IsKept s → IsNext s receives → length s.registers.items < vec_capacity s.registers
+pub room_for_one : (s : RunState) → IsKept s → IsNext s receives → length s.registers.items < vec_capacity s.registers
 room_for_one s kept next =
     let total : registers_in (acts_left s) ≡ registers_of receives + registers_in (acts_after s) = ap registers_in next.acts in
     omega (arith, kept.room, total)
@@ -123,7 +133,7 @@ pub taken : {A : Type 0} (b : Bool) (x y z : A) → b ≡ true → x ≡ cond b 
 taken true x y z h e = e
 taken false x y z h e = cc
 
-mapped : {A B : Type 0} (f : A → B) (o : Option A) (y : B) → option_map f o ≡ Some y → (x : A) × (o ≡ Some x) × (f x ≡ y)
+pub mapped : {A B : Type 0} (f : A → B) (o : Option A) (y : B) → option_map f o ≡ Some y → (x : A) × (o ≡ Some x) × (f x ≡ y)
 mapped f None y e = cc
 mapped f (Some x) y e = (x, refl, cc)
 
@@ -136,8 +146,8 @@ fails_at : {A : Type 0} (m : Meaning A) (draw : ℕ → A) (acts : List Act) (w 
 fails_at m draw acts w table e at i h arrivals = rw h refl
 
 -- a work that was done, and one whose demand fails
-module _ (s : Going) where
-  pub did_work : (t : Going) (act : Act) (went : Bool) → IsKept s → IsNext s act → IsWork act → went ≡ true
+module _ (s : RunState) where
+  pub did_work : (t : RunState) (act : Act) (went : Bool) → IsKept s → IsNext s act → IsWork act → went ≡ true
       → IsWorkDone (byte_meaning s.algebra.formats s.algebra.suite) s.registers.items act went t.registers.items
       → IsSameRun s t → t.next ≡ s.next + 1 → t.event ≡ s.event → t.drawn ≡ s.drawn → vec_capacity s.registers ≤ vec_capacity t.registers
       → IsKept t × ComesSame s t
@@ -157,7 +167,7 @@ unmapped : {A B : Type 0} (f : A → B) (o : Option A) → option_map f o ≡ No
 unmapped f None e = refl
 unmapped f (Some x) e = cc
 
-pub stops : (s : Going) (act : Act) (went : Bool) (table : List (List ℕ)) → IsNext s act → IsWork act → went ≡ false
+pub stops : (s : RunState) (act : Act) (went : Bool) (table : List (List ℕ)) → IsNext s act → IsWork act → went ≡ false
     → IsWorkDone (byte_meaning s.algebra.formats s.algebra.suite) s.registers.items act went table
     → (arrivals : List (List ℕ)) → coming s arrivals ≡ ends (stopped s.event (s.next + 1)) arrivals
 stops s (works w) false table next is fails h arrivals =
@@ -167,7 +177,7 @@ stops s (works w) true table next is fails h arrivals = cc
 stops s act went table next is fails h arrivals = absurd is
 
 -- an instruction that is ready
-pub work_ready : (s : Going) (act : Act) → IsKept s → IsNext s act → IsWork act → IsWorkReady (has_operator s.algebra.formats) (length s.registers.items) act
+pub work_ready : (s : RunState) (act : Act) → IsKept s → IsNext s act → IsWork act → IsWorkReady (has_operator s.algebra.formats) (length s.registers.items) act
 work_ready s (works w) kept next is =
     let verified : IsVerified (has_operator s.algebra.formats) (works w ∷ acts_after s) (length s.registers.items) =
     subst (λ l. IsVerified (has_operator s.algebra.formats) l (length s.registers.items)) next.acts kept.verified in
@@ -175,7 +185,7 @@ work_ready s (works w) kept next is =
 work_ready s act kept next is = absurd is
 
 -- a turn after others that gave nothing
-pub turns_on : (s t u : Going) (turn : Turn) → ComesSame s t → s.next ≤ t.next → TurnsTo t u turn → TurnsTo s u turn
+pub turns_on : (s t u : RunState) (turn : Turn) → ComesSame s t → s.next ≤ t.next → TurnsTo t u turn → TurnsTo s u turn
 turns_on s t u (Message b) same on h = (λ arrivals. same arrivals ∙ h.0 arrivals, omega (arith, h.1))
 turns_on s t u (Wants e) same on h = (λ arrivals. same arrivals ∙ h.0 arrivals, h.1, h.2, omega (arith, h.3))
 turns_on s t u Done same on h = λ arrivals. same arrivals ∙ h arrivals
@@ -190,8 +200,8 @@ is_work formats Recv take fresh recv send = recv refl
 is_work formats (Send r) take fresh recv send = send r refl
 is_work formats x take fresh recv send = tt
 
-pub goes_on : (s t u : Going) → ComesSame s t → ComesSame t u → ComesSame s u
+pub goes_on : (s t u : RunState) → ComesSame s t → ComesSame t u → ComesSame s u
 goes_on s t u f g arrivals = f arrivals ∙ g arrivals
 
-pub same_on : (s t u : Going) → IsSameRun s t → IsSameRun t u → IsSameRun s u
+pub same_on : (s t u : RunState) → IsSameRun s t → IsSameRun t u → IsSameRun s u
 same_on s t u f g = record { algebra = g.algebra ∙ f.algebra; code = g.code ∙ f.code; seed = g.seed ∙ f.seed; session = g.session ∙ f.session }

@@ -14,7 +14,7 @@ use Rattle.anb_code.specs.declared.instr.Instr.{Instr}
 use Rattle.anb_code.specs.Meaning.{act_of}
 use Rattle.anb_code.specs.Taking.{take_texts}
 use Rattle.anb_code.specs.Verified.{IsVerifiedCode, count_registers}
-use Rattle.anb_machine.specs.declared.going.Going.{Going}
+use Rattle.anb_machine.specs.declared.state.RunState.{RunState}
 use Rattle.anb_machine.specs.declared.turn.Halt.{Halt}
 use Rattle.anb_machine.specs.declared.turn.Last.{Last}
 use Rattle.anb_machine.specs.declared.turn.Last.TheVariants as last
@@ -24,38 +24,36 @@ use Rattle.anb_machine.specs.Machines.{MachineValue, unless_over, gives, waits_a
 use Rattle.anb_machine.specs.ByteRuns.{run_bytes}
 use Rattle.anb_machine.proofs.Verified.{has_takes, counted}
 use Rattle.anb_machine.specs.Standing.{registers_in, acts_from, acts_left, coming, IsKept, IsSameRun, AtReceive, TurnsTo}
+use Rattle.std.proofs.lemmas.List.{length-drop}
 use Rattle.anb_machine.specs.Inside.{value_of, IsWhole}
-
-length_acts : (formats : List FormatValue) (instrs : List Instr) (n : ℕ) → length (acts_from formats instrs n) ≡ length instrs - n
-length_acts formats [] zero = refl
-length_acts formats [] (suc n) = omega arith
-length_acts formats (x ∷ xs) zero = omega (arith, length_acts formats xs 0)
-length_acts formats (x ∷ xs) (suc n) = omega (arith, length_acts formats xs n)
+use Rattle.anb_machine.specs.Keeping.{AreDropped, IsLean, instrs_left}
+use Rattle.anb_machine.proofs.Lean.{dropped_same}
+use Rattle.anb_machine.proofs.Unread.{unread_same}
 
 -- a machine that isn't over gives what comes of its run
-going_on : (s : Going) (before : Last) → answer_after before ≡ None → (arrivals : List (List ℕ)) → gives (value_of s before) arrivals ≡ coming s arrivals
+going_on : (s : RunState) (before : Last) → answer_after before ≡ None → (arrivals : List (List ℕ)) → gives (value_of s before) arrivals ≡ coming s arrivals
 going_on s last.Open e arrivals = refl
 going_on s last.Wants e arrivals = refl
 going_on s last.Done e arrivals = cc
 going_on s (last.Stopped halt) e arrivals = cc
 going_on s last.NoMemory e arrivals = cc
 
-fewer : (s t : Going) → IsSameRun s t → IsKept t → (length (acts_left s) ≡ length s.code.now.instrs - s.next) × (length (acts_left t) ≡ length s.code.now.instrs - t.next) × (t.next ≤ length s.code.now.instrs)
+fewer : (s t : RunState) → IsSameRun s t → IsKept t → (length (instrs_left s) ≡ length s.code.now.instrs - s.next) × (length (instrs_left t) ≡ length s.code.now.instrs - t.next) × (t.next ≤ length s.code.now.instrs)
 fewer s t same kept =
     let code : length t.code.now.instrs ≡ length s.code.now.instrs = ap (λ c. length c.instrs) same.code in
-    (length_acts s.algebra.formats s.code.now.instrs s.next, omega (arith, length_acts t.algebra.formats t.code.now.instrs t.next, code), omega (arith, kept.within, code))
+    (length-drop s.next s.code.now.instrs, omega (arith, length-drop t.next t.code.now.instrs, code), omega (arith, kept.within, code))
 
 at_receive : (acts : List Act) → AtReceive acts → (later : List Act) × (acts ≡ receives ∷ later)
 at_receive [] h = absurd h
 at_receive (receives ∷ later) h = (later, refl)
 at_receive (_ ∷ later) h = absurd h
 
-nothing_comes : (t : Going) → AtReceive (acts_left t) → coming t [] ≡ ends (waiting (t.event + 1)) []
+nothing_comes : (t : RunState) → AtReceive (acts_left t) → coming t [] ≡ ends (waiting (t.event + 1)) []
 nothing_comes t h =
     let r = at_receive (acts_left t) h in
     ap (λ l. exec (byte_meaning t.algebra.formats t.algebra.suite) (draw_of t.seed t.session) l t.registers.items t.event t.next t.drawn []) r.1
 
-pub turned : (s t : Going) (before : Last) (turn : Turn) → answer_after before ≡ None → IsSameRun s t → IsKept t → TurnsTo s t turn → Turned (value_of s before) (value_of t (last_after turn)) turn
+pub turned : (s t : RunState) (before : Last) (turn : Turn) → answer_after before ≡ None → IsSameRun s t → IsKept t → TurnsTo s t turn → Turned (value_of s before) (value_of t (last_after turn)) turn
 turned s t before (Message b) ongoing same kept h =
     let f = fewer s t same kept in
     (λ arrivals. going_on s before ongoing arrivals ∙ h.0 arrivals, refl, omega (arith, f.0, f.1, f.2, h.1))
@@ -66,12 +64,12 @@ turned s t before Done ongoing same kept h = (λ arrivals. going_on s before ong
 turned s t before (Stopped halt) ongoing same kept h = (λ arrivals. going_on s before ongoing arrivals ∙ h arrivals, λ arrivals. going_on s before ongoing arrivals ∙ h arrivals, refl)
 turned s t before NoMemory ongoing same kept h = refl
 
-pub whole : (s t : Going) (turn : Turn) → IsKept t → TurnsTo s t turn → IsWhole t (last_after turn)
-whole s t (Message b) kept h = record { kept = kept; stands = tt }
-whole s t (Wants e) kept h = record { kept = kept; stands = h.1 }
-whole s t Done kept h = record { kept = kept; stands = tt }
-whole s t (Stopped halt) kept h = record { kept = kept; stands = tt }
-whole s t NoMemory kept h = record { kept = kept; stands = tt }
+pub whole : (s t : RunState) (turn : Turn) → IsKept t → IsLean t → TurnsTo s t turn → IsWhole t (last_after turn)
+whole s t (Message b) kept lean h = record { kept = kept; lean = lean; stands = tt }
+whole s t (Wants e) kept lean h = record { kept = kept; lean = lean; stands = h.1 }
+whole s t Done kept lean h = record { kept = kept; lean = lean; stands = tt }
+whole s t (Stopped halt) kept lean h = record { kept = kept; lean = lean; stands = tt }
+whole s t NoMemory kept lean h = record { kept = kept; lean = lean; stands = tt }
 
 over_done : (l : Last) (p : Played (List ℕ)) (arrivals : List (List ℕ)) → answer_after l ≡ Some Done → unless_over l p arrivals ≡ ends done arrivals
 over_done last.Done p arrivals e = refl
@@ -103,7 +101,7 @@ again v Done e = (λ arrivals. refl, λ arrivals. over_done v.last _ arrivals e,
 again v (Stopped halt) e = (λ arrivals. refl, λ arrivals. over_stopped v.last _ arrivals halt e, e)
 again v NoMemory e = e
 
-pub gives_waiting : (s : Going) (l : Last) → waits_after l ≡ true → (arrivals : List (List ℕ)) → gives (value_of s l) arrivals ≡ coming s arrivals
+pub gives_waiting : (s : RunState) (l : Last) → waits_after l ≡ true → (arrivals : List (List ℕ)) → gives (value_of s l) arrivals ≡ coming s arrivals
 gives_waiting s last.Wants h arrivals = refl
 gives_waiting s last.Open h arrivals = cc
 gives_waiting s last.Done h arrivals = cc
@@ -111,7 +109,7 @@ gives_waiting s (last.Stopped halt) h arrivals = cc
 gives_waiting s last.NoMemory h arrivals = cc
 
 -- the acts of a code from its first instruction
-pub begins : (s : Going) → IsVerifiedCode ARRIVAL WIDE s.code.now → s.algebra.formats ≡ s.code.now.formats → s.next ≡ 0 → s.event ≡ 0 → s.drawn ≡ 0
+pub begins : (s : RunState) → IsVerifiedCode ARRIVAL WIDE s.code.now → s.algebra.formats ≡ s.code.now.formats → s.next ≡ 0 → s.event ≡ 0 → s.drawn ≡ 0
     → length s.registers.items ≡ length (take_texts s.code.now.instrs) → count_registers s.code.now.formats s.code.now.instrs ≤ vec_capacity s.registers → IsKept s
 begins s verified formats next event drawn long room =
     let code = s.code.now in
@@ -132,13 +130,14 @@ begins s verified formats next event drawn long room =
     }
 
 -- and what comes of it
-pub runs : (s : Going) (init : List (List ℕ)) → IsVerifiedCode ARRIVAL WIDE s.code.now → s.algebra.formats ≡ s.code.now.formats → s.algebra.suite ≡ s.code.now.suite
-    → s.next ≡ 0 → s.event ≡ 0 → s.drawn ≡ 0 → s.registers.items ≡ init → length init ≡ length (take_texts s.code.now.instrs)
+pub runs : (s : RunState) (init : List (List ℕ)) → IsVerifiedCode ARRIVAL WIDE s.code.now → s.algebra.formats ≡ s.code.now.formats → s.algebra.suite ≡ s.code.now.suite
+    → s.next ≡ 0 → s.event ≡ 0 → s.drawn ≡ 0 → AreDropped s.code.now.instrs (λ r. true) init s.registers.items → length init ≡ length (take_texts s.code.now.instrs)
     → (arrivals : List (List ℕ)) → coming s arrivals ≡ run_bytes s.code.now init s.seed s.session arrivals
-runs s init verified formats suite next event drawn table long arrivals =
+runs s init verified formats suite next event drawn dropped long arrivals =
     let code = s.code.now in
-    let start : coming s arrivals ≡ exec (byte_meaning code.formats code.suite) (draw_of s.seed s.session) (map (act_of code.formats) code.instrs) init 0 0 0 arrivals =
-    rw (formats, suite, next, event, drawn, table) refl in
+    let here : coming s arrivals ≡ exec (byte_meaning code.formats code.suite) (draw_of s.seed s.session) (map (act_of code.formats) code.instrs) s.registers.items 0 0 0 arrivals =
+    rw (formats, suite, next, event, drawn) refl in
+    let start = here ∙ unread_same (byte_meaning code.formats code.suite) (draw_of s.seed s.session) code.formats code.instrs s.registers.items init 0 0 0 arrivals dropped.count (dropped_same code.instrs (λ r. true) init s.registers.items dropped) in
     let takes = subst (HasTakes (has_operator code.formats) (map (act_of code.formats) code.instrs) 0) (sym long) (has_takes ARRIVAL WIDE code verified) in
     start ∙ exec_is_run (byte_meaning code.formats code.suite) (bytes_are_lawful code.formats code.suite) (draw_of s.seed s.session) (map (act_of code.formats) code.instrs) init arrivals takes
 

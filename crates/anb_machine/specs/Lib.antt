@@ -1,4 +1,5 @@
 pub mod ByteRuns
+pub mod Keeping
 pub mod Machines
 pub mod Standing
 pub mod Works

@@ -1,26 +1,30 @@
 -- What a machine is, and what a turn says of it.
-use Rattle.std.specs.Prelude.{◌≡◌, ℕ, ◌<◌, ◌≤◌, List, [], ◌∷◌, length, Bool, true, false, Option, Some, None}
+use Rattle.std.specs.Prelude.{◌≡◌, ℕ, ◌<◌, ◌≤◌, ◌+◌, List, [], ◌∷◌, length, map, take, if◌then◌else◌, Bool, true, false, Option, Some, None}
 use Rattle.anb_base.specs.declared.content.Suite.{Suite}
 use Rattle.anb_format.specs.Formats.{FormatValue}
 use Rattle.anb_seal.specs.Streams.{draw_of}
 use Rattle.anb_algebra.specs.ByteMeaning.{byte_meaning}
 use Rattle.anb_plays.specs.Plays.{Played, End, stopped, waiting, done, ends, says}
-use Rattle.anb_plays.specs.Codes.{Act}
 use Rattle.anb_plays.specs.Exec.{exec}
+use Rattle.anb_code.specs.declared.instr.Instr.{Instr}
+use Rattle.anb_code.specs.Meaning.{act_of}
+use Rattle.anb_code.specs.Uses.{is_read}
+use Rattle.anb_format.specs.Laws.{AreWithin}
 use Rattle.anb_machine.specs.declared.turn.Last.{Last}
 use Rattle.anb_machine.specs.declared.turn.Last.TheVariants as last
 use Rattle.anb_machine.specs.declared.turn.Turn.{Turn}
 use Rattle.anb_machine.specs.declared.turn.Turn.TheVariants.{Message, Wants, Done, Stopped, NoMemory}
 
--- the formats and the suite, the session's draws, the acts to come, the registers' values, the numbers of sends and receives,
--- of instructions and of draws so far, and what the last turn leaves
+-- the formats and the suite, the session's draws, the instructions to come, the widths of all registers, the values of those written
+-- so far, the numbers of sends and receives, of instructions and of draws so far, and what the last turn leaves
 pub record MachineValue : Type 0 where
   pub formats : List FormatValue
   pub suite : Suite
   pub seed : List ℕ
   pub session : ℕ
-  pub acts : List Act
-  pub table : List (List ℕ)
+  pub instrs : List Instr
+  pub widths : List ℕ
+  pub registers : List (List ℕ)
   pub event : ℕ
   pub at : ℕ
   pub drawn : ℕ
@@ -34,11 +38,20 @@ unless_over _ coming arrivals = coming
 
 -- all that a machine still gives, over further arrivals
 abbrev pub gives : MachineValue → List (List ℕ) → Played (List ℕ)
-gives v arrivals = unless_over v.last (exec (byte_meaning v.formats v.suite) (draw_of v.seed v.session) v.acts v.table v.event v.at v.drawn arrivals) arrivals
+gives v arrivals = unless_over v.last (exec (byte_meaning v.formats v.suite) (draw_of v.seed v.session) (map (act_of v.formats) v.instrs) v.registers v.event v.at v.drawn arrivals) arrivals
 
 -- how many instructions are left
 abbrev pub left : MachineValue → ℕ
-left v = length v.acts
+left v = length v.instrs
+
+-- the widths of the registers from r on, with 0 for each that none of these instructions reads
+abbrev pub live_widths : List Instr → ℕ → List ℕ → List ℕ
+live_widths instrs r [] = []
+live_widths instrs r (width ∷ widths) = (if is_read instrs r then width else 0) ∷ live_widths instrs (r + 1) widths
+
+-- of each register written so far no more is kept than its width, and nothing where no instruction to come reads it
+abbrev pub KeepsLive : MachineValue → Type 0
+KeepsLive v = AreWithin v.registers (live_widths v.instrs 0 (take (length v.registers) v.widths))
 
 -- the last turn was `Wants`, and nothing was handed in since
 abbrev pub waits_after : Last → Bool

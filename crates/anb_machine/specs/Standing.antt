@@ -1,5 +1,6 @@
 -- Where a run under way stands, and what it keeps.
 use Rattle.std.specs.Prelude.{◌≡◌, ℕ, ◌+◌, ◌<◌, ◌≤◌, ◌^◌, List, [], ◌∷◌, ◌++◌, length, map, drop, Bool, Option, Some, None, option_map, vec_capacity, if◌then◌else◌}
+use Rattle.anb_base.specs.declared.TheConstants.{WIDE}
 use Rattle.anb_term.specs.declared.term.Op.{Op}
 use Rattle.anb_term.specs.Value.{Meaning}
 use Rattle.anb_format.specs.Formats.{FormatValue}
@@ -10,7 +11,7 @@ use Rattle.anb_plays.specs.Codes.{Act, takes, draws, receives, sends, works}
 use Rattle.anb_plays.specs.Exec.{exec, worked, IsReady, IsVerified, count_written}
 use Rattle.anb_code.specs.declared.instr.Instr.{Instr}
 use Rattle.anb_code.specs.Meaning.{act_of}
-use Rattle.anb_machine.specs.declared.going.Going.{Going}
+use Rattle.anb_machine.specs.declared.state.RunState.{RunState}
 use Rattle.anb_machine.specs.declared.turn.Turn.{Turn}
 use Rattle.anb_machine.specs.declared.turn.Turn.TheVariants.{Message, Wants, Done, Stopped, NoMemory}
 
@@ -18,7 +19,7 @@ use Rattle.anb_machine.specs.declared.turn.Turn.TheVariants.{Message, Wants, Don
 abbrev pub acts_from : List FormatValue → List Instr → ℕ → List Act
 acts_from formats instrs next = map (act_of formats) (drop next instrs)
 
-abbrev pub acts_left : Going → List Act
+abbrev pub acts_left : RunState → List Act
 acts_left s = acts_from s.algebra.formats s.code.now.instrs s.next
 
 -- how many registers acts write
@@ -34,11 +35,11 @@ registers_in [] = 0
 registers_in (act ∷ acts) = registers_of act + registers_in acts
 
 -- what comes over further arrivals
-abbrev pub coming : Going → List (List ℕ) → Played (List ℕ)
+abbrev pub coming : RunState → List (List ℕ) → Played (List ℕ)
 coming s arrivals = exec (byte_meaning s.algebra.formats s.algebra.suite) (draw_of s.seed s.session) (acts_left s) s.registers.items s.event s.next s.drawn arrivals
 
 -- its instructions are ready, it is in the code, its counts are no further than its place, and its table has room for what is to be written
-pub record IsKept (s : Going) : Type 0 where
+pub record IsKept (s : RunState) : Type 0 where
   pub formats : s.algebra.formats ≡ s.code.now.formats
   pub within : s.next ≤ length s.code.now.instrs
   pub few : length s.code.now.instrs + 1 < 2 ^ 32
@@ -48,18 +49,18 @@ pub record IsKept (s : Going) : Type 0 where
   pub room : length s.registers.items + registers_in (acts_left s) ≤ vec_capacity s.registers
 
 -- the code, its formats and the draws stay
-pub record IsSameRun (s t : Going) : Type 0 where
+pub record IsSameRun (s t : RunState) : Type 0 where
   pub algebra : t.algebra ≡ s.algebra
   pub code : t.code.now ≡ s.code.now
   pub seed : t.seed ≡ s.seed
   pub session : t.session ≡ s.session
 
 -- the acts after the next one
-abbrev pub acts_after : Going → List Act
+abbrev pub acts_after : RunState → List Act
 acts_after s = acts_from s.algebra.formats s.code.now.instrs (s.next + 1)
 
 -- the next instruction is there, and does this
-pub record IsNext (s : Going) (act : Act) : Type 0 where
+pub record IsNext (s : RunState) (act : Act) : Type 0 where
   pub within : s.next < length s.code.now.instrs
   pub acts : acts_left s ≡ act ∷ acts_after s
 
@@ -71,19 +72,24 @@ abbrev pub AtReceive : List Act → Type 0
 AtReceive (receives ∷ acts) = Unit {0}
 AtReceive _ = ⊥
 
-abbrev pub ComesSame : Going → Going → Type 0
+abbrev pub ComesSame : RunState → RunState → Type 0
 ComesSame s t = (arrivals : List (List ℕ)) → coming s arrivals ≡ coming t arrivals
 
 -- what a turn says of where the run stood and stands
-abbrev pub TurnsTo : Going → Going → Turn → Type 0
+abbrev pub TurnsTo : RunState → RunState → Turn → Type 0
 TurnsTo s t (Message b) = ((arrivals : List (List ℕ)) → coming s arrivals ≡ says b (coming t arrivals)) × (s.next < t.next)
 TurnsTo s t (Wants e) = ComesSame s t × AtReceive (acts_left t) × (e ≡ t.event + 1) × (s.next ≤ t.next)
 TurnsTo s t Done = (arrivals : List (List ℕ)) → coming s arrivals ≡ ends done arrivals
 TurnsTo s t (Stopped halt) = (arrivals : List (List ℕ)) → coming s arrivals ≡ ends (stopped halt.event halt.at) arrivals
 TurnsTo s t NoMemory = Unit {0}
 
+-- a message, where there is one, is no wider than a register
+abbrev pub IsNarrowTurn : Option Turn → Type 0
+IsNarrowTurn (Some (Message b)) = length b ≤ WIDE
+IsNarrowTurn turn = Unit {0}
+
 -- the same of one instruction, where None says that it goes on
-abbrev pub StepsTo : Going → Going → Option Turn → Type 0
+abbrev pub StepsTo : RunState → RunState → Option Turn → Type 0
 StepsTo s t None = ComesSame s t × (t.next ≡ s.next + 1)
 StepsTo s t (Some turn) = TurnsTo s t turn
 

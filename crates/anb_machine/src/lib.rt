@@ -4,16 +4,14 @@
 //! demand fails. It takes the memory for its registers when it starts.
 #![tactic(auto)]
 
-mod going;
 mod machine;
-mod table;
+mod registers;
+mod state;
 mod turn;
 mod work;
 
 pub use machine::Machine;
 pub use turn::{Halt, Turn};
 
-#[cfg(test)]
-mod codes;
 #[cfg(test)]
 mod tests;

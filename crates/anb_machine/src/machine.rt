@@ -1,14 +1,16 @@
-ghost use Rattle.std.specs.Prelude.{◌≡◌, ◌≢◌, ℕ, List, [], ◌∷◌, ◌<◌, length, IsTrue, IfOk, IfSome, false, None};
+//! Machines: a code's run, one turn at a time.
+ghost use Rattle.std.specs.Prelude.{◌≡◌, ◌≢◌, ℕ, List, [], ◌∷◌, ◌<◌, ◌≤◌, length, All, IsTrue, IfOk, IfSome, false, None};
 ghost use Rattle.anb_plays.specs.Plays.{Played};
+ghost use Rattle.anb_code.specs.Registers.{register_widths};
 ghost use Rattle.anb_code.specs.Taking.{take_texts};
 ghost use Rattle.anb_machine.specs.ByteRuns.{run_bytes};
-ghost use Rattle.anb_machine.specs.Machines.{gives, left, waits, answer, answer_after, last_after, turn_of, Turned};
+ghost use Rattle.anb_machine.specs.Machines.{gives, left, waits, answer, answer_after, last_after, turn_of, KeepsLive, Turned};
 
-use crate::going::Going;
-use crate::table::begin_table;
+use crate::registers::initial_registers;
+use crate::state::RunState;
 use crate::turn::{Last, Turn};
 use anb_algebra::ByteAlgebra;
-use anb_base::{Bytes, NoMemory};
+use anb_base::{ARRIVAL, Bytes, NoMemory, WIDE};
 use anb_code::RoleCode;
 use std::alloc::Global;
 use std::marker::Model;
@@ -16,7 +18,7 @@ use std::marker::Model;
 /// A code on its way.
 #[derive(Drop)]
 pub struct Machine<'c> {
-    going: Going<'c>,
+    state: RunState<'c>,
     last: Last,
 }
 
@@ -27,9 +29,9 @@ impl<'c> Model for Machine<'c> {
 
     ghost use Rattle.anb_machine.specs.Inside.{value_of, IsWhole};
 
-    ghost view = { λ s. value_of s.going s.last };
+    ghost view = { λ s. value_of s.state s.last };
 
-    ghost invariant = { λ s. IsWhole s.going s.last };
+    ghost invariant = { λ s. IsWhole s.state s.last };
 }
 
 impl<'c> Machine<'c> {
@@ -42,12 +44,18 @@ impl<'c> Machine<'c> {
         seed: &[u8; 32],
         session: u32,
     ) -> Result<Self, NoMemory>
-        requires { length init.now ≡ length (take_texts code.now.instrs) }
-        ensures run { IfOk result (λ machine. (arrivals : List (List ℕ)) → gives machine arrivals ≡ run_bytes code.now init.now seed.now session arrivals) }
+        requires count { length init.now ≡ length (take_texts code.now.instrs) }
+        requires short { All (λ value. length value ≤ ARRIVAL) init.now }
+        ensures run { IfOk result (λ machine. (arrivals : List (List ℕ))
+            → gives machine arrivals ≡ run_bytes code.now init.now seed.now session arrivals) }
         ensures open { IfOk result (λ machine. answer machine ≡ None) }
+        ensures widths { IfOk result (λ machine.
+            machine.widths ≡ register_widths ARRIVAL code.now.formats code.now.instrs) }
+        ensures keeps { IfOk result KeepsLive }
     {
-        let registers = begin_table(alloc, code, init)?;
-        let going = Going {
+        let registers = initial_registers(alloc, code.last_uses(), init)?;
+        let state = RunState {
+            alloc,
             code,
             algebra: ByteAlgebra::new(code.formats(), code.suite()),
             seed: *seed,
@@ -58,7 +66,7 @@ impl<'c> Machine<'c> {
             registers,
         };
         Ok(Machine {
-            going,
+            state,
             last: Last::Open,
         })
     }
@@ -67,25 +75,32 @@ impl<'c> Machine<'c> {
     pub fn advance(&mut self, alloc: Global) -> Turn
         ensures turned { Turned self.old self.new result }
         ensures first { result ≢ Turn.NoMemory → result ≡ turn_of (gives self.old []) }
+        ensures narrow { (b : List ℕ) → result ≡ Turn.Message b → length b ≤ WIDE }
+        ensures widths { self.new.widths ≡ self.old.widths }
+        ensures keeps { KeepsLive self.new }
         ensures again { IfSome (answer self.old) (λ turn. (result ≡ turn) × (self.new ≡ self.old)) }
     {
         if let Some(turn) = again(self.last) {
             return turn;
         }
-        let turn = self.going.advance(alloc);
+        let turn = self.state.advance(alloc);
         self.last = last_of(&turn);
         turn
     }
 
     /// Takes the arrival that it wants.
     pub fn arrive(&mut self, bytes: Bytes)
-        requires { IsTrue (waits self.old) }
-        ensures gives { (arrivals : List (List ℕ)) → gives self.old (bytes ∷ arrivals) ≡ gives self.new arrivals }
+        requires waits { IsTrue (waits self.old) }
+        requires short { length bytes ≤ ARRIVAL }
+        ensures gives { (arrivals : List (List ℕ))
+            → gives self.old (bytes ∷ arrivals) ≡ gives self.new arrivals }
         ensures further { left self.new < left self.old }
         ensures waits { waits self.new ≡ false }
         ensures open { answer self.new ≡ None }
+        ensures widths { self.new.widths ≡ self.old.widths }
+        ensures keeps { KeepsLive self.new }
     {
-        self.going.arrive(bytes);
+        self.state.arrive(bytes);
         self.last = Last::Open;
     }
 }

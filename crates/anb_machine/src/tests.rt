@@ -1,10 +1,10 @@
 // Values from outside: the bytes of hashes, macs, seals and wraps were computed in Python, with
 // hashlib, hmac and the ChaCha20 of the package cryptography; the first nonce under a zero seed is
 // the first 32 bytes of ChaCha20 under a zero key.
-use crate::codes::{bytes, code};
 use crate::{Halt, Machine, Turn};
-use anb_base::{Bytes, Suite};
+use anb_base::Suite;
 use anb_code::RoleCode;
+use anb_sample_codes::{bytes, code, values};
 use std::alloc::{AllocError, Global};
 use std::process::Abort;
 use std::test::Fail;
@@ -17,7 +17,7 @@ const SENDER: &str = "take N; send 0; recv; equal 0 1";
 #[test]
 fn a_sender_stops_at_another_answer(rt: HostRuntime) -> Result<(), Fail> {
     let alloc = rt.alloc();
-    let code = code(&rt, alloc, Suite::One, SENDER)?;
+    let code = code(alloc, Suite::One, SENDER)?;
     let mut machine = start(&rt, alloc, &code, "ab")?;
     assert!(rt; says(alloc, &mut machine, b"ab"));
     assert!(rt; hears(alloc, &mut machine, 2, b"ac")?);
@@ -29,7 +29,7 @@ fn a_sender_stops_at_another_answer(rt: HostRuntime) -> Result<(), Fail> {
 #[test]
 fn a_sender_is_done_at_its_own_answer(rt: HostRuntime) -> Result<(), Fail> {
     let alloc = rt.alloc();
-    let code = code(&rt, alloc, Suite::One, SENDER)?;
+    let code = code(alloc, Suite::One, SENDER)?;
     let mut machine = start(&rt, alloc, &code, "ab")?;
     assert!(rt; says(alloc, &mut machine, b"ab"));
     assert!(rt; matches!(machine.advance(alloc), Turn::Wants(2)));
@@ -42,7 +42,7 @@ fn a_sender_is_done_at_its_own_answer(rt: HostRuntime) -> Result<(), Fail> {
 #[test]
 fn an_answerer_sends_what_it_compared(rt: HostRuntime) -> Result<(), Fail> {
     let alloc = rt.alloc();
-    let code = code(&rt, alloc, Suite::One, "take N; recv; equal 0 1; send 0")?;
+    let code = code(alloc, Suite::One, "take N; recv; equal 0 1; send 0")?;
     let mut machine = start(&rt, alloc, &code, "ab")?;
     assert!(rt; hears(alloc, &mut machine, 1, b"ab")?);
     assert!(rt; says(alloc, &mut machine, b"ab"));
@@ -53,7 +53,7 @@ fn an_answerer_sends_what_it_compared(rt: HostRuntime) -> Result<(), Fail> {
 #[test]
 fn an_answerer_sends_a_hash(rt: HostRuntime) -> Result<(), Fail> {
     let alloc = rt.alloc();
-    let code = code(&rt, alloc, Suite::One, "take N; recv; hash 1; send 2")?;
+    let code = code(alloc, Suite::One, "take N; recv; hash 1; send 2")?;
     let mut machine = start(&rt, alloc, &code, "ab")?;
     assert!(rt; hears(alloc, &mut machine, 1, b"ab")?);
     let hash = "fb8e20fc2e4c3f248c60c39bd652f3c1347298bb977b8b4d5903b85055620603";
@@ -70,7 +70,7 @@ const WHOLE: &str = "take K; take M; take C; fresh; send 3; recv; parse p 4; equ
 #[test]
 fn each_instruction_of_suite_one(rt: HostRuntime) -> Result<(), Fail> {
     let alloc = rt.alloc();
-    let code = code(&rt, alloc, Suite::One, WHOLE)?;
+    let code = code(alloc, Suite::One, WHOLE)?;
     let digits = "f53c09ca39717a45c62d9aca8f8113eddbfd5f81dcab0b33b1c1834075225e68
         998a1d090cc2d024fbb7601ef6a3123b7e6d54628325755344fac14245eec33f
         93cca4f22cc23a4b0d881311272e343e1e29b5211cb37425ec0bc854e26e3fcd694d4cef1a2b92c072
@@ -81,7 +81,7 @@ fn each_instruction_of_suite_one(rt: HostRuntime) -> Result<(), Fail> {
 #[test]
 fn each_instruction_of_suite_two(rt: HostRuntime) -> Result<(), Fail> {
     let alloc = rt.alloc();
-    let code = code(&rt, alloc, Suite::Two, WHOLE)?;
+    let code = code(alloc, Suite::Two, WHOLE)?;
     let digits =
         "35d655e1c7ba8419feb0510dffc953c36e87b5c35de6a7d03211897a0d4e35251562625fb71fba29ead1453bf2865d00ff668f0f980318367b2303f81c3a7a26
         45cce74444f93043f05f9ed702dc86be593b14006282c2f82bde8400d4bee31b41babf59050ef90a7b6f664e3ac571431823b225e8778d1fcf2db412de2fca8a
@@ -116,7 +116,7 @@ fn what_cannot_be_undone_stops(rt: HostRuntime) -> Result<(), Fail> {
 
 /// Asserts that the third instruction stops at the arrival `P`.
 fn stops_at_three(rt: &impl Abort, alloc: Global, lines: &str) -> Result<(), Fail> {
-    let code = code(rt, alloc, Suite::One, lines)?;
+    let code = code(alloc, Suite::One, lines)?;
     let mut machine = start(rt, alloc, &code, "k")?;
     assert!(rt; hears(alloc, &mut machine, 1, b"P")?);
     assert!(rt; stops(alloc, &mut machine, 1, 3));
@@ -128,12 +128,9 @@ fn start<'c>(
     rt: &impl Abort,
     alloc: Global,
     code: &'c RoleCode,
-    values: &str,
+    texts: &str,
 ) -> Result<Machine<'c>, Fail> {
-    let mut init = Vec::new(alloc);
-    for value in values.split(';') {
-        init.push(bytes(alloc, value.as_bytes())?)?;
-    }
+    let init = values(alloc, texts)?;
     assert!(rt; code.takes() as usize == init.len());
     Ok(Machine::start(alloc, code, &init, &ZERO, 0)?)
 }
@@ -147,7 +144,7 @@ fn hears(
 ) -> Result<bool, AllocError> {
     let arrival = bytes(alloc, text)?;
     match machine.advance(alloc) {
-        Turn::Wants(wanted) => {
+        Turn::Wants(wanted) if text.len() <= 1_000 => {
             machine.arrive(arrival);
             Ok(wanted == event)
         }

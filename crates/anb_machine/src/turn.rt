@@ -1,3 +1,4 @@
+//! What a machine answers.
 use anb_base::Bytes;
 
 /// Where a run stopped: after how many sends and receives, and the number of the instruction, from

@@ -21,9 +21,12 @@ pub(crate) fn work<A: Algebra>(
     registers: &mut Vec<A::Value>,
     instr: &Instr,
 ) -> Result<bool, NoMemory>
-    requires ready { IsWorkReady (A.meaning algebra.now).has (length registers.old.items) (act_of formats.now instr.now) }
+    requires ready { IsWorkReady (A.meaning algebra.now).has (length registers.old.items)
+        (act_of formats.now instr.now) }
     requires few { HasFewFields formats.now instr.now }
-    ensures done { IfOk result (λ went. IsWorkDone (A.meaning algebra.now) registers.old.items (act_of formats.now instr.now) went registers.new.items) }
+    ensures done { IfOk result (λ went.
+        IsWorkDone (A.meaning algebra.now) registers.old.items
+        (act_of formats.now instr.now) went registers.new.items) }
     ensures stays { IfOk result (λ went. went ≡ false → registers.new.items ≡ registers.old.items) }
     ensures err { OnErr result (registers.new.items ≡ registers.old.items) }
     ensures capacity { vec_capacity registers.old ≤ vec_capacity registers.new }
@@ -82,8 +85,12 @@ fn make_into<A: Algebra>(
     op: Op,
     operands: &[u32],
 ) -> Result<bool, NoMemory>
-    requires { IsReady (A.meaning algebra.now).has (length registers.old.items) (make op operands.now) }
-    ensures done { IfOk result (λ went. option_map (λ ws. registers.old.items ++ ws) (worked (A.meaning algebra.now) registers.old.items (make op operands.now)) ≡ Some registers.new.items) }
+    requires { IsReady (A.meaning algebra.now).has (length registers.old.items)
+        (make op operands.now) }
+    ensures done { IfOk result (λ went.
+        option_map (λ ws. registers.old.items ++ ws)
+        (worked (A.meaning algebra.now) registers.old.items (make op operands.now))
+        ≡ Some registers.new.items) }
     ensures went { IfOk result (λ went. went ≡ true) }
     ensures err { OnErr result (registers.new.items ≡ registers.old.items) }
     ensures capacity { vec_capacity registers.old ≤ vec_capacity registers.new }
@@ -106,8 +113,12 @@ fn undo_into<A: Algebra>(
     keys: &[u32],
     of: u32,
 ) -> Result<bool, NoMemory>
-    requires { IsReady (A.meaning algebra.now).has (length registers.old.items) (undo op keys.now of) }
-    ensures done { IfOk result (λ went. option_map (λ ws. registers.old.items ++ ws) (worked (A.meaning algebra.now) registers.old.items (undo op keys.now of)) ≡ (if went then Some registers.new.items else None)) }
+    requires { IsReady (A.meaning algebra.now).has (length registers.old.items)
+        (undo op keys.now of) }
+    ensures done { IfOk result (λ went.
+        option_map (λ ws. registers.old.items ++ ws)
+        (worked (A.meaning algebra.now) registers.old.items (undo op keys.now of))
+        ≡ (if went then Some registers.new.items else None)) }
     ensures stays { IfOk result (λ went. went ≡ false → registers.new.items ≡ registers.old.items) }
     ensures err { OnErr result (registers.new.items ≡ registers.old.items) }
     ensures capacity { vec_capacity registers.old ≤ vec_capacity registers.new }

@@ -105,7 +105,8 @@ pub fn wrap512(alloc: Global, k: &[u8], d: &[u8], m: &[u8]) -> Result<Bytes, NoM
 /// The one message that is wrapped to these bytes under this key and context, where there is one.
 pub fn unwrap(alloc: Global, k: &[u8], d: &[u8], c: &[u8]) -> Result<Option<Bytes>, NoMemory>
     ensures some { IfOk result (λ r. IfSome r (λ m. wrapped Suite.One k.now d.now m ≡ c.now)) }
-    ensures none { IfOk result (λ r. IfNone r ((m : List ℕ) → wrapped Suite.One k.now d.now m ≢ c.now)) }
+    ensures none { IfOk result (λ r.
+        IfNone r ((m : List ℕ) → wrapped Suite.One k.now d.now m ≢ c.now)) }
     ensures computed { IfOk result (λ r. r ≡ unwrapped Suite.One k.now d.now c.now) }
 {
     unwrap_with::<Sha256>(alloc, k, d, c)
@@ -114,7 +115,8 @@ pub fn unwrap(alloc: Global, k: &[u8], d: &[u8], c: &[u8]) -> Result<Option<Byte
 /// [`unwrap`] over SHA-512.
 pub fn unwrap512(alloc: Global, k: &[u8], d: &[u8], c: &[u8]) -> Result<Option<Bytes>, NoMemory>
     ensures some { IfOk result (λ r. IfSome r (λ m. wrapped Suite.Two k.now d.now m ≡ c.now)) }
-    ensures none { IfOk result (λ r. IfNone r ((m : List ℕ) → wrapped Suite.Two k.now d.now m ≢ c.now)) }
+    ensures none { IfOk result (λ r.
+        IfNone r ((m : List ℕ) → wrapped Suite.Two k.now d.now m ≢ c.now)) }
     ensures computed { IfOk result (λ r. r ≡ unwrapped Suite.Two k.now d.now c.now) }
 {
     unwrap_with::<Sha512>(alloc, k, d, c)

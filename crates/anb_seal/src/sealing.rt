@@ -75,7 +75,8 @@ pub(crate) fn unwrap_with<H: SuiteHash>(
     c: &[u8],
 ) -> Result<Option<Bytes>, NoMemory>
     ensures some { IfOk result (λ r. IfSome r (λ m. wrapped H.suite k.now d.now m ≡ c.now)) }
-    ensures none { IfOk result (λ r. IfNone r ((m : List ℕ) → wrapped H.suite k.now d.now m ≢ c.now)) }
+    ensures none { IfOk result (λ r.
+        IfNone r ((m : List ℕ) → wrapped H.suite k.now d.now m ≢ c.now)) }
     ensures computed { IfOk result (λ r. r ≡ unwrapped H.suite k.now d.now c.now) }
 {
     let stream_key = key_for::<H>(WRAP_STREAM, k);
@@ -119,9 +120,12 @@ fn open<H: SuiteHash>(
     head: &[u8],
     c: &[u8],
 ) -> Result<Option<Bytes>, NoMemory>
-    ensures some { IfOk result (λ r. IfSome r (λ m. closed H.suite stream_key.now tag_key.now head.now m ≡ c.now)) }
-    ensures none { IfOk result (λ r. IfNone r ((m : List ℕ) → closed H.suite stream_key.now tag_key.now head.now m ≢ c.now)) }
-    ensures computed { IfOk result (λ r. r ≡ opened H.suite stream_key.now tag_key.now head.now c.now) }
+    ensures some { IfOk result (λ r.
+        IfSome r (λ m. closed H.suite stream_key.now tag_key.now head.now m ≡ c.now)) }
+    ensures none { IfOk result (λ r.
+        IfNone r ((m : List ℕ) → closed H.suite stream_key.now tag_key.now head.now m ≢ c.now)) }
+    ensures computed { IfOk result (λ r.
+        r ≡ opened H.suite stream_key.now tag_key.now head.now c.now) }
 {
     if c.len() < TAG {
         return Ok(None);
@@ -143,7 +147,8 @@ fn masked_after<H: SuiteHash>(
     tag: &[u8],
     bytes: &[u8],
 ) -> Result<Vec<u8>, NoMemory>
-    ensures { IfOk result (λ v. v.items ≡ front.now ++ masked H.suite stream_key.now tag.now bytes.now) }
+    ensures { IfOk result (λ v.
+        v.items ≡ front.now ++ masked H.suite stream_key.now tag.now bytes.now) }
 {
     let key = short_mac::<H>(stream_key, &[], tag);
     let mut masked = Vec::with_capacity(alloc, front.len() + bytes.len())?;

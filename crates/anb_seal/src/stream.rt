@@ -18,7 +18,8 @@ const PAD: usize = 256;
 #[inline(never)]
 pub(crate) fn append_masked(key: &[u8; 32], front: Vec<u8>, bytes: &[u8]) -> Vec<u8>
     requires { vec_len front + length bytes.now ≤ vec_capacity front }
-    ensures { result.items ≡ front.items ++ xored bytes.now (key_stream key.now (length bytes.now)) }
+    ensures { result.items ≡ front.items ++ xored bytes.now
+        (key_stream key.now (length bytes.now)) }
 {
     let mut masked = front;
     let mut words = words_from(key, 0, 0);
@@ -60,8 +61,10 @@ pub(crate) fn words_from(key: &[u8; 32], stream: u32, first: u64) -> ChaCha20Rng
 pub(crate) fn fill(words: &mut ChaCha20Rng, bytes: &mut [u8])
     requires whole { length bytes.old % 4 ≡ 0 }
     requires near { words.old.word_pos < 2 ^ 67 }
-    ensures bytes { bytes.new ≡ stream_bytes words.old.key words.old.stream words.old.word_pos (length bytes.old / 4) }
-    ensures words { words.new ≡ record words.old { word_pos = words.old.word_pos + length bytes.old / 4 } }
+    ensures bytes { bytes.new ≡ stream_bytes words.old.key words.old.stream words.old.word_pos
+        (length bytes.old / 4) }
+    ensures words { words.new ≡ record words.old
+        { word_pos = words.old.word_pos + length bytes.old / 4 } }
 {
     for i in 0..bytes.len() / 4 {
         bytes[4 * i..4 * i + 4].copy_from_slice(&words.next_word().to_le_bytes());

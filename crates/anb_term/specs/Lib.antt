@@ -1,15 +1,17 @@
+-- what contracts name
 pub mod Operator
 pub mod Tree
-pub mod TreeCode
 pub mod View
-pub mod TreeSame
-pub mod Falls
 pub mod Value
+pub mod RecipeView
 pub mod Lawful
 pub mod FreeAlgebra
-pub mod FreeLawful
-pub mod RecipeView
 pub mod Agree
 pub mod Composes
 pub mod Demand
 pub mod Statements
+-- what only proofs use
+pub mod TreeCode
+pub mod TreeSame
+pub mod Falls
+pub mod FreeLawful

@@ -50,7 +50,8 @@ pub trait Algebra {
         requires count { length keys.now ≡ keys_of op }
         requires has { IsTrue ((meaning self.now).has op) }
         ensures { (v : Self.Value) → slice_get table.now of ≡ Some v →
-            IfOk result (λ r. option_map (λ ps. ps.items) r ≡ (meaning self.now).undone op (picked table.now keys.now) v) };
+            IfOk result (λ r. option_map (λ ps. ps.items) r
+            ≡ (meaning self.now).undone op (picked table.now keys.now) v) };
 
     /// Whether the values at two places are equal.
     fn same(&self, table: &[Self::Value], a: u32, b: u32) -> bool

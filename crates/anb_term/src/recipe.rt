@@ -109,7 +109,9 @@ fn eval_all<A: Algebra>(
     recipes: &Vec<Recipe>,
 ) -> Result<Option<Vec<A::Value>>, NoMemory>
     requires { HasEach (A.meaning a.now).has (recipes_of recipes.now.items) }
-    ensures { IfOk result (λ vs. option_map (λ v. v.items) vs ≡ values (A.meaning a.now) labels.now (recipes_of recipes.now.items)) }
+    ensures { IfOk result (λ vs.
+        option_map (λ v. v.items) vs
+        ≡ values (A.meaning a.now) labels.now (recipes_of recipes.now.items)) }
 {
     let mut table = Vec::new(alloc);
     for r in recipes {

@@ -193,7 +193,8 @@ impl Terms {
     pub fn begin_with(&self, table: &[Term], at: &[u32]) -> bool
         requires within { All (λ i. i < length table.now) at.now }
         requires count { length at.now ≤ length self.now }
-        ensures { IsTrue result ↔ (map tree_of (picked table.now at.now) ≡ take (length at.now) self.now) }
+        ensures { IsTrue result
+            ↔ (map tree_of (picked table.now at.now) ≡ take (length at.now) self.now) }
     {
         for k in 0..at.len() {
             if !self.items[k].same(&table[at[k] as usize]) {

@@ -61,7 +61,8 @@ fn undo_term(
 ) -> Result<Option<Vec<Term>>, NoMemory>
     requires within { All (λ i. i < length table.now) by.now }
     requires count { length by.now ≡ keys op }
-    ensures { IfOk result (λ r. option_map (λ ps. ps.items) r ≡ term_meaning.undone op (picked table.now by.now) of.now) }
+    ensures { IfOk result (λ r.
+        option_map (λ ps. ps.items) r ≡ term_meaning.undone op (picked table.now by.now) of.now) }
 {
     match of {
         Term::Atom(_) => Ok(None),

@@ -1,3 +1,4 @@
+//! Formats by published encodings and by worked examples.
 ghost use Rattle.std.specs.Prelude.{◌≡◌, IfOk, length, vec_len};
 ghost use Rattle.anb_format.specs.Formats.{field_count};
 

@@ -76,5 +76,5 @@ returns-clause-known c =
     let some = rw c.in-Some.is at c.in_ok-width.ensures in
     let narrow : width_of ARRIVAL c.args.formats.now widths (instr_of c.args.formats.now c.args.instr.now) ≤ WIDE = rw same at some.0 in
     let is : c.in-Some.width ≡ width_of ARRIVAL c.args.formats.now widths (instr_of c.args.formats.now c.args.instr.now) = rw same at some.1 in
-    rw (c.in_ok-put_widths.ensures, c.count_destinations.ensures, is)
+    rw (c.in_ok-put_copies.ensures, c.count_destinations.ensures, is)
     (knows_more c.args.formats.now c.args.before.now widths c.requires.known c.args.instr.now c.requires.counts has_format ordered narrow)

@@ -37,8 +37,8 @@ instrs_of-requires-clause-few c =
     let few = few_formats c.deref.result.now c.in_ok-check_formats.ensures.fine c.in_ok-check_formats.ensures.sound in
     omega (arith, few, ap length made)
 
-pub invariant_of-result : goal.invariant_of-result
-invariant_of-result c =
+pub new-requires : goal.new-requires
+new-requires c =
     let inside = c.raw.inside in
     let raw : RawValue = record { protocol = inside.protocol; role = inside.role; suite = inside.suite; formats = inside.formats.items; code = inside.code.items } in
     let given : c.deref.result.now ≡ inside.formats.items = c.deref.ensures.value in

@@ -1,7 +1,7 @@
 use Rattle.std.proofs.Common.{◌≡◌, count_by, ap, ◌∙◌}
 use Rattle.anb_code.specs.CodeValue.{CodeValue}
 use Rattle.anb_code.specs.Taking.{is_taking}
-use Rattle.anb_code.proofs.Takes.{count_by-takes}
+use Rattle.anb_code.proofs.Taking.{count_by-takes}
 use Rattle.anb_code.proofs.code.RoleCode.takes.Goals as goal
 
 pub returns : goal.returns

@@ -1,9 +1,0 @@
-use Rattle.std.proofs.Common.{◌≡◌, ◌≤◌, ◌+◌, drop}
-use Rattle.anb_format.specs.Formats.{field_count}
-use Rattle.anb_code.proofs.checks.fields.Given as goal
-
-abbrev pub invariant-loop-piece : goal.invariant-loop-piece
-invariant-loop-piece l = record {
-  count : l.count + field_count (drop l.piece-index l.pieces) ≡ field_count l.pieces;
-  few : l.count ≤ l.piece-index;
-}

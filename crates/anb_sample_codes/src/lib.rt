@@ -1,0 +1,11 @@
+//! Codes and initial values for tests, from words.
+#![tactic(auto)]
+
+mod codes;
+mod lines;
+mod no_code;
+mod strings;
+
+pub use codes::code;
+pub use no_code::NoCode;
+pub use strings::{bytes, values};
