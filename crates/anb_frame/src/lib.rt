@@ -1,13 +1,14 @@
 //! Frames: a length in four bytes, the most significant first, and then so many bytes.
 #![tactic(auto)]
 
-ghost use Rattle.std.specs.Prelude.{◌≡◌, ◌≤◌, ◌<◌, ◌^◌, ℕ, List, length, OnOk, OnErr};
-ghost use Rattle.anb_base.specs.Moves.{Rose, Put, PutPrefix};
-ghost use Rattle.anb_frame.specs.Frames.{frame, length_bytes};
+ghost use Rattle.std.specs.Prelude.{◌≡◌, ◌≤◌, ◌<◌, ℕ, List, length, IfOk, OnOk, OnErr};
+ghost use Rattle.anb_base.specs.Moves.{Rose, Put, PutPrefix, count_written};
+ghost use Rattle.anb_frame.specs.Frames.{frame, length_bytes, IsFrameLength};
 ghost use Rattle.anb_frame.specs.Cuts.{Tail, CutLeft, HasCut, HasOneCut};
 ghost use Rattle.anb_frame.specs.Answers.{Takes, Follows, OnFailed};
 
-use anb_base::{Failed, Sink, Source, read_full, write_whole};
+use anb_base::{Bytes, Failed, NoMemory, Sink, Source, read_full, write_whole};
+use std::alloc::Global;
 
 /// What [`take`] found: a frame of so many bytes, or the end of input.
 #[derive(Clone, Copy, Debug, PartialEq, Eq, Drop)]
@@ -51,9 +52,13 @@ fn written_length(len: u32) -> [u8; 4]
 /// Takes the next frame into the front of the buffer, whose length is the limit. What the buffer
 /// holds beyond the frame has no meaning.
 pub fn take<S: Source>(src: &mut S, buf: &mut [u8]) -> Result<Taken, FrameNo>
-    requires { length buf.old < 2 ^ 32 }
-    ensures takes { Takes (length buf.old) (S.left src.old) (S.left src.new) buf.new result }
-    ensures follows { (bs : List (List ℕ)) (tail : Tail) → CutLeft (length buf.old) (S.left src.old) bs tail → Follows (length buf.old) bs tail (S.left src.new) buf.new result }
+    requires { IsFrameLength (length buf.old) }
+    ensures takes { Takes (S.left src.old) (S.left src.new) (S.taken_at src.old)
+        (S.taken_at src.new)
+        (count_written (S.kept src.old)) (length buf.old) buf.new result }
+    ensures follows { (bs : List (List ℕ)) (tail : Tail)
+        → CutLeft (length buf.old) (S.left src.old) bs tail
+        → Follows (length buf.old) bs tail (S.left src.new) buf.new result }
     ensures cause { OnFailed result (Rose (S.faults src.old) (S.faults src.new)) }
     ensures never_falls { S.faults src.old ≤ S.faults src.new }
     ensures kept { S.kept src.new ≡ S.kept src.old }
@@ -87,11 +92,23 @@ pub fn take<S: Source>(src: &mut S, buf: &mut [u8]) -> Result<Taken, FrameNo>
     Ok(Taken::Frame(len))
 }
 
-/// Appends the frame of these bytes.
+/// The frame of these bytes.
+pub fn framed(alloc: Global, bytes: &[u8]) -> Result<Bytes, NoMemory>
+    requires { IsFrameLength (length bytes.now) }
+    ensures { IfOk result (λ framed. framed ≡ frame bytes.now) }
+{
+    let mut framed = Vec::with_capacity(alloc, 4 + bytes.len())?;
+    framed.extend_from_slice(&written_length(bytes.len() as u32))?;
+    framed.extend_from_slice(bytes)?;
+    Ok(Bytes::new(framed))
+}
+
+/// Appends the frame of these bytes, its length in a write of its own.
 pub fn put<K: Sink>(snk: &mut K, bytes: &[u8]) -> Result<(), Failed>
-    requires { length bytes.now < 2 ^ 32 }
+    requires { IsFrameLength (length bytes.now) }
     ensures put { OnOk result (Put (K.written snk.old) (K.written snk.new) (frame bytes.now)) }
-    ensures failed { OnErr result (PutPrefix (K.written snk.old) (K.written snk.new) (frame bytes.now)) }
+    ensures failed { OnErr result
+        (PutPrefix (K.written snk.old) (K.written snk.new) (frame bytes.now)) }
     ensures cause { OnErr result (Rose (K.faults snk.old) (K.faults snk.new)) }
     ensures never_falls { K.faults snk.old ≤ K.faults snk.new }
     ensures kept { K.kept snk.new ≡ K.kept snk.old }

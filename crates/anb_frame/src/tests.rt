@@ -1,3 +1,5 @@
+//! Frames over a wire in memory.
+
 use super::*;
 use anb_base::{Bytes, MemWire, NoMemory};
 use std::alloc::Global;
@@ -99,6 +101,7 @@ fn a_frame_that_is_put_is_taken_again(rt: HostRuntime) -> Result<(), Fail> {
     assert_eq!(rt; put(&mut sink, b"abcd"), Ok(()));
     assert_eq!(rt; put(&mut sink, b""), Ok(()));
     assert_eq!(rt; sink.written(), b"\0\0\0\x04abcd\0\0\0\0".as_slice());
+    assert_eq!(rt; framed(alloc, b"abcd")?.as_slice(), &sink.written()[..8]);
 
     let mut buf = [0u8; 8];
     let mut source = wire(alloc, sink.written(), 3, 0)?;

@@ -123,11 +123,11 @@ pub write_fault : (b : List ℕ) (left now written written_now : Option (List �
 write_fault b left now written written_now put R sends arrivals tail cut =
     let s = sends arrivals in rw s.1 (put_within written written_now (frame b) (frames s.0) put)
 
-pub read_fault : (event room : ℕ) (left now written written_now : Option (List ℕ)) (buf : List ℕ) (fault : FrameNo) → room ≡ ARRIVAL → fault ≡ Failed → written_now ≡ written
-    → Takes room left now buf (Err fault) → EndsWaiting event left now written written_now ReadFault
-read_fault event room left now written written_now buf fault is fails same takes R waits arrivals tail cut =
-    let (z, need, took, part) = failed fault fails takes in
+pub read_fault : (event room n : ℕ) (left now taken_at taken_at_now written written_now : Option (List ℕ)) (buf : List ℕ) (fault : FrameNo) → room ≡ ARRIVAL → fault ≡ Failed → written_now ≡ written
+    → Takes left now taken_at taken_at_now n room buf (Err fault) → EndsWaiting event left now written written_now ReadFault
+read_fault event room n left now taken_at taken_at_now written written_now buf fault is fails same takes R waits arrivals tail cut =
+    let (z, need, (took, stamped), part) = failed fault fails takes in
     let c = cut_of_part ARRIVAL [] z need (All-nil (λ b. length b ≤ ARRIVAL)) (subst (λ (n : ℕ). IsPart n z need) is part) in
     (z, [], c.0, event, took, c.1, ap (λ p. p.end) waits, rw (waits, same) (put_nothing written)) where
-      failed : (fault : FrameNo) → fault ≡ Failed → Takes room left now buf (Err fault) → Takes room left now buf (Err Failed)
-      failed fault fails takes = subst (λ (x : FrameNo). Takes room left now buf (Err x)) fails takes
+      failed : (fault : FrameNo) → fault ≡ Failed → Takes left now taken_at taken_at_now n room buf (Err fault) → Takes left now taken_at taken_at_now n room buf (Err Failed)
+      failed fault fails takes = subst (λ (x : FrameNo). Takes left now taken_at taken_at_now n room buf (Err x)) fails takes

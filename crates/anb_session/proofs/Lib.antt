@@ -1,3 +1,4 @@
 pub mod Answered
 pub mod Continued
+pub mod Prompt
 pub mod Written

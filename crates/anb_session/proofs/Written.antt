@@ -31,11 +31,22 @@ pub cut_further : (limit : ℕ) (b x : List ℕ) (bs : List (List ℕ)) (tail : 
 cut_further limit b x bs tail fits c =
     (c.0, ap (λ t. frame b ++ t) c.1 ∙ sym (append_assoc (frame b) (frames bs) c.0), All-cons (λ d. length d ≤ limit) b bs fits c.2, c.3)
 
+same_head : (p q : Option (List ℕ) × ℕ) (ps qs : List (Option (List ℕ) × ℕ)) → p ∷ ps ≡ q ∷ qs → p ≡ q
+same_head p q ps qs e = cc
+
+same_rest : (p q : Option (List ℕ) × ℕ) (ps qs : List (Option (List ℕ) × ℕ)) → p ∷ ps ≡ q ∷ qs → ps ≡ qs
+same_rest p q ps qs e = cc
+
 -- what is told first of what is kept stays, where all of it stays
 pub kept_first : (a b : List (Option (List ℕ) × ℕ)) (x y : Option (List ℕ)) (n m : ℕ) (xs ys : List (Option (List ℕ) × ℕ)) → b ≡ a → a ≡ (x, n) ∷ xs → b ≡ (y, m) ∷ ys → y ≡ x
-kept_first a b x y n m xs ys same is now = ap (λ (p : Option (List ℕ) × ℕ). p.0) (first (y, m) (x, n) ys xs (sym now ∙ same ∙ is)) where
-  first : (p q : Option (List ℕ) × ℕ) (ps qs : List (Option (List ℕ) × ℕ)) → p ∷ ps ≡ q ∷ qs → p ≡ q
-  first p q ps qs e = cc
+kept_first a b x y n m xs ys same is now = ap (λ (p : Option (List ℕ) × ℕ). p.0) (same_head (y, m) (x, n) ys xs (sym now ∙ same ∙ is))
+
+-- and so does what is told third
+pub kept_third : (a b : List (Option (List ℕ) × ℕ)) (p q p' q' : Option (List ℕ) × ℕ) (x y : Option (List ℕ)) (n m : ℕ) → b ≡ a → a ≡ p ∷ q ∷ (x, n) ∷ [] → b ≡ p' ∷ q' ∷ (y, m) ∷ [] → y ≡ x
+kept_third a b p q p' q' x y n m same is now =
+    let after_first = same_rest p' p (q' ∷ (y, m) ∷ []) (q ∷ (x, n) ∷ []) (sym now ∙ same ∙ is) in
+    let after_second = same_rest q' q ((y, m) ∷ []) ((x, n) ∷ []) after_first in
+    ap (λ (r : Option (List ℕ) × ℕ). r.0) (same_head (y, m) (x, n) [] [] after_second)
 
 -- a buffer that is written back keeps its length
 pub written_back : (len room : ℕ) (new items : List ℕ) → length items ≡ len → length new ≡ length items → length items ≡ room → length (take len (new ++ drop (length new) items)) ≡ room

@@ -1,2 +1,3 @@
 pub mod Sessions
+-- for proofs alone
 pub mod Turns

@@ -1,13 +1,18 @@
 -- What comes of a session: of a run whose arrivals are the frames of a wire's input.
-use Rattle.std.specs.Prelude.{◌≡◌, ℕ, List, ◌++◌, take, Bool, true, false, Option}
+use Rattle.std.specs.Prelude.{◌≡◌, ℕ, ◌+◌, ◌≤◌, List, [], ◌∷◌, ◌++◌, length, replicate, take, All, Bool, true, false, Option, IfSome}
 use Rattle.anb_base.specs.Moves.{Took, Put, PutPrefix, AtEnd}
+use Rattle.anb_base.specs.Wires.{WireState}
 use Rattle.anb_base.specs.declared.TheConstants.{ARRIVAL}
-use Rattle.anb_frame.specs.Frames.{frames, length_bytes}
-use Rattle.anb_frame.specs.Cuts.{Tail, End, Short, Long, Cut}
+use Rattle.anb_frame.specs.Frames.{frame, frames, length_bytes}
+use Rattle.anb_frame.specs.Cuts.{Tail, End, Short, Long, Ends, Cut}
 use Rattle.anb_plays.specs.Plays as plays
 use Rattle.anb_plays.specs.Plays.{Played}
 use Rattle.anb_session.specs.declared.PlayEnd.{PlayEnd}
 use Rattle.anb_session.specs.declared.PlayEnd.TheVariants.{Done, Stopped, Waiting, Truncated, TooLarge, ReadFault, WriteFault, NoMemory}
+
+-- what comes over each list of arrivals
+abbrev pub Run : Type 0
+Run = List (List ℕ) → Played (List ℕ)
 
 -- how a run that ended so ends over an input with this tail
 abbrev pub end_at : plays.End → Tail → PlayEnd
@@ -21,29 +26,37 @@ end_at (plays.waiting e) (Long len) = TooLarge len
 abbrev pub TookAll : Option (List ℕ) → Option (List ℕ) → Type 0
 TookAll left now = (taken : List ℕ) × Took left now taken × AtEnd now
 
--- what was taken, from left to now, by a run that ended so: the frames of the arrivals that were used. Where it
--- waits all of them were, and the tail is taken too, a long one up to the end of its length
-abbrev pub Reads : plays.End → (arrivals unused : List (List ℕ)) → Tail → (left now : Option (List ℕ)) → Type 0
+-- what was taken, from left to now, by a run that ended so: the frames of the arrivals that were
+-- used. Where it waits all of them were, and the tail is taken too, a long one up to the end of its
+-- length
+abbrev pub Reads : plays.End → (arrivals unused : List (List ℕ)) → Tail
+    → (left now : Option (List ℕ)) → Type 0
 Reads (plays.waiting e) arrivals unused End left now = TookAll left now
 Reads (plays.waiting e) arrivals unused (Short have need) left now = TookAll left now
-Reads (plays.waiting e) arrivals unused (Long len) left now = Took left now (frames arrivals ++ length_bytes len)
-Reads end arrivals unused tail left now = (used : List (List ℕ)) × (arrivals ≡ used ++ unused) × Took left now (frames used)
+Reads (plays.waiting e) arrivals unused (Long len) left now =
+    Took left now (frames arrivals ++ length_bytes len)
+Reads end arrivals unused tail left now =
+    (used : List (List ℕ)) × (arrivals ≡ used ++ unused) × Took left now (frames used)
 
 -- R is the run, and the input that is left is the frames of these arrivals and this tail
-module _ (R : List (List ℕ) → Played (List ℕ)) (arrivals : List (List ℕ)) (tail : Tail) (left now written written_now : Option (List ℕ)) where
+module _ (R : Run) (arrivals : List (List ℕ)) (tail : Tail)
+    (left now written written_now : Option (List ℕ)) where
   -- the run came to its end, and all its messages are written in frames
   abbrev pub Concludes : PlayEnd → Type 0
   Concludes result =
-      (result ≡ end_at (R arrivals).end tail) × Put written written_now (frames (R arrivals).sent) × Reads (R arrivals).end arrivals (R arrivals).left tail left now
+      (result ≡ end_at (R arrivals).end tail) × Put written written_now (frames (R arrivals).sent)
+      × Reads (R arrivals).end arrivals (R arrivals).left tail left now
 
-  -- what is written and taken with each end. After a fault of writing a prefix of the messages' frames is written.
-  -- Before a fault of reading what was taken had whole arrivals, over which the run waits, and its messages there are
-  -- written. Where memory was wanted whole frames of the first messages are written
+  -- what is written and taken with each end. After a fault of writing a prefix of the messages'
+  -- frames is written. Before a fault of reading what was taken had whole arrivals, over which the
+  -- run waits, and its messages there are written. Where memory was wanted whole frames of the
+  -- first messages are written
   abbrev pub Runs : PlayEnd → Type 0
   Runs WriteFault = PutPrefix written written_now (frames (R arrivals).sent)
   Runs ReadFault =
-      (taken : List ℕ) × (whole : List (List ℕ)) × (part : Tail) × (e : ℕ) × Took left now taken × Cut ARRIVAL taken whole part
-      × ((R whole).end ≡ plays.waiting e) × Put written written_now (frames (R whole).sent)
+      (taken : List ℕ) × (whole : List (List ℕ)) × (part : Tail) × (e : ℕ) × Took left now taken
+      × Cut ARRIVAL taken whole part × ((R whole).end ≡ plays.waiting e)
+      × Put written written_now (frames (R whole).sent)
   Runs NoMemory = (k : ℕ) × Put written written_now (frames (take k (R arrivals).sent))
   Runs result = Concludes result
 
@@ -54,3 +67,30 @@ waits_at (Truncated have need) = true
 waits_at (TooLarge len) = true
 waits_at ReadFault = true
 waits_at _ = false
+
+module _ (R : Run) where
+  -- how many bytes are written, after those that were before, when the messages are that the run
+  -- sends over these arrivals, neither fewer nor more
+  abbrev pub due : (before : ℕ) → (arrivals : List (List ℕ)) → ℕ
+  due before arrivals = before + length (frames (R arrivals).sent)
+
+  -- how many are due when each byte is taken, of the frames of the arrivals behind the used ones
+  -- and of so many bytes behind these
+  abbrev pub due_at : (before : ℕ) → (used arrivals : List (List ℕ)) → (rest : ℕ) → List ℕ
+  due_at before used [] rest = replicate rest (due before used)
+  due_at before used (b ∷ arrivals) rest =
+      replicate (length (frame b)) (due before used)
+      ++ due_at before (used ++ b ∷ []) arrivals rest
+
+-- what was taken is the frames of whole arrivals, and then a tail as far as it is taken. Each byte
+-- of it was taken when exactly the messages were written that the run sends over the whole arrivals
+-- before that byte's
+pub record IsPrompt (R : Run) (old new : WireState) : Type 0 where
+  pub whole : List (List ℕ)
+  pub rest : List ℕ
+  pub tail : Tail
+  pub fits : All (λ b. length b ≤ ARRIVAL) whole
+  pub ends : Ends ARRIVAL rest tail
+  pub took : Took old.left new.left (frames whole ++ rest)
+  pub in_time : IfSome old.written (λ written.
+      Put old.taken_at new.taken_at (due_at R (length written) [] whole (length rest)))

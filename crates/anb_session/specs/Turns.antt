@@ -1,36 +1,71 @@
 -- What one turn of a session does.
 use Rattle.std.specs.Prelude.{◌≡◌, ℕ, ◌≤◌, List, [], ◌∷◌, length, Option}
 use Rattle.anb_base.specs.Moves.{Took}
+use Rattle.anb_base.specs.Wires.{WireState}
 use Rattle.anb_base.specs.declared.TheConstants.{ARRIVAL}
 use Rattle.anb_frame.specs.Frames.{frame}
 use Rattle.anb_frame.specs.Cuts.{Tail, CutLeft}
-use Rattle.anb_plays.specs.Plays.{Played, ends, waiting}
+use Rattle.anb_plays.specs.Plays.{ends, says, waiting}
 use Rattle.anb_session.specs.declared.PlayEnd.{PlayEnd}
-use Rattle.anb_session.specs.Sessions.{Runs}
+use Rattle.anb_session.specs.Sessions.{Run, Runs, IsPrompt}
 
 -- the run came to this end, whatever cut the input has
-abbrev pub Ends : (List (List ℕ) → Played (List ℕ)) → (left now written written_now : Option (List ℕ)) → PlayEnd → Type 0
-Ends R left now written written_now end = (arrivals : List (List ℕ)) (tail : Tail) → CutLeft ARRIVAL left arrivals tail → Runs R arrivals tail left now written written_now end
+abbrev pub Ends : Run → (left now written written_now : Option (List ℕ)) → PlayEnd → Type 0
+Ends R left now written written_now end =
+    (arrivals : List (List ℕ)) (tail : Tail) → CutLeft ARRIVAL left arrivals tail
+    → Runs R arrivals tail left now written written_now end
 
 -- the same of each run that sends this message first
-abbrev pub EndsSending : List ℕ → (left now written written_now : Option (List ℕ)) → PlayEnd → Type 0
+abbrev pub EndsSending :
+    List ℕ → (left now written written_now : Option (List ℕ)) → PlayEnd → Type 0
 EndsSending message left now written written_now end =
-    (R : List (List ℕ) → Played (List ℕ)) → ((arrivals : List (List ℕ)) → (sent : List (List ℕ)) × ((R arrivals).sent ≡ message ∷ sent))
+    (R : Run)
+    → ((arrivals : List (List ℕ))
+    → (sent : List (List ℕ)) × ((R arrivals).sent ≡ message ∷ sent))
     → Ends R left now written written_now end
 
 -- and of each run that waits for its next arrival at this event
 abbrev pub EndsWaiting : ℕ → (left now written written_now : Option (List ℕ)) → PlayEnd → Type 0
 EndsWaiting event left now written written_now end =
-    (R : List (List ℕ) → Played (List ℕ)) → (R [] ≡ ends (waiting event) []) → Ends R left now written written_now end
+    (R : Run) → (R [] ≡ ends (waiting event) []) → Ends R left now written written_now end
 
 -- an arrival was taken in its frame
 pub record Receives (b : List ℕ) (left now : Option (List ℕ)) : Type 0 where
   pub fits : length b ≤ ARRIVAL
   pub took : Took left now (frame b)
-  pub first : (arrivals : List (List ℕ)) (tail : Tail) → CutLeft ARRIVAL left arrivals tail → (rest : List (List ℕ)) × (arrivals ≡ b ∷ rest) × CutLeft ARRIVAL now rest tail
+  pub first : (arrivals : List (List ℕ)) (tail : Tail) → CutLeft ARRIVAL left arrivals tail
+      → (rest : List (List ℕ)) × (arrivals ≡ b ∷ rest) × CutLeft ARRIVAL now rest tail
 
 -- what comes of the run R' from here on comes of the run R from there on
-pub record Continues (R R' : List (List ℕ) → Played (List ℕ)) (left left' written written' : Option (List ℕ)) : Type 0 where
+pub record Continues (R R' : Run) (left left' written written' : Option (List ℕ)) : Type 0 where
   pub each : (arrivals : List (List ℕ)) (tail : Tail) → CutLeft ARRIVAL left arrivals tail
       → (rest : List (List ℕ)) × CutLeft ARRIVAL left' rest tail
-      × ((now written_now : Option (List ℕ)) (end : PlayEnd) → Runs R' rest tail left' now written' written_now end → Runs R arrivals tail left now written written_now end)
+      × ((now written_now : Option (List ℕ)) (end : PlayEnd)
+      → Runs R' rest tail left' now written' written_now end
+      → Runs R arrivals tail left now written written_now end)
+
+-- a run that waits for its next arrival at this event was prompt
+abbrev pub WaitsPromptly : ℕ → (old new : WireState) → Type 0
+WaitsPromptly event old new = (R : Run) → (R [] ≡ ends (waiting event) []) → IsPrompt R old new
+
+-- where the run R' is prompt from here on, the run R is prompt from there on
+pub record GoesOnPromptly (R R' : Run) (old new : WireState) : Type 0 where
+  pub each : (end : WireState) → IsPrompt R' new end → IsPrompt R old end
+
+-- a run that waits at this event and gets this arrival goes on promptly
+abbrev pub ReceivesPromptly : ℕ → List ℕ → (old new : WireState) → Type 0
+ReceivesPromptly event b old new =
+    (R R' : Run) → (R [] ≡ ends (waiting event) [])
+    → ((arrivals : List (List ℕ)) → R (b ∷ arrivals) ≡ R' arrivals)
+    → GoesOnPromptly R R' old new
+
+-- a run that sends this message goes on promptly
+abbrev pub SendsPromptly : List ℕ → (old new : WireState) → Type 0
+SendsPromptly b old new =
+    (R R' : Run) → ((arrivals : List (List ℕ)) → R arrivals ≡ says b (R' arrivals))
+    → GoesOnPromptly R R' old new
+
+-- nothing was taken
+pub record TookNothing (old new : WireState) : Type 0 where
+  pub left : new.left ≡ old.left
+  pub taken_at : new.taken_at ≡ old.taken_at

@@ -1,8 +1,13 @@
-use crate::codes::code;
+//! Sessions over wires in memory.
+
+ghost use Rattle.std.specs.Prelude.{◌≤◌, length, All, IfOk};
+ghost use Rattle.anb_base.specs.declared.TheConstants.{ARRIVAL};
+
 use crate::{PlayEnd, play};
-use anb_base::{Bytes, MemWire, read_full};
+use anb_base::{Bytes, MemWire, Suite, read_full};
 use anb_code::RoleCode;
 use anb_machine::{Halt, Machine};
+use anb_sample_codes::{NoCode, code, values};
 use std::alloc::Global;
 use std::process::Abort;
 use std::test::Fail;
@@ -10,12 +15,19 @@ use std::test::Fail;
 /// Sends what it knows, and compares it with what comes.
 const SENDER: &str = "take N; send 0; recv; equal 0 1";
 
-/// A machine over initial values, each of which is `ab`.
-fn start<'c>(rt: &impl Abort, alloc: Global, code: &'c RoleCode) -> Result<Machine<'c>, Fail> {
-    let mut init = Vec::new(alloc);
-    for _ in 0..code.takes() {
-        init.push(Bytes::new(Vec::from_slice(alloc, b"ab")?))?;
+/// No initial value, or `ab`.
+fn initial(alloc: Global, code: &RoleCode) -> Result<Vec<Bytes>, NoCode>
+    ensures { IfOk result (λ init. All (λ value. length value ≤ ARRIVAL) init.items) }
+{
+    if code.takes() == 0 {
+        return Ok(Vec::new(alloc));
     }
+    values(alloc, "ab")
+}
+
+/// A machine over these values.
+fn start<'c>(rt: &impl Abort, alloc: Global, code: &'c RoleCode) -> Result<Machine<'c>, Fail> {
+    let init = initial(alloc, code)?;
     assert!(rt; code.takes() as usize == init.len());
     Ok(Machine::start(alloc, code, &init, &[0; 32], 0)?)
 }
@@ -58,7 +70,7 @@ fn frame_of(alloc: Global, len: u32) -> Result<Vec<u8>, Fail> {
 #[test]
 fn a_sender_ends_by_the_answer(rt: HostRuntime) -> Result<(), Fail> {
     let alloc = rt.alloc();
-    let code = code(&rt, alloc, SENDER)?;
+    let code = code(alloc, Suite::One, SENDER)?;
     let ping = b"\0\0\0\x02ab";
     let stopped = PlayEnd::Stopped(Halt { event: 2, at: 4 });
     plays(&rt, alloc, &code, ping, PlayEnd::Done, ping, 0)?;
@@ -78,7 +90,7 @@ fn a_sender_ends_by_the_answer(rt: HostRuntime) -> Result<(), Fail> {
 #[test]
 fn an_arrival_has_up_to_262144_bytes(rt: HostRuntime) -> Result<(), Fail> {
     let alloc = rt.alloc();
-    let code = code(&rt, alloc, "recv")?;
+    let code = code(alloc, Suite::One, "recv")?;
     for len in [0, 65_537, 262_144] {
         let input = frame_of(alloc, len)?;
         plays(&rt, alloc, &code, &input, PlayEnd::Done, b"", 0)?;
@@ -91,7 +103,7 @@ fn an_arrival_has_up_to_262144_bytes(rt: HostRuntime) -> Result<(), Fail> {
 #[test]
 fn an_input_ends_at_a_border_or_within_a_frame(rt: HostRuntime) -> Result<(), Fail> {
     let alloc = rt.alloc();
-    let code = code(&rt, alloc, "recv; recv")?;
+    let code = code(alloc, Suite::One, "recv; recv")?;
     let short = PlayEnd::Truncated { have: 2, need: 4 };
     plays(&rt, alloc, &code, b"\0\0", short, b"", 0)?;
     plays(
@@ -105,6 +117,17 @@ fn an_input_ends_at_a_border_or_within_a_frame(rt: HostRuntime) -> Result<(), Fa
     )?;
     let within = PlayEnd::Truncated { have: 5, need: 7 };
     plays(&rt, alloc, &code, b"\0\0\0\x01a\0\0\0\x03b", within, b"", 0)
+}
+
+#[test]
+fn an_arrival_is_read_once_all_that_is_due_is_written(rt: HostRuntime) -> Result<(), Fail> {
+    let alloc = rt.alloc();
+    let code = code(alloc, Suite::One, "take N; recv; send 0; recv")?;
+    let mut machine = start(&rt, alloc, &code)?;
+    let mut wire = wire(alloc, b"\0\0\0\x01a\0\0\0\0", 3, 0)?;
+    assert_eq!(rt; play(alloc, &mut machine, &mut wire), PlayEnd::Done);
+    assert_eq!(rt; wire.taken_at(), [0, 0, 0, 0, 0, 6, 6, 6, 6].as_slice());
+    Ok(())
 }
 
 /// What a sender's play answers where this call fails, and how many bytes it wrote of its frame.
@@ -124,7 +147,7 @@ fn ends_failing(
 #[test]
 fn a_fault_at_any_call_is_answered(rt: HostRuntime) -> Result<(), Fail> {
     let alloc = rt.alloc();
-    let code = code(&rt, alloc, SENDER)?;
+    let code = code(alloc, Suite::One, SENDER)?;
     for call in 1..7 {
         let end = ends_failing(&rt, alloc, &code, call)?;
         assert_eq!(rt; end, (PlayEnd::WriteFault, call as usize - 1));
@@ -140,7 +163,7 @@ fn a_fault_at_any_call_is_answered(rt: HostRuntime) -> Result<(), Fail> {
 #[test]
 fn a_machine_that_waits_goes_on_over_another_wire(rt: HostRuntime) -> Result<(), Fail> {
     let alloc = rt.alloc();
-    let code = code(&rt, alloc, SENDER)?;
+    let code = code(alloc, Suite::One, SENDER)?;
     let mut machine = start(&rt, alloc, &code)?;
     let mut first = wire(alloc, b"\0\0", 16, 0)?;
     let short = PlayEnd::Truncated { have: 2, need: 4 };

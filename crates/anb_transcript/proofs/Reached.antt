@@ -1,14 +1,16 @@
 -- How far a run is followed.
-use Rattle.std.proofs.Common.{◌≡◌, ◌<◌, ◌⊎◌, inl, inr, ◌+◌, ℕ, List, [], ◌∷◌, ◌++◌, length, take, drop, get_or, refl, sym, ap, ◌∙◌, append_assoc, arith, length-append}
+use Rattle.std.proofs.Common.{◌≡◌, ◌<◌, ◌≤◌, ◌⊎◌, inl, inr, ◌+◌, ℕ, zero, suc, subst, List, [], ◌∷◌, ◌++◌, length, take, drop, get_or, refl, sym, ap, ◌∙◌, append_assoc, arith, length-append}
 use Rattle.std.proofs.Math.Seq.{drop-append_seam}
 use Rattle.std.proofs.lemmas.List.{append-nil, reverse-append, take_more, drop_more, take-append-drop}
+use Rattle.std.specs.List.{AllByRecursion}
+use Rattle.anb_base.specs.declared.TheConstants.{ARRIVAL}
 use Rattle.anb_plays.specs.Plays.{Played, says}
 use Rattle.anb_transcript.specs.declared.transcript.TranscriptLine.{TranscriptLine}
 use Rattle.anb_transcript.specs.declared.transcript.TranscriptLine.TheVariants.{In, Out}
 use Rattle.anb_transcript.specs.declared.following.ReplayEnd.{ReplayEnd}
 use Rattle.anb_transcript.specs.declared.following.ReplayEnd.TheVariants.{Follows, Differs, Short, Stopped, NoMemory}
 use Rattle.anb_transcript.specs.Replays.{IsDue, AreDue, Replays, arrivals_of, messages_of, due_after, last_arrival}
-use Rattle.anb_transcript.specs.Turns.{Covers, EndsAt, EndsBehind}
+use Rattle.anb_transcript.specs.Turns.{Covers, EndsAt, EndsBehind, IsShort}
 
 -- ---- lists of lines
 
@@ -115,3 +117,11 @@ module _ (R R' : List (List ℕ) → Played (List ℕ)) (before : List Transcrip
   ends_behind covered heard (Short event) at last h = (h.0, reached.due, due_there R R' before reached ∙ h.1, h.2, h.3 ∙ ap (λ (n : ℕ). n + 1) at)
   ends_behind covered heard (Stopped halt n) at last h = (before, [], sym (append-nil before), h.0 ∙ last, reached.due, due_there R R' before reached ∙ h.1)
   ends_behind covered heard NoMemory at last h = tt
+
+-- each arrival is short
+pub short_at : (lines : List TranscriptLine) (i : ℕ) (line : TranscriptLine) → AllByRecursion (λ arrival. length arrival ≤ ARRIVAL) (arrivals_of lines) → i < length lines → line ≡ get_or lines i line → IsShort line
+short_at [] i line all h e = absurd (omega (arith, h))
+short_at (In arrival ∷ lines) zero line all h e = subst IsShort (sym e) all.0
+short_at (In arrival ∷ lines) (suc i) line all h e = short_at lines i line all.1 (omega (arith, h)) e
+short_at (Out message ∷ lines) zero line all h e = subst IsShort (sym e) tt
+short_at (Out message ∷ lines) (suc i) line all h e = short_at lines i line all (omega (arith, h)) e

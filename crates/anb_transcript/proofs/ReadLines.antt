@@ -8,12 +8,7 @@ use Rattle.anb_transcript.specs.declared.transcript.TranscriptLine.{TranscriptLi
 use Rattle.anb_transcript.specs.declared.transcript.TranscriptLine.TheVariants.{In, Out}
 use Rattle.anb_transcript.specs.Replays.{arrivals_of}
 use Rattle.anb_transcript.specs.Texts.{Says, IsFirstFaulty, lines_of}
-
-zip_push : {X Y : Type 0} (R : X → Y → Type 0) (xs : List X) (ys : List Y) (x : X) (y : Y) → AllZip R xs ys → R x y → AllZip R (xs ++ x ∷ []) (ys ++ y ∷ [])
-zip_push R [] [] x y all r = (r, tt)
-zip_push R [] (b ∷ bs) x y all r = absurd all
-zip_push R (a ∷ as') [] x y all r = absurd all
-zip_push R (a ∷ as') (b ∷ bs) x y all r = (all.0, zip_push R as' bs x y all.1 r)
+use Rattle.anb_lemmas.proofs.Each.{zip_and_last}
 
 zip_length : {X Y : Type 0} (R : X → Y → Type 0) (xs : List X) (ys : List Y) → AllZip R xs ys → length xs ≡ length ys
 zip_length R [] [] all = refl
@@ -36,7 +31,7 @@ pub read_further : (text rest after line : List ℕ) (said : List TranscriptLine
 read_further text rest after line said next read first less says = record {
   before = read.before ++ line ∷ [];
   lines = read.lines ∙ ap (λ t. read.before ++ t) first ∙ sym (append_assoc read.before (line ∷ []) (lines_of after));
-  says = zip_push Says read.before said line next read.says says;
+  says = zip_and_last Says read.before said line next read.says says;
   size = omega (arith, read.size, less, length-append said (next ∷ []));
 }
 

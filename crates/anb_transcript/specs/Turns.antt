@@ -1,5 +1,6 @@
 -- What one line does to a run under way, and how it ends.
-use Rattle.std.specs.Prelude.{◌≡◌, ◌≢◌, ◌+◌, ℕ, List, [], ◌∷◌, Ok, Err}
+use Rattle.std.specs.Prelude.{◌≡◌, ◌≢◌, ◌+◌, ◌≤◌, ℕ, List, [], ◌∷◌, length, Ok, Err}
+use Rattle.anb_base.specs.declared.TheConstants.{ARRIVAL}
 use Rattle.anb_plays.specs.Plays.{Played, says}
 use Rattle.anb_transcript.specs.declared.transcript.TranscriptLine.{TranscriptLine}
 use Rattle.anb_transcript.specs.declared.transcript.TranscriptLine.TheVariants.{In, Out}
@@ -8,6 +9,11 @@ use Rattle.anb_transcript.specs.declared.following.Due.TheVariants.{End}
 use Rattle.anb_transcript.specs.declared.following.ReplayEnd.{ReplayEnd}
 use Rattle.anb_transcript.specs.declared.following.ReplayEnd.TheVariants.{Follows, Differs, Short, Stopped, NoMemory}
 use Rattle.anb_transcript.specs.Replays.{IsDue, due_after}
+
+-- an arrival is no longer than a frame may be
+abbrev pub IsShort : TranscriptLine → Type 0
+IsShort (In arrival) = length arrival ≤ ARRIVAL
+IsShort (Out message) = Unit {0}
 
 -- behind a line the run R goes on as R'
 abbrev pub GoesOn : (R R' : List (List ℕ) → Played (List ℕ)) → TranscriptLine → Type 0

@@ -1,10 +1,11 @@
-ghost use Rattle.std.specs.Prelude.{◌≡◌, ◌<◌, ◌^◌, ℕ, [], length, OnOk, IfErr, IsTrue, Ok};
+//! Transcripts against runs, line by line.
+ghost use Rattle.std.specs.Prelude.{◌≡◌, ◌<◌, ◌≤◌, ◌^◌, ℕ, [], length, All, OnOk, IfErr, IsTrue, Ok};
 ghost use Rattle.anb_machine.specs.Machines.{gives, waits};
-ghost use Rattle.anb_transcript.specs.Replays.{IsDue, Replays, due_after};
-ghost use Rattle.anb_transcript.specs.Turns.{Covers, EndsAt, EndsBehind};
+ghost use Rattle.anb_transcript.specs.Replays.{IsDue, Replays, arrivals_of, due_after};
+ghost use Rattle.anb_transcript.specs.Turns.{Covers, EndsAt, EndsBehind, IsShort};
 
 use crate::transcript::{Transcript, TranscriptLine};
-use anb_base::Bytes;
+use anb_base::{ARRIVAL, Bytes};
 use anb_machine::{Halt, Machine, Turn};
 use std::alloc::Global;
 
@@ -37,7 +38,8 @@ pub enum ReplayEnd {
 /// Compares a transcript with what a machine does from where it stands, for a whole run a machine
 /// that was newly started.
 pub fn replay(alloc: Global, machine: &mut Machine<'_>, transcript: &Transcript) -> ReplayEnd
-    requires { length transcript.now < 2 ^ 32 }
+    requires few { length transcript.now < 2 ^ 32 }
+    requires arrivals { All (λ arrival. length arrival ≤ ARRIVAL) (arrivals_of transcript.now) }
     ensures { Replays (gives machine.old) transcript.now result }
 {
     let mut covered = 0;
@@ -62,6 +64,7 @@ fn cover(
     number: u32,
     heard: u32,
 ) -> Result<(), ReplayEnd>
+    requires { IsShort line.now }
     ensures covers { OnOk result (Covers (gives machine.old) (gives machine.new) line.now) }
     ensures ends { IfErr result (EndsAt (gives machine.old) line.now number heard) }
 {
@@ -80,7 +83,8 @@ fn cover(
 /// Compares the line of this number with a message that is due.
 fn compare(message: Bytes, line: &TranscriptLine, number: u32) -> Result<(), ReplayEnd>
     ensures same { OnOk result (line.now ≡ TranscriptLine.Out message) }
-    ensures differs { IfErr result (λ end. (end ≡ ReplayEnd.Differs number (Due.Send message)) × (IsDue (Ok (Due.Send message)) line.now → ⊥)) }
+    ensures differs { IfErr result (λ end. (end ≡ ReplayEnd.Differs number (Due.Send message))
+        × (IsDue (Ok (Due.Send message)) line.now → ⊥)) }
 {
     match line {
         TranscriptLine::Out(bytes) if bytes.as_slice() == message.as_slice() => Ok(()),
@@ -100,8 +104,10 @@ fn hear(
 ) -> Result<(), ReplayEnd>
     requires waits { IsTrue (waits machine.old) }
     requires due { due_after (gives machine.old) [] ≡ Ok Due.Receive }
+    requires short { IsShort line.now }
     ensures covers { OnOk result (Covers (gives machine.old) (gives machine.new) line.now) }
-    ensures ends { IfErr result (λ end. (heard : ℕ) → EndsAt (gives machine.old) line.now number heard end) }
+    ensures ends { IfErr result (λ end. (heard : ℕ)
+        → EndsAt (gives machine.old) line.now number heard end) }
 {
     match line {
         TranscriptLine::In(arrival) => match arrival.copy(alloc) {

@@ -26,6 +26,4 @@ pub fn one_replay()
 {}
 
 #[cfg(test)]
-mod codes;
-#[cfg(test)]
 mod tests;

@@ -1,3 +1,4 @@
+//! Transcripts from their texts.
 ghost use Rattle.std.specs.Prelude.{◌≡◌, ◌<◌, ◌≤◌, ℕ, List, [], ◌∷◌, length, IfOk, IfSome, IfNone, All, Ok};
 ghost use Rattle.hex.specs.Hex.{decode_of};
 ghost use Rattle.anb_base.specs.declared.TheConstants.{ARRIVAL};
@@ -14,7 +15,8 @@ pub fn read_transcript(alloc: Global, text: &[u8]) -> Result<Transcript, Transcr
     requires { length text.now ≤ 16777216 }
     ensures reads { Reads text.now result }
     ensures few { IfOk result (λ transcript. length transcript ≤ length text.now) }
-    ensures arrivals { IfOk result (λ transcript. All (λ arrival. length arrival ≤ ARRIVAL) (arrivals_of transcript)) }
+    ensures arrivals { IfOk result (λ transcript.
+        All (λ arrival. length arrival ≤ ARRIVAL) (arrivals_of transcript)) }
 {
     let mut lines = Vec::new(alloc);
     let mut rest = text;
@@ -58,7 +60,8 @@ fn read_line(alloc: Global, line: &[u8]) -> Result<Option<TranscriptLine>, NoMem
 /// The arrival of these digits, which has at most [`ARRIVAL`] bytes.
 fn arrival(alloc: Global, digits: &[u8]) -> Result<Option<TranscriptLine>, NoMemory>
     ensures some { IfOk result (λ r. IfSome r (Says (60 ∷ 32 ∷ digits.now))) }
-    ensures none { IfOk result (λ r. IfNone r ((said : TranscriptLine) → Says (60 ∷ 32 ∷ digits.now) said → ⊥)) }
+    ensures none { IfOk result (λ r.
+        IfNone r ((said : TranscriptLine) → Says (60 ∷ 32 ∷ digits.now) said → ⊥)) }
 {
     let Some(bytes) = decoded(alloc, digits)? else {
         return Ok(None);
@@ -72,7 +75,8 @@ fn arrival(alloc: Global, digits: &[u8]) -> Result<Option<TranscriptLine>, NoMem
 /// The message of these digits.
 fn message(alloc: Global, digits: &[u8]) -> Result<Option<TranscriptLine>, NoMemory>
     ensures some { IfOk result (λ r. IfSome r (Says (62 ∷ 32 ∷ digits.now))) }
-    ensures none { IfOk result (λ r. IfNone r ((said : TranscriptLine) → Says (62 ∷ 32 ∷ digits.now) said → ⊥)) }
+    ensures none { IfOk result (λ r.
+        IfNone r ((said : TranscriptLine) → Says (62 ∷ 32 ∷ digits.now) said → ⊥)) }
 {
     match decoded(alloc, digits)? {
         Some(bytes) => Ok(Some(TranscriptLine::Out(bytes))),
@@ -83,7 +87,8 @@ fn message(alloc: Global, digits: &[u8]) -> Result<Option<TranscriptLine>, NoMem
 /// The bytes that these digits write, two each.
 fn decoded(alloc: Global, digits: &[u8]) -> Result<Option<Bytes>, NoMemory>
     ensures some { IfOk result (λ r. IfSome r (λ bytes. decode_of digits.now ≡ Ok bytes)) }
-    ensures none { IfOk result (λ r. IfNone r ((bytes : List ℕ) → decode_of digits.now ≡ Ok bytes → ⊥)) }
+    ensures none { IfOk result (λ r.
+        IfNone r ((bytes : List ℕ) → decode_of digits.now ≡ Ok bytes → ⊥)) }
 {
     match hex::decode(alloc, digits) {
         Ok(bytes) => Ok(Some(Bytes::new(bytes))),

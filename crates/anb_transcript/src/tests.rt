@@ -1,7 +1,8 @@
-use crate::codes::code;
+//! Transcripts compared with runs.
 use crate::{Due, ReplayEnd, Transcript, TranscriptLine, TranscriptNo, read_transcript, replay};
-use anb_base::Bytes;
+use anb_base::{Bytes, Suite};
 use anb_machine::Machine;
+use anb_sample_codes::{code, values};
 use std::alloc::Global;
 use std::process::Abort;
 use std::test::Fail;
@@ -21,15 +22,12 @@ fn replayed(
     rt: &impl Abort,
     alloc: Global,
     lines: &str,
-    values: &str,
+    texts: &str,
     text: &str,
 ) -> Result<String, Fail> {
     let transcript = read(rt, alloc, text.as_bytes())?;
-    let code = code(rt, alloc, lines)?;
-    let mut init = Vec::new(alloc);
-    for value in values.split(';') {
-        init.push(Bytes::new(Vec::from_slice(alloc, value.as_bytes())?))?;
-    }
+    let code = code(alloc, Suite::One, lines)?;
+    let init = values(alloc, texts)?;
     assert!(rt; code.takes() as usize == init.len());
     let mut machine = Machine::start(alloc, &code, &init, &[0; 32], 0)?;
     assert!(rt; transcript.lines().len() <= 1_000);

@@ -1,3 +1,4 @@
+//! Transcripts as lists of lines, and why a text is none.
 ghost use Rattle.std.specs.Prelude.{◌≡◌};
 ghost use Rattle.anb_transcript.specs.declared.transcript.TranscriptNo.TheVariants as refusal;
 

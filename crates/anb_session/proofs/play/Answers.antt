@@ -1,6 +1,7 @@
 use Rattle.std.proofs.Common.{arith, refl, ◌∙◌}
 use Rattle.anb_machine.specs.Machines.{gives}
 use Rattle.anb_session.proofs.Continued.{going_nowhere, continued, ending}
+use Rattle.anb_session.proofs.Prompt.{prompt_still, nowhere_promptly, joined_promptly}
 use Rattle.anb_session.proofs.Written.{written_back, rose_later}
 use Rattle.anb_session.proofs.play.Goals as goal
 
@@ -8,6 +9,7 @@ pub loop-end-init : goal.loop-end-init
 loop-end-init g c = record {
   room = omega (arith, c.in-Ok.ensures.len, c.in-Ok.buffer.ok.0);
   continues = going_nowhere (gives c.args.machine.now) (g.W.Source.left c.args.wire.now) (g.W.Sink.written c.args.wire.now);
+  goes_on = nowhere_promptly (gives c.args.machine.now) (g.W.Wire.state c.args.wire.now);
   reading = omega arith;
   writing = omega arith;
   reached = refl;
@@ -22,6 +24,7 @@ loop-end-preserved g c =
       continues =
           continued (gives c.args.machine.now) (gives c.loop-end.machine) (gives c.turn.new.machine) (g.W.Source.left c.args.wire.now) (g.W.Source.left c.loop-end.wire) (g.W.Source.left c.turn.new.wire)
           (g.W.Sink.written c.args.wire.now) (g.W.Sink.written c.loop-end.wire) (g.W.Sink.written c.turn.new.wire) old.continues now.continues;
+      goes_on = joined_promptly (gives c.args.machine.now) (gives c.loop-end.machine) (gives c.turn.new.machine) (g.W.Wire.state c.args.wire.now) (g.W.Wire.state c.loop-end.wire) (g.W.Wire.state c.turn.new.wire) old.goes_on now.goes_on;
       reading = omega (arith, old.reading, now.reading_never_falls);
       writing = omega (arith, old.writing, now.writing_never_falls);
       reached = now.reached ∙ old.reached;
@@ -34,6 +37,7 @@ returns-in-Some g c =
     record {
       runs = ending (gives c.args.machine.now) (gives c.loop-end.machine) (g.W.Source.left c.args.wire.now) (g.W.Source.left c.loop-end.wire) (g.W.Sink.written c.args.wire.now) (g.W.Sink.written c.loop-end.wire)
           (g.W.Source.left c.turn.new.wire) (g.W.Sink.written c.turn.new.wire) c.in-Some.end old.continues c.in-Some.ensures.ends;
+      prompt = old.goes_on.each (g.W.Wire.state c.turn.new.wire) c.in-Some.ensures.prompt;
       waits = c.in-Some.ensures.waits;
       read_fault = λ is. rose_later _ _ _ old.reading (c.in-Some.ensures.read_fault is);
       write_fault = λ is. rose_later _ _ _ old.writing (c.in-Some.ensures.write_fault is);
@@ -42,3 +46,6 @@ returns-in-Some g c =
       reached = c.in-Some.ensures.reached ∙ old.reached;
       reach_faults = c.in-Some.ensures.reach_faults ∙ old.reach_faults;
     }
+
+pub returns-in_default-clause-prompt : goal.returns-in_default-clause-prompt
+returns-in_default-clause-prompt g c = prompt_still (gives c.args.machine.now) (g.W.Wire.state c.args.wire.now)

@@ -1,4 +1,6 @@
+use Rattle.std.proofs.Common.{Ok, ap, ◌∙◌}
 use Rattle.anb_session.proofs.Continued.{read_fault}
+use Rattle.anb_session.proofs.Prompt.{stamped_told, received_in_time, waited_in_time}
 use Rattle.anb_session.proofs.Written.{kept_first}
 use Rattle.anb_session.proofs.receive.Goals as goal
 
@@ -6,5 +8,43 @@ pub returns-in-Err-Failed-clause-ends : goal.returns-in-Err-Failed-clause-ends
 returns-in-Err-Failed-clause-ends g c =
     let failed = c.in-Err-Failed.ensures in
     let same = kept_first _ _ _ _ _ _ _ _ failed.kept (g.met.W.Wire.beside_source c.args.wire.now) (g.met.W.Wire.beside_source c.take.new.src) in
-    read_fault c.args.event _ (g.W.Source.left c.args.wire.now) (g.W.Source.left c.take.new.src) (g.W.Sink.written c.args.wire.now) (g.W.Sink.written c.take.new.src) c.take.new.buf
+    read_fault c.args.event _ _ (g.W.Source.left c.args.wire.now) (g.W.Source.left c.take.new.src) _ _ (g.W.Sink.written c.args.wire.now) (g.W.Sink.written c.take.new.src) c.take.new.buf
     c.in-Err-Failed.field-0 c.requires c.in-Err-Failed.field-0-is same failed.takes
+
+pub returns-in-Ok-clause-goes_on : goal.returns-in-Ok-clause-goes_on
+returns-in-Ok-clause-goes_on g c =
+    let same = kept_first _ _ _ _ _ _ _ _ c.take.ensures.kept (g.met.W.Wire.beside_source c.args.wire.now) (g.met.W.Wire.beside_source c.take.new.src) in
+    let whole = c.in-Ok-Frame.is ∙ ap Ok c.in-Ok-Frame.field-0-is in
+    let arrival = c.new.ensures ∙ c.in-Ok.ensures.items in
+    rw (arrival, g.met.W.Wire.state_tells c.args.wire.now, g.met.W.Wire.state_tells c.take.new.src)
+    (received_in_time _ _ c.args.event _ _ c.take.new.buf c.requires same (λ k. stamped_told _ _ _ _ _ _ k (g.met.W.Wire.beside_source c.args.wire.now)) c.in-Ok-Frame.n c.take.result whole c.take.ensures.takes)
+
+pub returns-in-Err-clause-prompt : goal.returns-in-Err-clause-prompt
+returns-in-Err-clause-prompt g c =
+    let same = kept_first _ _ _ _ _ _ _ _ c.take.ensures.kept (g.met.W.Wire.beside_source c.args.wire.now) (g.met.W.Wire.beside_source c.take.new.src) in
+    rw (g.met.W.Wire.state_tells c.args.wire.now, g.met.W.Wire.state_tells c.take.new.src)
+    (waited_in_time _ _ c.args.event _ _ c.take.new.buf c.requires same (λ k. stamped_told _ _ _ _ _ _ k (g.met.W.Wire.beside_source c.args.wire.now)) c.take.result c.take.ensures.takes)
+
+pub returns-in-Ok-End-clause-prompt : goal.returns-in-Ok-End-clause-prompt
+returns-in-Ok-End-clause-prompt g c =
+    let same = kept_first _ _ _ _ _ _ _ _ c.take.ensures.kept (g.met.W.Wire.beside_source c.args.wire.now) (g.met.W.Wire.beside_source c.take.new.src) in
+    rw (g.met.W.Wire.state_tells c.args.wire.now, g.met.W.Wire.state_tells c.take.new.src)
+    (waited_in_time _ _ c.args.event _ _ c.take.new.buf c.requires same (λ k. stamped_told _ _ _ _ _ _ k (g.met.W.Wire.beside_source c.args.wire.now)) c.take.result c.take.ensures.takes)
+
+pub returns-in-Err-Truncated-clause-prompt : goal.returns-in-Err-Truncated-clause-prompt
+returns-in-Err-Truncated-clause-prompt g c =
+    let same = kept_first _ _ _ _ _ _ _ _ c.take.ensures.kept (g.met.W.Wire.beside_source c.args.wire.now) (g.met.W.Wire.beside_source c.take.new.src) in
+    rw (g.met.W.Wire.state_tells c.args.wire.now, g.met.W.Wire.state_tells c.take.new.src)
+    (waited_in_time _ _ c.args.event _ _ c.take.new.buf c.requires same (λ k. stamped_told _ _ _ _ _ _ k (g.met.W.Wire.beside_source c.args.wire.now)) c.take.result c.take.ensures.takes)
+
+pub returns-in-Err-TooLarge-clause-prompt : goal.returns-in-Err-TooLarge-clause-prompt
+returns-in-Err-TooLarge-clause-prompt g c =
+    let same = kept_first _ _ _ _ _ _ _ _ c.take.ensures.kept (g.met.W.Wire.beside_source c.args.wire.now) (g.met.W.Wire.beside_source c.take.new.src) in
+    rw (g.met.W.Wire.state_tells c.args.wire.now, g.met.W.Wire.state_tells c.take.new.src)
+    (waited_in_time _ _ c.args.event _ _ c.take.new.buf c.requires same (λ k. stamped_told _ _ _ _ _ _ k (g.met.W.Wire.beside_source c.args.wire.now)) c.take.result c.take.ensures.takes)
+
+pub returns-in-Err-Failed-clause-prompt : goal.returns-in-Err-Failed-clause-prompt
+returns-in-Err-Failed-clause-prompt g c =
+    let same = kept_first _ _ _ _ _ _ _ _ c.take.ensures.kept (g.met.W.Wire.beside_source c.args.wire.now) (g.met.W.Wire.beside_source c.take.new.src) in
+    rw (g.met.W.Wire.state_tells c.args.wire.now, g.met.W.Wire.state_tells c.take.new.src)
+    (waited_in_time _ _ c.args.event _ _ c.take.new.buf c.requires same (λ k. stamped_told _ _ _ _ _ _ k (g.met.W.Wire.beside_source c.args.wire.now)) c.take.result c.take.ensures.takes)

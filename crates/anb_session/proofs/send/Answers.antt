@@ -1,6 +1,19 @@
+use Rattle.std.proofs.Common.{◌∙◌, subst}
+use Rattle.anb_base.specs.Moves.{Put, PutPrefix}
 use Rattle.anb_session.proofs.Continued.{write_fault}
+use Rattle.anb_session.proofs.Prompt.{saying_promptly}
+use Rattle.anb_session.proofs.Written.{kept_first, kept_third}
 use Rattle.anb_session.proofs.send.Goals as goal
 
-pub returns-in-Err-clause-ends : goal.returns-in-Err-clause-ends
-returns-in-Err-clause-ends g c =
-    write_fault c.args.message.now (g.W.Source.left c.args.wire.now) (g.W.Source.left c.put.new.snk) (g.W.Sink.written c.args.wire.now) (g.W.Sink.written c.put.new.snk) c.in-Err.ensures.failed
+pub returns-in-Ok-write_whole-clause-goes_on : goal.returns-in-Ok-write_whole-clause-goes_on
+returns-in-Ok-write_whole-clause-goes_on g c =
+    let left = kept_first _ _ _ _ _ _ _ _ c.write_whole.ensures.kept (g.met.W.Wire.beside_sink c.args.wire.now) (g.met.W.Wire.beside_sink c.write_whole.new.snk) in
+    let taken_at = kept_third _ _ _ _ _ _ _ _ _ _ c.write_whole.ensures.kept (g.met.W.Wire.beside_sink c.args.wire.now) (g.met.W.Wire.beside_sink c.write_whole.new.snk) in
+    let put = subst (Put (g.W.Sink.written c.args.wire.now) (g.W.Sink.written c.write_whole.new.snk)) (c.as_slice.ensures ∙ c.in-Ok.ensures) c.in-Ok-write_whole.ensures.put in
+    rw (g.met.W.Wire.state_tells c.args.wire.now, g.met.W.Wire.state_tells c.write_whole.new.snk)
+    (saying_promptly _ _ c.args.message.now put (record { left = left; taken_at = taken_at }))
+
+pub returns-clause-ends : goal.returns-clause-ends
+returns-clause-ends g c =
+    let put = subst (PutPrefix (g.W.Sink.written c.args.wire.now) (g.W.Sink.written c.write_whole.new.snk)) (c.as_slice.ensures ∙ c.in-Ok.ensures) c.in-Err.ensures.failed in
+    write_fault c.args.message.now (g.W.Source.left c.args.wire.now) (g.W.Source.left c.write_whole.new.snk) (g.W.Sink.written c.args.wire.now) (g.W.Sink.written c.write_whole.new.snk) put

@@ -1,0 +1,10 @@
+pub mod Isolation
+pub mod Past
+pub mod Pieces
+pub mod Reading
+pub mod Responding
+pub mod Served
+pub mod Settling
+pub mod Standing
+pub mod Turning
+pub mod Writing

@@ -1,0 +1,16 @@
+//! Laws of what hosts read and tell.
+
+ghost use Rattle.std.specs.Prelude.{ℕ};
+ghost use Rattle.anb_host.specs.HostFrames.{HasFrames, HasOneReading};
+ghost use Rattle.anb_host.specs.Own.{Run, IsIsolated};
+
+/// Law: whatever the sessions play, each is told what it would be told alone.
+pub fn sessions_are_isolated()
+    ensures { (plays : ℕ → Run) → IsIsolated plays }
+{}
+
+/// Law: each input is the frames of some events and a tail, in exactly one way.
+pub fn inputs_have_one_reading()
+    ensures exists { HasFrames }
+    ensures unique { HasOneReading }
+{}

@@ -1,0 +1,22 @@
+//! Many sessions of one code, on one stream of events.
+//!
+//! Each session is a run of the code with draws of its own. It is told what it would be told
+//! alone, whatever events of other sessions stand between its own.
+#![tactic(auto)]
+
+mod event;
+mod frames;
+mod host;
+mod laws;
+mod serving;
+mod session;
+
+pub use event::{Cause, HostEvent, Notice};
+pub use host::Host;
+pub use laws::{inputs_have_one_reading, sessions_are_isolated};
+pub use serving::{HostEnd, serve};
+
+#[cfg(test)]
+mod codes;
+#[cfg(test)]
+mod tests;
