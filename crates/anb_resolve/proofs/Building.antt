@@ -13,14 +13,16 @@ use Rattle.anb_resolve.specs.declared.parts.Atom.{Atom}
 use Rattle.anb_resolve.specs.Choices.{each_after}
 use Rattle.anb_resolve.specs.Names.{among, atoms, roles, line_names, action_roles, first_new}
 use Rattle.anb_resolve.specs.Protocols.{ProtocolValue, ActionValue, resolved_all, line_of, action_of, formats_of, role_number, protocol_of}
-use Rattle.anb_resolve.specs.Checks.{fault, first_fault, limit_checks, name_checks, protocol_checks, misshapen, overlap}
+use Rattle.anb_resolve.specs.Checks.{fault, first_fault, limit_checks, name_checks, protocol_checks, declared_twice, misshapen, overlap}
 use Rattle.anb_resolve.specs.declared.refusals.ResolveNo.{ResolveNo}
 use Rattle.anb_resolve.specs.WellFormed.{CanBeChecked}
 use Rattle.anb_resolve.specs.Texts.{IsTermOf, known_terms}
 use Rattle.anb_resolve.specs.Plans.{messages}
 use Rattle.anb_resolve.proofs.Afters.{any-append}
-use Rattle.anb_resolve.proofs.Faultless.{all_map, all_parts, all-map}
+use Rattle.anb_resolve.proofs.Faultless.{or_none, all_map, all_parts, all-map}
 use Rattle.anb_resolve.proofs.OrLemmas.{skip, stop}
+use Rattle.anb_resolve.proofs.ReadOnce.{text_once}
+use Rattle.anb_resolve.proofs.Differing.{names_of_narration}
 use Rattle.anb_resolve.proofs.Formed.{found}
 use Rattle.anb_resolve.proofs.Holding.{sound_items, IsSoundItem, facts_of_narration}
 
@@ -116,7 +118,7 @@ can_be_checked n s l a m =
     let f = facts_of_narration n s l a m in
     let p = protocol_of n in
     let t = all_parts (IsTermOf p) (known_terms p) (messages p.actions) f.terms in
-    record { actions = omega (arith, f.actions); knows = f.knows; known = t.0; sent = t.1 }
+    record { actions = omega (arith, f.actions); knows = f.knows; known = t.0; sent = t.1; apart = text_once p (names_of_narration n s (or_none (declared_twice n) _ a).0) }
 
 pub sound_formats : (n : Narration) → misshapen n ≡ None → IsSpellable n → AllByRecursion (λ (f : FormatItem). IsSound f.pieces) n.formats
 sound_formats n m s = all_map IsSoundItem (λ (f : FormatItem). IsSound f.pieces) (λ f h. IsSound-pass f.pieces h) n.formats (sound_items n m s.valid.formats)

@@ -12,6 +12,7 @@ pub mod PlaceLemmas
 pub mod PlanLaws
 pub mod PlanTerms
 pub mod UseLemmas
+pub mod AtomNames
 pub mod TermAmong
 pub mod FirstLemmas
 pub mod AgainLemmas

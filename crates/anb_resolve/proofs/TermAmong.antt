@@ -1,30 +1,54 @@
--- A term among others.
-use Rattle.std.proofs.Common.{◌≡◌, ℕ, ◌+◌, ◌<◌, List, ◌∷◌, length, map, drop, get_or, ap, sym, ◌∙◌, refl, Bool, true, false}
+-- A term among others, told by its text.
+use Rattle.std.proofs.Common.{◌≡◌, ℕ, ◌<◌, List, [], ◌∷◌, length, take, get_or, map, ap, sym, ◌∙◌, refl, Bool, true, false}
 use Rattle.std.specs.Prelude.{◌||◌}
-use Rattle.std.proofs.lemmas.List.{drop_more}
-use Rattle.anb_term.specs.declared.term.Term.{Term}
-use Rattle.anb_term.specs.Tree as term
-use Rattle.anb_term.specs.Tree.{tree_eqb}
-use Rattle.anb_term.specs.TreeSame.{tree_same, tree_itself, term_of-tree_of}
-use Rattle.anb_term.specs.View.{tree_of, term_of}
+use Rattle.std.specs.List.{AllByRecursion, list_any}
+use Rattle.std.specs.Str.{bytes_eq}
+use Rattle.std.proofs.lemmas.Slice.Eq.{bytes_eq-Decides}
+use Rattle.anb_index.specs.Places as places
+use Rattle.anb_term.specs.Tree.{Tree, tree_eqb}
+use Rattle.std.proofs.lemmas.Option.{get_or_from_slice_get}
+use Rattle.anb_term.proofs.Lists.{all_at, all_take, map-take, slice_get-map, slice_get-there}
+use Rattle.anb_term.specs.TreeSame.{tree_same, tree_itself}
+use Rattle.anb_resolve.specs.Protocols.{ProtocolValue}
+use Rattle.anb_resolve.specs.Texts.{IsTermOf, term_text}
 use Rattle.anb_resolve.specs.Checks.{is_among}
+use Rattle.anb_resolve.specs.WellFormed.{AreToldApart}
 
-next_is : (before : List Term) (i : ℕ) (u : Term) (t : term.Tree) → i < length before → u ≡ get_or before i u
-    → is_among (map tree_of (drop i before)) t ≡ (tree_eqb (tree_of u) t || is_among (map tree_of (drop (i + 1) before)) t)
-next_is before i u t h e = ap (λ us. is_among (map tree_of us) t) (drop_more before i u h ∙ ap (λ y. y ∷ drop (i + 1) before) (sym e))
+module _ (p : ProtocolValue) (apart : AreToldApart p) where
+  told_as : (u t : Tree) (b : Bool) → IsTermOf p u → IsTermOf p t → tree_eqb u t ≡ b → bytes_eq (term_text p u) (term_text p t) ≡ b
+  told_as u t true h k e = (bytes_eq-Decides (term_text p u) (term_text p t)).1 (ap (term_text p) (tree_same u t e))
+  told_as u t false h k e = by_test (bytes_eq (term_text p u) (term_text p t)) refl
+    where
+      by_test : (v : Bool) → bytes_eq (term_text p u) (term_text p t) ≡ v → v ≡ false
+      by_test true d =
+          let same : u ≡ t = apart u t h k ((bytes_eq-Decides (term_text p u) (term_text p t)).0 d) in
+          let is : tree_eqb u t ≡ true = ap (λ v. tree_eqb v t) same ∙ tree_itself t in
+          sym is ∙ e
+      by_test false d = refl
 
-pub among_here : (before : List Term) (i : ℕ) (u t : Term) (total : Bool) → i < length before → u ≡ get_or before i u → u ≡ t
-    → is_among (map tree_of (drop i before)) (tree_of t) ≡ total → true ≡ total
-among_here before i u t total h e same inv =
-    let is : tree_eqb (tree_of u) (tree_of t) ≡ true = ap (λ v. tree_eqb (tree_of v) (tree_of t)) same ∙ tree_itself (tree_of t) in
-    sym (next_is before i u (tree_of t) h e ∙ ap (λ b. b || is_among (map tree_of (drop (i + 1) before)) (tree_of t)) is) ∙ inv
+  pub among_texts : (before : List Tree) (t : Tree) → AllByRecursion (IsTermOf p) before → IsTermOf p t → places.is_among (map (term_text p) before) (term_text p t) ≡ is_among before t
+  among_texts [] t all h = refl
+  among_texts (u ∷ before) t all h =
+      ap (λ b. b || list_any (λ y. bytes_eq y (term_text p t)) (map (term_text p) before)) (told_as u t (tree_eqb u t) all.0 h refl)
+      ∙ ap (λ b. tree_eqb u t || b) (among_texts before t all.1 h)
 
-other : (u t : Term) (b : Bool) → tree_eqb (tree_of u) (tree_of t) ≡ b → (u ≡ t → ⊥) → b ≡ false
-other u t true e n = absurd (n (sym (term_of-tree_of u) ∙ ap term_of (tree_same (tree_of u) (tree_of t) e) ∙ term_of-tree_of t))
-other u t false e n = refl
+  -- a text that stands at a place, and whether it stands before
+  pub record IsTold (ts : List Tree) (i : ℕ) (text : List ℕ) (found : Bool) : Type 0 where
+    pub term : Tree
+    pub stands : term ≡ get_or ts i term
+    pub told : text ≡ term_text p term
+    pub again : is_among (take i ts) term ≡ found
 
-pub among_next : (before : List Term) (i : ℕ) (u t : Term) (total : Bool) → i < length before → u ≡ get_or before i u → (u ≡ t → ⊥)
-    → is_among (map tree_of (drop i before)) (tree_of t) ≡ total → is_among (map tree_of (drop (i + 1) before)) (tree_of t) ≡ total
-among_next before i u t total h e n inv =
-    let is = other u t (tree_eqb (tree_of u) (tree_of t)) refl n in
-    sym (next_is before i u (tree_of t) h e ∙ ap (λ b. b || is_among (map tree_of (drop (i + 1) before)) (tree_of t)) is) ∙ inv
+  pub told_at : (ts : List Tree) (i : ℕ) (text : List ℕ) (found : Bool) → AllByRecursion (IsTermOf p) ts → i < length ts → text ≡ get_or (map (term_text p) ts) i text
+      → found ≡ places.is_among (take i (map (term_text p) ts)) text → IsTold ts i text found
+  told_at ts i text found all h e is =
+      let there = slice_get-there ts i h in
+      let t = there.0 in
+      let told : text ≡ term_text p t = e ∙ get_or_from_slice_get (map (term_text p) ts) i (term_text p t) text (slice_get-map (term_text p) ts i t there.1) in
+      let same = among_texts (take i ts) t (all_take (IsTermOf p) i ts all) (all_at (IsTermOf p) ts i t all there.1) in
+      record {
+        term = t;
+        stands = sym (get_or_from_slice_get ts i t t there.1);
+        told = told;
+        again = sym (is ∙ ap (places.is_among (take i (map (term_text p) ts))) told ∙ ap (λ l. places.is_among l (term_text p t)) (sym (map-take (term_text p) i ts)) ∙ same);
+      }

@@ -89,6 +89,10 @@ is_agent Key = false
 abbrev pub names_agent : List Atom → List ℕ → Bool
 names_agent all x = list_any (λ (a : Atom). bytes_eq a.name x && is_agent a.sort) all
 
+-- the name of an atom that is an agent
+abbrev pub agent_names : Atom → List (List ℕ)
+agent_names a = if is_agent a.sort then a.name ∷ [] else []
+
 abbrev pub names_format : List FormatItem → List ℕ → Bool
 names_format formats x = list_any (λ (f : FormatItem). bytes_eq f.title x) formats
 

@@ -8,7 +8,8 @@ pub mod Plans
 pub mod WellFormed
 pub mod Plays
 pub mod Schedules
-pub mod Seen
 pub mod Codes
 pub mod Laws
 pub mod Views
+-- for proofs alone
+pub mod Seen

@@ -3,10 +3,11 @@ use Rattle.std.specs.Prelude.{◌≡◌, ℕ, ◌<◌, ◌≤◌, ◌^◌, List,
 use Rattle.std.specs.List.{AllByRecursion, sum_by}
 use Rattle.anb_base.specs.declared.TheConstants.{ARRIVAL, WIDE}
 use Rattle.anb_format.specs.Formats.{FormatValue, field_count}
+use Rattle.anb_term.specs.Tree.{Tree}
 use Rattle.anb_syntax.specs.Grammar.{Narration, FormatItem, IsSpellable}
 use Rattle.anb_resolve.specs.Names.{all_names, atoms, roles, terms}
 use Rattle.anb_resolve.specs.Protocols.{ProtocolValue, protocol_of}
-use Rattle.anb_resolve.specs.Texts.{IsTermOf, known_terms}
+use Rattle.anb_resolve.specs.Texts.{IsTermOf, known_terms, term_text}
 use Rattle.anb_resolve.specs.Plans.{messages}
 use Rattle.anb_resolve.specs.Checks.{IsWellFormed, tree_nodes}
 
@@ -32,9 +33,14 @@ pub record AreFew (fs : List FormatValue) : Type 0 where
   pub formats : length fs ≤ 64
   pub fields : AllByRecursion (λ (f : FormatValue). field_count f.pieces ≤ 32) fs
 
+-- different terms have different texts
+abbrev pub AreToldApart : ProtocolValue → Type 0
+AreToldApart p = (t u : Tree) → IsTermOf p t → IsTermOf p u → term_text p t ≡ term_text p u → t ≡ u
+
 -- enough holds of a protocol that its actions and terms can be looked at
 pub record CanBeChecked (p : ProtocolValue) : Type 0 where
   pub actions : length p.actions < 2 ^ 32
   pub knows : length p.knows ≡ length p.roles
   pub known : AllByRecursion (IsTermOf p) (known_terms p)
   pub sent : AllByRecursion (IsTermOf p) (messages p.actions)
+  pub apart : AreToldApart p

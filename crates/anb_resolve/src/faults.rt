@@ -1,3 +1,4 @@
+//! What is wrong with actions and knowledge.
 ghost use Rattle.std.specs.Prelude.{◌≡◌, ◌≤◌, ◌<◌, [], length, map, IfOk, IfSome, IsTrue};
 ghost use Rattle.std.specs.Option.{option_map};
 ghost use Rattle.std.specs.List.{All};
@@ -6,30 +7,31 @@ ghost use Rattle.anb_term.specs.Operator.{arity};
 ghost use Rattle.anb_term.specs.Tree.{trees_of, IsFormed, AreFormed};
 ghost use Rattle.anb_term.specs.View.{tree_of};
 ghost use Rattle.anb_algebra.specs.ByteMeaning.{has_operator};
-ghost use Rattle.anb_resolve.specs.Checks.{again_at, is_among};
 ghost use Rattle.anb_resolve.specs.Widths.{all_fit_width, at_most, fits_width, op_width, sealed_width, width_if, widths_if};
 
 use crate::parts::Parts;
 use crate::refusals::{Item, ResolveNo};
 use anb_base::{ARRIVAL, NoMemory, Text, WIDE};
 use anb_format::Format;
+use anb_index::TextIndex;
 use anb_term::{Op, Term};
 use std::alloc::Global;
 
 impl Parts {
-    ghost use Rattle.std.specs.Prelude.{◌≡◌, map, IfOk};
+    ghost use Rattle.std.specs.Prelude.{◌≡◌, ◌<◌, [], length, map, IfOk, IfSome};
     ghost use Rattle.std.specs.List.{AllByRecursion};
     ghost use Rattle.anb_term.specs.View.{tree_of};
     ghost use Rattle.anb_base.specs.declared.TheConstants.{ARRIVAL, WIDE};
     ghost use Rattle.anb_resolve.specs.Texts.{IsTermOf};
-    ghost use Rattle.anb_resolve.specs.Checks.{first_fault, protocol_checks, self_send, known_again, known_twice, wide_knowledge, wide_message};
-    ghost use Rattle.anb_resolve.specs.WellFormed.{CanBeChecked};
+    ghost use Rattle.anb_resolve.specs.Checks.{again_at, first_fault, protocol_checks, self_send, known_again, known_twice, wide_knowledge, wide_message};
+    ghost use Rattle.anb_resolve.specs.WellFormed.{AreToldApart, CanBeChecked};
     ghost use Rattle.anb_resolve.specs.Views.{value_of};
 
     /// The first of the actions and the terms that is wrong.
     pub(crate) fn fault(&self, alloc: Global) -> Result<Option<ResolveNo>, NoMemory>
         requires { CanBeChecked (value_of self.now) }
-        ensures { IfOk result (λ no. no ≡ first_fault (protocol_checks ARRIVAL WIDE) (value_of self.now)) }
+        ensures { IfOk result (λ no.
+            no ≡ first_fault (protocol_checks ARRIVAL WIDE) (value_of self.now)) }
     {
         if let Some(no) = self.self_send() {
             return Ok(Some(no));
@@ -79,16 +81,36 @@ impl Parts {
         role: &Text,
         terms: &[Term],
     ) -> Result<Option<ResolveNo>, NoMemory>
-        requires { AllByRecursion (IsTermOf (value_of self.now)) (map tree_of terms.now) }
-        ensures { IfOk result (λ no. no ≡ known_again (value_of self.now) (role.now, map tree_of terms.now)) }
+        requires apart { AreToldApart (value_of self.now) }
+        requires terms { AllByRecursion (IsTermOf (value_of self.now)) (map tree_of terms.now) }
+        ensures { IfOk result (λ no.
+            no ≡ known_again (value_of self.now) (role.now, map tree_of terms.now)) }
     {
-        match known_again(terms) {
+        let again = self.known_again(alloc, terms)?;
+        match again {
             Some(k) => {
                 let text = self.text_of_term(alloc, &terms[k])?;
                 Ok(Some(ResolveNo::KnowledgeTwice(role.copy(alloc)?, text)))
             }
             None => Ok(None),
         }
+    }
+
+    /// The place of the first term that is one of those before it, as texts tell them apart.
+    fn known_again(&self, alloc: Global, terms: &[Term]) -> Result<Option<usize>, NoMemory>
+        requires apart { AreToldApart (value_of self.now) }
+        requires terms { AllByRecursion (IsTermOf (value_of self.now)) (map tree_of terms.now) }
+        ensures place { IfOk result (λ place. place ≡ again_at [] (map tree_of terms.now)) }
+        ensures within { IfOk result (λ place. IfSome place (λ k. k < length terms.now)) }
+    {
+        let texts = self.texts_of_terms(alloc, terms)?;
+        let mut seen = TextIndex::new(alloc);
+        for (i, text) in texts.iter().enumerate() {
+            if seen.push(text.as_str())? {
+                return Ok(Some(i));
+            }
+        }
+        Ok(None)
     }
 
     /// The first role that knows a term that is too wide.
@@ -119,30 +141,6 @@ impl Parts {
     }
 }
 
-/// The place of the first term that is one of those before it.
-fn known_again(terms: &[Term]) -> Option<usize>
-    ensures place { result ≡ again_at [] (map tree_of terms.now) }
-    ensures within { IfSome result (λ k. k < length terms.now) }
-{
-    for (i, t) in terms.iter().enumerate() {
-        if is_among(&terms[..i], t) {
-            return Some(i);
-        }
-    }
-    None
-}
-
-fn is_among(before: &[Term], t: &Term) -> bool
-    ensures { result ≡ is_among (map tree_of before.now) (tree_of t.now) }
-{
-    for other in before {
-        if other.same(t) {
-            return true;
-        }
-    }
-    false
-}
-
 /// Whether no subterm of a term is too wide.
 fn fits(alloc: Global, formats: &[Format], t: &Term) -> Result<bool, NoMemory>
     requires { IsFormed (has_operator formats.now) (tree_of t.now) }
@@ -155,7 +153,8 @@ fn fits(alloc: Global, formats: &[Format], t: &Term) -> Result<bool, NoMemory>
 /// Whether no subterm of these terms is too wide.
 fn fit(alloc: Global, formats: &[Format], terms: &[Term]) -> Result<bool, NoMemory>
     requires { AreFormed (has_operator formats.now) (trees_of (map tree_of terms.now)) }
-    ensures { IfOk result (λ b. b ≡ all_fit_width ARRIVAL formats.now WIDE (map tree_of terms.now)) }
+    ensures { IfOk result (λ b.
+        b ≡ all_fit_width ARRIVAL formats.now WIDE (map tree_of terms.now)) }
 {
     let widths = widths_of(alloc, formats, terms)?;
     Ok(widths.is_some())
@@ -186,7 +185,9 @@ fn widths_of(
     terms: &[Term],
 ) -> Result<Option<Vec<u32>>, NoMemory>
     requires { AreFormed (has_operator formats.now) (trees_of (map tree_of terms.now)) }
-    ensures { IfOk result (λ ws. option_map (λ v. v.items) ws ≡ widths_if ARRIVAL formats.now WIDE (trees_of (map tree_of terms.now))) }
+    ensures { IfOk result (λ ws.
+        option_map (λ v. v.items) ws
+        ≡ widths_if ARRIVAL formats.now WIDE (trees_of (map tree_of terms.now))) }
 {
     let mut widths = Vec::new(alloc);
     for t in terms {

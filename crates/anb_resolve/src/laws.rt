@@ -1,3 +1,4 @@
+//! Laws of protocols, plans and plays.
 ghost use Rattle.anb_resolve.specs.Laws.{HonestAgrees, KnownTextsDiffer, LimitsGrow, MadeIsNew, PlansKnowFirst, PlayIsOne, PlayIsThere, ProtocolsHold, SmallIsCountable, TermsOfPlans};
 
 use crate::protocol::Protocol;

@@ -5,6 +5,7 @@
 //! (Almousa, Mödersheim and Viganò 2015).
 #![tactic(auto)]
 
+mod atoms;
 mod faults;
 mod laws;
 mod limits;

@@ -1,3 +1,4 @@
+//! Counts that are above their limits.
 ghost use Rattle.std.specs.Prelude.{◌≡◌, ◌<◌, ◌≤◌, ◌^◌, ◌++◌, ◌∷◌, List, ℕ, length, map, IfOk, None};
 ghost use Rattle.std.specs.Option.{option_or};
 ghost use Rattle.std.specs.List.{AllByRecursion, sum_by};
@@ -79,7 +80,9 @@ fn action_limit(n: &Narration) -> Option<ResolveNo>
 /// The first term that has too many nodes, or all of them together.
 fn node_limits(alloc: Global, n: &Narration) -> Result<Option<ResolveNo>, NoMemory>
     requires { sum_by tree_nodes (terms (narration_of n.now)) < 2 ^ 32 }
-    ensures { IfOk result (λ no. no ≡ option_or (term_limit (narration_of n.now)) (option_or (all_limit (narration_of n.now)) None)) }
+    ensures { IfOk result (λ no.
+        no ≡ option_or (term_limit (narration_of n.now))
+        (option_or (all_limit (narration_of n.now)) None)) }
 {
     let terms = terms_of(alloc, n)?;
     match term_limit(&terms) {
@@ -102,8 +105,10 @@ fn above(most: usize, kind: Kind, count: usize) -> Option<ResolveNo>
 
 /// The first of these names that is too long.
 fn name_limit(title: &Text, declared: &[&Text], uses: &[Use]) -> Option<ResolveNo>
-    requires { AllByRecursion (λ (x : List ℕ). length x < 2 ^ 32) (title.now ∷ pointed declared.now ++ map used_name (map use_of uses.now)) }
-    ensures { result ≡ first (λ (x : List ℕ). above 64 Name (length x)) (title.now ∷ pointed declared.now ++ map used_name (map use_of uses.now)) }
+    requires { AllByRecursion (λ (x : List ℕ). length x < 2 ^ 32)
+        (title.now ∷ pointed declared.now ++ map used_name (map use_of uses.now)) }
+    ensures { result ≡ first (λ (x : List ℕ). above 64 Name (length x))
+        (title.now ∷ pointed declared.now ++ map used_name (map use_of uses.now)) }
 {
     if let Some(no) = above(64, Kind::Name, title.as_str().len()) {
         return Some(no);
@@ -124,7 +129,8 @@ fn name_limit(title: &Text, declared: &[&Text], uses: &[Use]) -> Option<ResolveN
 /// The first format that has too many fields.
 fn field_limit(formats: &[FormatItem]) -> Option<ResolveNo>
     requires { AllByRecursion (λ (f : Item). length f.pieces < 2 ^ 32) (map format_of formats.now) }
-    ensures { result ≡ first (λ (f : Item). above 32 Fields (field_count f.pieces)) (map format_of formats.now) }
+    ensures { result ≡ first (λ (f : Item). above 32 Fields (field_count f.pieces))
+        (map format_of formats.now) }
 {
     for format in formats {
         if let Some(no) = above(32, Kind::Fields, field_count(&format.pieces)) {
@@ -151,7 +157,8 @@ pub(crate) fn field_count(pieces: &[Piece]) -> usize
 /// The first of these terms that has too many nodes.
 fn term_limit(terms: &[&Tree]) -> Option<ResolveNo>
     requires { sum_by tree_nodes (map tree_of (pointed terms.now)) < 2 ^ 32 }
-    ensures { result ≡ first (λ t. above 1024 TermNodes (tree_nodes t)) (map tree_of (pointed terms.now)) }
+    ensures { result ≡ first (λ t. above 1024 TermNodes (tree_nodes t))
+        (map tree_of (pointed terms.now)) }
 {
     for term in terms {
         if let Some(no) = above(1024, Kind::TermNodes, tree_nodes(term)) {

@@ -1,3 +1,4 @@
+//! Copies of terms.
 ghost use Rattle.std.specs.Prelude.{◌≡◌, IfOk};
 
 use anb_base::NoMemory;

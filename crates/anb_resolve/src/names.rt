@@ -1,4 +1,5 @@
-ghost use Rattle.std.specs.Prelude.{◌≡◌, ◌&&◌, ◌==◌, not, List, map, IfOk};
+//! Names that are declared twice, not at all, or used as something else.
+ghost use Rattle.std.specs.Prelude.{◌≡◌, ◌==◌, not, [], map, IfOk, IfNone};
 ghost use Rattle.std.specs.List.{list_any};
 ghost use Rattle.std.specs.Str.{bytes_eq};
 ghost use Rattle.anb_format.specs.Formats.{field_count};
@@ -7,15 +8,16 @@ ghost use Rattle.anb_syntax.specs.Views.{format_of, narration_of};
 ghost use Rattle.anb_resolve.specs.declared.refusals.ResolveNo.TheVariants.{Unknown, WrongSort, WrongCount};
 ghost use Rattle.anb_resolve.specs.Choices.{refuse_if, first};
 ghost use Rattle.anb_resolve.specs.Names.{used_name, among, declared_names, uses as uses_in, atoms as atoms_in};
-ghost use Rattle.anb_resolve.specs.Checks.{first_fault, name_checks, twice_among, is_agent, names_agent, names_format, is_missorted, has_count, is_miscounted};
+ghost use Rattle.anb_resolve.specs.Checks.{first_fault, name_checks, twice_among, names_format, is_missorted, has_count, is_miscounted};
 ghost use Rattle.anb_resolve.specs.Views.{pointed, use_of};
 
+use crate::atoms::AtomIndex;
 use crate::limits::field_count;
-use crate::parts::Atom;
 use crate::refusals::ResolveNo;
-use crate::uses::{Use, is_among, line_names};
+use crate::uses::{Use, line_names};
 use anb_base::{NoMemory, Text};
-use anb_syntax::{FormatItem, Narration, Sort};
+use anb_index::TextIndex;
+use anb_syntax::{FormatItem, Narration};
 use std::alloc::Global;
 
 /// The first name that is declared or used wrongly, where these are the declared names, the atoms and
@@ -24,7 +26,7 @@ pub(crate) fn name_fault(
     alloc: Global,
     n: &Narration,
     declared: &[&Text],
-    atoms: &[Atom],
+    atoms: &AtomIndex,
     uses: &[Use],
 ) -> Result<Option<ResolveNo>, NoMemory>
     requires declared { pointed declared.now ≡ declared_names (narration_of n.now) }
@@ -32,15 +34,17 @@ pub(crate) fn name_fault(
     requires uses { map use_of uses.now ≡ uses_in (narration_of n.now) }
     ensures { IfOk result (λ no. no ≡ first_fault name_checks (narration_of n.now)) }
 {
-    match twice(alloc, declared)? {
+    let mut names = TextIndex::new(alloc);
+    match twice(alloc, &mut names, declared)? {
         Some(no) => return Ok(Some(no)),
         None => {}
     }
-    match twice(alloc, &line_names(alloc, n)?)? {
+    let mut heads = TextIndex::new(alloc);
+    match twice(alloc, &mut heads, &line_names(alloc, n)?)? {
         Some(no) => return Ok(Some(no)),
         None => {}
     }
-    match unknown(alloc, declared, uses)? {
+    match unknown(alloc, &names, uses)? {
         Some(no) => return Ok(Some(no)),
         None => {}
     }
@@ -51,12 +55,18 @@ pub(crate) fn name_fault(
     wrong_count(alloc, &n.formats, uses)
 }
 
-/// The first of these names that is one of those before it.
-fn twice(alloc: Global, names: &[&Text]) -> Result<Option<ResolveNo>, NoMemory>
-    ensures { IfOk result (λ no. no ≡ twice_among (pointed names.now)) }
+/// The first of these names that is one of those before it. They go into an empty list.
+fn twice<'a>(
+    alloc: Global,
+    seen: &mut TextIndex<'a>,
+    names: &[&'a Text],
+) -> Result<Option<ResolveNo>, NoMemory>
+    requires { seen.old ≡ [] }
+    ensures first { IfOk result (λ no. no ≡ twice_among (pointed names.now)) }
+    ensures seen { IfOk result (λ no. IfNone no (seen.new ≡ pointed names.now)) }
 {
-    for (i, name) in names.iter().enumerate() {
-        if is_among(&names[..i], name) {
+    for name in names {
+        if seen.push(name.as_str())? {
             return Ok(Some(ResolveNo::Twice(name.copy(alloc)?)));
         }
     }
@@ -64,11 +74,13 @@ fn twice(alloc: Global, names: &[&Text]) -> Result<Option<ResolveNo>, NoMemory>
 }
 
 /// The first use of a name that isn't declared.
-fn unknown(alloc: Global, declared: &[&Text], uses: &[Use]) -> Result<Option<ResolveNo>, NoMemory>
-    ensures { IfOk result (λ no. no ≡ first (λ u. refuse_if (not (among (pointed declared.now) (used_name u))) (Unknown (used_name u))) (map use_of uses.now)) }
+fn unknown(alloc: Global, declared: &TextIndex, uses: &[Use]) -> Result<Option<ResolveNo>, NoMemory>
+    ensures { IfOk result (λ no.
+        no ≡ first (λ u. refuse_if (not (among declared.now (used_name u))) (Unknown (used_name u)))
+        (map use_of uses.now)) }
 {
     for used in uses {
-        if !is_among(declared, used.name()) {
+        if !declared.contains(used.name().as_str()) {
             return Ok(Some(ResolveNo::Unknown(used.name().copy(alloc)?)));
         }
     }
@@ -78,11 +90,13 @@ fn unknown(alloc: Global, declared: &[&Text], uses: &[Use]) -> Result<Option<Res
 /// The first use of a name that is of another sort.
 fn wrong_sort(
     alloc: Global,
-    atoms: &[Atom],
+    atoms: &AtomIndex,
     formats: &[FormatItem],
     uses: &[Use],
 ) -> Result<Option<ResolveNo>, NoMemory>
-    ensures { IfOk result (λ no. no ≡ first (λ u. refuse_if (is_missorted atoms.now (map format_of formats.now) u) (WrongSort (used_name u))) (map use_of uses.now)) }
+    ensures { IfOk result (λ no.
+        no ≡ first (λ u. refuse_if (is_missorted atoms.now (map format_of formats.now) u)
+        (WrongSort (used_name u))) (map use_of uses.now)) }
 {
     for used in uses {
         if is_missorted(atoms, formats, *used) {
@@ -92,31 +106,14 @@ fn wrong_sort(
     Ok(None)
 }
 
-fn is_missorted(atoms: &[Atom], formats: &[FormatItem], used: Use) -> bool
+fn is_missorted(atoms: &AtomIndex, formats: &[FormatItem], used: Use) -> bool
     ensures { result ≡ is_missorted atoms.now (map format_of formats.now) (use_of used.entry) }
 {
     match used {
-        Use::Role(name) => !names_agent(atoms, name),
+        Use::Role(name) => !atoms.has_agent(name),
         Use::Atom(name) => names_format(formats, name),
         Use::Format(name, _) => !names_format(formats, name),
     }
-}
-
-fn names_agent(atoms: &[Atom], name: &Text) -> bool
-    ensures { result ≡ names_agent atoms.now name.now }
-{
-    for atom in atoms {
-        if atom.name.as_str() == name.as_str() && is_agent(atom.sort) {
-            return true;
-        }
-    }
-    false
-}
-
-fn is_agent(sort: Sort) -> bool
-    ensures { result ≡ is_agent sort }
-{
-    matches!(sort, Sort::Agent)
 }
 
 fn names_format(formats: &[FormatItem], name: &Text) -> bool
@@ -136,7 +133,9 @@ fn wrong_count(
     formats: &[FormatItem],
     uses: &[Use],
 ) -> Result<Option<ResolveNo>, NoMemory>
-    ensures { IfOk result (λ no. no ≡ first (λ u. refuse_if (is_miscounted (map format_of formats.now) u) (WrongCount (used_name u))) (map use_of uses.now)) }
+    ensures { IfOk result (λ no.
+        no ≡ first (λ u. refuse_if (is_miscounted (map format_of formats.now) u)
+        (WrongCount (used_name u))) (map use_of uses.now)) }
 {
     for used in uses {
         if is_miscounted(formats, *used) {

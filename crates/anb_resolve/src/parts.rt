@@ -1,3 +1,4 @@
+//! What a protocol is made of.
 use anb_base::{Suite, Text};
 use anb_format::Format;
 use anb_syntax::Sort;

@@ -1,3 +1,4 @@
+//! The plans of roles.
 ghost use Rattle.std.specs.Prelude.{◌≡◌, ◌++◌, OnOk, map};
 ghost use Rattle.anb_resolve.specs.Plans.{own_events};
 ghost use Rattle.anb_resolve.specs.Views.{action_value, plan_event};
@@ -94,7 +95,8 @@ impl Parts {
 
     /// The events by which a role knows its terms.
     fn known_events(&self, alloc: Global, role: u32) -> Result<Vec<Event>, NoMemory>
-        ensures { IfOk result (λ events. map plan_event events.items ≡ map to_know (known_by (value_of self.now) role)) }
+        ensures { IfOk result (λ events.
+            map plan_event events.items ≡ map to_know (known_by (value_of self.now) role)) }
     {
         let terms = self.known_terms(role);
         let mut events = Vec::new(alloc);
@@ -116,7 +118,8 @@ impl Parts {
 
     /// The atoms in what some role knows, in order.
     pub(crate) fn known_atoms(&self, alloc: Global) -> Result<Vec<u32>, NoMemory>
-        ensures { IfOk result (λ atoms. atoms.items ≡ atoms_in_each (known_terms (value_of self.now))) }
+        ensures { IfOk result (λ atoms.
+            atoms.items ≡ atoms_in_each (known_terms (value_of self.now))) }
     {
         let mut atoms = Vec::new(alloc);
         for terms in &self.knows {
@@ -127,7 +130,9 @@ impl Parts {
 
     /// A flag for each atom, which tells whether it occurs in what some role knows.
     fn known_flags(&self, alloc: Global) -> Result<Vec<bool>, NoMemory>
-        ensures { IfOk result (λ flags. flags.items ≡ marked (replicate (length self.now.atoms.items) false) (atoms_in_each (known_terms (value_of self.now)))) }
+        ensures { IfOk result (λ flags.
+            flags.items ≡ marked (replicate (length self.now.atoms.items) false)
+            (atoms_in_each (known_terms (value_of self.now)))) }
     {
         let atoms = self.known_atoms(alloc)?;
         let mut flags = self.no_flags(alloc)?;
@@ -137,7 +142,8 @@ impl Parts {
 
     /// A flag for each atom, none of them set.
     pub(crate) fn no_flags(&self, alloc: Global) -> Result<Vec<bool>, NoMemory>
-        ensures { IfOk result (λ flags. flags.items ≡ replicate (length self.now.atoms.items) false) }
+        ensures { IfOk result (λ flags.
+            flags.items ≡ replicate (length self.now.atoms.items) false) }
     {
         Ok(vec![in alloc; false; self.atoms.len()]?)
     }
@@ -150,8 +156,11 @@ impl Parts {
         seen: &mut Vec<bool>,
         message: &Term,
     ) -> Result<Vec<u32>, NoMemory>
-        ensures made { IfOk result (λ names. names.items ≡ filter (names_number_or_key (value_of self.now)) (new_among seen.old.items (atoms_in (tree_of message.now)))) }
-        ensures marks { OnOk result (seen.new.items ≡ marked seen.old.items (atoms_in (tree_of message.now))) }
+        ensures made { IfOk result (λ names.
+            names.items ≡ filter (names_number_or_key (value_of self.now))
+            (new_among seen.old.items (atoms_in (tree_of message.now)))) }
+        ensures marks { OnOk result
+            (seen.new.items ≡ marked seen.old.items (atoms_in (tree_of message.now))) }
     {
         let mut atoms = Vec::new(alloc);
         put_atoms(&mut atoms, message)?;
@@ -161,7 +170,8 @@ impl Parts {
 
     /// Those of these atoms that are numbers or keys.
     fn numbers_and_keys(&self, alloc: Global, atoms: &[u32]) -> Result<Vec<u32>, NoMemory>
-        ensures { IfOk result (λ names. names.items ≡ filter (names_number_or_key (value_of self.now)) atoms.now) }
+        ensures { IfOk result (λ names.
+            names.items ≡ filter (names_number_or_key (value_of self.now)) atoms.now) }
     {
         let mut names = Vec::new(alloc);
         for a in atoms {
@@ -174,7 +184,8 @@ impl Parts {
 
     /// Whether some role makes a name.
     pub(crate) fn makes_names(&self, alloc: Global) -> Result<bool, NoMemory>
-        requires { AllByRecursion (λ (a : ActionValue). a.from < length self.now.roles.items) (value_of self.now).actions }
+        requires { AllByRecursion (λ (a : ActionValue). a.from < length self.now.roles.items)
+            (value_of self.now).actions }
         ensures { IfOk result (λ makes. IsTrue makes ↔ MakesNames (value_of self.now)) }
     {
         let mut seen = self.known_flags(alloc)?;
@@ -206,7 +217,9 @@ fn put_events(
     number: u32,
     names: &[u32],
 ) -> Result<(), NoMemory>
-    ensures { OnOk result (map plan_event events.new.items ≡ map plan_event events.old.items ++ own_events role number names.now (action_value action.now)) }
+    ensures { OnOk result (map plan_event events.new.items
+        ≡ map plan_event events.old.items ++ own_events role number names.now
+        (action_value action.now)) }
 {
     if action.from == role {
         for a in names {

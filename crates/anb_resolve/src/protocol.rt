@@ -1,3 +1,4 @@
+//! Protocols.
 use crate::parts::Parts;
 use crate::plans::Plan;
 use anb_base::{NoMemory, Suite, Text};
@@ -34,7 +35,8 @@ impl Model for Protocol {
 
     ghost view = { λ p. value_of p.parts };
 
-    ghost invariant = { λ p. IsProtocol (value_of p.parts) × (IsTrue p.makes ↔ MakesNames (value_of p.parts)) };
+    ghost invariant = { λ p. IsProtocol (value_of p.parts)
+        × (IsTrue p.makes ↔ MakesNames (value_of p.parts)) };
 }
 
 impl Protocol {

@@ -1,3 +1,4 @@
+//! Why a narration is no protocol.
 use anb_base::Text;
 use anb_format::FormatNo;
 

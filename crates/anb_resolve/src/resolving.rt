@@ -1,3 +1,4 @@
+//! From a narration to its protocol.
 ghost use Rattle.std.specs.Prelude.{◌≡◌, ◌≢◌, IfOk, IfErr, OnOk, MatchResult, None, Some};
 ghost use Rattle.anb_base.specs.declared.TheConstants.{ARRIVAL, WIDE};
 ghost use Rattle.anb_syntax.specs.Grammar.{IsSpellable};
@@ -8,6 +9,7 @@ ghost use Rattle.anb_resolve.specs.Protocols.{formats_of as formats_in, protocol
 ghost use Rattle.anb_resolve.specs.WellFormed.{AreFew, IsCountable};
 ghost use Rattle.anb_resolve.specs.Views.{pointed, value_of};
 
+use crate::atoms::AtomIndex;
 use crate::limits::limit_fault;
 use crate::names::name_fault;
 use crate::parts::{Atom, Parts};
@@ -29,7 +31,8 @@ pub fn resolve(alloc: Global, n: &Narration) -> Result<Protocol, ResolveNo>
     requires countable { IsCountable (narration_of n.now) }
     ensures well_formed { OnOk result (IsWellFormed ARRIVAL WIDE (narration_of n.now)) }
     ensures protocol { IfOk result (λ p. p ≡ protocol_of (narration_of n.now)) }
-    ensures refused { IfErr result (λ no. no ≢ ResolveNo.NoMemory → fault ARRIVAL WIDE (narration_of n.now) ≡ Some no) }
+    ensures refused { IfErr result (λ no. no ≢ ResolveNo.NoMemory
+        → fault ARRIVAL WIDE (narration_of n.now) ≡ Some no) }
 {
     match resolved(alloc, n) {
         Ok(Ok(protocol)) => Ok(protocol),
@@ -42,7 +45,10 @@ pub fn resolve(alloc: Global, n: &Narration) -> Result<Protocol, ResolveNo>
 fn resolved(alloc: Global, n: &Narration) -> Result<Result<Protocol, ResolveNo>, NoMemory>
     requires spellable { IsSpellable (narration_of n.now) }
     requires countable { IsCountable (narration_of n.now) }
-    ensures { IfOk result (λ r. MatchResult r (λ p. (IsWellFormed ARRIVAL WIDE (narration_of n.now)) × (p ≡ protocol_of (narration_of n.now))) (λ no. fault ARRIVAL WIDE (narration_of n.now) ≡ Some no)) }
+    ensures { IfOk result (λ r.
+        MatchResult r (λ p. (IsWellFormed ARRIVAL WIDE (narration_of n.now))
+        × (p ≡ protocol_of (narration_of n.now))) (λ no.
+        fault ARRIVAL WIDE (narration_of n.now) ≡ Some no)) }
 {
     let declared = declared_names(alloc, n)?;
     let uses = uses_of(alloc, n)?;
@@ -51,10 +57,12 @@ fn resolved(alloc: Global, n: &Narration) -> Result<Result<Protocol, ResolveNo>,
         Some(no) => return Ok(Err(no)),
         None => {}
     }
-    match name_fault(alloc, n, &declared, &atoms, &uses)? {
+    let index = AtomIndex::new(alloc, &atoms)?;
+    match name_fault(alloc, n, &declared, &index, &uses)? {
         Some(no) => return Ok(Err(no)),
         None => {}
     }
+    drop(index);
     match misshapen(alloc, &n.formats)? {
         Some(no) => return Ok(Err(no)),
         None => {}
@@ -87,8 +95,10 @@ fn parts_of(
     ensures { IfOk result (λ parts. value_of parts ≡ protocol_of (narration_of n.now)) }
 {
     let roles = copies(alloc, &role_names(alloc, n)?)?;
-    let knows = knows_of(alloc, &atoms, &formats, &roles, &n.knows)?;
-    let actions = actions_of(alloc, &atoms, &formats, &roles, &n.actions)?;
+    let index = AtomIndex::new(alloc, &atoms)?;
+    let knows = knows_of(alloc, &index, &formats, &roles, &n.knows)?;
+    let actions = actions_of(alloc, &index, &formats, &roles, &n.actions)?;
+    drop(index);
     Ok(Parts {
         name: n.name.copy(alloc)?,
         suite: n.suite,

@@ -1,3 +1,4 @@
+//! Roles by their names.
 use crate::parts::Parts;
 
 impl Parts {

@@ -1,3 +1,4 @@
+//! The atoms of terms, and flags for those that were seen.
 ghost use Rattle.std.specs.Prelude.{◌≡◌, ◌++◌, not, map, OnOk, IfOk, slice_index_or, slice_set, true};
 ghost use Rattle.anb_term.specs.Tree.{trees_of};
 ghost use Rattle.anb_term.specs.View.{tree_of};
@@ -25,7 +26,8 @@ pub(crate) fn put_atoms(out: &mut Vec<u32>, t: &Term) -> Result<(), NoMemory>
 /// Appends those in each of these terms.
 #[cycle(atoms)]
 pub(crate) fn put_all_atoms(out: &mut Vec<u32>, terms: &[Term]) -> Result<(), NoMemory>
-    ensures { OnOk result (out.new.items ≡ out.old.items ++ atoms_in_all (trees_of (map tree_of terms.now))) }
+    ensures { OnOk result (out.new.items
+        ≡ out.old.items ++ atoms_in_all (trees_of (map tree_of terms.now))) }
 {
     for t in terms {
         put_atoms(out, t)?;

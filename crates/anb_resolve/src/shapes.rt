@@ -1,3 +1,4 @@
+//! Formats that are misshapen or not apart.
 ghost use Rattle.std.specs.Prelude.{◌≡◌, ◌<◌, ◌^◌, ◌++◌, ◌∷◌, [], List, length, map, take, IfOk, Some};
 ghost use Rattle.std.specs.Option.{option_map};
 ghost use Rattle.std.specs.List.{AllByRecursion};
@@ -21,7 +22,9 @@ pub(crate) fn misshapen(
     formats: &[FormatItem],
 ) -> Result<Option<ResolveNo>, NoMemory>
     requires { AllByRecursion (λ (f : Item). length f.pieces < 2 ^ 32) (map format_of formats.now) }
-    ensures { IfOk result (λ no. no ≡ first (λ (f : Item). option_map (FormatShape f.title) (shape_fault f.pieces)) (map format_of formats.now)) }
+    ensures { IfOk result (λ no.
+        no ≡ first (λ (f : Item). option_map (FormatShape f.title) (shape_fault f.pieces))
+        (map format_of formats.now)) }
 {
     for format in formats {
         match Format::check(&format.pieces) {
@@ -44,7 +47,8 @@ fn misshapen_as(
 
 /// The formats, in memory of their own.
 pub(crate) fn formats_of(alloc: Global, items: &[FormatItem]) -> Result<Vec<Format>, NoMemory>
-    requires few { AllByRecursion (λ (f : Item). length f.pieces < 2 ^ 32) (map format_of items.now) }
+    requires few { AllByRecursion (λ (f : Item). length f.pieces < 2 ^ 32)
+        (map format_of items.now) }
     requires sound { AllByRecursion (λ (f : Item). IsSound f.pieces) (map format_of items.now) }
     ensures { IfOk result (λ formats. formats.items ≡ map format_value (map format_of items.now)) }
 {

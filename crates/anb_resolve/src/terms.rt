@@ -1,31 +1,20 @@
+//! Terms by numbers.
 ghost use Rattle.std.specs.Prelude.{◌≡◌, ◌<◌, ◌^◌, List, ℕ, length, map, IfOk};
 ghost use Rattle.anb_term.specs.Tree as term;
 ghost use Rattle.anb_term.specs.View.{tree_of as term_tree};
 ghost use Rattle.anb_syntax.specs.Grammar.{trees_of};
 ghost use Rattle.anb_syntax.specs.Views.{tree_of, know_of, action_of as action_item};
-ghost use Rattle.anb_resolve.specs.Protocols.{atom_number, fields_at, format_number, format_op, role_number, resolved, resolved_all, line_of, action_of};
+ghost use Rattle.anb_resolve.specs.Protocols.{fields_at, format_number, format_op, role_number, resolved, resolved_all, line_of, action_of};
 ghost use Rattle.anb_resolve.specs.WellFormed.{AreFew};
 ghost use Rattle.anb_resolve.specs.Views.{action_value};
 
-use crate::parts::{Action, Atom};
+use crate::atoms::AtomIndex;
+use crate::parts::Action;
 use anb_base::{NoMemory, Text};
 use anb_format::Format;
 use anb_syntax::{ActionItem, KnowItem, Tree};
 use anb_term::{Op, Term, Terms};
 use std::alloc::Global;
-
-/// The place of an atom's name, or 0.
-fn atom_number(atoms: &[Atom], name: &Text) -> u32
-    requires { length atoms.now < 2 ^ 32 }
-    ensures { result ≡ atom_number atoms.now name.now }
-{
-    for (i, atom) in atoms.iter().enumerate() {
-        if atom.name.as_str() == name.as_str() {
-            return i as u32;
-        }
-    }
-    0
-}
 
 /// The place of a format's name, or 0.
 fn format_number(formats: &[Format], name: &Text) -> usize
@@ -80,7 +69,7 @@ fn role_number(roles: &[Text], name: &Text) -> u32
 #[cycle(resolve)]
 pub(crate) fn resolved(
     alloc: Global,
-    atoms: &[Atom],
+    atoms: &AtomIndex,
     formats: &[Format],
     tree: &Tree,
 ) -> Result<Term, NoMemory>
@@ -89,7 +78,7 @@ pub(crate) fn resolved(
     ensures { IfOk result (λ t. term_tree t ≡ resolved atoms.now formats.now (tree_of tree.now)) }
 {
     match tree {
-        Tree::Name(name) => Ok(Term::Atom(atom_number(atoms, name))),
+        Tree::Name(name) => Ok(Term::Atom(atoms.number(name))),
         Tree::Apply(name, arguments) => {
             let operands = resolved_all(alloc, atoms, formats, arguments)?;
             Ok(Term::Node(format_op(formats, name), operands))
@@ -127,14 +116,18 @@ fn node(op: Op, operands: Vec<Term>) -> Term
 #[cycle(resolve)]
 pub(crate) fn resolved_all(
     alloc: Global,
-    atoms: &[Atom],
+    atoms: &AtomIndex,
     formats: &[Format],
     trees: &Vec<Tree>,
 ) -> Result<Terms, NoMemory>
     requires few { AreFew formats.now }
     requires atoms { length atoms.now < 2 ^ 32 }
-    ensures trees { IfOk result (λ ts. term.trees_of ts ≡ resolved_all atoms.now formats.now (trees_of (map tree_of trees.now.items))) }
-    ensures list { IfOk result (λ ts. ts ≡ term.list_of (resolved_all atoms.now formats.now (trees_of (map tree_of trees.now.items)))) }
+    ensures trees { IfOk result (λ ts.
+        term.trees_of ts ≡ resolved_all atoms.now formats.now
+        (trees_of (map tree_of trees.now.items))) }
+    ensures list { IfOk result (λ ts.
+        ts ≡ term.list_of (resolved_all atoms.now formats.now
+        (trees_of (map tree_of trees.now.items)))) }
 {
     let mut terms = Vec::new(alloc);
     for tree in trees {
@@ -146,14 +139,17 @@ pub(crate) fn resolved_all(
 /// What each role knows.
 pub(crate) fn knows_of(
     alloc: Global,
-    atoms: &[Atom],
+    atoms: &AtomIndex,
     formats: &[Format],
     roles: &[Text],
     lines: &Vec<KnowItem>,
 ) -> Result<Vec<Terms>, NoMemory>
     requires few { AreFew formats.now }
     requires atoms { length atoms.now < 2 ^ 32 }
-    ensures { IfOk result (λ knows. knows.items ≡ map (λ role. term.list_of (resolved_all atoms.now formats.now (line_of (map know_of lines.now.items) role))) roles.now) }
+    ensures { IfOk result (λ knows.
+        knows.items ≡ map (λ role.
+        term.list_of (resolved_all atoms.now formats.now
+        (line_of (map know_of lines.now.items) role))) roles.now) }
 {
     let mut knows = Vec::new(alloc);
     for role in roles {
@@ -165,14 +161,16 @@ pub(crate) fn knows_of(
 /// What one role knows.
 fn known_by(
     alloc: Global,
-    atoms: &[Atom],
+    atoms: &AtomIndex,
     formats: &[Format],
     role: &Text,
     lines: &Vec<KnowItem>,
 ) -> Result<Terms, NoMemory>
     requires few { AreFew formats.now }
     requires atoms { length atoms.now < 2 ^ 32 }
-    ensures { IfOk result (λ terms. terms ≡ term.list_of (resolved_all atoms.now formats.now (line_of (map know_of lines.now.items) role.now))) }
+    ensures { IfOk result (λ terms.
+        terms ≡ term.list_of (resolved_all atoms.now formats.now
+        (line_of (map know_of lines.now.items) role.now))) }
 {
     for line in lines {
         if line.role.as_str() == role.as_str() {
@@ -185,7 +183,7 @@ fn known_by(
 /// The actions by numbers.
 pub(crate) fn actions_of(
     alloc: Global,
-    atoms: &[Atom],
+    atoms: &AtomIndex,
     formats: &[Format],
     roles: &[Text],
     items: &Vec<ActionItem>,
@@ -193,7 +191,9 @@ pub(crate) fn actions_of(
     requires few { AreFew formats.now }
     requires atoms { length atoms.now < 2 ^ 32 }
     requires roles { length roles.now < 2 ^ 32 }
-    ensures { IfOk result (λ actions. map action_value actions.items ≡ map (action_of atoms.now formats.now roles.now) (map action_item items.now.items)) }
+    ensures { IfOk result (λ actions.
+        map action_value actions.items
+        ≡ map (action_of atoms.now formats.now roles.now) (map action_item items.now.items)) }
 {
     let mut actions = Vec::new(alloc);
     for item in items {

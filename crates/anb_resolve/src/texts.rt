@@ -1,3 +1,4 @@
+//! Terms as texts.
 ghost use Rattle.std.specs.Prelude.{◌≡◌, ◌++◌, ◌∷◌, [], map, string_bytes, OnOk, if◌then◌else◌};
 ghost use Rattle.anb_term.specs.Tree.{trees_of};
 ghost use Rattle.anb_term.specs.View.{tree_of};
@@ -29,10 +30,24 @@ impl Parts {
 
     /// The texts of the terms that a role knows.
     pub(crate) fn known(&self, alloc: Global, role: u32) -> Result<Vec<Text>, NoMemory>
-        requires { AllByRecursion (IsTermOf (value_of self.now)) (known_by (value_of self.now) role) }
+        requires { AllByRecursion (IsTermOf (value_of self.now))
+            (known_by (value_of self.now) role) }
         ensures { IfOk result (λ texts. texts.items ≡ known_texts (value_of self.now) role) }
     {
         let terms = self.known_terms(role);
+        self.texts_of_terms(alloc, terms)
+    }
+
+    /// The texts of these terms.
+    pub(crate) fn texts_of_terms(
+        &self,
+        alloc: Global,
+        terms: &[Term],
+    ) -> Result<Vec<Text>, NoMemory>
+        requires { AllByRecursion (IsTermOf (value_of self.now)) (map tree_of terms.now) }
+        ensures { IfOk result (λ texts.
+            texts.items ≡ map (term_text (value_of self.now)) (map tree_of terms.now)) }
+    {
         let mut texts = Vec::new(alloc);
         for term in terms {
             texts.push(self.text_of_term(alloc, term)?)?;
@@ -53,7 +68,8 @@ impl Parts {
 
     /// The names of these atoms.
     fn atom_texts(&self, alloc: Global, atoms: &[u32]) -> Result<Vec<Text>, NoMemory>
-        ensures { IfOk result (λ names. names.items ≡ map (atom_name (value_of self.now)) atoms.now) }
+        ensures { IfOk result (λ names.
+            names.items ≡ map (atom_name (value_of self.now)) atoms.now) }
     {
         let mut names = Vec::new(alloc);
         for a in atoms {
@@ -99,7 +115,8 @@ impl Parts {
 #[cycle(put)]
 fn put_term(parts: &Parts, out: &mut String, t: &Term) -> Result<(), NoMemory>
     requires { IsTermOf (value_of parts.now) (tree_of t.now) }
-    ensures { OnOk result (string_bytes out.new ≡ string_bytes out.old ++ term_text (value_of parts.now) (tree_of t.now)) }
+    ensures { OnOk result (string_bytes out.new
+        ≡ string_bytes out.old ++ term_text (value_of parts.now) (tree_of t.now)) }
 {
     match t {
         Term::Atom(a) => out.push_str(parts.atom_name(*a))?,
@@ -115,7 +132,9 @@ fn put_term(parts: &Parts, out: &mut String, t: &Term) -> Result<(), NoMemory>
 #[cycle(put)]
 fn put_operands(parts: &Parts, out: &mut String, operands: &[Term]) -> Result<(), NoMemory>
     requires { AreTermsOf (value_of parts.now) (trees_of (map tree_of operands.now)) }
-    ensures { OnOk result (string_bytes out.new ≡ string_bytes out.old ++ operands_text (value_of parts.now) (trees_of (map tree_of operands.now))) }
+    ensures { OnOk result (string_bytes out.new
+        ≡ string_bytes out.old ++ operands_text (value_of parts.now)
+        (trees_of (map tree_of operands.now))) }
 {
     out.push_str("(")?;
     let mut first = true;
@@ -130,7 +149,8 @@ fn put_operands(parts: &Parts, out: &mut String, operands: &[Term]) -> Result<()
 
 /// Appends a comma before each operand but the first.
 fn put_comma(out: &mut String, first: bool) -> Result<(), NoMemory>
-    ensures { OnOk result (string_bytes out.new ≡ (if first then string_bytes out.old else string_bytes out.old ++ 44 ∷ [])) }
+    ensures { OnOk result (string_bytes out.new
+        ≡ (if first then string_bytes out.old else string_bytes out.old ++ 44 ∷ [])) }
 {
     if first {
         return Ok(());

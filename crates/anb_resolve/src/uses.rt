@@ -1,13 +1,15 @@
-ghost use Rattle.std.specs.Prelude.{◌≡◌, ◌++◌, map, OnOk, IfOk};
+//! The names of a narration, and how it uses them.
+ghost use Rattle.std.specs.Prelude.{◌≡◌, ◌++◌, ◌∷◌, [], map, OnOk, IfOk};
 ghost use Rattle.std.specs.List.{flat_map};
 ghost use Rattle.std.specs.Str.{bytes_eq};
 ghost use Rattle.anb_syntax.specs.Grammar.{trees_of, list_of, TypeItem as Types, FormatItem as Format, KnowItem as Know, ActionItem as Action};
 ghost use Rattle.anb_syntax.specs.Views.{tree_of, type_of, format_of, know_of, action_of, narration_of};
-ghost use Rattle.anb_resolve.specs.Names.{action_roles, action_uses, among, declared_names, distinct, first_new, item_atoms, know_uses, line_names, roles, terms, trees_uses, tree_uses, used_name, uses};
+ghost use Rattle.anb_resolve.specs.Names.{action_roles, action_uses, declared_names, distinct, first_new, item_atoms, know_uses, line_names, roles, terms, trees_uses, tree_uses, used_name, uses};
 ghost use Rattle.anb_resolve.specs.Views.{pointed, use_of};
 
 use crate::parts::Atom;
 use anb_base::{NoMemory, Text};
+use anb_index::TextIndex;
 use anb_syntax::{ActionItem, FormatItem, KnowItem, Narration, Tree, TypeItem};
 use std::alloc::Global;
 
@@ -45,7 +47,8 @@ pub(crate) fn uses_of<'a>(alloc: Global, n: &'a Narration) -> Result<Vec<Use<'a>
 }
 
 fn put_know_uses<'a>(out: &mut Vec<Use<'a>>, knows: &'a Vec<KnowItem>) -> Result<(), NoMemory>
-    ensures { OnOk result (map use_of out.new.items ≡ map use_of out.old.items ++ flat_map know_uses (map know_of knows.now.items)) }
+    ensures { OnOk result (map use_of out.new.items
+        ≡ map use_of out.old.items ++ flat_map know_uses (map know_of knows.now.items)) }
 {
     for item in knows {
         out.push(Use::Role(&item.role))?;
@@ -55,7 +58,8 @@ fn put_know_uses<'a>(out: &mut Vec<Use<'a>>, knows: &'a Vec<KnowItem>) -> Result
 }
 
 fn put_action_uses<'a>(out: &mut Vec<Use<'a>>, actions: &'a Vec<ActionItem>) -> Result<(), NoMemory>
-    ensures { OnOk result (map use_of out.new.items ≡ map use_of out.old.items ++ flat_map action_uses (map action_of actions.now.items)) }
+    ensures { OnOk result (map use_of out.new.items
+        ≡ map use_of out.old.items ++ flat_map action_uses (map action_of actions.now.items)) }
 {
     for item in actions {
         out.push(Use::Role(&item.from))?;
@@ -68,7 +72,8 @@ fn put_action_uses<'a>(out: &mut Vec<Use<'a>>, actions: &'a Vec<ActionItem>) -> 
 /// Appends the uses in a term, from left to right.
 #[cycle(uses)]
 fn put_tree_uses<'a>(out: &mut Vec<Use<'a>>, tree: &'a Tree) -> Result<(), NoMemory>
-    ensures { OnOk result (map use_of out.new.items ≡ map use_of out.old.items ++ tree_uses (tree_of tree.now)) }
+    ensures { OnOk result (map use_of out.new.items
+        ≡ map use_of out.old.items ++ tree_uses (tree_of tree.now)) }
 {
     match tree {
         Tree::Name(name) => out.push(Use::Atom(name))?,
@@ -97,7 +102,8 @@ fn put_tree_uses<'a>(out: &mut Vec<Use<'a>>, tree: &'a Tree) -> Result<(), NoMem
 /// Appends those in each of these terms.
 #[cycle(uses)]
 fn put_trees_uses<'a>(out: &mut Vec<Use<'a>>, trees: &'a Vec<Tree>) -> Result<(), NoMemory>
-    ensures { OnOk result (map use_of out.new.items ≡ map use_of out.old.items ++ trees_uses (trees_of (map tree_of trees.now.items))) }
+    ensures { OnOk result (map use_of out.new.items
+        ≡ map use_of out.old.items ++ trees_uses (trees_of (map tree_of trees.now.items))) }
 {
     for tree in trees {
         put_tree_uses(out, tree)?;
@@ -141,7 +147,9 @@ pub(crate) fn declared_names<'a>(alloc: Global, n: &'a Narration) -> Result<Vec<
 }
 
 fn put_type_names<'a>(out: &mut Vec<&'a Text>, types: &'a Vec<TypeItem>) -> Result<(), NoMemory>
-    ensures { OnOk result (pointed out.new.items ≡ pointed out.old.items ++ flat_map (λ (i : Types). i.names) (map type_of types.now.items)) }
+    ensures { OnOk result (pointed out.new.items
+        ≡ pointed out.old.items ++ flat_map (λ (i : Types). i.names)
+        (map type_of types.now.items)) }
 {
     for item in types {
         put_names(out, &item.names)?;
@@ -162,7 +170,9 @@ fn put_format_names<'a>(
     out: &mut Vec<&'a Text>,
     formats: &'a Vec<FormatItem>,
 ) -> Result<(), NoMemory>
-    ensures { OnOk result (pointed out.new.items ≡ pointed out.old.items ++ map (λ (f : Format). f.title) (map format_of formats.now.items)) }
+    ensures { OnOk result (pointed out.new.items
+        ≡ pointed out.old.items ++ map (λ (f : Format). f.title)
+        (map format_of formats.now.items)) }
 {
     for format in formats {
         out.push(&format.name)?;
@@ -192,7 +202,8 @@ pub(crate) fn role_names<'a>(alloc: Global, n: &'a Narration) -> Result<Vec<&'a 
 
 /// Appends the names at the two ends of each action.
 fn put_ends<'a>(out: &mut Vec<&'a Text>, actions: &'a Vec<ActionItem>) -> Result<(), NoMemory>
-    ensures { OnOk result (pointed out.new.items ≡ pointed out.old.items ++ flat_map action_roles (map action_of actions.now.items)) }
+    ensures { OnOk result (pointed out.new.items
+        ≡ pointed out.old.items ++ flat_map action_roles (map action_of actions.now.items)) }
 {
     for item in actions {
         out.push(&item.from)?;
@@ -205,34 +216,29 @@ fn put_ends<'a>(out: &mut Vec<&'a Text>, actions: &'a Vec<ActionItem>) -> Result
 fn distinct<'a>(alloc: Global, names: &[&'a Text]) -> Result<Vec<&'a Text>, NoMemory>
     ensures { IfOk result (λ v. pointed v.items ≡ distinct bytes_eq (pointed names.now)) }
 {
+    let mut seen = TextIndex::new(alloc);
     let mut all = Vec::new(alloc);
     for name in names {
-        put_new(&mut all, name)?;
+        put_new(&mut seen, &mut all, name)?;
     }
     Ok(all)
 }
 
-/// Appends a name where it is new.
-fn put_new<'a>(names: &mut Vec<&'a Text>, name: &'a Text) -> Result<(), NoMemory>
-    ensures { OnOk result (pointed names.new.items ≡ pointed names.old.items ++ first_new bytes_eq (pointed names.old.items) name.now) }
+/// Appends a name to those that were seen, and to the others where it is new.
+fn put_new<'a>(
+    seen: &mut TextIndex<'a>,
+    all: &mut Vec<&'a Text>,
+    name: &'a Text,
+) -> Result<(), NoMemory>
+    ensures seen { OnOk result (seen.new ≡ seen.old ++ name.now ∷ []) }
+    ensures new { OnOk result (pointed all.new.items
+        ≡ pointed all.old.items ++ first_new bytes_eq seen.old name.now) }
 {
-    if is_among(names, name) {
+    if seen.push(name.as_str())? {
         return Ok(());
     }
-    names.push(name)?;
+    all.push(name)?;
     Ok(())
-}
-
-/// Whether a name is one of these.
-pub(crate) fn is_among(names: &[&Text], name: &Text) -> bool
-    ensures { result ≡ among (pointed names.now) name.now }
-{
-    for other in names {
-        if other.as_str() == name.as_str() {
-            return true;
-        }
-    }
-    false
 }
 
 /// The terms of a narration: what is known, and the messages.
@@ -246,7 +252,9 @@ pub(crate) fn terms_of<'a>(alloc: Global, n: &'a Narration) -> Result<Vec<&'a Tr
 }
 
 fn put_known_trees<'a>(out: &mut Vec<&'a Tree>, knows: &'a Vec<KnowItem>) -> Result<(), NoMemory>
-    ensures { OnOk result (map tree_of (pointed out.new.items) ≡ map tree_of (pointed out.old.items) ++ flat_map (λ (k : Know). list_of k.terms) (map know_of knows.now.items)) }
+    ensures { OnOk result (map tree_of (pointed out.new.items)
+        ≡ map tree_of (pointed out.old.items) ++ flat_map (λ (k : Know). list_of k.terms)
+        (map know_of knows.now.items)) }
 {
     for item in knows {
         put_trees(out, &item.terms)?;
@@ -255,7 +263,8 @@ fn put_known_trees<'a>(out: &mut Vec<&'a Tree>, knows: &'a Vec<KnowItem>) -> Res
 }
 
 fn put_trees<'a>(out: &mut Vec<&'a Tree>, trees: &'a Vec<Tree>) -> Result<(), NoMemory>
-    ensures { OnOk result (map tree_of (pointed out.new.items) ≡ map tree_of (pointed out.old.items) ++ list_of (trees_of (map tree_of trees.now.items))) }
+    ensures { OnOk result (map tree_of (pointed out.new.items)
+        ≡ map tree_of (pointed out.old.items) ++ list_of (trees_of (map tree_of trees.now.items))) }
 {
     for tree in trees {
         out.push(tree)?;
@@ -264,7 +273,9 @@ fn put_trees<'a>(out: &mut Vec<&'a Tree>, trees: &'a Vec<Tree>) -> Result<(), No
 }
 
 fn put_messages<'a>(out: &mut Vec<&'a Tree>, actions: &'a Vec<ActionItem>) -> Result<(), NoMemory>
-    ensures { OnOk result (map tree_of (pointed out.new.items) ≡ map tree_of (pointed out.old.items) ++ map (λ (a : Action). a.message) (map action_of actions.now.items)) }
+    ensures { OnOk result (map tree_of (pointed out.new.items)
+        ≡ map tree_of (pointed out.old.items) ++ map (λ (a : Action). a.message)
+        (map action_of actions.now.items)) }
 {
     for item in actions {
         out.push(&item.message)?;

@@ -7,5 +7,6 @@ pub mod Canon
 pub mod Sizes
 pub mod Views
 pub mod Nexts
-pub mod Scanning
 pub mod Laws
+-- for proofs alone
+pub mod Scanning

@@ -1,3 +1,4 @@
+//! Laws of tokens and of canonical texts.
 ghost use Rattle.anb_syntax.specs.Laws.{CanonicalIsText, LiteralsAreTokens, TokensAreUnique};
 
 /// A law: a text has one list of tokens.

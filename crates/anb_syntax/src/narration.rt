@@ -1,3 +1,4 @@
+//! Narrations as trees.
 use anb_base::{Suite, Text};
 use anb_format::Piece;
 

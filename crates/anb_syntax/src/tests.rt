@@ -1,3 +1,4 @@
+//! Tokens and canonical texts.
 ghost use Rattle.std.specs.Prelude.{◌≤◌, length};
 
 use crate::{

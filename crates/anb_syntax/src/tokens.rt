@@ -1,3 +1,4 @@
+//! The tokens of a text.
 ghost use Rattle.std.specs.Prelude.{◌≡◌, ◌+◌, ◌<◌, ◌≤◌, ◌==◌, ◌∷◌, length, drop, option_map, IfSome, IfNone, None, true, false, ℕ, List};
 ghost use Rattle.std.specs.List.{prefix_len};
 ghost use Rattle.anb_syntax.specs.Words.{is_name_byte, sign};
@@ -48,7 +49,8 @@ fn comment_end(text: &[u8], from: usize) -> usize
     requires { from ≤ length text.now }
     ensures low { from ≤ result }
     ensures high { result ≤ length text.now }
-    ensures gap { comment_len (drop from text.now) + from ≡ gap_len (drop result text.now) + result }
+    ensures gap { comment_len (drop from text.now) + from
+        ≡ gap_len (drop result text.now) + result }
 {
     let mut i = from;
     'line: while i < text.len() {
@@ -115,7 +117,8 @@ fn name_end(text: &[u8], from: usize) -> usize
 
 /// How many bytes the character of a literal at the front takes, where one stands there.
 fn character_len(text: &[u8]) -> Option<usize>
-    ensures some { IfSome result (λ n. (0 < n) × (n ≤ length text.now) × (characters_len text.now ≡ farther n (characters_len (drop n text.now)))) }
+    ensures some { IfSome result (λ n. (0 < n) × (n ≤ length text.now)
+        × (characters_len text.now ≡ farther n (characters_len (drop n text.now)))) }
     ensures none { IfNone result (characters_len text.now ≡ closing text.now) }
 {
     match text {
@@ -128,7 +131,8 @@ fn character_len(text: &[u8]) -> Option<usize>
 
 /// The same of what follows a `\`.
 fn escape_len(text: &[u8]) -> Option<usize>
-    ensures some { IfSome result (λ n. (0 < n) × (n ≤ length text.now) × (escaped_len text.now ≡ farther (1 + n) (characters_len (drop n text.now)))) }
+    ensures some { IfSome result (λ n. (0 < n) × (n ≤ length text.now)
+        × (escaped_len text.now ≡ farther (1 + n) (characters_len (drop n text.now)))) }
     ensures none { IfNone result (escaped_len text.now ≡ None) }
 {
     match text {
@@ -156,7 +160,8 @@ fn literal_len(text: &[u8]) -> Option<usize>
 
 /// The kind of the sign that this byte is, where it is one.
 fn sign_kind(b: u8) -> Option<TokenKind>
-    ensures some { IfSome result (λ k. (is_sign b ≡ true) × ((n : ℕ) (x : List ℕ) → token_of k n x ≡ (sign b, n))) }
+    ensures some { IfSome result (λ k. (is_sign b ≡ true)
+        × ((n : ℕ) (x : List ℕ) → token_of k n x ≡ (sign b, n))) }
     ensures none { IfNone result (is_sign b ≡ false) }
 {
     match b {
@@ -173,7 +178,8 @@ fn sign_kind(b: u8) -> Option<TokenKind>
 /// The kind and the length of the token that begins at an offset, where one does.
 fn token_at(text: &[u8], i: usize) -> Option<(TokenKind, usize)>
     requires { i ≤ length text.now }
-    ensures token { option_map (λ k. token_of k.0 k.1 (drop i text.now)) result ≡ token_here (drop i text.now) }
+    ensures token { option_map (λ k. token_of k.0 k.1 (drop i text.now)) result
+        ≡ token_here (drop i text.now) }
     ensures within { IfSome result (λ k. (0 < k.1) × (i + k.1 ≤ length text.now)) }
 {
     if i >= text.len() {

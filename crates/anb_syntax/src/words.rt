@@ -1,3 +1,4 @@
+//! Names, suites and kinds by their words.
 ghost use Rattle.std.specs.Prelude.{◌≡◌, true, bytes_eq, IfOk};
 ghost use Rattle.std.specs.List.{list_all, list_any};
 ghost use Rattle.anb_syntax.specs.Words.{is_letter, is_name, is_name_byte, is_spelled, kind_of_word, reserved_words, suite_of_word};

@@ -1,3 +1,4 @@
+//! The canonical text of a narration.
 ghost use Rattle.std.specs.Prelude.{◌≡◌, ◌++◌, ◌∷◌, [], map, OnOk, IfOk, if◌then◌else◌};
 ghost use Rattle.std.specs.List.{flat_map};
 ghost use Rattle.anb_syntax.specs.Words.{close_sign};
@@ -49,7 +50,8 @@ fn put_suite(out: &mut Vec<u8>, suite: Suite) -> Result<(), NoMemory>
 }
 
 fn put_types(out: &mut Vec<u8>, types: &Vec<TypeItem>) -> Result<(), NoMemory>
-    ensures { OnOk result (out.new.items ≡ out.old.items ++ all_bytes (flat_map lay_type (map type_of types.now.items))) }
+    ensures { OnOk result (out.new.items
+        ≡ out.old.items ++ all_bytes (flat_map lay_type (map type_of types.now.items))) }
 {
     for item in types {
         put_type(out, item)?;
@@ -58,7 +60,8 @@ fn put_types(out: &mut Vec<u8>, types: &Vec<TypeItem>) -> Result<(), NoMemory>
 }
 
 fn put_type(out: &mut Vec<u8>, item: &TypeItem) -> Result<(), NoMemory>
-    ensures { OnOk result (out.new.items ≡ out.old.items ++ all_bytes (lay_type (type_of item.now))) }
+    ensures { OnOk result (out.new.items
+        ≡ out.old.items ++ all_bytes (lay_type (type_of item.now))) }
 {
     match item.sort {
         Sort::Agent => out.extend_from_slice(b"\n  Agent")?,
@@ -85,7 +88,8 @@ fn put_names(out: &mut Vec<u8>, names: &Vec<Text>) -> Result<(), NoMemory>
 
 /// Appends the section of formats, where there are any.
 fn put_formats(alloc: Global, out: &mut Vec<u8>, formats: &Vec<FormatItem>) -> Result<(), NoMemory>
-    ensures { OnOk result (out.new.items ≡ out.old.items ++ all_bytes (lay_formats (map format_of formats.now.items))) }
+    ensures { OnOk result (out.new.items
+        ≡ out.old.items ++ all_bytes (lay_formats (map format_of formats.now.items))) }
 {
     if formats.is_empty() {
         return Ok(());
@@ -98,7 +102,8 @@ fn put_formats(alloc: Global, out: &mut Vec<u8>, formats: &Vec<FormatItem>) -> R
 }
 
 fn put_format(alloc: Global, out: &mut Vec<u8>, item: &FormatItem) -> Result<(), NoMemory>
-    ensures { OnOk result (out.new.items ≡ out.old.items ++ all_bytes (lay_format (format_of item.now))) }
+    ensures { OnOk result (out.new.items
+        ≡ out.old.items ++ all_bytes (lay_format (format_of item.now))) }
 {
     out.extend_from_slice(b"\n  ")?;
     put_name(out, &item.name)?;
@@ -109,7 +114,8 @@ fn put_format(alloc: Global, out: &mut Vec<u8>, item: &FormatItem) -> Result<(),
 }
 
 fn put_pieces(alloc: Global, out: &mut Vec<u8>, pieces: &Vec<Piece>) -> Result<(), NoMemory>
-    ensures { OnOk result (out.new.items ≡ out.old.items ++ all_bytes (map lay_piece pieces.now.items)) }
+    ensures { OnOk result (out.new.items
+        ≡ out.old.items ++ all_bytes (map lay_piece pieces.now.items)) }
 {
     for piece in pieces {
         put_piece(alloc, out, piece)?;
@@ -119,7 +125,8 @@ fn put_pieces(alloc: Global, out: &mut Vec<u8>, pieces: &Vec<Piece>) -> Result<(
 
 /// Appends a piece of a format, behind a space: its canonical literal, or the word of its kind.
 pub fn put_piece(alloc: Global, out: &mut Vec<u8>, piece: &Piece) -> Result<(), NoMemory>
-    ensures { OnOk result (out.new.items ≡ out.old.items ++ 32 ∷ word_bytes (piece_word piece.now)) }
+    ensures { OnOk result (out.new.items
+        ≡ out.old.items ++ 32 ∷ word_bytes (piece_word piece.now)) }
 {
     out.extend_from_slice(b" ")?;
     match piece {
@@ -137,7 +144,8 @@ pub fn put_piece(alloc: Global, out: &mut Vec<u8>, piece: &Piece) -> Result<(), 
 
 /// Appends the section of knowledge, where there is any.
 fn put_knows(out: &mut Vec<u8>, knows: &Vec<KnowItem>) -> Result<(), NoMemory>
-    ensures { OnOk result (out.new.items ≡ out.old.items ++ all_bytes (lay_knows (map know_of knows.now.items))) }
+    ensures { OnOk result (out.new.items
+        ≡ out.old.items ++ all_bytes (lay_knows (map know_of knows.now.items))) }
 {
     if knows.is_empty() {
         return Ok(());
@@ -150,7 +158,8 @@ fn put_knows(out: &mut Vec<u8>, knows: &Vec<KnowItem>) -> Result<(), NoMemory>
 }
 
 fn put_know(out: &mut Vec<u8>, item: &KnowItem) -> Result<(), NoMemory>
-    ensures { OnOk result (out.new.items ≡ out.old.items ++ all_bytes (lay_know (know_of item.now))) }
+    ensures { OnOk result (out.new.items
+        ≡ out.old.items ++ all_bytes (lay_know (know_of item.now))) }
 {
     out.extend_from_slice(b"\n  ")?;
     put_name(out, &item.role)?;
@@ -161,7 +170,8 @@ fn put_know(out: &mut Vec<u8>, item: &KnowItem) -> Result<(), NoMemory>
 
 /// Appends terms behind spaces, with a comma before each but the first, and a semicolon.
 fn put_known(out: &mut Vec<u8>, terms: &Vec<Tree>) -> Result<(), NoMemory>
-    ensures { OnOk result (out.new.items ≡ out.old.items ++ all_bytes (lay_terms (trees_of (map tree_of terms.now.items)))) }
+    ensures { OnOk result (out.new.items
+        ≡ out.old.items ++ all_bytes (lay_terms (trees_of (map tree_of terms.now.items)))) }
 {
     let mut first = true;
     for term in terms {
@@ -176,7 +186,8 @@ fn put_known(out: &mut Vec<u8>, terms: &Vec<Tree>) -> Result<(), NoMemory>
 }
 
 fn put_actions(out: &mut Vec<u8>, actions: &Vec<ActionItem>) -> Result<(), NoMemory>
-    ensures { OnOk result (out.new.items ≡ out.old.items ++ all_bytes (flat_map lay_action (map action_of actions.now.items))) }
+    ensures { OnOk result (out.new.items
+        ≡ out.old.items ++ all_bytes (flat_map lay_action (map action_of actions.now.items))) }
 {
     for action in actions {
         put_action(out, action)?;
@@ -185,7 +196,8 @@ fn put_actions(out: &mut Vec<u8>, actions: &Vec<ActionItem>) -> Result<(), NoMem
 }
 
 fn put_action(out: &mut Vec<u8>, action: &ActionItem) -> Result<(), NoMemory>
-    ensures { OnOk result (out.new.items ≡ out.old.items ++ all_bytes (lay_action (action_of action.now))) }
+    ensures { OnOk result (out.new.items
+        ≡ out.old.items ++ all_bytes (lay_action (action_of action.now))) }
 {
     out.extend_from_slice(b"\n  ")?;
     put_name(out, &action.from)?;
@@ -199,7 +211,8 @@ fn put_action(out: &mut Vec<u8>, action: &ActionItem) -> Result<(), NoMemory>
 
 /// Appends a term behind a space.
 fn put_spaced(out: &mut Vec<u8>, tree: &Tree) -> Result<(), NoMemory>
-    ensures { OnOk result (out.new.items ≡ out.old.items ++ all_bytes (spaced_first (spell_tree (tree_of tree.now)))) }
+    ensures { OnOk result (out.new.items
+        ≡ out.old.items ++ all_bytes (spaced_first (spell_tree (tree_of tree.now)))) }
 {
     out.extend_from_slice(b" ")?;
     put_tree(out, tree)?;
@@ -209,7 +222,8 @@ fn put_spaced(out: &mut Vec<u8>, tree: &Tree) -> Result<(), NoMemory>
 /// Appends the canonical text of a term.
 #[cycle(put)]
 fn put_tree(out: &mut Vec<u8>, tree: &Tree) -> Result<(), NoMemory>
-    ensures { OnOk result (out.new.items ≡ out.old.items ++ words_bytes (spell_tree (tree_of tree.now))) }
+    ensures { OnOk result (out.new.items
+        ≡ out.old.items ++ words_bytes (spell_tree (tree_of tree.now))) }
 {
     match tree {
         Tree::Name(name) => put_name(out, name)?,
@@ -249,7 +263,8 @@ fn put_tree(out: &mut Vec<u8>, tree: &Tree) -> Result<(), NoMemory>
 /// Appends a comma and the canonical text of a term.
 #[cycle(put)]
 fn put_further(out: &mut Vec<u8>, tree: &Tree) -> Result<(), NoMemory>
-    ensures { OnOk result (out.new.items ≡ out.old.items ++ 44 ∷ words_bytes (spell_tree (tree_of tree.now))) }
+    ensures { OnOk result (out.new.items
+        ≡ out.old.items ++ 44 ∷ words_bytes (spell_tree (tree_of tree.now))) }
 {
     out.extend_from_slice(b",")?;
     put_tree(out, tree)?;
@@ -259,7 +274,9 @@ fn put_further(out: &mut Vec<u8>, tree: &Tree) -> Result<(), NoMemory>
 /// Appends arguments with commas between them, and the sign that closes them.
 #[cycle(put)]
 fn put_arguments(out: &mut Vec<u8>, arguments: &Vec<Tree>) -> Result<(), NoMemory>
-    ensures { OnOk result (out.new.items ≡ out.old.items ++ words_bytes (spell_trees close_sign (trees_of (map tree_of arguments.now.items)))) }
+    ensures { OnOk result (out.new.items
+        ≡ out.old.items ++ words_bytes
+        (spell_trees close_sign (trees_of (map tree_of arguments.now.items)))) }
 {
     let mut first = true;
     for argument in arguments {

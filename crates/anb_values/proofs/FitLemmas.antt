@@ -1,28 +1,30 @@
 -- The faults of lines and names.
-use Rattle.std.proofs.Common.{◌≡◌, ◌<◌, ◌+◌, ◌||◌, ℕ, Bool, true, false, cond, List, [], ◌∷◌, ◌++◌, length, take, drop, get_or, map, Some, None, Err, inl, inr, refl, sym, ap, ◌∙◌, All}
+use Rattle.std.proofs.Common.{◌≡◌, ◌<◌, ◌+◌, ◌||◌, ℕ, Bool, true, false, cond, List, [], ◌∷◌, ◌++◌, length, take, drop, get_or, map, Some, None, Err, inl, inr, refl, arith, sym, ap, ◌∙◌, All}
 use Rattle.std.specs.Bool.{Decides}
-use Rattle.std.specs.List.{find}
+use Rattle.std.specs.List.{find, slice_get}
 use Rattle.std.specs.Option.{option_map, is_some}
 use Rattle.std.specs.Str.{bytes_eq}
 use Rattle.std.proofs.lemmas.Bool.{cases_Bool}
 use Rattle.std.proofs.lemmas.List.{drop_more, map_push, map_more}
 use Rattle.std.proofs.lemmas.List.Elements.{All-head, All-tail}
 use Rattle.std.proofs.lemmas.Slice.Eq.{bytes_eq-Decides}
+use Rattle.anb_index.specs.Places.{is_among, place_of}
+use Rattle.anb_index.proofs.PlaceLemmas.{find-at, find-none}
 use Rattle.anb_values.specs.declared.lines.Entry.{Entry}
 use Rattle.anb_values.specs.declared.refusal.ValuesNo.{ValuesNo}
 use Rattle.anb_values.specs.declared.refusal.ValuesNo.TheVariants.{Line, Extra, Twice, Long, Missing, NoMemory}
 use Rattle.anb_values.specs.Lines.{seed_label, lines_of, AreSaid}
-use Rattle.anb_values.specs.Fit.{has_line, value_of, is_asked, twice, long, line_faults, lines_faults, missing, faults, Fit, UnlessNoMemory}
-use Rattle.anb_values.specs.Reading.{BeginsWith, IsFirst, IsFaulty}
+use Rattle.anb_values.specs.Fit.{BeginsWith, has_line, labels_of, value_of, twice, long, line_faults, lines_faults, missing, faults, Fit, UnlessNoMemory}
+use Rattle.anb_values.specs.Reading.{IsFirst, IsFaulty}
 
 bytes_eq-true : (a b : List ℕ) → bytes_eq a b ≡ true → a ≡ b
 bytes_eq-true a b h = (bytes_eq-Decides a b).0 h
 
-pub extra_first : (names : List (List ℕ)) (before : List Entry) (entry : Entry) → is_asked names entry.label ≡ false → BeginsWith (line_faults names before entry) (Extra entry.label)
-extra_first names before entry h = (twice before entry ++ long entry, rw h refl)
+pub extra_first : (asked before : List (List ℕ)) (entry : Entry) → is_among asked entry.label ≡ false → BeginsWith (line_faults asked before entry) (Extra entry.label)
+extra_first asked before entry h = (twice before entry ++ long entry, rw h refl)
 
-pub twice_first : (names : List (List ℕ)) (before : List Entry) (entry : Entry) → is_asked names entry.label ≡ true → has_line before entry.label ≡ true → BeginsWith (line_faults names before entry) (Twice entry.label)
-twice_first names before entry h k = (long entry, rw (h, k) refl)
+pub twice_first : (asked before : List (List ℕ)) (entry : Entry) → is_among asked entry.label ≡ true → is_among before entry.label ≡ true → BeginsWith (line_faults asked before entry) (Twice entry.label)
+twice_first asked before entry h k = (long entry, rw (h, k) refl)
 
 pub differs : (b : Bool) (P : Type 0) → Decides b P → (P → ⊥) → b ≡ false
 differs true P d n = absurd (n (d.0 refl))
@@ -80,7 +82,7 @@ refused_by_line text names (Missing name) h = absurd h
 begins_more : (faults more : List ValuesNo) (first : ValuesNo) → BeginsWith faults first → BeginsWith (faults ++ more) first
 begins_more faults more first b = (b.0 ++ more, ap (λ t. t ++ more) b.1)
 
-pub refused_by_entry : (text : List ℕ) (names : List (List ℕ)) (entries : List Entry) (refused : ValuesNo) → AreSaid (lines_of text) entries → IsFirst (lines_faults names [] entries) refused → UnlessNoMemory refused (Fit text names (Err refused))
+pub refused_by_entry : (text : List ℕ) (names : List (List ℕ)) (entries : List Entry) (refused : ValuesNo) → AreSaid (lines_of text) entries → IsFirst (lines_faults (seed_label ∷ names) [] entries) refused → UnlessNoMemory refused (Fit text names (Err refused))
 refused_by_entry text names entries (Line n) s h = absurd h
 refused_by_entry text names entries NoMemory s h = h
 refused_by_entry text names entries (Extra name) s h = (entries, s, begins_more _ (missing names entries) _ h)
@@ -88,13 +90,20 @@ refused_by_entry text names entries (Twice name) s h = (entries, s, begins_more 
 refused_by_entry text names entries (Long name) s h = (entries, s, begins_more _ (missing names entries) _ h)
 refused_by_entry text names entries (Missing name) s h = (entries, s, begins_more _ (missing names entries) _ h)
 
-begins_after : (names : List (List ℕ)) (entries : List Entry) (first : ValuesNo) → lines_faults names [] entries ≡ [] → BeginsWith (missing names entries) first → BeginsWith (faults names entries) first
+begins_after : (names : List (List ℕ)) (entries : List Entry) (first : ValuesNo) → lines_faults (seed_label ∷ names) [] entries ≡ [] → BeginsWith (missing names entries) first → BeginsWith (faults names entries) first
 begins_after names entries first none b = (b.0, ap (λ t. t ++ missing names entries) none ∙ b.1)
 
-pub refused_by_name : (text : List ℕ) (names : List (List ℕ)) (entries : List Entry) (refused : ValuesNo) → AreSaid (lines_of text) entries → lines_faults names [] entries ≡ [] → IsFirst (missing names entries) refused → UnlessNoMemory refused (Fit text names (Err refused))
+pub refused_by_name : (text : List ℕ) (names : List (List ℕ)) (entries : List Entry) (refused : ValuesNo) → AreSaid (lines_of text) entries → lines_faults (seed_label ∷ names) [] entries ≡ [] → IsFirst (missing names entries) refused → UnlessNoMemory refused (Fit text names (Err refused))
 refused_by_name text names entries (Line n) s none h = absurd h
 refused_by_name text names entries NoMemory s none h = h
 refused_by_name text names entries (Extra name) s none h = (entries, s, begins_after names entries _ none h)
 refused_by_name text names entries (Twice name) s none h = (entries, s, begins_after names entries _ none h)
 refused_by_name text names entries (Long name) s none h = (entries, s, begins_after names entries _ none h)
 refused_by_name text names entries (Missing name) s none h = (entries, s, begins_after names entries _ none h)
+
+-- the value at the place of a label
+pub no_value : (entries : List Entry) (label : List ℕ) → place_of (labels_of entries) label ≡ None → value_of entries label ≡ None
+no_value entries label h = ap (option_map (λ (e : Entry). e.value)) (find-none (λ y. bytes_eq y label) (λ (e : Entry). e.label) 0 entries h)
+
+pub value_at : (entries : List Entry) (label : List ℕ) (place : ℕ) → place_of (labels_of entries) label ≡ Some place → value_of entries label ≡ option_map (λ (e : Entry). e.value) (slice_get entries place)
+value_at entries label place h = ap (option_map (λ (e : Entry). e.value)) (find-at (λ y. bytes_eq y label) (λ (e : Entry). e.label) 0 place place entries h (omega arith))

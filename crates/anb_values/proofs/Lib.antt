@@ -1,4 +1,5 @@
 pub mod FitLemmas
 pub mod LineLemmas
 pub mod Outcomes
+pub mod Short
 pub mod Sizes

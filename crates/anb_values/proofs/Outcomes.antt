@@ -1,5 +1,7 @@
 -- A text gives one outcome for some names.
-use Rattle.std.proofs.Common.{◌≡◌, ◌<◌, ◌⊎◌, inl, inr, ℕ, zero, suc, true, false, List, [], ◌∷◌, length, drop, map, get_or, Option, Some, None, Result, Ok, Err, refl, sym, ap, ◌∙◌, arith, length-append}
+use Rattle.std.proofs.Common.{◌≡◌, ◌<◌, ◌⊎◌, inl, inr, ℕ, zero, suc, true, false, List, [], ◌∷◌, length, drop, map, get_or, Option, Some, None, Result, Ok, Err, refl, sym, ap, subst, ◌∙◌, arith, length-append}
+use Rattle.std.specs.Prelude.{MatchResult}
+use Rattle.std.specs.Result.{IsErrAnd}
 use Rattle.std.specs.List.{AllZip, flat_map}
 use Rattle.std.specs.Option.{option_to_list}
 use Rattle.std.proofs.lemmas.Bool.{cases_order}
@@ -12,8 +14,7 @@ use Rattle.anb_values.specs.declared.lines.Entry.{Entry}
 use Rattle.anb_values.specs.declared.refusal.ValuesNo.{ValuesNo}
 use Rattle.anb_values.specs.declared.refusal.ValuesNo.TheVariants.{Line, Extra, Twice, Long, Missing, NoMemory}
 use Rattle.anb_values.specs.Lines.{content, value_text, IsHex, IsGiven, Says, AreSaid, IsFirstFaulty, lines_of, seed_label}
-use Rattle.anb_values.specs.Fit.{Fit, faults, value_of}
-use Rattle.anb_values.specs.Reading.{BeginsWith}
+use Rattle.anb_values.specs.Fit.{BeginsWith, Fit, Outcome, UnlessNoMemory, faults, value_of}
 use Rattle.anb_values.proofs.LineLemmas.{literal_at, seed_is_no_label}
 
 -- a literal begins with a quote, and digits with `x`
@@ -166,3 +167,18 @@ one_fit text names one other h k = elim (seen text names one h) [
     ]
   ]
 ]
+
+-- what was found is what is due, or want of memory
+pub due_refusal : (text : List ℕ) (names : List (List ℕ)) (why : ValuesNo) → UnlessNoMemory why (Fit text names (Err why)) → (due : Outcome) → Fit text names due → (Err why ≡ due) ⊎ (why ≡ NoMemory)
+due_refusal text names (Line n) is due fit = inl (one_fit text names (Err (Line n)) due is fit)
+due_refusal text names (Extra name) is due fit = inl (one_fit text names (Err (Extra name)) due is fit)
+due_refusal text names (Twice name) is due fit = inl (one_fit text names (Err (Twice name)) due is fit)
+due_refusal text names (Long name) is due fit = inl (one_fit text names (Err (Long name)) due is fit)
+due_refusal text names (Missing name) is due fit = inl (one_fit text names (Err (Missing name)) due is fit)
+due_refusal text names NoMemory is due fit = inr refl
+
+-- it is handed on as it is
+pub handed_due : (text : List ℕ) (names : List (List ℕ)) (why : ValuesNo) (r : Outcome) → IsErrAnd r (λ other. other ≡ why) → UnlessNoMemory why (Fit text names (Err why))
+    → (due : Outcome) → Fit text names due → MatchResult r (λ fitted. Ok fitted ≡ due) (λ other. (Err other ≡ due) ⊎ (other ≡ NoMemory))
+handed_due text names why (Ok fitted) is refused due fit = absurd is
+handed_due text names why (Err other) is refused due fit = due_refusal text names other (subst (λ n. UnlessNoMemory n (Fit text names (Err n))) (sym is) refused) due fit

@@ -1,3 +1,4 @@
 pub mod Fit
 pub mod Lines
+-- for proofs alone
 pub mod Reading

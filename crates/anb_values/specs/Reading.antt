@@ -1,10 +1,11 @@
 -- What a line is, and what is answered of the lines and of their labels and values.
-use Rattle.std.specs.Prelude.{◌≡◌, ℕ, List, ◌∷◌, Option, Some, None}
+use Rattle.std.specs.Prelude.{ℕ, List, Option, Some, None}
 use Rattle.anb_values.specs.declared.refusal.ValuesNo.{ValuesNo}
 use Rattle.anb_values.specs.declared.refusal.ValuesNo.TheVariants as refusal
 use Rattle.anb_values.specs.declared.lines.Entry.{Entry}
 use Rattle.anb_values.specs.declared.lines.Line.{Line}
 use Rattle.anb_values.specs.declared.lines.Line.TheVariants as line
+use Rattle.anb_values.specs.Fit.{BeginsWith}
 use Rattle.anb_values.specs.Lines.{Says, IsFirstFaulty, lines_of}
 
 abbrev pub IsLine : List ℕ → Line → Type 0
@@ -20,9 +21,6 @@ IsFaulty text (refusal.Extra name) = ⊥
 IsFaulty text (refusal.Twice name) = ⊥
 IsFaulty text (refusal.Long name) = ⊥
 IsFaulty text (refusal.Missing name) = ⊥
-
-abbrev pub BeginsWith : List ValuesNo → ValuesNo → Type 0
-BeginsWith faults first = (rest : List ValuesNo) × (faults ≡ first ∷ rest)
 
 -- this is the first of the faults of labels and values, or no memory was left
 abbrev pub IsFirst : List ValuesNo → ValuesNo → Type 0

@@ -1,3 +1,4 @@
+//! What a text gives for some names.
 ghost use Rattle.std.specs.Prelude.{◌≡◌, ℕ, List};
 
 use anb_base::Bytes;

@@ -5,8 +5,10 @@
 //! are empty or begin with `#` are passed over. The label `@seed` has the seed: `x` and 64 digits.
 #![tactic(auto)]
 
-ghost use Rattle.std.specs.Prelude.{◌≡◌, ◌≢◌, ◌≤◌, ℕ, List, length, sum_by, AllPairs, IfOk, IfErr, Ok, Err};
-ghost use Rattle.anb_values.specs.Fit.{Fit, FitIsUnique, UnlessNoMemory};
+ghost use Rattle.std.specs.Prelude.{◌≡◌, ◌≢◌, ◌⊎◌, ◌≤◌, ℕ, List, length, sum_by, All, AllPairs, IfOk, IfErr, MatchResult, Ok, Err};
+ghost use Rattle.anb_base.specs.declared.TheConstants.{ARRIVAL};
+ghost use Rattle.anb_values.specs.declared.refusal.ValuesNo.TheVariants as refusal;
+ghost use Rattle.anb_values.specs.Fit.{Fit, FitIsUnique, Outcome, UnlessNoMemory};
 
 mod entries;
 mod fitted;
@@ -31,12 +33,16 @@ pub fn values(alloc: Global, text: &[u8], names: &[Text]) -> Result<Fitted, Valu
     requires differ { AllPairs (λ (one other : List ℕ). one ≢ other) names.now }
     ensures fits { IfOk result (λ fitted. Fit text.now names.now (Ok fitted)) }
     ensures refused { IfErr result (λ no. UnlessNoMemory no (Fit text.now names.now (Err no))) }
+    ensures exact { (due : Outcome) → Fit text.now names.now due
+        → MatchResult result (λ fitted. Ok fitted ≡ due) (λ no. (Err no ≡ due)
+        ⊎ (no ≡ refusal.NoMemory)) }
+    ensures short { IfOk result (λ fitted. All (λ value. length value ≤ ARRIVAL) fitted.values) }
     ensures total { IfOk result (λ fitted. sum_by length fitted.values ≤ length text.now) }
 {
     let entries = lines::entries(alloc, text)?;
-    entries::check(alloc, &entries, names)?;
-    let values = entries::values_of(alloc, &entries, names)?;
-    let seed = entries::seed_of(&entries);
+    let labels = entries::check(alloc, &entries, names)?;
+    let values = entries::values_of(alloc, &entries, &labels, names)?;
+    let seed = entries::seed_of(&entries, &labels);
     Ok(Fitted {
         values: ValueList::new(values),
         seed,

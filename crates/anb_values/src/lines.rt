@@ -1,3 +1,4 @@
+//! The lines of a values text.
 ghost use Rattle.std.specs.Prelude.{◌≡◌, ◌≤◌, ◌↔◌, ◌⊎◌, ◌==◌, ◌<◌, ℕ, not, List, ◌∷◌, length, filter, IsTrue, IfOk, IfErr, IfSome, IfNone, MatchOption, Ok, []};
 ghost use Rattle.std.specs.List.{before_first};
 ghost use Rattle.hex.specs.Hex.{decode_of};
@@ -120,7 +121,8 @@ fn read_entry(alloc: Global, content: &[u8]) -> Result<Option<Entry>, NoMemory>
 
 /// What stands before the first `=`, and what stands after it and after spaces.
 fn sides(content: &[u8]) -> Option<(&[u8], &[u8])>
-    ensures some { IfSome result (λ sides. (sides.0.now ≡ before_first (λ b. b == 61) content.now) × (sides.1.now ≡ value_text content.now)) }
+    ensures some { IfSome result (λ sides. (sides.0.now ≡ before_first (λ b. b == 61) content.now)
+        × (sides.1.now ≡ value_text content.now)) }
     ensures none { IfNone result (value_text content.now ≡ []) }
 {
     let equals = content.iter().position(|byte| *byte == b'=')?;
@@ -129,8 +131,12 @@ fn sides(content: &[u8]) -> Option<(&[u8], &[u8])>
 
 /// The label that stands there once spaces are dropped, where one does.
 fn read_label(alloc: Global, text: &[u8]) -> Result<Option<Text>, NoMemory>
-    ensures some { IfOk result (λ r. IfSome r (λ label. (label ≡ filter (λ b. not (is_space b)) text.now) × (IsLabel label ⊎ (label ≡ seed_label)))) }
-    ensures none { IfOk result (λ r. IfNone r (IsLabel (filter (λ b. not (is_space b)) text.now) ⊎ (filter (λ b. not (is_space b)) text.now ≡ seed_label) → ⊥)) }
+    ensures some { IfOk result (λ r.
+        IfSome r (λ label. (label ≡ filter (λ b. not (is_space b)) text.now)
+        × (IsLabel label ⊎ (label ≡ seed_label)))) }
+    ensures none { IfOk result (λ r.
+        IfNone r (IsLabel (filter (λ b. not (is_space b)) text.now)
+        ⊎ (filter (λ b. not (is_space b)) text.now ≡ seed_label) → ⊥)) }
 {
     let bytes: Vec<u8> = text
         .iter()
@@ -162,7 +168,8 @@ fn read_value(alloc: Global, label: &str, text: &[u8]) -> Result<Option<Bytes>, 
     requires label { IsLabel label.now ⊎ (label.now ≡ seed_label) }
     requires size { length text.now ≤ 1048576 }
     ensures some { IfOk result (λ r. IfSome r (IsGiven label.now text.now)) }
-    ensures none { IfOk result (λ r. IfNone r ((bytes : List ℕ) → IsGiven label.now text.now bytes → ⊥)) }
+    ensures none { IfOk result (λ r.
+        IfNone r ((bytes : List ℕ) → IsGiven label.now text.now bytes → ⊥)) }
 {
     if label == SEED {
         read_seed(alloc, text)
@@ -174,8 +181,10 @@ fn read_value(alloc: Global, label: &str, text: &[u8]) -> Result<Option<Bytes>, 
 /// The 32 bytes of a seed.
 #[tactic(auto, using(crate::proofs::LineLemmas::seed_digits))]
 fn read_seed(alloc: Global, text: &[u8]) -> Result<Option<Bytes>, NoMemory>
-    ensures some { IfOk result (λ r. IfSome r (λ bytes. IsHex text.now bytes × (length bytes ≡ 32))) }
-    ensures none { IfOk result (λ r. IfNone r ((bytes : List ℕ) → IsHex text.now bytes → length bytes ≡ 32 → ⊥)) }
+    ensures some { IfOk result (λ r.
+        IfSome r (λ bytes. IsHex text.now bytes × (length bytes ≡ 32))) }
+    ensures none { IfOk result (λ r.
+        IfNone r ((bytes : List ℕ) → IsHex text.now bytes → length bytes ≡ 32 → ⊥)) }
 {
     let Some(digits) = digits_of(text) else {
         return Ok(None);
@@ -200,7 +209,8 @@ fn read_bytes(alloc: Global, text: &[u8]) -> Result<Option<Bytes>, NoMemory>
 
 /// What follows the `x` at the front.
 fn digits_of(text: &[u8]) -> Option<&[u8]>
-    ensures { MatchOption result ((digits : List ℕ) → text.now ≡ 120 ∷ digits → ⊥) (λ digits. text.now ≡ 120 ∷ digits.now) }
+    ensures { MatchOption result ((digits : List ℕ) → text.now ≡ 120 ∷ digits
+        → ⊥) (λ digits. text.now ≡ 120 ∷ digits.now) }
 {
     match text {
         [b'x', digits @ ..] => Some(digits),
@@ -211,7 +221,8 @@ fn digits_of(text: &[u8]) -> Option<&[u8]>
 /// The bytes that these digits write, two each.
 fn decoded(alloc: Global, digits: &[u8]) -> Result<Option<Bytes>, NoMemory>
     ensures some { IfOk result (λ r. IfSome r (λ bytes. decode_of digits.now ≡ Ok bytes)) }
-    ensures none { IfOk result (λ r. IfNone r ((bytes : List ℕ) → decode_of digits.now ≡ Ok bytes → ⊥)) }
+    ensures none { IfOk result (λ r.
+        IfNone r ((bytes : List ℕ) → decode_of digits.now ≡ Ok bytes → ⊥)) }
 {
     match hex::decode(alloc, digits) {
         Ok(bytes) => Ok(Some(Bytes::new(bytes))),

@@ -1,3 +1,4 @@
+//! Why a text gives no values.
 ghost use Rattle.std.specs.Prelude.{◌≡◌};
 ghost use Rattle.anb_values.specs.declared.refusal.ValuesNo.TheVariants as refusal;
 

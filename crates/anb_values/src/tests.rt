@@ -1,3 +1,4 @@
+//! Values texts that are refused, and some that are not.
 ghost use Rattle.std.specs.Prelude.{◌≡◌, IfOk};
 
 use super::*;

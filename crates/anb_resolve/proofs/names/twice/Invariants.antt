@@ -6,5 +6,8 @@ use Rattle.anb_resolve.specs.declared.refusals.ResolveNo.TheVariants.{Twice}
 use Rattle.anb_resolve.specs.Views.{pointed}
 use Rattle.anb_resolve.proofs.names.twice.Given as goal
 
-abbrev pub invariant-loop-i : goal.invariant-loop-i
-invariant-loop-i l = first_after (λ before x. refuse_if (among before x) (Twice x)) (take l.i (pointed l.names)) (drop l.i (pointed l.names)) ≡ twice_among (pointed l.names)
+abbrev pub invariant-loop-name : goal.invariant-loop-name
+invariant-loop-name l = record {
+  seen : l.seen ≡ take l.name-index (pointed l.names);
+  same : first_after (λ before x. refuse_if (among before x) (Twice x)) (take l.name-index (pointed l.names)) (drop l.name-index (pointed l.names)) ≡ twice_among (pointed l.names);
+}

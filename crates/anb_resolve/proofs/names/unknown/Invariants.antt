@@ -3,8 +3,8 @@ use Rattle.std.specs.Prelude.{not}
 use Rattle.anb_resolve.specs.Choices.{first, refuse_if}
 use Rattle.anb_resolve.specs.Names.{among, used_name}
 use Rattle.anb_resolve.specs.declared.refusals.ResolveNo.TheVariants.{Unknown}
-use Rattle.anb_resolve.specs.Views.{pointed, use_of}
+use Rattle.anb_resolve.specs.Views.{use_of}
 use Rattle.anb_resolve.proofs.names.unknown.Given as goal
 
 abbrev pub invariant-loop-used : goal.invariant-loop-used
-invariant-loop-used l = first (λ u. refuse_if (not (among (pointed l.declared) (used_name u))) (Unknown (used_name u))) (map use_of (drop l.used-index l.uses)) ≡ first (λ u. refuse_if (not (among (pointed l.declared) (used_name u))) (Unknown (used_name u))) (map use_of l.uses)
+invariant-loop-used l = first (λ u. refuse_if (not (among l.declared (used_name u))) (Unknown (used_name u))) (map use_of (drop l.used-index l.uses)) ≡ first (λ u. refuse_if (not (among l.declared (used_name u))) (Unknown (used_name u))) (map use_of l.uses)

@@ -7,8 +7,8 @@ use Rattle.anb_resolve.specs.Views.{value_of}
 use Rattle.anb_resolve.proofs.KnowLemmas.{next_known, role_here, role_next}
 use Rattle.anb_resolve.proofs.parts.Parts.known_twice.Goals as goal
 
-pub knows_again-requires : goal.knows_again-requires
-knows_again-requires c =
+pub knows_again-requires-clause-terms : goal.knows_again-requires-clause-terms
+knows_again-requires-clause-terms c =
     let p = value_of c.args.self.now in
     let knows = c.args.self.now.knows.items in
     let names = c.args.self.now.roles.items in

@@ -3,7 +3,7 @@ use Rattle.std.specs.List.{AllByRecursion}
 use Rattle.anb_term.specs.View.{tree_of}
 use Rattle.anb_resolve.specs.Texts.{term_text, IsTermOf}
 use Rattle.anb_resolve.specs.Views.{value_of}
-use Rattle.anb_resolve.proofs.parts.Parts.known.Given as goal
+use Rattle.anb_resolve.proofs.parts.Parts.texts_of_terms.Given as goal
 
 abbrev pub invariant-loop-term : goal.invariant-loop-term
 invariant-loop-term l = record {
