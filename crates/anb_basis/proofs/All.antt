@@ -2,12 +2,13 @@
 use Rattle.std.proofs.Common.{◌≡◌, ℕ, zero, suc, ◌-◌, ◌<◌, ◌≤◌, List, [], ◌∷◌, ◌++◌, length, Bool, true, false, Option, Some, None, refl, sym, ap, ◌∙◌, subst, arith, inl, inr, length-append}
 use Rattle.std.specs.Prelude.{slice_get}
 use Rattle.std.proofs.Math.ListN.{replicate}
-use Rattle.std.proofs.lemmas.List.{length-replicate}
+use Rattle.std.proofs.lemmas.List.{length-replicate, length-map}
 use Rattle.anb_term.specs.declared.term.Op.{Op}
 use Rattle.anb_term.specs.Tree.{Tree, node}
 use Rattle.anb_term.specs.Operator.{undoable}
+use Rattle.anb_term.specs.View.{tree_of}
 use Rattle.anb_close.specs.Rows.{made_for, mades_for}
-use Rattle.anb_close.proofs.Rows.{row_later, made_later, mades_later}
+use Rattle.anb_close.proofs.Rows.{row_later, made_later, mades_later, entry_made}
 use Rattle.anb_close.specs.declared.entry.Entry.{Entry}
 use Rattle.anb_close.specs.declared.entry.Opening.{Opening}
 use Rattle.anb_close.specs.declared.entry.Origin.TheVariants.{Part}
@@ -15,12 +16,12 @@ use Rattle.anb_close.specs.declared.made.Made.{Made}
 use Rattle.anb_close.specs.MadeView.{made_tree}
 use Rattle.anb_close.specs.Entries.{rows, terms_of, IsKnown}
 use Rattle.anb_close.proofs.Finding.{rows_append, rows_length}
-use Rattle.anb_term.proofs.Lists.{slice_get-append, slice_get-within}
+use Rattle.anb_term.proofs.Lists.{slice_get-append, slice_get-within, slice_get-there}
 use Rattle.anb_close.proofs.Growing.{terms_later}
 use Rattle.anb_close.proofs.Closing.{opened_row}
 use Rattle.anb_basis.specs.declared.check.Check.{Check}
 use Rattle.anb_basis.specs.declared.check.Check.TheVariants.{Open, Equal}
-use Rattle.anb_basis.specs.Checks.{IsComparedWith, Fits, entry_of, trues, IsGiven, IsBasis, AreAll, OpensMarked, OpensUnmarked}
+use Rattle.anb_basis.specs.Checks.{IsComparedWith, Fits, entry_of, trues, IsGiven, IsBasis, AreAll, OpensMarked, OpensUnmarked, DoublesMarked}
 
 row_stays : (es later : List Entry) (i : ℕ) (r : Option Tree) → slice_get (rows es) i ≡ Some r → slice_get (rows (es ++ later)) i ≡ Some r
 row_stays es later i r e = ap (λ l. slice_get l i) (rows_append es later) ∙ row_later (rows es) (terms_of later) i r e
@@ -138,6 +139,17 @@ module _ (es : List Entry) (known : IsKnown es) where
           by_equal i c m.0 m.1 h m.2 m.3 (basis.given.fits m.0 m.1 m.2);
     }
 
+-- of the entries before, each double is marked
+module _ (es later : List Entry) (cs : List Check) (ms : List Bool) (basis : IsBasis es cs ms) where
+  pub doubles_before : (k : ℕ) → DoublesMarked (es ++ later) (ms ++ replicate k false) (length es)
+  doubles_before k i h row =
+      let r = slice_get-there (rows es) i (omega (arith, h, rows_length es)) in
+      let stays = row_stays es later i r.0 r.1 in
+      let here : slice_get (rows es) i ≡ Some None = r.1 ∙ (let s : Some r.0 ≡ Some None = sym stays ∙ row in s) in
+      let t = slice_get-there (terms_of es) i (omega (arith, h, length-map es (λ (y : Entry). tree_of y.term))) in
+      let m = entry_made [] (terms_of es) i t.0 t.1 in
+      slice_get-append ms (replicate k false) i true (basis.equals i m.0 h (inl (t.0, here, t.1, m.1)))
+
 -- of entries that came after, no opening is marked, and of those before each is
 module _ (es later : List Entry) (cs : List Check) (ms : List Bool) (basis : IsBasis es cs ms) (known : IsKnown (es ++ later)) where
   front : (xs ys : List Entry) (f : ℕ) (e : Entry) → f < length xs → slice_get (xs ++ ys) f ≡ Some e → slice_get xs f ≡ Some e
@@ -168,6 +180,9 @@ module _ (es es' later : List Entry) (cs : List Check) (ms ms' : List Bool) (bas
 
   pub marked_there : OpensMarked es' ms' (length ms)
   marked_there = at_end OpensMarked (marked_before es later cs ms basis (subst IsKnown is known) (length es' - length ms))
+
+  pub doubles_there : DoublesMarked es' ms' (length ms)
+  doubles_there = at_end DoublesMarked (doubles_before es later cs ms basis (length es' - length ms))
 
   pub unmarked_there : OpensUnmarked es' ms' (length ms)
   unmarked_there = at_end OpensUnmarked (unmarked_after es later cs ms basis (subst IsKnown is known) (length es' - length ms))

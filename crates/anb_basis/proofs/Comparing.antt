@@ -67,3 +67,12 @@ module _ (es : List Entry) (known : IsKnown es) (i : ℕ) (term : Term) (here : 
 
     pub rebuilt : (p : Op) (ts ms : List Tree) → term ≡ Node p ts → undoable p ≡ false → Some (trees_of ms) ≡ mades_for (rows es) (trees_of ts) → IsComparedWith es i (node p (trees_of ms))
     rebuilt p ts ms is u made = inr (p, trees_of ts, trees_of ms, row ∙ ap (λ t. Some (Some (tree_of t))) is, u, sym made, refl)
+
+-- an entry that is no double, and whose operator can be undone or that is an atom, isn't compared
+pub passed_over : (es : List Entry) (i : ℕ) (x : Entry) (c : Tree) → i < length es → x ≡ get_or es i x
+    → (((o : Op) (us : Trees) → tree_of x.term ≡ node o us → undoable o ≡ false → ⊥)) → (slice_get (rows es) i ≡ Some None → ⊥) → IsComparedWith es i c → ⊥
+passed_over es i x c h own never single (inl (t, r, at, made)) = single r
+passed_over es i x c h own never single (inr (o, us, ms, r, u, made, is)) =
+    let at = term_here es es i x refl h own in
+    let t = row_term (terms_of es) i (node o us) r in
+    never o us (let s : tree_of x.term ≡ node o us = cc in s) u

@@ -78,6 +78,10 @@ OpensUnmarked es ms n = (f : ℕ) (e : Entry) (o : Op) (ks : List Tree) (i : ℕ
 abbrev pub EqualsMarked : List Entry → List Bool → ℕ → Type 0
 EqualsMarked es ms n = (i : ℕ) (c : Tree) → i < n → IsComparedWith es i c → slice_get ms i ≡ Some true
 
+-- the doubles among these first entries are marked
+abbrev pub DoublesMarked : List Entry → List Bool → ℕ → Type 0
+DoublesMarked es ms n = (i : ℕ) → i < n → slice_get (rows es) i ≡ Some None → slice_get ms i ≡ Some true
+
 -- marks stay
 abbrev pub MarksStay : List Bool → List Bool → Type 0
 MarksStay ms ms' = (i : ℕ) → slice_get ms i ≡ Some true → slice_get ms' i ≡ Some true

@@ -1,4 +1,5 @@
-pub mod Facts
-pub mod Chosen
 pub mod Checks
 pub mod Statements
+-- for proofs alone
+pub mod Facts
+pub mod Chosen

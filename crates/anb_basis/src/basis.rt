@@ -1,4 +1,4 @@
-// The checks that a role makes, label by label.
+//! The checks that a role makes, label by label.
 
 ghost use Rattle.std.specs.Prelude.{◌≡◌, ◌+◌, ◌<◌, ◌≤◌, List, [], length, map, true, OnErr, IfOk};
 ghost use Rattle.anb_term.specs.View.{tree_of};
@@ -6,8 +6,8 @@ ghost use Rattle.anb_term.specs.Tree.{tree_size, trees_of, nodes, IsFormed, AreF
 ghost use Rattle.anb_close.specs.Entries.{labels_of, HasAdded, IsKnown};
 ghost use Rattle.anb_basis.specs.Checks.{AreAll, After, InOrder, IsOnce, AllFit};
 
+use crate::adding::add_all;
 use crate::check::Check;
-use crate::giving::give_all;
 use anb_close::Closure;
 use anb_term::{NoMemory, Term};
 use std::alloc::Global;
@@ -77,13 +77,14 @@ impl Basis {
         requires few { nodes (labels_of self.old.0) + tree_size (tree_of t.now) < 4294967295 }
         ensures added { IfOk result (λ first. HasAdded self.old.0 t.now self.new.0) }
         ensures after { IfOk result (λ first. After self.old.1 self.new.1) }
-        ensures order { IfOk result (λ first. InOrder (length self.old.0) self.new.0 self.old.1 self.new.1) }
+        ensures order { IfOk result (λ first. InOrder (length self.old.0) self.new.0
+            self.old.1 self.new.1) }
         ensures first { IfOk result (λ first. first ≡ length self.old.1) }
         ensures err { OnErr result (self.new ≡ self.old) }
     {
         let first = self.given.len();
         let _ = self.closure.add(alloc, t)?;
-        match give_all(alloc, &self.closure, &mut self.given, &self.marks) {
+        match add_all(alloc, &self.closure, &mut self.given, &self.marks) {
             Ok(marks) => {
                 self.marks = marks;
                 Ok(first as u64)
@@ -97,7 +98,8 @@ impl Basis {
     }
 }
 
-/// The basis after all labels: its checks are those of all labels, and its closure has their entries.
+/// The basis after all labels: its checks are those of all labels, and its closure has their
+/// entries.
 pub fn all_checks(alloc: Global, frame: &[Term]) -> Result<Basis, NoMemory>
     requires formed { AreFormed (λ o. true) (trees_of (map tree_of frame.now)) }
     requires few { nodes (map tree_of frame.now) < 4294967295 }

@@ -1,4 +1,4 @@
-// Checks.
+//! Checks.
 
 use anb_close::{Made, Opening};
 

@@ -1,4 +1,4 @@
-// Why the checks are enough, and why a stop is justified.
+//! Why the checks are enough, and why a stop is justified.
 
 ghost use Rattle.std.specs.Prelude.{List};
 ghost use Rattle.anb_close.specs.declared.entry.Entry.{Entry};
@@ -13,15 +13,18 @@ use anb_term::Algebra;
 /// All the checks that entries have are enough: where they hold, any two recipes that have one term
 /// have one defined value, however large they are.
 pub fn checks_are_enough<A: Algebra>(a: &A)
-    ensures { (es : List Entry) (cs : List Check) → IsKnown es → AreAll es cs → AreEnough (A.meaning a.now) es cs }
+    ensures { (es : List Entry) (cs : List Check) → IsKnown es → AreAll es cs
+        → AreEnough (A.meaning a.now) es cs }
 {
     let _ = a;
 }
 
 /// Each check that an entry has is true of terms, and holds wherever recipes with one term agree.
 pub fn checks_are_justified<A: Algebra>(a: &A)
-    ensures in_terms { (es : List Entry) (cs : List Check) → IsKnown es → AllFit es cs → AreTrueInTerms (A.meaning a.now) es cs }
-    ensures justified { (es : List Entry) (cs : List Check) → IsKnown es → AllFit es cs → AreJustified (A.meaning a.now) es cs }
+    ensures in_terms { (es : List Entry) (cs : List Check) → IsKnown es → AllFit es cs
+        → AreTrueInTerms (A.meaning a.now) es cs }
+    ensures justified { (es : List Entry) (cs : List Check) → IsKnown es → AllFit es cs
+        → AreJustified (A.meaning a.now) es cs }
 {
     let _ = a;
 }

@@ -7,9 +7,9 @@
 //! operands compose must equal it, however late they come.
 #![tactic(auto)]
 
+mod adding;
 pub mod basis;
 pub mod check;
-mod giving;
 pub mod laws;
 
 pub use basis::{Basis, all_checks};

@@ -1,4 +1,4 @@
-// Frames, and the checks that they need.
+//! Frames, and the checks that they need.
 
 ghost use Rattle.std.specs.Prelude.{◌≡◌, ◌<◌, map, true, IfSome};
 ghost use Rattle.anb_term.specs.Tree.{nodes, tree_size, trees_of, IsFormed, AreFormed};

@@ -42,7 +42,8 @@ impl Model for Closure {
 
     ghost use Rattle.anb_close.specs.Entries.{IsKept};
 
-    ghost invariant = { λ a. IsKept a.growth.entries.items a.growth.doubles.items a.growth.firsts.items };
+    ghost invariant = { λ a. IsKept a.growth.entries.items a.growth.doubles.items
+        a.growth.firsts.items };
 }
 
 impl Closure {
@@ -62,7 +63,8 @@ impl Closure {
     pub fn entries(&self) -> &[Entry]
         ensures same { result.now ≡ self.now }
         ensures known { IsKnown self.now }
-        ensures before { (b : ℕ) (e : Entry) → slice_get self.now b ≡ Some e → IsTrue (is_label e.origin) → IsKnown (take b self.now) }
+        ensures before { (b : ℕ) (e : Entry) → slice_get self.now b ≡ Some e
+            → IsTrue (is_label e.origin) → IsKnown (take b self.now) }
     {
         &self.growth.entries
     }
@@ -73,9 +75,11 @@ impl Closure {
         requires formed { IsFormed (λ o. true) (tree_of t.now) }
         requires few { nodes (labels_of self.old) + tree_size (tree_of t.now) < 4294967295 }
         ensures ok { IfOk result (λ s. HasAdded self.old t.now self.new) }
-        ensures grows { IfOk result (λ s. nodes (labels_of self.new) ≡ nodes (labels_of self.old) + tree_size (tree_of t.now)) }
+        ensures grows { IfOk result (λ s.
+            nodes (labels_of self.new) ≡ nodes (labels_of self.old) + tree_size (tree_of t.now)) }
         ensures label { IfOk result (λ s. s.label ≡ length self.old) }
-        ensures opened { IfOk result (λ s. s.opened ≡ openings_from (length self.old) (drop (length self.old) self.new)) }
+        ensures opened { IfOk result (λ s.
+            s.opened ≡ openings_from (length self.old) (drop (length self.old) self.new)) }
         ensures err { OnErr result (self.new ≡ self.old) }
     {
         let before = self.growth.entries.len();
@@ -91,7 +95,8 @@ impl Closure {
     pub fn take_back(&mut self)
         requires { 0 < length (labels_of self.old) }
         ensures cut { (at : ℕ) × IsLastLabel self.old at × (self.new ≡ take at self.old) }
-        ensures undoes { (before : List Entry) (t : Term) → HasAdded before t self.old → self.new ≡ before }
+        ensures undoes { (before : List Entry) (t : Term) → HasAdded before t self.old
+            → self.new ≡ before }
     {
         let at = self.growth.last_label();
         self.growth.cut(at);
@@ -101,11 +106,19 @@ impl Closure {
     /// term, or an operand on the way, has one, and builds only where there is none.
     pub fn compose(&self, alloc: Global, t: &Term) -> Result<Option<Made>, NoMemory>
         requires { IsFormed (λ o. true) (tree_of t.now) }
-        ensures chosen { IfOk result (λ r. option_map made_tree r ≡ made_for (rows self.now) (tree_of t.now)) }
-        ensures refused { (has : Op → Bool) → IfOk result (λ r. MatchOption r (HasRecipe has (labels_of self.now) (tree_of t.now) → ⊥) (λ m. Unit {0})) }
-        ensures given { (has : Op → Bool) → AreFormed has (trees_of (labels_of self.now)) → IsFormed has (tree_of t.now)
-            → IfOk result (λ r. IfSome r (λ m. value (terms_over has) (labels_of self.now) (made_recipe (recipes self.now) (made_tree m)) ≡ Some (tree_of t.now))) }
-        ensures small { IfOk result (λ r. IfSome r (λ m. tree_size (made_tree m) ≤ tree_size (tree_of t.now))) }
+        ensures chosen { IfOk result (λ r.
+            option_map made_tree r ≡ made_for (rows self.now) (tree_of t.now)) }
+        ensures refused { (has : Op → Bool)
+            → IfOk result (λ r.
+            MatchOption r (HasRecipe has (labels_of self.now) (tree_of t.now)
+            → ⊥) (λ m. Unit {0})) }
+        ensures given { (has : Op → Bool) → AreFormed has (trees_of (labels_of self.now))
+            → IsFormed has (tree_of t.now)
+            → IfOk result (λ r. IfSome r (λ m.
+            value (terms_over has) (labels_of self.now)
+            (made_recipe (recipes self.now) (made_tree m)) ≡ Some (tree_of t.now))) }
+        ensures small { IfOk result (λ r.
+            IfSome r (λ m. tree_size (made_tree m) ≤ tree_size (tree_of t.now))) }
     {
         match self.growth.made(alloc, t)? {
             None => Ok(None),
@@ -115,7 +128,8 @@ impl Closure {
 
     /// The compositions of all of these, where each has one, as `compose` gives them.
     pub fn compose_all(&self, alloc: Global, ts: &[Term]) -> Result<Option<Compositions>, NoMemory>
-        ensures { IfOk result (λ r. option_map trees_of r ≡ mades_for (rows self.now) (trees_of (map tree_of ts.now))) }
+        ensures { IfOk result (λ r.
+            option_map trees_of r ≡ mades_for (rows self.now) (trees_of (map tree_of ts.now))) }
     {
         self.growth.mades(alloc, ts)
     }

@@ -48,7 +48,8 @@ impl Growth {
     pub fn made(&self, alloc: Global, t: &Term) -> Result<Option<Made>, NoMemory>
         requires doubles { self.now.doubles.items ≡ map is_double (rows self.now.entries.items) }
         requires few { length self.now.entries.items < 2 ^ 32 }
-        ensures { IfOk result (λ r. option_map made_tree r ≡ made_for (rows self.now.entries.items) (tree_of t.now)) }
+        ensures { IfOk result (λ r.
+            option_map made_tree r ≡ made_for (rows self.now.entries.items) (tree_of t.now)) }
     {
         match self.find(t) {
             Some(n) => return Ok(Some(Made::Entry(n))),
@@ -73,7 +74,9 @@ impl Growth {
     pub fn mades(&self, alloc: Global, ts: &[Term]) -> Result<Option<Compositions>, NoMemory>
         requires doubles { self.now.doubles.items ≡ map is_double (rows self.now.entries.items) }
         requires few { length self.now.entries.items < 2 ^ 32 }
-        ensures { IfOk result (λ r. option_map trees_of r ≡ mades_for (rows self.now.entries.items) (trees_of (map tree_of ts.now))) }
+        ensures { IfOk result (λ r.
+            option_map trees_of r
+            ≡ mades_for (rows self.now.entries.items) (trees_of (map tree_of ts.now))) }
     {
         let mut all = Compositions::empty(alloc);
         for t in ts {
@@ -89,7 +92,9 @@ impl Growth {
     fn is_double(&self, alloc: Global, t: &Term) -> Result<bool, NoMemory>
         requires doubles { self.now.doubles.items ≡ map is_double (rows self.now.entries.items) }
         requires few { length self.now.entries.items < 2 ^ 32 }
-        ensures { IfOk result (λ b. b ≡ is_double (row_unless (made_for (rows self.now.entries.items) (tree_of t.now)) (tree_of t.now))) }
+        ensures { IfOk result (λ b.
+            b ≡ is_double (row_unless (made_for (rows self.now.entries.items) (tree_of t.now))
+            (tree_of t.now))) }
     {
         match self.made(alloc, t)? {
             Some(_) => Ok(true),
@@ -102,8 +107,12 @@ impl Growth {
         requires doubles { self.old.doubles.items ≡ map is_double (rows self.old.entries.items) }
         requires few { length self.old.entries.items < 2 ^ 32 }
         ensures doubles { self.new.doubles.items ≡ map is_double (rows self.new.entries.items) }
-        ensures ok { OnOk result (Extends self.old.entries.items self.old.firsts.items self.new.entries.items self.new.firsts.items (record { origin = origin; term = term } ∷ [])) }
-        ensures err { OnErr result (Extends self.old.entries.items self.old.firsts.items self.new.entries.items self.new.firsts.items []) }
+        ensures ok { OnOk result
+            (Extends self.old.entries.items self.old.firsts.items self.new.entries.items
+            self.new.firsts.items (record { origin = origin; term = term } ∷ [])) }
+        ensures err { OnErr result
+            (Extends self.old.entries.items self.old.firsts.items self.new.entries.items
+            self.new.firsts.items []) }
     {
         let double = self.is_double(alloc, &term)?;
         self.doubles.push(double)?;
@@ -138,9 +147,13 @@ impl Growth {
         requires few { length self.old.entries.items + length operands.now < 2 ^ 32 }
         requires arity { length operands.now < 2 ^ 16 }
         ensures doubles { self.new.doubles.items ≡ map is_double (rows self.new.entries.items) }
-        ensures ok { OnOk result (Extends self.old.entries.items self.old.firsts.items self.new.entries.items self.new.firsts.items
+        ensures ok { OnOk result
+            (Extends self.old.entries.items self.old.firsts.items self.new.entries.items
+            self.new.firsts.items
             (part_entries op keys.now of 0 (drop (keys_of op) (map tree_of operands.now)))) }
-        ensures err { OnErr result ((more : List Entry) × Extends self.old.entries.items self.old.firsts.items self.new.entries.items self.new.firsts.items more) }
+        ensures err { OnErr result ((more : List Entry)
+            × Extends self.old.entries.items self.old.firsts.items self.new.entries.items
+            self.new.firsts.items more) }
     {
         let start = op.keys() as usize;
         for j in start..operands.len() {
@@ -161,7 +174,9 @@ impl Growth {
         requires few { length self.now.entries.items < 2 ^ 32 }
         requires long { length self.now.firsts.items ≡ length self.now.entries.items }
         requires within { i < length self.now.entries.items }
-        ensures { IfOk result (λ r. MatchOption r (NoKeys self.now.entries.items self.now.firsts.items i) (λ ks. Opens self.now.entries.items self.now.firsts.items i ks)) }
+        ensures { IfOk result (λ r.
+            MatchOption r (NoKeys self.now.entries.items self.now.firsts.items i) (λ ks.
+            Opens self.now.entries.items self.now.firsts.items i ks)) }
     {
         if self.doubles[i] {
             return Ok(None);
@@ -192,7 +207,10 @@ impl Growth {
         requires doubles { self.now.doubles.items ≡ map is_double (rows self.now.entries.items) }
         requires few { length self.now.entries.items < 2 ^ 32 }
         requires long { length self.now.firsts.items ≡ length self.now.entries.items }
-        ensures { IfOk result (λ r. MatchOption r ((i : ℕ) → NoKeys self.now.entries.items self.now.firsts.items i) (λ f. Opens self.now.entries.items self.now.firsts.items f.0 f.1)) }
+        ensures { IfOk result (λ r.
+            MatchOption r ((i : ℕ)
+            → NoKeys self.now.entries.items self.now.firsts.items i) (λ f.
+            Opens self.now.entries.items self.now.firsts.items f.0 f.1)) }
     {
         for i in 0..self.entries.len() {
             match self.opens(alloc, i)? {
@@ -210,7 +228,8 @@ impl Growth {
         requires opens { Opens self.old.entries.items self.old.firsts.items of keys.now }
         requires few { nodes (labels_of self.old.entries.items) < 2 ^ 32 }
         ensures doubles { self.new.doubles.items ≡ map is_double (rows self.new.entries.items) }
-        ensures back { Keeps self.old.entries.items self.old.firsts.items self.new.entries.items self.new.firsts.items }
+        ensures back { Keeps self.old.entries.items self.old.firsts.items self.new.entries.items
+            self.new.firsts.items }
         ensures grown { OnOk result (IsGrown self.new.entries.items self.new.firsts.items) }
         ensures opened { OnOk result (HasOpened self.old.entries.items self.new.entries.items) }
     {
@@ -247,10 +266,13 @@ impl Growth {
         requires doubles { self.old.doubles.items ≡ map is_double (rows self.old.entries.items) }
         requires grown { IsGrown self.old.entries.items self.old.firsts.items }
         requires formed { IsFormed (λ o. true) (tree_of t.now) }
-        requires few { nodes (labels_of self.old.entries.items) + tree_size (tree_of t.now) < 2 ^ 32 }
+        requires few { nodes (labels_of self.old.entries.items) + tree_size (tree_of t.now)
+            < 2 ^ 32 }
         ensures doubles { self.new.doubles.items ≡ map is_double (rows self.new.entries.items) }
-        ensures back { GoesBack self.old.entries.items self.old.firsts.items self.new.entries.items self.new.firsts.items }
-        ensures ok { OnOk result (HasGrown self.old.entries.items t.now self.new.entries.items self.new.firsts.items) }
+        ensures back { GoesBack self.old.entries.items self.old.firsts.items self.new.entries.items
+            self.new.firsts.items }
+        ensures ok { OnOk result
+            (HasGrown self.old.entries.items t.now self.new.entries.items self.new.firsts.items) }
     {
         let label = self.labels();
         self.push(alloc, Origin::Label(label), t.copy(alloc)?)?;
@@ -265,7 +287,8 @@ impl Growth {
     /// The openings from a place on.
     fn openings(&self, alloc: Global, from: usize) -> Result<Vec<Opening>, NoMemory>
         requires few { length self.now.entries.items < 2 ^ 32 }
-        ensures { IfOk result (λ v. v.items ≡ openings_from from (drop from self.now.entries.items)) }
+        ensures { IfOk result (λ v.
+            v.items ≡ openings_from from (drop from self.now.entries.items)) }
     {
         let mut all = Vec::new(alloc);
         for f in from..self.entries.len() {
@@ -292,11 +315,16 @@ impl Growth {
         requires doubles { self.old.doubles.items ≡ map is_double (rows self.old.entries.items) }
         requires grown { IsGrown self.old.entries.items self.old.firsts.items }
         requires formed { IsFormed (λ o. true) (tree_of t.now) }
-        requires few { nodes (labels_of self.old.entries.items) + tree_size (tree_of t.now) < 2 ^ 32 }
+        requires few { nodes (labels_of self.old.entries.items) + tree_size (tree_of t.now)
+            < 2 ^ 32 }
         ensures doubles { self.new.doubles.items ≡ map is_double (rows self.new.entries.items) }
-        ensures back { GoesBack self.old.entries.items self.old.firsts.items self.new.entries.items self.new.firsts.items }
-        ensures ok { OnOk result (HasGrown self.old.entries.items t.now self.new.entries.items self.new.firsts.items) }
-        ensures step { IfOk result (λ s. (s.label ≡ length self.old.entries.items) × (s.opened ≡ openings_from (length self.old.entries.items) (drop (length self.old.entries.items) self.new.entries.items))) }
+        ensures back { GoesBack self.old.entries.items self.old.firsts.items self.new.entries.items
+            self.new.firsts.items }
+        ensures ok { OnOk result
+            (HasGrown self.old.entries.items t.now self.new.entries.items self.new.firsts.items) }
+        ensures step { IfOk result (λ s. (s.label ≡ length self.old.entries.items)
+            × (s.opened ≡ openings_from (length self.old.entries.items)
+            (drop (length self.old.entries.items) self.new.entries.items))) }
     {
         let label = self.entries.len();
         self.grow(alloc, t)?;

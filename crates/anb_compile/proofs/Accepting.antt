@@ -1,5 +1,5 @@
 -- What is emitted for a role is a verified code, which fits the role.
-use Rattle.std.proofs.Common.{◌≡◌, ◌≢◌, ℕ, suc, ◌+◌, ◌<◌, ◌≤◌, List, [], ◌∷◌, ◌++◌, length, get_or, Some, Result, Ok, Err, IfOk, refl, sym, ap, ◌∙◌, subst, arith, length-append, append_assoc}
+use Rattle.std.proofs.Common.{◌≡◌, ◌≢◌, ℕ, suc, ◌+◌, ◌<◌, ◌≤◌, List, [], ◌∷◌, ◌++◌, length, map, get_or, Some, refl, sym, ap, ◌∙◌, subst, arith, length-append, append_assoc}
 use Rattle.std.specs.Prelude.{slice_get}
 use Rattle.std.specs.Option.{option_map_or}
 use Rattle.std.specs.List.{AllByRecursion, AllPairs}
@@ -8,26 +8,25 @@ use Rattle.std.proofs.Math.Seq.{get_or-append_seam}
 use Rattle.anb_base.specs.declared.TheConstants.{ARRIVAL, WIDE}
 use Rattle.anb_base.specs.declared.content.Suite.{Suite}
 use Rattle.anb_format.specs.Formats.{FormatValue, IsSound, field_count}
-use Rattle.anb_term.specs.Tree.{nodes}
+use Rattle.anb_term.specs.Tree.{nodes, tree_eqb}
+use Rattle.std.specs.Set.{distinct_count}
 use Rattle.anb_term.proofs.Lists.{slice_get-there}
 use Rattle.anb_code.specs.declared.instr.Instr.{Instr}
 use Rattle.anb_code.specs.CodeValue.{CodeValue}
-use Rattle.anb_code.specs.RawValue.{RawInstrValue, RawValue}
-use Rattle.anb_code.specs.Spelling.{raw_instrs, raw_of}
 use Rattle.anb_code.specs.Registers.{register_widths}
 use Rattle.anb_code.specs.Taking.{take_texts}
-use Rattle.anb_code.specs.Laws.{Spells, VerifiedIsSpelled}
-use Rattle.anb_code.specs.Verified.{EachAfter, HasItsFormat, IsFormatAfter, IsInstrAfter, IsVerifiedCode}
+use Rattle.anb_code.specs.Verified.{EachAfter, IsFormatAfter, IsVerifiedCode}
 use Rattle.anb_resolve.specs.Protocols.{ProtocolValue}
 use Rattle.anb_resolve.specs.Texts.{known_texts}
 use Rattle.anb_resolve.specs.Plans.{plan_of}
-use Rattle.anb_resolve.specs.Plays.{events_of}
+use Rattle.anb_resolve.specs.Plays.{event_of, events_of}
 use Rattle.anb_resolve.specs.Laws.{HoldsOf}
 use Rattle.anb_compile.specs.Fitting.{FitsRole}
 use Rattle.anb_compile.specs.Unsent.{labels_of}
-use Rattle.anb_compile.specs.Counted.{count_demands}
+use Rattle.anb_compile.specs.Counted.{count_demands, count_builds, count_subterms}
+use Rattle.anb_compile.proofs.Sharing.{plan_subterms}
 use Rattle.anb_compile.specs.Emitting.{IsAdmitted, Emits}
-use Rattle.anb_compile.specs.Spelling.{role_code}
+use Rattle.anb_compile.specs.RoleCodes.{role_code}
 
 -- ---- formats
 
@@ -50,15 +49,6 @@ formats_after before (f ∷ formats) few fields sound pairs =
       record { few = omega (arith, few); fields = fields.0; new = earlier_names before f formats pairs; sound = sound.0 },
       formats_after (before ++ f ∷ []) formats (omega (arith, few, long)) fields.1 sound.1 (subst P (sym (append_assoc before (f ∷ []) formats)) pairs),
     )
-
--- ---- instructions
-
-formats_there : (formats : List FormatValue) (before instrs : List Instr) → EachAfter (IsInstrAfter formats) before instrs → AllByRecursion (HasItsFormat formats) instrs
-formats_there formats before [] each = tt
-formats_there formats before (i ∷ instrs) each = (each.0.format, formats_there formats (before ++ i ∷ []) instrs each.1)
-
-pub have_formats : (formats : List FormatValue) (instrs : List Instr) → IsAdmitted formats instrs → AllByRecursion (HasItsFormat formats) instrs
-have_formats formats instrs is = formats_there formats [] instrs is.instrs
 
 -- ---- the code
 
@@ -90,22 +80,19 @@ module _ (p : ProtocolValue) (role : ℕ) (instrs : List Instr) where
     pub fitted_few : (code : CodeValue) → code ≡ role_code p role instrs → count_demands code ≤ nodes (labels_of (plan_of p role))
     fitted_few code is = let few = emits.few in omega (arith, ap count_demands is, few)
 
--- its names and instructions written out
-pub raw_spells : (p : ProtocolValue) (role : ℕ) (instrs : List Instr) (raw : RawValue) → raw.protocol ≡ p.name → slice_get p.roles role ≡ Some raw.role → raw.suite ≡ p.suite → raw.formats ≡ p.formats
-    → raw.code ≡ raw_instrs p.formats 0 instrs → raw ≡ raw_of (role_code p role instrs)
-raw_spells p role instrs raw protocol name suite formats code =
-    let mk : List ℕ → List ℕ → Suite → List FormatValue → List RawInstrValue → RawValue = λ a b d e f. record { protocol = a; role = b; suite = d; formats = e; code = f } in
+    pub fitted_once : (code : CodeValue) → code ≡ role_code p role instrs → count_builds code ≤ count_subterms (plan_of p role)
+    fitted_once code is =
+        let once = emits.once in
+        let plan : events_of p role ≡ map event_of (plan_of p role) = refl in
+        let same = plan_subterms (record { formats = p.formats; suite = p.suite; plan = events_of p role }) (plan_of p role) plan in
+        omega (arith, ap count_builds is, once, ap (distinct_count tree_eqb) same)
+
+-- its parts make it
+pub parts_are : (p : ProtocolValue) (role : ℕ) (instrs : List Instr) (code : CodeValue) → code.protocol ≡ p.name → slice_get p.roles role ≡ Some code.role → code.suite ≡ p.suite → code.formats ≡ p.formats
+    → code.instrs ≡ instrs → code ≡ role_code p role instrs
+parts_are p role instrs code protocol name suite formats is =
+    let mk : List ℕ → List ℕ → Suite → List FormatValue → List Instr → CodeValue = λ a b d e f. record { protocol = a; role = b; suite = d; formats = e; instrs = f } in
     let n = option_map_or (λ (x : List ℕ). x) (slice_get p.roles role) [] in
-    let same : raw.role ≡ n = sym (ap (λ o. option_map_or (λ (x : List ℕ). x) o []) name) in
-    ap (λ a. mk a raw.role raw.suite raw.formats raw.code) protocol ∙ ap (λ b. mk p.name b raw.suite raw.formats raw.code) same ∙ ap (λ d. mk p.name n d raw.formats raw.code) suite
-    ∙ ap (λ e. mk p.name n p.suite e raw.code) formats ∙ ap (mk p.name n p.suite p.formats) code
-
--- so it is accepted, and comes of it again
-pub spelled : VerifiedIsSpelled → (p : ProtocolValue) (role : ℕ) (instrs : List Instr) → HoldsOf p → IsAdmitted p.formats instrs → (raw : RawValue) → raw ≡ raw_of (role_code p role instrs) → Spells ARRIVAL WIDE raw (role_code p role instrs)
-spelled law p role instrs holds admitted raw is =
-    let P : RawValue → Type 0 = λ r. Spells ARRIVAL WIDE r (role_code p role instrs) in
-    subst P (sym is) (law ARRIVAL WIDE (role_code p role instrs) (is_verified p role instrs holds admitted))
-
-pub if_same : {A E : Type 0} (r : Result A E) (x y : A) → x ≡ y → IfOk r (λ z. z ≡ x) → IfOk r (λ z. z ≡ y)
-if_same (Ok z) x y e h = h ∙ e
-if_same (Err fault) x y e h = tt
+    let same : code.role ≡ n = sym (ap (λ o. option_map_or (λ (x : List ℕ). x) o []) name) in
+    ap (λ a. mk a code.role code.suite code.formats code.instrs) protocol ∙ ap (λ b. mk p.name b code.suite code.formats code.instrs) same ∙ ap (λ d. mk p.name n d code.formats code.instrs) suite
+    ∙ ap (λ e. mk p.name n p.suite e code.instrs) formats ∙ ap (mk p.name n p.suite p.formats) is

@@ -1,5 +1,5 @@
 -- What is written of checks asks what they demand.
-use Rattle.std.proofs.Common.{◌≡◌, ℕ, zero, suc, ◌+◌, ◌-◌, ◌<◌, List, [], ◌∷◌, ◌++◌, length, map, take, Bool, true, IsTrue, Some, refl, sym, ap, ◌∙◌, subst, arith, length-append, append_assoc, ◌⊎◌, inl, inr}
+use Rattle.std.proofs.Common.{◌≡◌, ℕ, zero, suc, ◌+◌, ◌-◌, ◌<◌, List, [], ◌∷◌, ◌++◌, length, map, take, Bool, true, IsTrue, Some, refl, sym, ap, ◌∙◌, subst, arith, length-append, append_assoc, below_more, inl, inr}
 use Rattle.std.specs.Prelude.{slice_get}
 use Rattle.std.specs.List.{range_with_len}
 use Rattle.std.proofs.lemmas.List.{append-nil}
@@ -26,29 +26,22 @@ use Rattle.anb_code.specs.declared.instr.Instr.{Instr}
 use Rattle.anb_code.specs.declared.instr.Instr.TheVariants as instr
 use Rattle.anb_code.specs.Meaning.{act_of}
 use Rattle.anb_compile.specs.declared.writer.Writer.{Writer}
-use Rattle.anb_compile.specs.Writing.{meaning_in, Tracks, Stands, further, Composes, ComposesEach, entry_at, demand_in, IsCheckOf, AreChecksOf, Asks, count_opened, count_all_opened}
+use Rattle.anb_compile.specs.Writing.{meaning_in, Tracks, HaveBuilt, Stands, further, Composes, ComposesEach, entry_at, demand_in, IsCheckOf, AreChecksOf, Asks, count_opened, count_all_opened}
 use Rattle.anb_compile.proofs.Lists.{either_part, later_part, number_at}
-use Rattle.anb_compile.proofs.Writing.{acts_put, tracks_more, read, hold_read, reach_work}
+use Rattle.anb_compile.proofs.Writing.{acts_put, tracks_more, read, hold_read, built_more, built_same, reach_work}
 
 pub length-parts : (n : ℕ) (o : Op) (ks : RecipeTrees) (r : RecipeTree) → length (parts n o ks r) ≡ n
 length-parts zero o ks r = refl
 length-parts (suc n) o ks r = omega (arith, length-append (parts n o ks r) (part o n ks r ∷ []), length-parts n o ks r)
 
-below_suc : (j n : ℕ) → j < suc n → (j < n) ⊎ (j ≡ n)
-below_suc j zero h = inr (omega arith)
-below_suc zero (suc n) h = inl (omega arith)
-below_suc (suc j) (suc n) h = elim (below_suc j n (omega arith)) [ inl l ↦ inl (omega arith) | inr e ↦ inr (omega arith) ]
-
 pub part_here : (n : ℕ) (o : Op) (ks : RecipeTrees) (r : RecipeTree) (j : ℕ) → j < n → slice_get (parts n o ks r) j ≡ Some (part o j ks r)
 part_here zero o ks r j h = absurd (omega arith)
-part_here (suc n) o ks r j h = elim (below_suc j n h) [
-  | inl l ↦ slice_get-append (parts n o ks r) (part o n ks r ∷ []) j (part o j ks r) (part_here n o ks r j l)
-  | inr e ↦
-      let P : ℕ → Type 0 = λ i. slice_get (parts n o ks r ++ part o n ks r ∷ []) i ≡ Some (part o n ks r) in
-      let at : slice_get (parts n o ks r ++ part o n ks r ∷ []) j ≡ Some (part o n ks r) =
-      subst P (let l : length (parts n o ks r) + 0 ≡ j = omega (arith, length-parts n o ks r) in l) (later_part (parts n o ks r) (part o n ks r ∷ []) 0 (part o n ks r) refl) in
-      at ∙ ap (λ i. Some (part o i ks r)) (sym e)
-]
+part_here (suc n) o ks r j h =
+    let all = parts n o ks r ++ part o n ks r ∷ [] in
+    let at : length (parts n o ks r) + 0 ≡ n = omega (arith, length-parts n o ks r) in
+    let P : ℕ → Type 0 = λ i. slice_get all i ≡ Some (part o n ks r) in
+    let last = subst P at (later_part (parts n o ks r) (part o n ks r ∷ []) 0 (part o n ks r) refl) in
+    below_more (λ i. slice_get all i ≡ Some (part o i ks r)) n (λ i l. slice_get-append (parts n o ks r) (part o n ks r ∷ []) i (part o i ks r) (part_here n o ks r i l)) last j (omega (arith, h))
 
 one_holds : {A : Type 0} (m : Meaning A) (vs : List A) (d e : Demand) → d ≡ e → all_hold m vs (e ∷ []) ≡ true → all_hold m vs (d ∷ []) ≡ true
 one_holds m vs d e s h = ap (λ x. all_hold m vs (x ∷ [])) s ∙ h
@@ -70,9 +63,9 @@ module _ (regs entries : List RecipeTree) (places : List ℕ) (o : Op) (ks : Rec
 pub open_asks : (old mid put new : Writer) (x : Opening) (ns : List ℕ) (of count : ℕ) (i : Instr) → ComposesEach old mid x.keys ns → mid.places ≡ old.places
     → slice_get mid.places.items x.of ≡ Some of → put.code.items ≡ mid.code.items ++ i ∷ [] → put.next ≡ mid.next → put.places ≡ mid.places
     → ((formats : List FormatValue) → IsTrue (has_operator formats x.op) → act_of formats i ≡ works (undo x.op ns of))
-    → new.code ≡ put.code → new.next ≡ put.next + count → new.places.items ≡ put.places.items ++ range_with_len put.next count → count ≡ arity x.op - keys x.op
+    → new.code ≡ put.code → new.next ≡ put.next + count → new.places.items ≡ put.places.items ++ range_with_len put.next count → new.built ≡ mid.built → count ≡ arity x.op - keys x.op
     → Asks old new (Open x ∷ [])
-open_asks old mid put new x ns of count i each same entry code next places act code' next' places' is c events entries s checks hold stands =
+open_asks old mid put new x ns of count i each same entry code next places act code' next' places' built is c events entries s checks hold stands =
     let m = meaning_in c in
     let check = checks.0 in
     let a = each c events entries s check.2 stands in
@@ -108,13 +101,14 @@ open_asks old mid put new x ns of count i each same entry code next places act c
         reaches = subst Q (sym (ap (λ v. v.items) code')) (subst P at reach);
         next = omega (arith, next', next, a.stands.next, long, length-append regs ws, ap length (append_assoc s.regs a.since ws));
         tracks = subst V (sym all_places) (subst U (append_assoc s.regs a.since ws) (subst T (sym wrote) opened));
+        built = built_same (s.regs ++ (a.since ++ ws)) mid.built new.built built (let B : List RecipeTree → Type 0 = λ l. HaveBuilt l mid.built in subst B (append_assoc s.regs a.since ws) (built_more regs ws mid.built a.stands.built));
       };
     }
 
 pub equal_asks : (old mid new : Writer) (n e r : ℕ) (made : Made) → Composes old mid (made_tree made) r → mid.places ≡ old.places
-    → slice_get mid.places.items n ≡ Some e → new.code.items ≡ mid.code.items ++ instr.Equal e r ∷ [] → new.next ≡ mid.next → new.places ≡ mid.places
+    → slice_get mid.places.items n ≡ Some e → new.code.items ≡ mid.code.items ++ instr.Equal e r ∷ [] → new.next ≡ mid.next → new.places ≡ mid.places → new.built ≡ mid.built
     → Asks old new (Equal n made ∷ [])
-equal_asks old mid new n e r made one same entry code next places c events entries s checks hold stands =
+equal_asks old mid new n e r made one same entry code next places built c events entries s checks hold stands =
     let m = meaning_in c in
     let check = checks.0 in
     let a = one c events entries s check.1 stands in
@@ -138,6 +132,7 @@ equal_asks old mid new n e r made one same entry code next places c events entri
         reaches = subst P at reach;
         next = next ∙ a.stands.next;
         tracks = subst T (sym (ap (λ q. q.items) places)) a.stands.tracks;
+        built = built_same regs mid.built new.built built a.stands.built;
       };
     }
 

@@ -1,6 +1,6 @@
 -- One event after another is done.
 use Rattle.std.proofs.Common.{◌≡◌, ℕ, zero, suc, ◌+◌, ◌*◌, ◌<◌, ◌≤◌, List, [], ◌∷◌, ◌++◌, length, map, drop, Bool, true, false, Some, refl, sym, ap, ◌∙◌, subst, arith, length-append, append_assoc, ◌⊎◌, inl, inr}
-use Rattle.std.specs.Prelude.{slice_get, if◌then◌else◌}
+use Rattle.std.specs.Prelude.{slice_get, count_by, if◌then◌else◌}
 use Rattle.std.specs.List.{AllByRecursion}
 use Rattle.std.proofs.lemmas.List.{append-nil}
 use Rattle.std.proofs.Math.Seq.{drop-append_seam}
@@ -9,7 +9,7 @@ use Rattle.anb_term.specs.declared.term.Op.{Op}
 use Rattle.anb_term.specs.declared.term.Term.{Term}
 use Rattle.anb_term.specs.View.{tree_of}
 use Rattle.anb_base.specs.declared.TheConstants.{ARRIVAL}
-use Rattle.anb_term.specs.Tree.{Tree, leaf, node, trees_of, tree_size, nodes, IsFormed, AreFormed}
+use Rattle.anb_term.specs.Tree.{Tree, leaf, node, Trees, trees_of, tree_size, nodes, IsFormed, AreFormed}
 use Rattle.anb_term.specs.Value.{Meaning, RecipeTree, label, value}
 use Rattle.anb_term.specs.FreeAlgebra.{terms_over}
 use Rattle.anb_term.specs.Agree.{HasRecipe}
@@ -22,9 +22,9 @@ use Rattle.anb_algebra.specs.ByteLawful.{bytes_are_lawful}
 use Rattle.anb_close.specs.declared.entry.Entry.{Entry}
 use Rattle.anb_close.specs.declared.entry.Origin.TheVariants.{Label}
 use Rattle.anb_close.specs.Entries as closure
-use Rattle.anb_close.specs.Entries.{terms_of, HasAdded, IsKnown}
+use Rattle.anb_close.specs.Entries.{terms_of, rows, HasAdded, IsKnown}
 use Rattle.anb_close.specs.Recipes.{recipes}
-use Rattle.anb_close.specs.Rows.{made_recipe}
+use Rattle.anb_close.specs.Rows.{made_recipe, mades_for}
 use Rattle.anb_close.proofs.Growing as growing
 use Rattle.anb_close.proofs.Growing.{no_labels}
 use Rattle.anb_close.proofs.Origins.{recipes_stay}
@@ -46,14 +46,17 @@ use Rattle.anb_resolve.specs.Plans.{PlanEvent, to_know, to_make, to_send, to_rec
 use Rattle.anb_compile.specs.declared.writer.Writer.{Writer}
 use Rattle.anb_compile.specs.declared.emission.Emission.{Emission}
 use Rattle.anb_compile.specs.Unsent.{label_of, labels_of}
+use Rattle.anb_compile.specs.Counted.{is_building}
+use Rattle.anb_compile.specs.Once.{IsChosen, IsChosenCheck, Shares, SharesChecks, subterms_in, AllAmong}
+use Rattle.anb_compile.proofs.Sharing.{sharing_on, none_put, mades_kept, operands_among, plan_among, labels_build_none}
 use Rattle.anb_compile.specs.Writing.{Context, meaning_in, Tracks, Stands, IsOver, further, Composes, demand_in, AreChecksOf, Asks, count_all_opened}
 use Rattle.anb_compile.specs.Verifying.{widths_in, IsVerifiable, IsWithin, GrowsBy, IsNarrow, IsLonger, Lays, IsNarrowCheck, LaysChecks, room_for}
 use Rattle.anb_compile.specs.Emitting.{others, known_in, KnowsLead, IsPlan, CanSendAll, Done, HasDone, Labelled, WasKnown}
 use Rattle.anb_compile.proofs.Lists.{last_part}
-use Rattle.anb_compile.proofs.Writing.{acts_put, tracks_more, tracks_longer, read}
+use Rattle.anb_compile.proofs.Writing.{acts_put, tracks_more, tracks_longer, built_more, built_same, read}
 use Rattle.anb_compile.proofs.Opened.{label_checks, demands_stay, recipe_here}
 use Rattle.anb_compile.proofs.Laying.{IsLabelling, verifiable_known, verifiable_heard, verifiable_sent, longer_on}
-use Rattle.anb_compile.proofs.Small.{terms_have, sizes_within, narrow_within, check_narrow, check_room, all_checks}
+use Rattle.anb_compile.proofs.Small.{size_some, terms_have, sizes_within, narrow_within, check_narrow, check_room, all_checks, all_chosen}
 use Rattle.anb_compile.proofs.Events.{labels_have, labels_first, labels_append, known_append, others_append, known_events, leads_behind, leads_before, formed_labels}
 
 -- ---- demands
@@ -150,16 +153,20 @@ module _ (c : Context) (before after : List PlanEvent) (plan : IsPlan c (before 
 
   -- the entries' terms are small and narrow, and so are their checks
   pub checks_of : (es : List Entry) (cs : List Check) {ds : List Check} {w : Writer} {places count : ℕ} → Done c before after es ds places w count → IsKnown es → AllFit es cs
-      → AllByRecursion (IsNarrowCheck c.formats) cs × AllByRecursion (λ q. room_for q ≤ 1025) cs
+      → AllByRecursion (IsNarrowCheck c.formats) cs × AllByRecursion (λ q. room_for q ≤ 1025) cs × AllByRecursion (IsChosenCheck (subterms_in c) (rows es)) cs
   checks_of es cs s knows fit =
       let F : List Tree → Type 0 = λ q. AreFormed has (trees_of q) in
       let formed = formed_terms has es knows (subst F (sym s.labels) (formed_labels has before after plan.formed)) in
       let S : List Tree → Type 0 = λ q. AllByRecursion (λ t. tree_size t ≤ 1024) q in
       let N : List Tree → Type 0 = λ q. AllByRecursion (IsNarrow c.formats) q in
       let small = terms_have (λ t. tree_size t ≤ 1024) sizes_within es knows (subst S (sym s.labels) (labels_have (λ t. tree_size t ≤ 1024) before after plan.small)) in
+      let ts = subterms_in c in
+      let A : List Tree → Type 0 = λ q. AllByRecursion (AllAmong ts) q in
+      let among = terms_have (AllAmong ts) (operands_among ts) es knows (subst A (sym s.labels) (labels_have (AllAmong ts) before after (plan_among c (before ++ after) plan.events))) in
       let narrow = terms_have (IsNarrow c.formats) (narrow_within c.formats) es knows (subst N (sym s.labels) (labels_have (IsNarrow c.formats) before after plan.narrow)) in (
         all_checks c.formats has es knows formed small narrow (IsNarrowCheck c.formats) (check_narrow c.formats has es knows formed small narrow) cs fit,
         all_checks c.formats has es knows formed small narrow (λ q. room_for q ≤ 1025) (check_room c.formats has es knows formed small narrow) cs fit,
+        all_chosen (subterms_in c) es knows among cs fit,
       )
 
   -- the checks of a label are of the entries that have a register by then
@@ -185,9 +192,9 @@ module _ (c : Context) (before after : List PlanEvent) (plan : IsPlan c (before 
   -- the checks of a label are written
   pub checked : (es : List Entry) (cs : List Check) (x : Emission) (first : ℕ) (w : Writer) → x.basis ≡ (es, cs) → IsKnown es → AllFit es cs → Labelled c before after x first
       → Asks x.writer w (drop first cs) → length w.places.items ≡ length x.writer.places.items + count_all_opened (drop first cs)
-      → LaysChecks x.writer w (drop first cs) → GrowsBy x.writer w (1025 * length (drop first cs))
+      → LaysChecks x.writer w (drop first cs) → SharesChecks x.writer w (drop first cs) → GrowsBy x.writer w (1025 * length (drop first cs))
       → Done c before after es cs (length es) w x.known
-  checked es cs x first w basis knows fit l asks places lays grows =
+  checked es cs x first w basis knows fit l asks places lays shares grows =
       let m = meaning_in c in
       let d = l.done in
       let R = recipes es in
@@ -222,6 +229,7 @@ module _ (c : Context) (before after : List PlanEvent) (plan : IsPlan c (before 
       let gr = grown.registers in
       let wi = s.within.instrs in
       let wr = s.within.registers in
+      let chosen = all_drop (IsChosenCheck (subterms_in c) (rows es)) first cs (checks_of es cs s knows fit).2 in
       let total : length l.checks + length now ≡ length cs = sym (length-append l.checks now) ∙ ap length whole in
       record {
         place = record { frame = s.place.frame; regs = s.place.regs ++ a.since; asked = s.place.asked ++ map (demand_in R) now };
@@ -236,6 +244,7 @@ module _ (c : Context) (before after : List PlanEvent) (plan : IsPlan c (before 
         verifiable = longer.verifiable;
         takes_wide = λ k h. still_wide c.formats x.writer w longer k (s.takes_wide k h);
         within = record { instrs = omega (arith, gi, wi, total); registers = omega (arith, gr, wr, total) };
+        sharing = shares (subterms_in c) (rows es) chosen s.sharing;
       }
 
 -- ---- the next event brings a label
@@ -261,8 +270,9 @@ module _ (c : Context) (before after : List PlanEvent) (e : PlanEvent) (plan : I
       → place.frame ≡ labels_of (before ++ e ∷ []) ++ known_in after → place.asked ≡ done.place.asked → count ≡ length (known_in (before ++ e ∷ []))
       → ((n : ℕ) → n < length (known c.plan) → slice_get place.regs n ≡ Some (label n))
       → IsVerifiable c.formats w → ((n : ℕ) → n < length (known c.plan) → slice_get (widths_in c.formats w) n ≡ Some ARRIVAL) → IsWithin w (length (known c.plan) + 1025 * (length x.basis.1 + length (before ++ e ∷ [])))
+      → w.built ≡ x.writer.built → count_by is_building w.code.items ≡ count_by is_building x.writer.code.items
       → Done c (before ++ e ∷ []) after es x.basis.1 (length x.basis.0 + 1) w count
-  labelled place w count register stands places here frame asked counted takes verifiable takes_wide within =
+  labelled place w count register stands places here frame asked counted takes verifiable takes_wide within built builds =
       let h = has_operator c.formats in
       let R = recipes x.basis.0 in
       let l = longer x.basis.0 es t added in
@@ -278,6 +288,7 @@ module _ (c : Context) (before after : List PlanEvent) (e : PlanEvent) (plan : I
           next = stands.next;
           tracks = subst P (sym places) (one_tracked place.regs (recipes es) x.writer.places.items register (label (length (labels_of before))) wide
               (let A : ℕ → Type 0 = λ q. slice_get (recipes es) q ≡ Some (label (length (labels_of before))) in subst A (sym done.placed) own) here);
+          built = stands.built;
         };
         labels = new_labels;
         frame = frame;
@@ -289,8 +300,15 @@ module _ (c : Context) (before after : List PlanEvent) (e : PlanEvent) (plan : I
         verifiable = verifiable;
         takes_wide = takes_wide;
         within = within;
+        sharing = sharing_on (subterms_in c) (rows x.basis.0) (rows es) x.writer w mades_stay entries_stay built builds done.sharing;
       }
     where
+      mades_stay : (us ms : Trees) → mades_for (rows x.basis.0) us ≡ Some ms → mades_for (rows es) us ≡ Some ms
+      mades_stay us ms h = mades_kept x.basis.0 _ es added.is us ms h
+
+      entries_stay : (n k : ℕ) → slice_get x.writer.places.items n ≡ Some k → slice_get w.places.items n ≡ Some k
+      entries_stay n k h = let P : List ℕ → Type 0 = λ l. slice_get l n ≡ Some k in subst P (sym places) (slice_get-append x.writer.places.items (register ∷ []) n k h)
+
       one_tracked : (regs entries : List RecipeTree) (places : List ℕ) (k : ℕ) (r : RecipeTree) → Tracks regs entries places → slice_get entries (length places) ≡ Some r → slice_get regs k ≡ Some r
           → Tracks regs entries (places ++ k ∷ [])
       one_tracked regs entries places k r tracks entry reg n j at = elim (slice_get-last places k j n at) [
@@ -312,10 +330,10 @@ module _ (c : Context) (before after : List PlanEvent) (e : PlanEvent) (plan : I
 
   -- ---- an initial value
 
-  pub known_labelled : (u : Tree) (w : Writer) (count first : ℕ) (y : Emission) → e ≡ to_know u → w.code ≡ x.writer.code → w.next ≡ x.writer.next → w.places.items ≡ x.writer.places.items ++ x.known ∷ [] → count ≡ x.known + 1
+  pub known_labelled : (u : Tree) (w : Writer) (count first : ℕ) (y : Emission) → e ≡ to_know u → w.code ≡ x.writer.code → w.next ≡ x.writer.next → w.places.items ≡ x.writer.places.items ++ x.known ∷ [] → w.built ≡ x.writer.built → count ≡ x.known + 1
       → y.basis ≡ (es, cs) → y.writer ≡ w → y.known ≡ count → first ≡ length x.basis.1
       → Labelled c (before ++ e ∷ []) after y first
-  known_labelled u w count first y kind code next places counted basis writer num from =
+  known_labelled u w count first y kind code next places built counted basis writer num from =
       let s = done.place in
       let known_e : (l : List PlanEvent) → known_in (e ∷ l) ≡ u ∷ known_in l = λ l. ap (λ q. known_in (q ∷ l)) kind in
       let lead : labels_of before ≡ known_in before =
@@ -330,28 +348,28 @@ module _ (c : Context) (before after : List PlanEvent) (e : PlanEvent) (plan : I
       (let E : List Event → Type 0 = λ q. Stands c (map know (known c.plan) ++ q) (recipes x.basis.0) (record w { places = x.writer.places }) s in
       let i = done.stands in
       let M : List Instr → Type 0 = λ q. Reaches (meaning_in c) (map (act_of c.formats) q) (map know (known c.plan) ++ others before) (start c.plan) s in
-      subst E (sym same) (record { reaches = subst M (sym (ap (λ v. v.items) code)) i.reaches; next = next ∙ i.next; tracks = i.tracks })) in
+      subst E (sym same) (record { reaches = subst M (sym (ap (λ v. v.items) code)) i.reaches; next = next ∙ i.next; tracks = i.tracks; built = built_same s.regs x.writer.built w.built built i.built })) in
       let frame : s.frame ≡ labels_of (before ++ e ∷ []) ++ known_in after =
       done.frame ∙ ap (λ q. labels_of before ++ q) (known_e after) ∙ sym (append_assoc (labels_of before) (u ∷ []) (known_in after))
       ∙ ap (λ q. (labels_of before ++ q) ++ known_in after) (sym term ∙ sym is ∙ sym (append-nil (label_of e))) ∙ ap (λ q. q ++ known_in after) (sym (labels_append before (e ∷ []))) in
       let count_is : count ≡ length (known_in (before ++ e ∷ [])) =
       omega (arith, counted, done.counted, ap length (known_append before (e ∷ [])), length-append (known_in before) (known_in (e ∷ [])), ap length (known_e [])) in
-      let v = verifiable_known c.formats x.writer w x.known code next places (done.takes_wide x.known below) done.verifiable in
+      let v = verifiable_known c.formats x.writer w x.known code next places built (done.takes_wide x.known below) done.verifiable in
       let same_code : widths_in c.formats x.writer ≡ widths_in c.formats w = ap (λ q. register_widths ARRIVAL c.formats q.items) (sym code) in
       let wi = done.within.instrs in
       let wr = done.within.registers in
       let more = length-append before (e ∷ []) in
       let d = labelled s w count x.known stands places (reg ∙ ap (λ q. Some (label q)) number) frame refl count_is done.takes v
-      (λ k h. let P : List ℕ → Type 0 = λ q. slice_get q k ≡ Some ARRIVAL in subst P same_code (done.takes_wide k h)) (record { instrs = omega (arith, wi, more, ap (λ q. length q.items) code); registers = omega (arith, wr, more, next) }) in
+      (λ k h. let P : List ℕ → Type 0 = λ q. slice_get q k ≡ Some ARRIVAL in subst P same_code (done.takes_wide k h)) (record { instrs = omega (arith, wi, more, ap (λ q. length q.items) code); registers = omega (arith, wr, more, next) }) built (ap (λ q. count_by is_building q.items) code) in
       labelled_at first y w count basis writer num from d
 
   -- ---- a name that is made, or a message that is received
 
-  pub heard_labelled : (w : Writer) (first : ℕ) (y : Emission) (i : Instr) (a : Act) (ev : Event) → IsLabelling i → w.code.items ≡ x.writer.code.items ++ i ∷ [] → w.next ≡ x.writer.next + 1 → w.places.items ≡ x.writer.places.items ++ x.writer.next ∷ []
+  pub heard_labelled : (w : Writer) (first : ℕ) (y : Emission) (i : Instr) (a : Act) (ev : Event) → IsLabelling i → w.code.items ≡ x.writer.code.items ++ i ∷ [] → w.next ≡ x.writer.next + 1 → w.places.items ≡ x.writer.places.items ++ x.writer.next ∷ [] → w.built ≡ x.writer.built
       → act_of c.formats i ≡ a → others (e ∷ []) ≡ ev ∷ [] → known_in (e ∷ []) ≡ [] → Reaches (meaning_in c) (a ∷ []) (ev ∷ []) done.place (after_label done.place (tree_of t))
       → y.basis ≡ (es, cs) → y.writer ≡ w → y.known ≡ x.known → first ≡ length x.basis.1
       → Labelled c (before ++ e ∷ []) after y first
-  heard_labelled w first y i a ev labelling code next places act event unknown reach basis writer num from =
+  heard_labelled w first y i a ev labelling code next places built act event unknown reach basis writer num from =
       let s = done.place in
       let m = meaning_in c in
       let st = done.stands in
@@ -370,6 +388,7 @@ module _ (c : Context) (before after : List PlanEvent) (e : PlanEvent) (plan : I
         reaches = subst A (sym acts) (subst E events on);
         next = omega (arith, next, st.next, length-append s.regs (label (length s.frame) ∷ []));
         tracks = tracks_more s.regs (label (length s.frame) ∷ []) (recipes x.basis.0) x.writer.places.items st.tracks;
+        built = built_more s.regs (label (length s.frame) ∷ []) w.built (built_same s.regs x.writer.built w.built built st.built);
       } in
       let here : slice_get later.regs x.writer.next ≡ Some (label (length (labels_of before))) =
       (let P : ℕ → Type 0 = λ q. slice_get later.regs q ≡ Some (label (length s.frame)) in subst P (sym st.next) (last_part s.regs (label (length s.frame))) ∙ ap (λ q. Some (label (length q))) frame_is) in
@@ -378,12 +397,13 @@ module _ (c : Context) (before after : List PlanEvent) (e : PlanEvent) (plan : I
       ∙ sym (append-nil (labels_of (before ++ e ∷ []))) ∙ ap (λ q. labels_of (before ++ e ∷ []) ++ q) (sym nothing) in
       let count_is : x.known ≡ length (known_in (before ++ e ∷ [])) =
       omega (arith, done.counted, ap length (known_append before (e ∷ [])), length-append (known_in before) (known_in (e ∷ [])), ap length unknown) in
-      let v = verifiable_heard c.formats x.writer w i labelling code next places done.verifiable in
+      let v = verifiable_heard c.formats x.writer w i labelling code next places built done.verifiable in
       let wi = done.within.instrs in
       let wr = done.within.registers in
       let more = length-append before (e ∷ []) in
       let d = labelled later w x.known x.writer.next stands places here frame refl count_is (λ k h. slice_get-append s.regs (label (length s.frame) ∷ []) k (label k) (done.takes k h)) v.0
-      (λ k h. still_wide c.formats x.writer w v.1 k (done.takes_wide k h)) (record { instrs = omega (arith, wi, more, ap length code, length-append x.writer.code.items (i ∷ [])); registers = omega (arith, wr, more, next) }) in
+      (λ k h. still_wide c.formats x.writer w v.1 k (done.takes_wide k h)) (record { instrs = omega (arith, wi, more, ap length code, length-append x.writer.code.items (i ∷ [])); registers = omega (arith, wr, more, next) })
+      built (none_put x.writer.code.items w.code.items i code (labels_build_none i labelling)) in
       labelled_at first y w x.known basis writer num from d
 
 -- ---- before a message is sent or received, and at the end, enough was asked
@@ -408,9 +428,9 @@ pub message_sent : (c : Context) (before after : List PlanEvent) (i : ℕ) (u : 
     → (made : Tree) (mid w : Writer) (r : ℕ) → value (terms_over (has_operator c.formats)) (closure.labels_of x.basis.0) (made_recipe (recipes x.basis.0) made) ≡ Some u
     → IsOver (has_operator c.formats) (length x.writer.places.items) made → Composes x.writer mid made r → mid.places ≡ x.writer.places
     → IsNarrow c.formats made → tree_size made ≤ 1024 → Lays x.writer mid made r → GrowsBy x.writer mid (tree_size made)
-    → w.code.items ≡ mid.code.items ++ Send r ∷ [] → w.next ≡ mid.next → w.places ≡ mid.places
+    → w.code.items ≡ mid.code.items ++ Send r ∷ [] → w.next ≡ mid.next → w.places ≡ mid.places → w.built ≡ mid.built → Shares x.writer mid made r → IsChosen (subterms_in c) (rows x.basis.0) made
     → Done c (before ++ to_send i u ∷ []) after x.basis.0 x.basis.1 (length x.basis.0) w x.known
-message_sent c before after i u x plan done was made mid w r gives over composes same narrow small lays grows code next places =
+message_sent c before after i u x plan done was made mid w r gives over composes same narrow small lays grows code next places built shares chosen =
     let m = meaning_in c in
     let e = to_send i u in
     let R = recipes x.basis.0 in
@@ -435,7 +455,7 @@ message_sent c before after i u x plan done was made mid w r gives over composes
     let labels : labels_of before ≡ labels_of (before ++ e ∷ []) = sym (append-nil (labels_of before)) ∙ sym (labels_append before (e ∷ [])) in
     let H : List Tree → Type 0 = λ q. value (terms_over (has_operator c.formats)) q (made_recipe R made) ≡ Some u in
     let l = lays c.formats over narrow done.verifiable in
-    let sent = verifiable_sent c.formats mid w r _ code next places l.holds l.longer.verifiable in
+    let sent = verifiable_sent c.formats mid w r _ code next places built l.holds l.longer.verifiable in
     let longer = longer_on c.formats x.writer mid w l.longer sent in
     let gi = grows.instrs in
     let gr = grows.registers in
@@ -448,6 +468,7 @@ message_sent c before after i u x plan done was made mid w r gives over composes
         reaches = subst A (sym acts) (subst E events on);
         next = next ∙ a.stands.next;
         tracks = subst T (sym (ap (λ q. q.items) places)) a.stands.tracks;
+        built = built_same s.regs mid.built w.built built a.stands.built;
       };
       labels = done.labels ∙ labels;
       frame = done.frame ∙ ap (λ q. q ++ known_in after) labels;
@@ -459,6 +480,8 @@ message_sent c before after i u x plan done was made mid w r gives over composes
       verifiable = longer.verifiable;
       takes_wide = λ k h. still_wide c.formats x.writer w longer k (done.takes_wide k h);
       within = record { instrs = omega (arith, small, gi, wi, more, ap length code, length-append mid.code.items (Send r ∷ [])); registers = omega (arith, small, gr, wr, more, next) };
+      sharing = sharing_on (subterms_in c) (rows x.basis.0) (rows x.basis.0) mid w (λ us ms h. h) (λ n k h. ap (λ q. slice_get q.items n) places ∙ h) built (none_put mid.code.items w.code.items (Send r) code refl)
+          (shares (subterms_in c) (rows x.basis.0) chosen done.sharing).sharing;
     }
 
 -- ---- counts
@@ -485,13 +508,9 @@ count_small c before after x done knows =
     let d = knows.bounded in
     omega (arith, a, b, d, known_few before, labels_few x.basis.0, ap length done.labels)
 
-some_nodes : (t : Tree) → 1 ≤ tree_size t
-some_nodes (leaf n) = omega arith
-some_nodes (node o ts) = omega arith
-
 pub many_nodes : (ts : List Tree) → length ts ≤ nodes ts
 many_nodes [] = omega arith
-many_nodes (t ∷ ts) = omega (arith, many_nodes ts, some_nodes t)
+many_nodes (t ∷ ts) = omega (arith, many_nodes ts, size_some t)
 
 pub known_most : (c : Context) (plan : List PlanEvent) → IsPlan c plan → length (known_in plan) ≤ 65536
 known_most c plan is = let most = is.few in omega (arith, most, known_few plan, many_nodes (labels_of plan))

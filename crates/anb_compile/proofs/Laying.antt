@@ -1,17 +1,15 @@
 -- What is written can be verified.
-use Rattle.std.proofs.Common.{◌≡◌, ◌≢◌, ℕ, zero, suc, ◌+◌, ◌-◌, ◌<◌, ◌≤◌, List, [], ◌∷◌, ◌++◌, length, map, take, replicate, get_or, true, false, ◌&&◌, IsTrue, Option, Some, None, refl, sym, ap, ◌∙◌, subst, arith, length-append, append_assoc, lit≤, inl, inr}
-use Rattle.std.specs.Prelude.{slice_get, slice_index, ◌==◌}
-use Rattle.std.specs.Option.{option_map_or}
+use Rattle.std.proofs.Common.{◌≡◌, ◌≢◌, ℕ, zero, suc, ◌+◌, ◌-◌, ◌<◌, ◌≤◌, List, [], ◌∷◌, ◌++◌, length, map, take, replicate, get_or, true, Some, None, refl, sym, ap, ◌∙◌, subst, arith, length-append, append_assoc, lit≤, inl, inr}
+use Rattle.std.specs.Prelude.{slice_get, slice_index}
 use Rattle.std.specs.List.{range_with_len, AllByRecursion, AllPairs}
-use Rattle.std.proofs.lemmas.Bool.{and_parts, eqb-true, leb-true}
+use Rattle.std.proofs.lemmas.Bool.{and_parts, leb-true}
 use Rattle.std.proofs.lemmas.List.{append-nil, length-replicate}
 use Rattle.std.proofs.Math.Seq.{get_or-append_seam}
 use Rattle.std.proofs.lemmas.List.Elements.{All-from_recursion}
 use Rattle.std.proofs.lemmas.List.Sums.{sum_by-cons}
 use Rattle.anb_base.specs.declared.TheConstants.{ARRIVAL, WIDE}
-use Rattle.anb_format.specs.Formats.{FormatValue, field_count, is_sound}
+use Rattle.anb_format.specs.Formats.{FormatValue}
 use Rattle.anb_term.specs.declared.term.Op.{Op}
-use Rattle.anb_term.specs.declared.term.Op.TheVariants.{Format}
 use Rattle.anb_term.specs.Operator.{arity, keys}
 use Rattle.anb_term.specs.Tree.{Tree, leaf, node, trees_of, tree_size, trees_size}
 use Rattle.anb_term.proofs.Lists.{slice_get-append, slice_get-within, slice_get-last, map-append, all_append}
@@ -28,14 +26,42 @@ use Rattle.anb_code.specs.Registers.{operands, count_written, width_of, written_
 use Rattle.anb_code.specs.Taking.{taken_text}
 use Rattle.anb_code.specs.Verified.{EachAfter, HasItsFormat, IsOtherTake, IsTakeAfter, IsInstrAfter, count_registers}
 use Rattle.anb_code.proofs.Steps.{register_widths-push}
-use Rattle.anb_code.proofs.Takes.{got}
+use Rattle.anb_code.proofs.Taking.{got}
 use Rattle.anb_resolve.specs.Widths.{op_width, width, widths, fits_width, fit_width}
+use Rattle.anb_compile.specs.declared.built.Built.{Built}
 use Rattle.anb_compile.specs.declared.writer.Writer.{Writer}
+use Rattle.anb_compile.specs.Sharing.{key, register_at, Keeps}
+use Rattle.anb_compile.specs.Once.{IsMade, Builds}
 use Rattle.anb_compile.specs.Writing.{IsOver, AreChecksOf, count_all_opened}
-use Rattle.anb_compile.specs.Verifying.{widths_in, IsVerifiable, IsMaking, IsUndoing, GrowsBy, IsNarrow, AreNarrow, IsLonger, Lays, HoldWidths, LaysEach, IsNarrowCheck, LaysChecks}
+use Rattle.anb_compile.specs.Verifying.{widths_in, AreBuiltWide, IsVerifiable, IsUndoing, GrowsBy, IsNarrow, AreNarrow, IsLonger, Lays, HoldWidths, LaysEach, IsNarrowCheck, LaysChecks}
 use Rattle.anb_compile.proofs.Lists.{either_part, later_part, number_at}
+use Rattle.anb_compile.proofs.Keys.{key_same}
 use Rattle.anb_compile.proofs.Writing.{over_front}
 use Rattle.anb_compile.proofs.Asking.{checks_front}
+
+-- ---- registers with widths
+
+pub hold_wider : (all since rs ws : List ℕ) → HoldWidths all rs ws → HoldWidths (all ++ since) rs ws
+hold_wider all since [] [] h = tt
+hold_wider all since [] (w ∷ ws) h = absurd h
+hold_wider all since (r ∷ rs) [] h = absurd h
+hold_wider all since (r ∷ rs) (w ∷ ws) h = (slice_get-append all since r w h.0, hold_wider all since rs ws h.1)
+
+-- more registers came
+built_wider : (formats : List FormatValue) (ws since : List ℕ) (b : Built) → AreBuiltWide formats ws b → AreBuiltWide formats (ws ++ since) b
+built_wider formats ws since b are k r e =
+    let a = are k r e in
+    record { op = a.op; from = a.from; are = a.are; is = a.is; hold = hold_wider ws since a.from a.are a.hold; here = slice_get-append ws since r (op_width ARRIVAL formats a.op a.are) a.here }
+
+-- one more was built
+built_kept : (formats : List FormatValue) (ws : List ℕ) (b c : Built) (o : Op) (ns vs : List ℕ) (r : ℕ) → Keeps b c (key o ns) r → HoldWidths ws ns vs → slice_get ws r ≡ Some (op_width ARRIVAL formats o vs) → AreBuiltWide formats ws b
+    → AreBuiltWide formats ws c
+built_kept formats ws b c o ns vs r keeps hold here are k s e = elim (keeps.only k s e) [
+  | inl a ↦
+      let P : ℕ → Type 0 = λ n. slice_get ws n ≡ Some (op_width ARRIVAL formats o vs) in
+      record { op = o; from = ns; are = vs; is = a.0; hold = hold; here = subst P (sym a.1) here }
+  | inr a ↦ are k s a
+]
 
 -- ---- one more instruction
 
@@ -71,8 +97,8 @@ module _ (formats : List FormatValue) (old new : Writer) (x : Instr) (code : new
 
   pub verifiable_put : IsTakeAfter old.code.items x → HasItsFormat formats x → AllByRecursion (λ r. r < length (widths_in formats old)) (operands x) → width_of ARRIVAL formats (widths_in formats old) x ≤ WIDE
       → new.next ≡ old.next + count_written formats x → ((n k : ℕ) → slice_get new.places.items n ≡ Some k → slice_get (widths_in formats new) k ≡ Some ARRIVAL)
-      → IsVerifiable formats old → IsVerifiable formats new
-  verifiable_put take format reads narrow next placed v =
+      → AreBuiltWide formats (widths_in formats new) new.built → IsVerifiable formats old → IsVerifiable formats new
+  verifiable_put take format reads narrow next placed built v =
       let ws = widths_in formats old in
       let more = written_widths ARRIVAL formats ws x in
       let P : List Instr → Type 0 = λ l. EachAfter (IsInstrAfter formats) [] l in
@@ -85,24 +111,26 @@ module _ (formats : List FormatValue) (old new : Writer) (x : Instr) (code : new
         next = omega (arith, next, v.next, ap length widths_put, length-append ws more, length-replicate (count_written formats x) (width_of ARRIVAL formats ws x));
         narrow = subst Q (sym widths_put) (all_append (λ q. q ≤ WIDE) ws more v.narrow (all_same (count_written formats x) (width_of ARRIVAL formats ws x) narrow));
         placed = placed;
+        built = built;
       }
 
   pub longer_put : IsVerifiable formats new → IsLonger formats old new
   longer_put v = record { verifiable = v; since = written_widths ARRIVAL formats (widths_in formats old) x; grown = widths_put }
+
+  -- nothing was built
+  pub still_built : new.built ≡ old.built → AreBuiltWide formats (widths_in formats old) old.built → AreBuiltWide formats (widths_in formats new) new.built
+  still_built same are =
+      let ws = widths_in formats old in
+      let more = written_widths ARRIVAL formats ws x in
+      let P : List ℕ → Type 0 = λ l. AreBuiltWide formats l new.built in
+      let Q : Built → Type 0 = λ b. AreBuiltWide formats (ws ++ more) b in
+      subst P (sym widths_put) (subst Q (sym same) (built_wider formats ws more old.built are))
 
   -- the registers of the entries keep their widths
   pub still_placed : (k : ℕ) → slice_get (widths_in formats old) k ≡ Some ARRIVAL → slice_get (widths_in formats new) k ≡ Some ARRIVAL
   still_placed k e =
       let P : List ℕ → Type 0 = λ l. slice_get l k ≡ Some ARRIVAL in
       subst P (sym widths_put) (slice_get-append (widths_in formats old) (written_widths ARRIVAL formats (widths_in formats old) x) k ARRIVAL e)
-
--- ---- registers with widths
-
-pub hold_wider : (all since rs ws : List ℕ) → HoldWidths all rs ws → HoldWidths (all ++ since) rs ws
-hold_wider all since [] [] h = tt
-hold_wider all since [] (w ∷ ws) h = absurd h
-hold_wider all since (r ∷ rs) [] h = absurd h
-hold_wider all since (r ∷ rs) (w ∷ ws) h = (slice_get-append all since r w h.0, hold_wider all since rs ws h.1)
 
 hold_more : (all rs ws : List ℕ) (r w : ℕ) → HoldWidths all rs ws → slice_get all r ≡ Some w → HoldWidths all (rs ++ r ∷ []) (ws ++ w ∷ [])
 hold_more all [] [] r w h e = (e, tt)
@@ -181,10 +209,22 @@ root_fits : (formats : List FormatValue) (o : Op) (ms : List Tree) → IsNarrow 
 root_fits formats o ms e =
     let h = and_parts (fit_width ARRIVAL formats WIDE (trees_of ms)) _ e in (h.0, leb-true _ WIDE h.1)
 
-pub built_lays : (old mid new : Writer) (o : Op) (ms : List Tree) (ns : List ℕ) (r : ℕ) (x : Instr) → LaysEach old mid ms ns
-    → new.code.items ≡ mid.code.items ++ x ∷ [] → IsMaking o ns x → taken_text x ≡ None → new.next ≡ mid.next + 1 → new.places ≡ mid.places → r ≡ mid.next
-    → Lays old new (node o (trees_of ms)) r
-built_lays old mid new o ms ns r x each code making no_take next same is formats over narrow v =
+-- it was built before
+found_lays : (old mid : Writer) (o : Op) (ms : List Tree) (ns : List ℕ) (r : ℕ) → LaysEach old mid ms ns → register_at mid.built (key o ns) ≡ Some r → Lays old mid (node o (trees_of ms)) r
+found_lays old mid o ms ns r each here formats over narrow v =
+    let n = root_fits formats o ms narrow in
+    let a = each formats over.2 n.0 v in
+    let ws = widths_in formats mid in
+    let vs = widths ARRIVAL formats (trees_of ms) in
+    let b = a.longer.verifiable.built (key o ns) r here in
+    let same = key_same o b.op ns b.from b.is in
+    let are : b.are ≡ vs = sym (hold_read ws b.from b.are b.hold) ∙ ap (map (slice_index ws)) (sym same.1) ∙ hold_read ws ns vs a.hold in
+    record { longer = a.longer; holds = b.here ∙ ap (λ p. Some (op_width ARRIVAL formats p b.are)) (sym same.0) ∙ ap (λ l. Some (op_width ARRIVAL formats o l)) are }
+
+made_lays : (old mid new : Writer) (o : Op) (ms : List Tree) (ns : List ℕ) (r : ℕ) → LaysEach old mid ms ns → IsMade mid new o ns r → Lays old new (node o (trees_of ms)) r
+made_lays old mid new o ms ns r each made formats over narrow v =
+    let x = made.instr in
+    let making = made.making in
     let n = root_fits formats o ms narrow in
     let a = each formats over.2 n.0 v in
     let ws = widths_in formats mid in
@@ -192,20 +232,31 @@ built_lays old mid new o ms ns r x each code making no_take next same is formats
     let wide : width_of ARRIVAL formats ws x ≡ width ARRIVAL formats (node o (trees_of ms)) = making.wide formats ws ∙ ap (op_width ARRIVAL formats o) (hold_read ws ns vs a.hold) in
     let R : List ℕ → Type 0 = λ l. AllByRecursion (λ q. q < length ws) l in
     let m = a.longer.verifiable in
-    let places = ap (λ q. q.items) same in
+    let places = ap (λ q. q.items) made.places in
     let one = making.writes formats in
-    let put = verifiable_put formats mid new x code (after_no_take mid.code.items x no_take) (making.format formats over.0) (subst R (sym making.reads) (hold_within ws ns vs a.hold)) (omega (arith, wide, n.1)) (omega (arith, next, one))
-    (λ i k e. still_placed formats mid new x code k (m.placed i k (let P : List ℕ → Type 0 = λ l. slice_get l i ≡ Some k in subst P places e))) m in
+    let next = made.next in
     let W = written_widths ARRIVAL formats ws x in
     let first : slice_get W 0 ≡ Some (width_of ARRIVAL formats ws x) = same_at (count_written formats x) (width_of ARRIVAL formats ws x) 0 (omega (arith, one)) in
-    let here = later_part ws W 0 (width_of ARRIVAL formats ws x) first in
-    let at : length ws + 0 ≡ r = omega (arith, is, m.next) in
+    let last = later_part ws W 0 (width_of ARRIVAL formats ws x) first in
+    let at : length ws + 0 ≡ r = omega (arith, made.is, m.next) in
     let P : ℕ → Type 0 = λ k. slice_get (ws ++ W) k ≡ Some (width_of ARRIVAL formats ws x) in
-    let Q : List ℕ → Type 0 = λ l. slice_get l r ≡ Some (width_of ARRIVAL formats ws x) in
-    record {
-      longer = longer_on formats old mid new a.longer (longer_put formats mid new x code put);
-      holds = subst Q (sym (widths_put formats mid new x code)) (subst P at here) ∙ ap Some wide;
-    }
+    let here : slice_get (ws ++ W) r ≡ Some (width ARRIVAL formats (node o (trees_of ms))) = subst P at last ∙ ap Some wide in
+    let built = built_kept formats (ws ++ W) mid.built new.built o ns vs r made.keeps (hold_wider ws W ns vs a.hold) here (built_wider formats ws W mid.built m.built) in
+    let B : List ℕ → Type 0 = λ l. AreBuiltWide formats l new.built in
+    let grown = widths_put formats mid new x made.code in
+    let put = verifiable_put formats mid new x made.code (after_no_take mid.code.items x made.other) (making.format formats over.0) (subst R (sym making.reads) (hold_within ws ns vs a.hold)) (omega (arith, wide, n.1)) (omega (arith, next, one))
+    (λ i k e. still_placed formats mid new x made.code k (m.placed i k (let Q : List ℕ → Type 0 = λ l. slice_get l i ≡ Some k in subst Q places e))) (subst B (sym grown) built) m in
+    let H : List ℕ → Type 0 = λ l. slice_get l r ≡ Some (width ARRIVAL formats (node o (trees_of ms))) in
+    record { longer = longer_on formats old mid new a.longer (longer_put formats mid new x made.code put); holds = subst H (sym grown) here }
+
+pub built_lays : (old mid new : Writer) (o : Op) (ms : List Tree) (ns : List ℕ) (r : ℕ) → LaysEach old mid ms ns → Builds mid new o ns r → Lays old new (node o (trees_of ms)) r
+built_lays old mid new o ms ns r each (inl f) = let P : Writer → Type 0 = λ w. Lays old w (node o (trees_of ms)) r in subst P (sym f.same) (found_lays old mid o ms ns r each f.here)
+built_lays old mid new o ms ns r each (inr m) = made_lays old mid new o ms ns r each m
+
+-- a register more at most
+pub builds_grow : (mid new : Writer) (o : Op) (ns : List ℕ) (r : ℕ) → Builds mid new o ns r → GrowsBy mid new 1
+builds_grow mid new o ns r (inl f) = record { instrs = omega (arith, ap (λ w. length w.code.items) f.same); registers = omega (arith, ap (λ w. w.next) f.same) }
+builds_grow mid new o ns r (inr m) = record { instrs = omega (arith, ap length m.code, length-append mid.code.items (m.instr ∷ [])); registers = (let n = m.next in omega (arith, n)) }
 
 -- ---- checks
 
@@ -223,9 +274,9 @@ parts_placed ws places count next is before n k e = elim (either_part places (ra
 
 pub open_lays : (old mid put new : Writer) (x : Opening) (ns : List ℕ) (of count : ℕ) (i : Instr) → LaysEach old mid x.keys ns → mid.places ≡ old.places
     → slice_get mid.places.items x.of ≡ Some of → put.code.items ≡ mid.code.items ++ i ∷ [] → put.next ≡ mid.next → put.places ≡ mid.places → IsUndoing x.op ns of i → taken_text i ≡ None
-    → new.code ≡ put.code → new.next ≡ put.next + count → new.places.items ≡ put.places.items ++ range_with_len put.next count → count ≡ arity x.op - keys x.op
+    → new.code ≡ put.code → new.next ≡ put.next + count → new.places.items ≡ put.places.items ++ range_with_len put.next count → new.built ≡ mid.built → count ≡ arity x.op - keys x.op
     → LaysChecks old new (Open x ∷ [])
-open_lays old mid put new x ns of count i each same entry code next places undoing no_take code' next' places' is formats entries checks narrow v =
+open_lays old mid put new x ns of count i each same entry code next places undoing no_take code' next' places' built is formats entries checks narrow v =
     let check = checks.0 in
     let a = each formats check.2 narrow.0 v in
     let m = a.longer.verifiable in
@@ -245,13 +296,13 @@ open_lays old mid put new x ns of count i each same entry code next places undoi
     let Q : List ℕ → Type 0 = λ l. (n k : ℕ) → slice_get l n ≡ Some k → slice_get (widths_in formats new) k ≡ Some ARRIVAL in
     let placed = subst Q (sym all_places) (subst P (sym grown) (parts_placed ws mid.places.items count mid.next m.next (λ n k e. slice_get-append ws (replicate count ARRIVAL) k ARRIVAL (m.placed n k e)))) in
     let low : ARRIVAL ≤ WIDE = lit≤ tt in
-    let put_v = verifiable_put formats mid new i all (after_no_take mid.code.items i no_take) (undoing.format formats check.0) reads (omega (arith, wide, low)) (omega (arith, next', next, many)) placed m in
+    let put_v = verifiable_put formats mid new i all (after_no_take mid.code.items i no_take) (undoing.format formats check.0) reads (omega (arith, wide, low)) (omega (arith, next', next, many)) placed (still_built formats mid new i all built m.built) m in
     longer_on formats old mid new a.longer (longer_put formats mid new i all put_v)
 
 pub equal_lays : (old mid new : Writer) (n e r : ℕ) (made : Made) → Lays old mid (made_tree made) r → mid.places ≡ old.places
-    → slice_get mid.places.items n ≡ Some e → new.code.items ≡ mid.code.items ++ instr.Equal e r ∷ [] → new.next ≡ mid.next → new.places ≡ mid.places
+    → slice_get mid.places.items n ≡ Some e → new.code.items ≡ mid.code.items ++ instr.Equal e r ∷ [] → new.next ≡ mid.next → new.places ≡ mid.places → new.built ≡ mid.built
     → LaysChecks old new (Equal n made ∷ [])
-equal_lays old mid new n e r made one same entry code next places formats entries checks narrow v =
+equal_lays old mid new n e r made one same entry code next places built formats entries checks narrow v =
     let check = checks.0 in
     let a = one formats check.1 narrow.0 v in
     let m = a.longer.verifiable in
@@ -260,7 +311,7 @@ equal_lays old mid new n e r made one same entry code next places formats entrie
     let low : ARRIVAL ≤ WIDE = lit≤ tt in
     let items = ap (λ q. q.items) places in
     let put_v = verifiable_put formats mid new x code tt tt (slice_get-within ws e ARRIVAL (m.placed n e entry), (slice_get-within ws r _ a.holds, tt)) low (omega (arith, next))
-    (λ i k at. still_placed formats mid new x code k (m.placed i k (let P : List ℕ → Type 0 = λ l. slice_get l i ≡ Some k in subst P items at))) m in
+    (λ i k at. still_placed formats mid new x code k (m.placed i k (let P : List ℕ → Type 0 = λ l. slice_get l i ≡ Some k in subst P items at))) (still_built formats mid new x code built m.built) m in
     longer_on formats old mid new a.longer (longer_put formats mid new x code put_v)
 
 pub none_lay_checks : (w : Writer) → LaysChecks w w []
@@ -313,9 +364,9 @@ placed_more ws places register here placed n k e = elim (slice_get-last places r
 ]
 
 -- an initial value gets its entry
-pub verifiable_known : (formats : List FormatValue) (old new : Writer) (register : ℕ) → new.code ≡ old.code → new.next ≡ old.next → new.places.items ≡ old.places.items ++ register ∷ []
+pub verifiable_known : (formats : List FormatValue) (old new : Writer) (register : ℕ) → new.code ≡ old.code → new.next ≡ old.next → new.places.items ≡ old.places.items ++ register ∷ [] → new.built ≡ old.built
     → slice_get (widths_in formats old) register ≡ Some ARRIVAL → IsVerifiable formats old → IsVerifiable formats new
-verifiable_known formats old new register code next places here v =
+verifiable_known formats old new register code next places built here v =
     let same : widths_in formats new ≡ widths_in formats old = ap (λ q. register_widths ARRIVAL formats q.items) code in
     let P : List Instr → Type 0 = λ l. EachAfter (IsInstrAfter formats) [] l in
     let Q : List ℕ → Type 0 = λ l. AllByRecursion (λ q. q ≤ WIDE) l in
@@ -326,6 +377,11 @@ verifiable_known formats old new register code next places here v =
       next = next ∙ v.next ∙ ap length (sym same);
       narrow = subst Q (sym same) v.narrow;
       placed = subst S (sym same) (subst R (sym places) (placed_more (widths_in formats old) old.places.items register here v.placed));
+      built = (
+          let T : List ℕ → Type 0 = λ l. AreBuiltWide formats l new.built in
+          let U : Built → Type 0 = λ b. AreBuiltWide formats (widths_in formats old) b in
+          subst T (sym same) (subst U (sym built) v.built)
+          );
     }
 
 -- a name that is made, or an arrival
@@ -335,8 +391,8 @@ IsLabelling instr.Recv = Unit {0}
 IsLabelling x = ⊥
 
 label_put : (formats : List FormatValue) (old new : Writer) (x : Instr) → operands x ≡ [] → taken_text x ≡ None → count_written formats x ≡ 1 → width_of ARRIVAL formats (widths_in formats old) x ≡ ARRIVAL → HasItsFormat formats x
-    → new.code.items ≡ old.code.items ++ x ∷ [] → new.next ≡ old.next + 1 → new.places.items ≡ old.places.items ++ old.next ∷ [] → IsVerifiable formats old → IsVerifiable formats new × IsLonger formats old new
-label_put formats old new x reads no_take one wide format code next places v =
+    → new.code.items ≡ old.code.items ++ x ∷ [] → new.next ≡ old.next + 1 → new.places.items ≡ old.places.items ++ old.next ∷ [] → new.built ≡ old.built → IsVerifiable formats old → IsVerifiable formats new × IsLonger formats old new
+label_put formats old new x reads no_take one wide format code next places built v =
     let ws = widths_in formats old in
     let grown : widths_in formats new ≡ ws ++ ARRIVAL ∷ [] = widths_put formats old new x code ∙ ap (λ n. ws ++ replicate n (width_of ARRIVAL formats ws x)) one ∙ ap (λ w. ws ++ w ∷ []) wide in
     let R : List ℕ → Type 0 = λ l. AllByRecursion (λ q. q < length ws) l in
@@ -347,24 +403,24 @@ label_put formats old new x reads no_take one wide format code next places v =
     let Q : List ℕ → Type 0 = λ l. (n k : ℕ) → slice_get l n ≡ Some k → slice_get (widths_in formats new) k ≡ Some ARRIVAL in
     let S : List ℕ → Type 0 = λ l. (n k : ℕ) → slice_get (old.places.items ++ old.next ∷ []) n ≡ Some k → slice_get l k ≡ Some ARRIVAL in
     let placed = subst Q (sym places) (subst S (sym grown) (placed_more (ws ++ ARRIVAL ∷ []) old.places.items old.next here (λ n k e. slice_get-append ws (ARRIVAL ∷ []) k ARRIVAL (v.placed n k e)))) in
-    let put = verifiable_put formats old new x code (after_no_take old.code.items x no_take) format (subst R (sym reads) tt) (omega (arith, wide, low)) (omega (arith, next, one)) placed v in
+    let put = verifiable_put formats old new x code (after_no_take old.code.items x no_take) format (subst R (sym reads) tt) (omega (arith, wide, low)) (omega (arith, next, one)) placed (still_built formats old new x code built v.built) v in
     (put, longer_put formats old new x code put)
 
 pub verifiable_heard : (formats : List FormatValue) (old new : Writer) (x : Instr) → IsLabelling x
-    → new.code.items ≡ old.code.items ++ x ∷ [] → new.next ≡ old.next + 1 → new.places.items ≡ old.places.items ++ old.next ∷ [] → IsVerifiable formats old → IsVerifiable formats new × IsLonger formats old new
-verifiable_heard formats old new instr.Fresh is code next places v = label_put formats old new instr.Fresh refl refl refl refl tt code next places v
-verifiable_heard formats old new instr.Recv is code next places v = label_put formats old new instr.Recv refl refl refl refl tt code next places v
-verifiable_heard formats old new x is code next places v = absurd is
+    → new.code.items ≡ old.code.items ++ x ∷ [] → new.next ≡ old.next + 1 → new.places.items ≡ old.places.items ++ old.next ∷ [] → new.built ≡ old.built → IsVerifiable formats old → IsVerifiable formats new × IsLonger formats old new
+verifiable_heard formats old new instr.Fresh is code next places built v = label_put formats old new instr.Fresh refl refl refl refl tt code next places built v
+verifiable_heard formats old new instr.Recv is code next places built v = label_put formats old new instr.Recv refl refl refl refl tt code next places built v
+verifiable_heard formats old new x is code next places built v = absurd is
 
 -- a message is sent
-pub verifiable_sent : (formats : List FormatValue) (old new : Writer) (r w : ℕ) → new.code.items ≡ old.code.items ++ instr.Send r ∷ [] → new.next ≡ old.next → new.places ≡ old.places → slice_get (widths_in formats old) r ≡ Some w
+pub verifiable_sent : (formats : List FormatValue) (old new : Writer) (r w : ℕ) → new.code.items ≡ old.code.items ++ instr.Send r ∷ [] → new.next ≡ old.next → new.places ≡ old.places → new.built ≡ old.built → slice_get (widths_in formats old) r ≡ Some w
     → IsVerifiable formats old → IsLonger formats old new
-verifiable_sent formats old new r w code next places held v =
+verifiable_sent formats old new r w code next places built held v =
     let x = instr.Send r in
     let low : ARRIVAL ≤ WIDE = lit≤ tt in
     let items = ap (λ q. q.items) places in
     longer_put formats old new x code (verifiable_put formats old new x code tt tt (slice_get-within (widths_in formats old) r w held, tt) low (omega (arith, next))
-    (λ i k at. still_placed formats old new x code k (v.placed i k (let P : List ℕ → Type 0 = λ l. slice_get l i ≡ Some k in subst P items at))) v)
+    (λ i k at. still_placed formats old new x code k (v.placed i k (let P : List ℕ → Type 0 = λ l. slice_get l i ≡ Some k in subst P items at))) (still_built formats old new x code built v.built) v)
 
 -- the takes of different texts, before anything else
 texts_apart : (text : List ℕ) (before : List (List ℕ)) → AllByRecursion (λ other. other ≢ text) before → AllByRecursion (IsOtherTake text) (map Take before)
@@ -397,9 +453,9 @@ takes_widths formats ws (t ∷ texts) = takes_widths formats (ws ++ ARRIVAL ∷ 
 pub taken_widths : (formats : List FormatValue) (w : Writer) (texts : List (List ℕ)) → w.code.items ≡ map Take texts → widths_in formats w ≡ replicate (length texts) ARRIVAL
 taken_widths formats w texts code = ap (register_widths ARRIVAL formats) code ∙ takes_widths formats [] texts
 
-pub verifiable_takes : (formats : List FormatValue) (w : Writer) (texts : List (List ℕ)) → w.code.items ≡ map Take texts → w.next ≡ length texts → w.places.items ≡ [] → AllPairs (λ one other. one ≢ other) texts
+pub verifiable_takes : (formats : List FormatValue) (w : Writer) (texts : List (List ℕ)) → w.code.items ≡ map Take texts → w.next ≡ length texts → w.places.items ≡ [] → ((keys : List ℕ) → register_at w.built keys ≡ None) → AllPairs (λ one other. one ≢ other) texts
     → IsVerifiable formats w × ((n : ℕ) → n < length texts → slice_get (widths_in formats w) n ≡ Some ARRIVAL)
-verifiable_takes formats w texts code next places pairs =
+verifiable_takes formats w texts code next places none pairs =
     let ws = taken_widths formats w texts code in
     let P : List Instr → Type 0 = λ l. EachAfter (IsInstrAfter formats) [] l in
     let Q : List ℕ → Type 0 = λ l. AllByRecursion (λ q. q ≤ WIDE) l in
@@ -409,6 +465,7 @@ verifiable_takes formats w texts code next places pairs =
         next = next ∙ sym (length-replicate (length texts) ARRIVAL) ∙ ap length (sym ws);
         narrow = subst Q (sym ws) (all_same (length texts) ARRIVAL (lit≤ tt));
         placed = λ n k e. (let h = ap (λ l. slice_get l n) places in cc);
+        built = λ k r e. (let h = none k in cc);
       },
       λ n h. subst (R n) (sym ws) (same_at (length texts) ARRIVAL n h),
     )

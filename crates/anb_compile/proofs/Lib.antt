@@ -1,8 +1,10 @@
 pub mod Lists
 pub mod Narrow
+pub mod Keys
 pub mod Writing
 pub mod Asking
 pub mod Laying
+pub mod Sharing
 pub mod Opened
 pub mod Small
 pub mod Events
@@ -10,5 +12,6 @@ pub mod Doing
 pub mod Whole
 pub mod Protocols
 pub mod Accepting
+pub mod Roles
 pub mod Played
 pub mod Valuing

@@ -2,7 +2,7 @@
 use Rattle.std.proofs.Common.{◌≡◌, ℕ, zero, suc, ◌+◌, ◌-◌, ◌<◌, ◌≤◌, List, [], ◌∷◌, ◌++◌, length, map, take, drop, Bool, true, false, ◌==◌, Option, Some, None, refl, sym, ap, ◌∙◌, subst, arith, length-append, length-drop, append_assoc, ◌⊎◌, inl, inr}
 use Rattle.std.specs.Prelude.{slice_get, unwrap_or}
 use Rattle.std.specs.List.{AllByRecursion}
-use Rattle.std.proofs.lemmas.List.{length-map, drop_all}
+use Rattle.std.proofs.lemmas.List.{length-map, length-take-le, drop_all}
 use Rattle.std.proofs.Math.Seq.{drop-append_seam}
 use Rattle.anb_term.specs.declared.term.Op.{Op}
 use Rattle.anb_term.specs.Operator.{arity, keys}
@@ -89,11 +89,6 @@ pub formed_items : (has : Op → Bool) (ts : Trees) → AreFormed has ts → Are
 formed_items has none f = tt
 formed_items has (more t ts) f = (f.0, formed_items has ts f.1)
 
-length-take-of : {A : Type 0} (n : ℕ) (xs : List A) → n ≤ length xs → length (take n xs) ≡ n
-length-take-of zero xs h = refl
-length-take-of (suc n) [] h = absurd (omega arith)
-length-take-of (suc n) (x ∷ xs) h = omega (arith, length-take-of n xs (omega arith))
-
 -- ---- entries
 
 is_part : (x : Origin) → is_label x ≡ false → (o : Op) × (j : ℕ) × (ks : List Tree) × (i : ℕ) × (x ≡ Part o j ks i)
@@ -165,7 +160,7 @@ module _ (has : Op → Bool) (es : List Entry) (known : IsKnown es) (formed : Ar
       let k = o.some_part in
       let many : length o.keys_made ≡ keys o.op =
       sym (ap length (list_of-trees_of o.keys_made)) ∙ mades_length (rows o.front) (trees_of (take (keys o.op) (list_of us))) (trees_of o.keys_made) o.made
-      ∙ ap length (list_of-trees_of (take (keys o.op) (list_of us))) ∙ length-take-of (keys o.op) (list_of us) (omega (arith, k)) in
+      ∙ ap length (list_of-trees_of (take (keys o.op) (list_of us))) ∙ length-take-le (keys o.op) (list_of us) (omega (arith, k)) in
       let own = slice_get-within (rows o.front) i _ o.own in (
         formed_us.0,
         o.can,

@@ -25,6 +25,8 @@ use Rattle.anb_basis.specs.declared.check.Check.TheVariants.{Open, Equal}
 use Rattle.anb_basis.specs.Checks.{Fits, AllFit}
 use Rattle.anb_resolve.specs.Widths.{fits_width, fit_width}
 use Rattle.anb_compile.specs.Verifying.{IsNarrow, AreNarrow, IsNarrowCheck, room_for}
+use Rattle.anb_compile.specs.Once.{IsChosen, AreChosen, IsChosenCheck, AllAmong}
+use Rattle.anb_compile.proofs.Sharing.{made_chosen, mades_chosen, mades_kept, built_chosen, operands_among, all_among}
 use Rattle.anb_compile.proofs.Narrow.{made_narrow, mades_narrow, built_narrow}
 use Rattle.anb_compile.proofs.Opened.{formed_front, formed_items, opened_formed, count_parts}
 
@@ -52,7 +54,7 @@ module _ (P : Tree → Type 0) (within : (o : Op) (us : Trees) → P (node o us)
 
 -- ---- sizes
 
-size_some : (t : Tree) → 1 ≤ tree_size t
+pub size_some : (t : Tree) → 1 ≤ tree_size t
 size_some (leaf n) = omega arith
 size_some (node o ts) = omega arith
 
@@ -85,10 +87,10 @@ all_narrow : (formats : List FormatValue) (ts : List Tree) → AllByRecursion (I
 all_narrow formats [] all = refl
 all_narrow formats (t ∷ ts) all = rw (all.0, all_narrow formats ts all.1) refl
 
-front_of : (formats : List FormatValue) (n : ℕ) (ts : List Tree) → AllByRecursion (IsNarrow formats) ts → AllByRecursion (IsNarrow formats) (take n ts)
-front_of formats zero ts all = tt
-front_of formats (suc n) [] all = tt
-front_of formats (suc n) (t ∷ ts) all = (all.0, front_of formats n ts all.1)
+front_of : (P : Tree → Type 0) (n : ℕ) (ts : List Tree) → AllByRecursion P ts → AllByRecursion P (take n ts)
+front_of P zero ts all = tt
+front_of P (suc n) [] all = tt
+front_of P (suc n) (t ∷ ts) all = (all.0, front_of P n ts all.1)
 
 -- ---- checks
 
@@ -105,7 +107,7 @@ module _ (formats : List FormatValue) (has : Op → Bool) (es : List Entry) (kno
       let front = take (keys o.op) (list_of us) in
       let f = formed_front has (keys o.op) (list_of us) (formed_items has us (opened_formed has es known formed x.of p.first o).2) in
       let n = narrow_within formats o.op us (all_at (IsNarrow formats) (terms_of es) x.of (node o.op us) narrow (own_term x.of p.first o)) in
-      let go = mades_narrow ARRIVAL WIDE formats has (rows o.front) (trees_of front) (trees_of o.keys_made) o.made f (all_narrow formats front (front_of formats (keys o.op) (list_of us) n)) in
+      let go = mades_narrow ARRIVAL WIDE formats has (rows o.front) (trees_of front) (trees_of o.keys_made) o.made f (all_narrow formats front (front_of (IsNarrow formats) (keys o.op) (list_of us) n)) in
       subst (AreNarrow formats) p.keys_are go.1
   check_narrow (Equal i w) fit = elim fit [
     | inl a ↦
@@ -140,3 +142,28 @@ module _ (formats : List FormatValue) (has : Op → Bool) (es : List Entry) (kno
   pub all_checks : (P : Check → Type 0) → ((c : Check) → Fits es c → P c) → (cs : List Check) → AllFit es cs → AllByRecursion P cs
   all_checks P has_it [] fit = tt
   all_checks P has_it (c ∷ cs) fit = (has_it c (fit 0 c refl), all_checks P has_it cs (λ k. fit (suc k)))
+
+-- what checks compose is chosen
+module _ (ts : List Tree) (es : List Entry) (known : IsKnown es) (among : AllByRecursion (AllAmong ts) (terms_of es)) where
+  pub check_chosen : (c : Check) → Fits es c → IsChosenCheck ts (rows es) c
+  check_chosen (Open x) fit =
+      let p = known.parted x.first fit.0 x.op 0 x.keys x.of fit.1 fit.2 in
+      let o = p.opened in
+      let us = o.operands in
+      let front = take (keys o.op) (list_of us) in
+      let own = row_term (terms_of es) x.of (node o.op us) (opened_row es x.of p.first o) in
+      let each = front_of (AllAmong ts) (keys o.op) (list_of us) (operands_among ts o.op us (all_at (AllAmong ts) (terms_of es) x.of (node o.op us) among own)) in
+      let made = mades_kept o.front _ es o.lies (trees_of front) (trees_of o.keys_made) o.made in
+      let Q : List Tree → Type 0 = λ l. AreChosen ts (rows es) (trees_of l) in
+      subst Q p.keys_are (mades_chosen ts (rows es) (trees_of front) (trees_of o.keys_made) made (all_among ts front each))
+  check_chosen (Equal i w) fit = elim fit [
+    | inl a ↦ made_chosen ts (rows es) a.0 (made_tree w) a.3 (all_at (AllAmong ts) (terms_of es) i a.0 among a.2)
+    | inr a ↦
+        let t = node a.0 a.1 in
+        let here = all_at (AllAmong ts) (terms_of es) i t among (row_term (terms_of es) i t a.3) in
+        subst (IsChosen ts (rows es)) a.6 (built_chosen ts (rows es) a.0 a.1 a.2 a.5 here)
+  ]
+
+  pub all_chosen : (cs : List Check) → AllFit es cs → AllByRecursion (IsChosenCheck ts (rows es)) cs
+  all_chosen [] fit = tt
+  all_chosen (c ∷ cs) fit = (check_chosen c (fit 0 c refl), all_chosen cs (λ k. fit (suc k)))

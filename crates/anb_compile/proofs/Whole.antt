@@ -21,10 +21,12 @@ use Rattle.anb_resolve.specs.Plans.{PlanEvent, to_send}
 use Rattle.anb_compile.specs.declared.refusal.CompileNo.{CompileNo}
 use Rattle.anb_compile.specs.declared.refusal.CompileNo.TheVariants.{CannotSend, NoMemory}
 use Rattle.anb_compile.specs.declared.emission.Emission.{Emission}
-use Rattle.anb_compile.specs.Counted.{is_demanding}
+use Rattle.anb_compile.specs.Counted.{is_demanding, is_building}
+use Rattle.anb_compile.specs.Once.{subterms_in}
 use Rattle.anb_compile.specs.Writing.{Context, meaning_in, demand_in}
 use Rattle.anb_compile.specs.Emitting.{others, known_in, IsPlan, HasDone, Blocks, IsBegun, RefusesPlan, Emits, WasKnown}
 use Rattle.anb_compile.proofs.Events.{known_events, whole_plan}
+use Rattle.anb_compile.proofs.Sharing.{few_differ, none_sharing, takes_build_none}
 use Rattle.anb_compile.proofs.Laying.{count_widths, verifiable_takes}
 use Rattle.anb_compile.proofs.Doing.{enough_now, room_left}
 
@@ -78,7 +80,7 @@ begun_done c plan x texts is long begun =
     let go = takes_reach (meaning_in c) c.formats texts (known c.plan) s n in
     let P : List Instr → Type 0 = λ l. Reaches (meaning_in c) (map (act_of c.formats) l) (map know (known c.plan) ++ []) s place in
     let Q : List Event → Type 0 = λ l. Reaches (meaning_in c) (map (act_of c.formats) (map Take texts)) l s place in
-    let v = verifiable_takes c.formats x.writer texts begun.code begun.next begun.places begun.differ in
+    let v = verifiable_takes c.formats x.writer texts begun.code begun.next begun.places begun.built begun.differ in
     let b : (x.basis.0 ≡ []) × (x.basis.1 ≡ []) = (ap (λ q. q.0) begun.basis, ap (λ q. q.1) begun.basis) in
     record {
       place = place;
@@ -86,6 +88,7 @@ begun_done c plan x texts is long begun =
         reaches = subst P (sym begun.code) (subst Q (sym (append-nil (map know (known c.plan)))) go);
         next = omega (arith, begun.next, n, length-labels 0 (length (known c.plan)));
         tracks = λ i j e. (let h = ap (λ l. slice_get l i) begun.places in cc);
+        built = λ key r e. (let h = begun.built key in cc);
       };
       labels = ap closure.labels_of b.0;
       frame = k;
@@ -97,6 +100,7 @@ begun_done c plan x texts is long begun =
       verifiable = v.0;
       takes_wide = λ i h. v.1 i (omega (arith, n, h));
       within = record { instrs = omega (arith, n, ap length begun.code, length-map texts Take); registers = omega (arith, n, begun.next) };
+      sharing = none_sharing (subterms_in c) (closure.rows x.basis.0) x.writer (ap (count_by is_building) begun.code ∙ takes_build_none texts);
     }
   where
     none_sent : {X : Type 0} (before after : List PlanEvent) (i : ℕ) (t : Tree) → [] ≡ before ++ (to_send i t ∷ after) → X
@@ -172,6 +176,7 @@ whole c plan x is done was few =
     record {
       fits = reaches_fit m acts c.plan done.place reach enough;
       few = omega (arith, count, asked, few, ap nodes done.labels);
+      once = (let a = done.sharing in let few = few_differ a.terms (subterms_in c) a.differ a.among in omega (arith, few, a.counted));
       sendable = done.sendable;
       admitted = record {
         instrs = done.verifiable.instrs;

@@ -1,5 +1,5 @@
 -- What is written composes, and asks what checks demand.
-use Rattle.std.proofs.Common.{◌≡◌, ℕ, zero, suc, ◌+◌, ◌≤◌, List, [], ◌∷◌, ◌++◌, length, map, Bool, Option, Some, None, refl, sym, ap, ◌∙◌, subst, arith, length-append, append_assoc}
+use Rattle.std.proofs.Common.{◌≡◌, ℕ, zero, suc, ◌+◌, ◌≤◌, List, [], ◌∷◌, ◌++◌, length, map, Bool, Option, Some, None, refl, sym, ap, ◌∙◌, subst, arith, length-append, append_assoc, inl, inr}
 use Rattle.std.specs.Prelude.{slice_get}
 use Rattle.std.proofs.lemmas.List.{append-nil}
 use Rattle.std.proofs.lemmas.List.Elements.{filter_map-append}
@@ -20,8 +20,12 @@ use Rattle.anb_code.specs.declared.instr.Instr.{Instr}
 use Rattle.anb_code.specs.Meaning.{act_of}
 use Rattle.anb_code.specs.Taking.{taken_text, take_texts}
 use Rattle.anb_compile.specs.declared.writer.Writer.{Writer}
-use Rattle.anb_compile.specs.Writing.{Context, meaning_in, Tracks, Stands, IsOver, AreOver, further, Composes, HoldEach, ComposesEach}
+use Rattle.anb_compile.specs.declared.built.Built.{Built}
+use Rattle.anb_compile.specs.Sharing.{key, register_at, Keeps}
+use Rattle.anb_compile.specs.Once.{IsMade, Builds}
+use Rattle.anb_compile.specs.Writing.{Context, meaning_in, Tracks, HaveBuilt, Stands, IsOver, AreOver, further, Composes, HoldEach, ComposesEach}
 use Rattle.anb_compile.proofs.Lists.{last_part}
+use Rattle.anb_compile.proofs.Keys.{key_same}
 
 pub acts_put : (formats : List FormatValue) (is is' : List Instr) (x : Instr) (a : Act) → is' ≡ is ++ x ∷ [] → act_of formats x ≡ a → map (act_of formats) is' ≡ map (act_of formats) is ++ a ∷ []
 acts_put formats is is' x a e f = ap (map (act_of formats)) e ∙ map-append (act_of formats) is (x ∷ []) ∙ ap (λ b. map (act_of formats) is ++ b ∷ []) f
@@ -62,6 +66,26 @@ hold_more regs entries n m [] (x ∷ ms) h e = absurd h
 hold_more regs entries n m (k ∷ ns) [] h e = absurd h
 hold_more regs entries n m (k ∷ ns) (x ∷ ms) h e = (h.0, hold_more regs entries n m ns ms h.1 e)
 
+-- ---- what was built
+
+-- more registers came
+pub built_more : (regs later : List RecipeTree) (b : Built) → HaveBuilt regs b → HaveBuilt (regs ++ later) b
+built_more regs later b have k r e =
+    let a = have k r e in
+    record { op = a.op; from = a.from; recipes = a.recipes; is = a.is; hold = hold_later regs later a.from a.recipes a.hold; here = slice_get-append regs later r (build a.op a.recipes) a.here }
+
+pub built_same : (regs : List RecipeTree) (b c : Built) → c ≡ b → HaveBuilt regs b → HaveBuilt regs c
+built_same regs b c same have = let P : Built → Type 0 = λ q. HaveBuilt regs q in subst P (sym same) have
+
+-- one more was built
+built_kept : (regs : List RecipeTree) (b c : Built) (o : Op) (ns : List ℕ) (rs : RecipeTrees) (r : ℕ) → Keeps b c (key o ns) r → HoldEach regs ns rs → slice_get regs r ≡ Some (build o rs) → HaveBuilt regs b → HaveBuilt regs c
+built_kept regs b c o ns rs r keeps hold here have k s e = elim (keeps.only k s e) [
+  | inl a ↦
+      let P : ℕ → Type 0 = λ n. slice_get regs n ≡ Some (build o rs) in
+      record { op = o; from = ns; recipes = rs; is = a.0; hold = hold; here = subst P (sym a.1) here }
+  | inr a ↦ have k s a
+]
+
 -- ---- compositions
 
 pub over_front : (has : Op → Bool) (k : ℕ) (ms : List Tree) (m : Tree) → AreOver has k (trees_of (ms ++ m ∷ [])) → AreOver has k (trees_of ms) × IsOver has k m
@@ -91,13 +115,14 @@ reach_work c events is is' s w acts sound reaches =
 
 module _ (c : Context) (events : List Event) (entries : List RecipeTree) (old new : Writer) (s : Place) where
   pub stands_work : (w : Work) → map (act_of c.formats) new.code.items ≡ map (act_of c.formats) old.code.items ++ works w ∷ [] → new.next ≡ old.next + length (writes s.regs w)
-      → new.places.items ≡ old.places.items → IsSound (meaning_in c) s w → Stands c events entries old s → Stands c events entries new (after_work s w)
-  stands_work w acts next places sound stands =
+      → new.places.items ≡ old.places.items → HaveBuilt (s.regs ++ writes s.regs w) new.built → IsSound (meaning_in c) s w → Stands c events entries old s → Stands c events entries new (after_work s w)
+  stands_work w acts next places built sound stands =
       let T : List ℕ → Type 0 = λ l. Tracks (s.regs ++ writes s.regs w) entries l in
       record {
         reaches = reach_work c events old.code.items new.code.items s w acts sound stands.reaches;
         next = omega (arith, next, stands.next, length-append s.regs (writes s.regs w));
         tracks = subst T (sym places) (tracks_more s.regs (writes s.regs w) entries old.places.items stands.tracks);
+        built = built;
       }
 
   -- at another place that is the same
@@ -140,24 +165,45 @@ more_compose old mid new ms ns m r each same one c events entries s over stands 
       hold = hold_more (s.regs ++ (a.since ++ b.since)) entries r m ns ms (subst K joined (hold_later (s.regs ++ a.since) b.since ns (mades_recipes entries (trees_of ms)) a.hold)) (subst H joined b.holds);
     }
 
-pub built_composes : (old mid new : Writer) (o : Op) (ms : List Tree) (ns : List ℕ) (r : ℕ) (x : Instr) → ComposesEach old mid ms ns
-    → new.code.items ≡ mid.code.items ++ x ∷ [] → ((formats : List FormatValue) → act_of formats x ≡ works (make o ns)) → new.next ≡ mid.next + 1 → new.places ≡ mid.places → r ≡ mid.next
-    → Composes old new (node o (trees_of ms)) r
-built_composes old mid new o ms ns r x each code act next same is c events entries s over stands =
+-- it was built before
+found_composes : (old mid : Writer) (o : Op) (ms : List Tree) (ns : List ℕ) (r : ℕ) → ComposesEach old mid ms ns → register_at mid.built (key o ns) ≡ Some r → Composes old mid (node o (trees_of ms)) r
+found_composes old mid o ms ns r each here c events entries s over stands =
+    let a = each c events entries s over.2 stands in
+    let regs = s.regs ++ a.since in
+    let mades = mades_recipes entries (trees_of ms) in
+    let b = a.stands.built (key o ns) r here in
+    let same = key_same o b.op ns b.from b.is in
+    let recipes : b.recipes ≡ mades = sym (hold_read regs b.from b.recipes b.hold) ∙ ap (at_registers regs) (sym same.1) ∙ hold_read regs ns mades a.hold in
+    record { since = a.since; stands = a.stands; holds = b.here ∙ ap (λ p. Some (build p b.recipes)) (sym same.0) ∙ ap (λ q. Some (build o q)) recipes }
+
+made_composes : (old mid new : Writer) (o : Op) (ms : List Tree) (ns : List ℕ) (r : ℕ) → ComposesEach old mid ms ns → IsMade mid new o ns r → Composes old new (node o (trees_of ms)) r
+made_composes old mid new o ms ns r each x c events entries s over stands =
     let a = each c events entries s over.2 stands in
     let p = further s a.since in
     let regs = s.regs ++ a.since in
     let w = make o ns in
-    let one = build o (at_registers regs ns) ∷ [] in
-    let b = stands_work c events entries mid new p w (acts_put c.formats mid.code.items new.code.items x (works w) code (act c.formats)) next (ap (λ q. q.items) same) refl a.stands in
-    let recipe : at_registers regs ns ≡ mades_recipes entries (trees_of ms) = hold_read regs ns (mades_recipes entries (trees_of ms)) a.hold in
+    let made = build o (at_registers regs ns) in
+    let one = made ∷ [] in
+    let mades = mades_recipes entries (trees_of ms) in
+    let recipe : at_registers regs ns ≡ mades = hold_read regs ns mades a.hold in
+    let here : slice_get (regs ++ one) (length regs) ≡ Some made = last_part regs made in
+    let at : r ≡ length regs = x.is ∙ a.stands.next in
+    let N : ℕ → Type 0 = λ n. slice_get (regs ++ one) n ≡ Some made in
+    let holds : slice_get (regs ++ one) r ≡ Some (build o mades) = subst N (sym at) here ∙ ap (λ q. Some (build o q)) recipe in
+    let built = built_kept (regs ++ one) mid.built new.built o ns mades r x.keeps (hold_later regs one ns mades a.hold) holds (built_more regs one mid.built a.stands.built) in
+    let b = stands_work c events entries mid new p w (acts_put c.formats mid.code.items new.code.items x.instr (works w) x.code (x.act c.formats)) x.next (ap (λ q. q.items) x.places) built refl a.stands in
     let joined = append_assoc s.regs a.since one in
-    let here : slice_get (regs ++ one) (length regs) ≡ Some (build o (at_registers regs ns)) = last_part regs (build o (at_registers regs ns)) in
-    let at : r ≡ length regs = is ∙ a.stands.next in
-    let H : List RecipeTree → Type 0 = λ l. slice_get l r ≡ Some (build o (mades_recipes entries (trees_of ms))) in
-    let N : ℕ → Type 0 = λ n. slice_get (regs ++ one) n ≡ Some (build o (at_registers regs ns)) in
+    let H : List RecipeTree → Type 0 = λ l. slice_get l r ≡ Some (build o mades) in
     record {
       since = a.since ++ one;
       stands = stands_at c events entries new new (after_work p w) (further s (a.since ++ one)) (made_further p o ns ∙ further_twice s a.since one) b;
-      holds = subst H joined (subst N (sym at) here ∙ ap (λ q. Some (build o q)) recipe);
+      holds = subst H joined holds;
     }
+
+pub built_composes : (old mid new : Writer) (o : Op) (ms : List Tree) (ns : List ℕ) (r : ℕ) → ComposesEach old mid ms ns → Builds mid new o ns r → Composes old new (node o (trees_of ms)) r
+built_composes old mid new o ms ns r each (inl f) = let P : Writer → Type 0 = λ w. Composes old w (node o (trees_of ms)) r in subst P (sym f.same) (found_composes old mid o ms ns r each f.here)
+built_composes old mid new o ms ns r each (inr m) = made_composes old mid new o ms ns r each m
+
+pub builds_texts : (mid new : Writer) (o : Op) (ns : List ℕ) (r : ℕ) → Builds mid new o ns r → take_texts new.code.items ≡ take_texts mid.code.items
+builds_texts mid new o ns r (inl f) = ap (λ w. take_texts w.code.items) f.same
+builds_texts mid new o ns r (inr m) = texts_put mid.code.items new.code.items m.instr m.code m.other

@@ -1,10 +1,11 @@
 -- A code that has done the first events of a plan.
-use Rattle.std.specs.Prelude.{◌≡◌, ◌≢◌, ℕ, ◌+◌, ◌*◌, ◌^◌, ◌<◌, ◌≤◌, List, [], ◌∷◌, ◌++◌, length, map, count_by, Some, slice_get}
+use Rattle.std.specs.Prelude.{◌≡◌, ◌≢◌, ℕ, ◌+◌, ◌*◌, ◌^◌, ◌<◌, ◌≤◌, List, [], ◌∷◌, ◌++◌, length, map, count_by, Some, None, slice_get}
 use Rattle.std.specs.List.{AllByRecursion, AllPairs}
+use Rattle.std.specs.Set.{distinct_count}
 use Rattle.anb_term.specs.declared.term.Term.{Term}
 use Rattle.anb_base.specs.declared.TheConstants.{ARRIVAL, WIDE}
 use Rattle.anb_format.specs.Formats.{FormatValue}
-use Rattle.anb_term.specs.Tree.{Tree, tree_size, nodes, IsFormed}
+use Rattle.anb_term.specs.Tree.{Tree, tree_size, nodes, tree_eqb, IsFormed}
 use Rattle.anb_term.specs.Value.{label}
 use Rattle.anb_term.specs.Agree.{HasRecipe}
 use Rattle.anb_algebra.specs.ByteMeaning.{has_operator}
@@ -28,7 +29,9 @@ use Rattle.anb_compile.specs.declared.refusal.CompileNo.TheVariants.{CannotSend,
 use Rattle.anb_compile.specs.declared.writer.Writer.{Writer}
 use Rattle.anb_compile.specs.declared.emission.Emission.{Emission}
 use Rattle.anb_compile.specs.Unsent.{labels_of}
-use Rattle.anb_compile.specs.Counted.{is_demanding}
+use Rattle.anb_compile.specs.Counted.{is_demanding, is_building}
+use Rattle.anb_compile.specs.Sharing.{register_at}
+use Rattle.anb_compile.specs.Once.{IsSharing, subterms_in}
 use Rattle.anb_compile.specs.Writing.{Context, meaning_in, Stands, demand_in}
 use Rattle.anb_compile.specs.Verifying.{widths_in, IsVerifiable, IsWithin, IsNarrow}
 
@@ -84,6 +87,7 @@ pub record Done (c : Context) (before after : List PlanEvent) (es : List Entry) 
   pub verifiable : IsVerifiable c.formats w
   pub takes_wide : (n : ℕ) → n < length (known c.plan) → slice_get (widths_in c.formats w) n ≡ Some ARRIVAL
   pub within : IsWithin w (length (known c.plan) + 1025 * (length cs + length before))
+  pub sharing : IsSharing (subterms_in c) (closure.rows es) w
 
 abbrev pub HasDone : Context → List PlanEvent → List PlanEvent → Emission → Type 0
 HasDone c before after x = Done c before after x.basis.0 x.basis.1 (length x.basis.0) x.writer x.known
@@ -130,6 +134,7 @@ pub record IsAdmitted (formats : List FormatValue) (code : List Instr) : Type 0 
 pub record Emits (c : Context) (plan : List PlanEvent) (code : List Instr) : Type 0 where
   pub fits : Fits (meaning_in c) (map (act_of c.formats) code) c.plan
   pub few : count_by is_demanding (map (act_of c.formats) code) ≤ nodes (labels_of plan)
+  pub once : count_by is_building code ≤ distinct_count tree_eqb (subterms_in c)
   pub sendable : CanSendAll c plan
   pub admitted : IsAdmitted c.formats code
 
@@ -153,5 +158,6 @@ pub record IsBegun (x : Emission) (texts : List (List ℕ)) : Type 0 where
   pub code : x.writer.code.items ≡ map Take texts
   pub next : x.writer.next ≡ length texts
   pub places : x.writer.places.items ≡ []
+  pub built : (keys : List ℕ) → register_at x.writer.built keys ≡ None
   pub basis : x.basis ≡ ([], [])
   pub known : x.known ≡ 0

@@ -1,12 +1,16 @@
 -- When a code is one for a role of a protocol.
-use Rattle.std.specs.Prelude.{◌≡◌, ℕ, List, length, Some, slice_get}
+use Rattle.std.specs.Prelude.{◌≡◌, ◌≤◌, ℕ, List, length, Some, slice_get}
+use Rattle.anb_term.specs.Tree.{nodes}
 use Rattle.anb_plays.specs.Fits.{Fits}
 use Rattle.anb_code.specs.CodeValue.{CodeValue}
 use Rattle.anb_code.specs.Meaning.{acts_of}
 use Rattle.anb_code.specs.Taking.{take_texts}
 use Rattle.anb_resolve.specs.Protocols.{ProtocolValue}
 use Rattle.anb_resolve.specs.Texts.{known_texts}
+use Rattle.anb_resolve.specs.Plans.{plan_of}
 use Rattle.anb_resolve.specs.Plays.{events_of, meaning_of}
+use Rattle.anb_compile.specs.Unsent.{labels_of}
+use Rattle.anb_compile.specs.Counted.{count_demands, count_builds, count_subterms}
 
 -- Suite, formats and names are the protocol's and the role's, and the takes have the texts of what the
 -- role knows. What the code does fits the role's plan over byte strings: it keeps the plan's order, each
@@ -20,7 +24,10 @@ pub record FitsRole (p : ProtocolValue) (role : ℕ) (code : CodeValue) : Type 0
   pub texts : take_texts code.instrs ≡ known_texts p role
   pub fits : Fits (meaning_of p) (acts_of code) (events_of p role)
 
--- one code for each role, in order
+-- One code for each role, in order. Each has at most as many demands as the terms of its labels have nodes, and builds
+-- at most as often as the terms of its labels and messages have different subterms.
 pub record FitRoles (p : ProtocolValue) (codes : List CodeValue) : Type 0 where
   pub count : length codes ≡ length p.roles
   pub each : (role : ℕ) (code : CodeValue) → slice_get codes role ≡ Some code → FitsRole p role code
+  pub few : (role : ℕ) (code : CodeValue) → slice_get codes role ≡ Some code → count_demands code ≤ nodes (labels_of (plan_of p role))
+  pub once : (role : ℕ) (code : CodeValue) → slice_get codes role ≡ Some code → count_builds code ≤ count_subterms (plan_of p role)

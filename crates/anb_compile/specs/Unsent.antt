@@ -38,6 +38,14 @@ pub record IsFirstUnsentOfAll (p : ProtocolValue) (role action : ℕ) : Type 0 w
   pub unsent : IsUnsent p role action
   pub first : (sender other : ℕ) → sender < length p.roles → other < action → IsUnsent p sender other → ⊥
 
+-- the role can send all that it has to
+abbrev pub SendsAll : ProtocolValue → ℕ → Type 0
+SendsAll p role = (action : ℕ) → IsUnsent p role action → ⊥
+
+-- each role can
+abbrev pub AllSendAll : ProtocolValue → Type 0
+AllSendAll p = (role action : ℕ) → role < length p.roles → IsUnsent p role action → ⊥
+
 -- why a role has no code
 abbrev pub RefusesRole : ProtocolValue → ℕ → CompileNo → Type 0
 RefusesRole p role (CannotSend action sender) = (sender ≡ role) × IsFirstUnsent p role action

@@ -15,12 +15,33 @@ use Rattle.anb_code.specs.declared.instr.Instr.{Instr}
 use Rattle.anb_code.specs.Registers.{operands, count_written, width_of, register_widths}
 use Rattle.anb_code.specs.Verified.{EachAfter, HasItsFormat, IsInstrAfter}
 use Rattle.anb_resolve.specs.Widths.{op_width, width, widths, fits_width, fit_width}
+use Rattle.anb_compile.specs.declared.built.Built.{Built}
 use Rattle.anb_compile.specs.declared.writer.Writer.{Writer}
+use Rattle.anb_compile.specs.Sharing.{key, register_at}
 use Rattle.anb_compile.specs.Writing.{IsOver, AreOver, AreChecksOf, count_opened}
 
 -- the widths of the registers that are written
 abbrev pub widths_in : List FormatValue → Writer → List ℕ
 widths_in formats w = register_widths ARRIVAL formats w.code.items
+
+-- registers with widths in order
+abbrev pub HoldWidths : List ℕ → List ℕ → List ℕ → Type 0
+HoldWidths all [] [] = Unit {0}
+HoldWidths all [] (w ∷ ws) = ⊥
+HoldWidths all (r ∷ rs) [] = ⊥
+HoldWidths all (r ∷ rs) (w ∷ ws) = (slice_get all r ≡ Some w) × HoldWidths all rs ws
+
+-- each register that was built is as wide as its operator makes it of those from which it was
+pub record IsBuiltWide (formats : List FormatValue) (ws : List ℕ) (k : List ℕ) (r : ℕ) : Type 0 where
+  pub op : Op
+  pub from : List ℕ
+  pub are : List ℕ
+  pub is : k ≡ key op from
+  pub hold : HoldWidths ws from are
+  pub here : slice_get ws r ≡ Some (op_width ARRIVAL formats op are)
+
+abbrev pub AreBuiltWide : List FormatValue → List ℕ → Built → Type 0
+AreBuiltWide formats ws b = (k : List ℕ) (r : ℕ) → register_at b k ≡ Some r → IsBuiltWide formats ws k r
 
 -- each instruction may come after those before it, no register is too wide, and those of the entries are
 -- as wide as an arrival
@@ -29,6 +50,7 @@ pub record IsVerifiable (formats : List FormatValue) (w : Writer) : Type 0 where
   pub next : w.next ≡ length (widths_in formats w)
   pub narrow : AllByRecursion (λ x. x ≤ WIDE) (widths_in formats w)
   pub placed : (n k : ℕ) → slice_get w.places.items n ≡ Some k → slice_get (widths_in formats w) k ≡ Some ARRIVAL
+  pub built : AreBuiltWide formats (widths_in formats w) w.built
 
 -- an instruction that writes one register, of an operator on these registers
 pub record IsMaking (o : Op) (rs : List ℕ) (x : Instr) : Type 0 where
@@ -75,13 +97,6 @@ pub record HasWidth (formats : List FormatValue) (old new : Writer) (r wide : �
 abbrev pub Lays : Writer → Writer → Tree → ℕ → Type 0
 Lays old new m r = (formats : List FormatValue) → IsOver (has_operator formats) (length old.places.items) m → IsNarrow formats m → IsVerifiable formats old
     → HasWidth formats old new r (width ARRIVAL formats m)
-
--- registers with widths in order
-abbrev pub HoldWidths : List ℕ → List ℕ → List ℕ → Type 0
-HoldWidths all [] [] = Unit {0}
-HoldWidths all [] (w ∷ ws) = ⊥
-HoldWidths all (r ∷ rs) [] = ⊥
-HoldWidths all (r ∷ rs) (w ∷ ws) = (slice_get all r ≡ Some w) × HoldWidths all rs ws
 
 pub record HaveWidths (formats : List FormatValue) (old new : Writer) (rs ws : List ℕ) : Type 0 where
   pub longer : IsLonger formats old new

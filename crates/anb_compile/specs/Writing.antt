@@ -6,7 +6,7 @@ use Rattle.anb_format.specs.Formats.{FormatValue}
 use Rattle.anb_term.specs.declared.term.Op.{Op}
 use Rattle.anb_term.specs.Operator.{arity, keys, undoable}
 use Rattle.anb_term.specs.Tree.{Tree, leaf, node, Trees, none, more, trees_of, list_of}
-use Rattle.anb_term.specs.Value.{RecipeTree, RecipeTrees, label, part, no_recipes, more_recipes, Meaning}
+use Rattle.anb_term.specs.Value.{RecipeTree, RecipeTrees, label, build, part, no_recipes, more_recipes, Meaning}
 use Rattle.anb_term.specs.FreeAlgebra.{terms_over}
 use Rattle.anb_term.specs.Demand.{Demand, opens, equals, all_hold}
 use Rattle.anb_algebra.specs.ByteMeaning.{byte_meaning, has_operator}
@@ -18,7 +18,9 @@ use Rattle.anb_plays.specs.Plans.{Event}
 use Rattle.anb_plays.specs.Fits.{Place, start}
 use Rattle.anb_plays.specs.Reaches.{Reaches}
 use Rattle.anb_code.specs.Meaning.{act_of}
+use Rattle.anb_compile.specs.declared.built.Built.{Built}
 use Rattle.anb_compile.specs.declared.writer.Writer.{Writer}
+use Rattle.anb_compile.specs.Sharing.{key, register_at}
 
 -- formats and suite, which give the meaning over byte strings, and a plan
 pub record Context : Type 0 where
@@ -33,11 +35,31 @@ meaning_in c = byte_meaning c.formats c.suite
 abbrev pub Tracks : List RecipeTree → List RecipeTree → List ℕ → Type 0
 Tracks regs entries places = (n k : ℕ) → slice_get places n ≡ Some k → (r : RecipeTree) × (slice_get entries n ≡ Some r) × (slice_get regs k ≡ Some r)
 
+-- registers with recipes in order
+abbrev pub HoldEach : List RecipeTree → List ℕ → RecipeTrees → Type 0
+HoldEach regs [] no_recipes = Unit {0}
+HoldEach regs [] (more_recipes r rs) = ⊥
+HoldEach regs (n ∷ ns) no_recipes = ⊥
+HoldEach regs (n ∷ ns) (more_recipes r rs) = (slice_get regs n ≡ Some r) × HoldEach regs ns rs
+
+-- each register that was built has the recipe of its operator on those from which it was
+pub record HasBuilt (regs : List RecipeTree) (k : List ℕ) (r : ℕ) : Type 0 where
+  pub op : Op
+  pub from : List ℕ
+  pub recipes : RecipeTrees
+  pub is : k ≡ key op from
+  pub hold : HoldEach regs from recipes
+  pub here : slice_get regs r ≡ Some (build op recipes)
+
+abbrev pub HaveBuilt : List RecipeTree → Built → Type 0
+HaveBuilt regs b = (k : List ℕ) (r : ℕ) → register_at b k ≡ Some r → HasBuilt regs k r
+
 -- what is written does these events, and then stands at this place
 pub record Stands (c : Context) (events : List Event) (entries : List RecipeTree) (w : Writer) (s : Place) : Type 0 where
   pub reaches : Reaches (meaning_in c) (map (act_of c.formats) w.code.items) events (start c.plan) s
   pub next : w.next ≡ length s.regs
   pub tracks : Tracks s.regs entries w.places.items
+  pub built : HaveBuilt s.regs w.built
 
 abbrev mutual
   -- a composition over the first k entries, by these operators
@@ -62,13 +84,6 @@ pub record Composed (c : Context) (events : List Event) (entries : List RecipeTr
 abbrev pub Composes : Writer → Writer → Tree → ℕ → Type 0
 Composes old new m r = (c : Context) (events : List Event) (entries : List RecipeTree) (s : Place) → IsOver (has_operator c.formats) (length old.places.items) m
     → Stands c events entries old s → Composed c events entries new s r (made_recipe entries m)
-
--- registers with recipes in order
-abbrev pub HoldEach : List RecipeTree → List ℕ → RecipeTrees → Type 0
-HoldEach regs [] no_recipes = Unit {0}
-HoldEach regs [] (more_recipes r rs) = ⊥
-HoldEach regs (n ∷ ns) no_recipes = ⊥
-HoldEach regs (n ∷ ns) (more_recipes r rs) = (slice_get regs n ≡ Some r) × HoldEach regs ns rs
 
 pub record ComposedEach (c : Context) (events : List Event) (entries : List RecipeTree) (w : Writer) (s : Place) (rs : List ℕ) (recipes : RecipeTrees) : Type 0 where
   pub since : List RecipeTree

@@ -1,3 +1,4 @@
+//! A law on codes that fit.
 ghost use Rattle.anb_compile.specs.Laws.{FittingCodesPlay};
 
 use anb_algebra::ByteAlgebra;

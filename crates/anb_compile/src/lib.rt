@@ -5,11 +5,12 @@
 //! Viganò 2015). A role that would have to send what it can't compose has no code.
 #![tactic(auto)]
 
+mod built;
 mod compiling;
+mod copies;
 mod emission;
 mod laws;
 mod refusal;
-mod spelling;
 mod terms;
 mod writer;
 

@@ -1,3 +1,4 @@
+//! Why a role has no code.
 ghost use Rattle.std.specs.Prelude.{◌≡◌};
 ghost use Rattle.anb_compile.specs.declared.refusal.CompileNo.TheVariants as refusal;
 

@@ -1,3 +1,4 @@
+//! The terms of a code's registers.
 ghost use Rattle.std.specs.Prelude.{◌≡◌, ◌+◌, ◌<◌, ◌≤◌, ◌++◌, ◌∷◌, [], ℕ, List, length, map, drop, slice_get, IfOk, OnOk, Some, All};
 ghost use Rattle.std.specs.List.{AllByRecursion};
 ghost use Rattle.anb_base.specs.declared.content.Suite.{Suite};
@@ -32,8 +33,14 @@ use std::alloc::Global;
 /// The term of each register of a code, in the order of writing.
 pub fn terms_of(alloc: Global, code: &RoleCode, plan: &Plan) -> Result<Vec<Term>, NoMemory>
     requires order { Follows (acts_of code.now) (map event_of plan.now) }
-    requires sound { let events = map event_of plan.now in Along AnySend (IsSound (byte_meaning code.now.formats code.now.suite)) AnyBorder (acts_of code.now) events (start events) }
-    ensures { IfOk result (λ terms. values (terms_over (has_operator code.now.formats)) (all_labels (map event_of plan.now)) (recipe_trees (register_recipes (acts_of code.now))) ≡ Some (map tree_of terms.items)) }
+    requires sound { let events = map event_of plan.now in
+        Along AnySend (IsSound (byte_meaning code.now.formats code.now.suite)) AnyBorder
+        (acts_of code.now) events (start events) }
+    ensures { IfOk result (λ terms.
+        values (terms_over (has_operator code.now.formats))
+        (all_labels (map event_of plan.now))
+        (recipe_trees (register_recipes (acts_of code.now)))
+        ≡ Some (map tree_of terms.items)) }
 {
     verified_is_runnable();
     let formats = code.formats();
@@ -58,8 +65,12 @@ fn write(
 ) -> Result<(), NoMemory>
     requires fields { AllByRecursion (λ format. field_count format.pieces ≤ 32) formats.now }
     requires format { HasItsFormat formats.now instr.now }
-    requires walked { (suite : Suite) × (plan : List plays.Event) × (all later : List Act) × HasWalked formats.now suite plan all (act_of formats.now instr.now ∷ later) (drop next.old events.now) terms.old.items }
-    ensures { OnOk result ((suite : Suite) (plan : List plays.Event) (all later : List Act) → HasWalked formats.now suite plan all (act_of formats.now instr.now ∷ later) (drop next.old events.now) terms.old.items
+    requires walked { (suite : Suite) × (plan : List plays.Event) × (all later : List Act)
+        × HasWalked formats.now suite plan all (act_of formats.now instr.now ∷ later)
+        (drop next.old events.now) terms.old.items }
+    ensures { OnOk result ((suite : Suite) (plan : List plays.Event) (all later : List Act)
+        → HasWalked formats.now suite plan all (act_of formats.now instr.now ∷ later)
+        (drop next.old events.now) terms.old.items
         → HasWalked formats.now suite plan all later (drop next.new events.now) terms.new.items) }
 {
     match instr {
@@ -109,7 +120,9 @@ fn hear(
 ) -> Result<(), NoMemory>
     requires { next.old < length events.now }
     ensures next { OnOk result (next.new ≡ next.old + 1) }
-    ensures term { OnOk result ((e : code.Event) × (slice_get events.now next.old ≡ Some e) × (map tree_of terms.new.items ≡ map tree_of terms.old.items ++ term_in (plan_event e) ∷ [])) }
+    ensures term { OnOk result ((e : code.Event) × (slice_get events.now next.old ≡ Some e)
+        × (map tree_of terms.new.items
+        ≡ map tree_of terms.old.items ++ term_in (plan_event e) ∷ [])) }
 {
     let term = term_of(alloc, &events[*next])?;
     terms.push(term)?;
@@ -141,7 +154,9 @@ fn copied(alloc: Global, term: &Term) -> Result<Term, NoMemory>
 fn put_made(alloc: Global, terms: &mut Vec<Term>, op: Op, at: &[u32]) -> Result<(), NoMemory>
     requires count { length at.now ≡ arity op }
     requires within { All (λ r. r < length terms.old.items) at.now }
-    ensures { OnOk result ((formats : List FormatValue) → (ts : List Tree) × Writes formats (make op at.now) terms.old.items ts × (map tree_of terms.new.items ≡ map tree_of terms.old.items ++ ts)) }
+    ensures { OnOk result ((formats : List FormatValue) → (ts : List Tree)
+        × Writes formats (make op at.now) terms.old.items ts
+        × (map tree_of terms.new.items ≡ map tree_of terms.old.items ++ ts)) }
 {
     match TermAlgebra.build(alloc, op, terms, at) {
         Ok(term) => {
@@ -163,8 +178,11 @@ fn put_parts(
     requires count { length keys.now ≡ keys_of op }
     requires within { All (λ r. r < length terms.old.items) keys.now }
     requires of { of < length terms.old.items }
-    requires parts { (formats : List FormatValue) × (ts : List Tree) × Writes formats (undo op keys.now of) terms.old.items ts }
-    ensures { OnOk result ((formats : List FormatValue) (ts : List Tree) → Writes formats (undo op keys.now of) terms.old.items ts → map tree_of terms.new.items ≡ map tree_of terms.old.items ++ ts) }
+    requires parts { (formats : List FormatValue) × (ts : List Tree)
+        × Writes formats (undo op keys.now of) terms.old.items ts }
+    ensures { OnOk result ((formats : List FormatValue) (ts : List Tree)
+        → Writes formats (undo op keys.now of) terms.old.items ts
+        → map tree_of terms.new.items ≡ map tree_of terms.old.items ++ ts) }
 {
     match TermAlgebra.undo(alloc, op, terms, keys, of) {
         Ok(undone) => match undone {

@@ -3,7 +3,7 @@ use Rattle.std.specs.List.{AllPairs}
 use Rattle.anb_resolve.specs.Plans.{PlanEvent, plan_of}
 use Rattle.anb_resolve.specs.Plays.{events_of}
 use Rattle.anb_compile.specs.Emitting.{IsPlan, RefusesPlan, known_in}
-use Rattle.anb_compile.proofs.Accepting.{fitted, fitted_few}
+use Rattle.anb_compile.proofs.Accepting.{fitted, fitted_few, fitted_once}
 use Rattle.anb_compile.proofs.Protocols.{plan_is, known_count, is_sendable, refused_role, emitted}
 use Rattle.anb_compile.proofs.compiling.compile.Goals as goal
 
@@ -81,3 +81,14 @@ returns-clause-sent c =
     let holds = c.protocols_hold.ensures p e.protocol in
     let emits = emitted p role holds c.in_ok-plan.plan instrs e.plan c.in-Ok.ensures.emits in
     λ action u. u.no_recipe (emits.sendable u.before u.after action u.message u.plan)
+
+pub returns-clause-once : goal.returns-clause-once
+returns-clause-once c =
+    let p = c.args.p.now in
+    let role = c.args.role in
+    let e = c.in_ok-plan.ensures in
+    let instrs = c.in-Ok.instrs.items in
+    let holds = c.protocols_hold.ensures p e.protocol in
+    let emits = emitted p role holds c.in_ok-plan.plan instrs e.plan c.in-Ok.ensures.emits in
+    let texts = c.in-Ok.ensures.texts ∙ c.in_ok-texts.ensures in
+    fitted_once p role instrs c.requires texts emits c.in_ok-code.code c.in_ok-code.ensures

@@ -17,5 +17,5 @@ returns-clause-emits c k plan =
     let P : List PlanEvent → Type 0 = λ l. IsPlan k l in
     let Q : List PlanEvent → Type 0 = λ l. HasDone k l [] c.events-2.new.self in
     let done = c.in-Ok.ensures.done k (subst P (sym c.events.ensures) plan) in
-    let g = c.given.ensures in
-    whole k c.args.plan.now c.events-2.new.self plan (subst Q c.events.ensures done) (record { known = g.known; all = g.all; fit = g.fit; few = g.few }) g.few
+    let g = c.tell_basis.ensures in
+    whole k c.args.plan.now c.events-2.new.self plan (subst Q c.events.ensures done) g g.few

@@ -1,4 +1,5 @@
-use Rattle.std.proofs.Common.{◌≡◌, ◌+◌, [], map, length}
+use Rattle.std.proofs.Common.{◌≡◌, ◌+◌, ℕ, List, None, [], map, length}
+use Rattle.anb_compile.specs.Sharing.{register_at}
 use Rattle.anb_code.specs.declared.instr.Instr.TheVariants.{Take}
 use Rattle.anb_compile.proofs.emission.taken.Given as goal
 
@@ -8,4 +9,5 @@ invariant-loop-text l = record {
   next : l.writer.next ≡ length l.yielded;
   left : length l.yielded + length l.text-iterator.rest.items ≡ length l.fn.texts.items;
   places : l.writer.places.items ≡ [];
+  built : (keys : List ℕ) → register_at l.writer.built keys ≡ None;
 }

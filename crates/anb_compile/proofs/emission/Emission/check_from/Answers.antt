@@ -7,6 +7,7 @@ use Rattle.anb_close.specs.Recipes.{recipes}
 use Rattle.anb_basis.specs.declared.check.Check.{Check}
 use Rattle.anb_compile.specs.Writing.{AreChecksOf, Asks, count_all_opened}
 use Rattle.anb_compile.specs.Verifying.{GrowsBy, LaysChecks, room_for}
+use Rattle.anb_compile.specs.Once.{SharesChecks}
 use Rattle.anb_compile.proofs.Doing.{checked, checks_of, to_check, within_given, room_left}
 use Rattle.anb_compile.proofs.Events.{labels_first}
 use Rattle.anb_compile.proofs.emission.Emission.check_from.Goals as goal
@@ -59,5 +60,6 @@ returns-clause-done c k before after plan labelled =
     let same : c.behind-checks.result.now ≡ drop c.args.first x.basis.1 = c.behind-checks.ensures ∙ ap (drop c.args.first) c.given.ensures.same in
     let P : List Check → Type 0 = λ l. Asks x.writer c.checks.new.self l in
     let Q : List Check → Type 0 = λ l. LaysChecks x.writer c.checks.new.self l in
+    let S : List Check → Type 0 = λ l. SharesChecks x.writer c.checks.new.self l in
     let G : List Check → Type 0 = λ l. GrowsBy x.writer c.checks.new.self (1025 * length l) in
-    checked k before after plan x.basis.0 x.basis.1 x c.args.first c.checks.new.self refl c.given.ensures.known c.given.ensures.fit labelled (subst P same e.asks) (e.places ∙ ap (λ l. length x.writer.places.items + count_all_opened l) same) (subst Q same e.lays) (subst G same e.grows)
+    checked k before after plan x.basis.0 x.basis.1 x c.args.first c.checks.new.self refl c.given.ensures.known c.given.ensures.fit labelled (subst P same e.asks) (e.places ∙ ap (λ l. length x.writer.places.items + count_all_opened l) same) (subst Q same e.lays) (subst S same e.shares) (subst G same e.grows)

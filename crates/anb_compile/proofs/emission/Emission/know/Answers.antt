@@ -28,7 +28,7 @@ check_from-requires c =
       r.2,
       plan_on r.0 r.1 r.2 e r.3,
       known_labelled r.0 r.1 r.2 e r.3 x r.4 l.before mid.basis.0 mid.basis.1 t l.entries l.added l.order refl (tree_of t) w (x.known + 1) c.in_ok-first.first _ refl
-          (p.code ∙ ap (λ q. q.code) l.writer) (p.next ∙ ap (λ q. q.next) l.writer) places refl refl refl (ap (λ n. n + 1) l.known) l.first,
+          (p.code ∙ ap (λ q. q.code) l.writer) (p.next ∙ ap (λ q. q.next) l.writer) places (p.built ∙ ap (λ q. q.built) l.writer) refl refl refl (ap (λ n. n + 1) l.known) l.first,
     )
 
 pub returns-clause-does : goal.returns-clause-does
@@ -43,4 +43,4 @@ returns-clause-does c k before after plan done =
     let places : w.places.items ≡ x.writer.places.items ++ x.known ∷ [] = p.places ∙ ap (λ q. q.places.items ++ mid.known ∷ []) l.writer ∙ ap (λ n. x.writer.places.items ++ n ∷ []) l.known in
     c.in_ok-check_from.ensures.done k (before ++ e ∷ []) after (plan_on k before after e plan)
     (known_labelled k before after e plan x done l.before mid.basis.0 mid.basis.1 t l.entries l.added l.order refl (tree_of t) w (x.known + 1) c.in_ok-first.first _ refl
-    (p.code ∙ ap (λ q. q.code) l.writer) (p.next ∙ ap (λ q. q.next) l.writer) places refl refl refl (ap (λ n. n + 1) l.known) l.first)
+    (p.code ∙ ap (λ q. q.code) l.writer) (p.next ∙ ap (λ q. q.next) l.writer) places (p.built ∙ ap (λ q. q.built) l.writer) refl refl refl (ap (λ n. n + 1) l.known) l.first)

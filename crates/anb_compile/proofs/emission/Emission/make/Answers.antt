@@ -34,7 +34,7 @@ check_from-requires c =
       r.2,
       plan_on r.0 r.1 r.2 e r.3,
       heard_labelled r.0 r.1 r.2 e r.3 x r.4 l.before mid.basis.0 mid.basis.1 t l.entries l.added l.order refl w c.in_ok-first.first _ Fresh draws (fresh (tree_of t)) tt
-          (p.code ∙ ap (λ q. q.code.items ++ Fresh ∷ []) l.writer) (p.next ∙ ap (λ q. q.next + 1) l.writer) (p.places ∙ ap (λ q. q.places.items ++ q.next ∷ []) l.writer)
+          (p.code ∙ ap (λ q. q.code.items ++ Fresh ∷ []) l.writer) (p.next ∙ ap (λ q. q.next + 1) l.writer) (p.places ∙ ap (λ q. q.places.items ++ q.next ∷ []) l.writer) (p.built ∙ ap (λ q. q.built) l.writer)
           refl refl refl refl refl refl l.known l.first,
     )
 
@@ -49,7 +49,7 @@ returns-clause-does c k before after plan done =
     let w = c.put_label.new.self in
     c.in_ok-check_from.ensures.done k (before ++ e ∷ []) after (plan_on k before after e plan)
     (heard_labelled k before after e plan x done l.before mid.basis.0 mid.basis.1 t l.entries l.added l.order refl w c.in_ok-first.first _ Fresh draws (fresh (tree_of t)) tt
-    (p.code ∙ ap (λ q. q.code.items ++ Fresh ∷ []) l.writer) (p.next ∙ ap (λ q. q.next + 1) l.writer) (p.places ∙ ap (λ q. q.places.items ++ q.next ∷ []) l.writer)
+    (p.code ∙ ap (λ q. q.code.items ++ Fresh ∷ []) l.writer) (p.next ∙ ap (λ q. q.next + 1) l.writer) (p.places ∙ ap (λ q. q.places.items ++ q.next ∷ []) l.writer) (p.built ∙ ap (λ q. q.built) l.writer)
     refl refl refl refl refl refl l.known l.first)
 
 pub returns-clause-texts : goal.returns-clause-texts

@@ -1,4 +1,4 @@
-use Rattle.std.proofs.Common.{◌≡◌, ℕ, ◌≤◌, List, ◌∷◌, Some, None, refl, sym, ap, ◌∙◌, subst, arith}
+use Rattle.std.proofs.Common.{◌≡◌, ℕ, ◌≤◌, List, ◌∷◌, ◌++◌, Some, None, refl, sym, ap, ◌∙◌, subst, arith}
 use Rattle.std.specs.Prelude.{option_map}
 use Rattle.anb_base.specs.declared.TheConstants.{ARRIVAL, WIDE}
 use Rattle.anb_term.specs.Tree.{Tree, trees_of, tree_size, AreFormed}
@@ -19,6 +19,8 @@ use Rattle.anb_compile.proofs.Opened.{made_over}
 use Rattle.anb_compile.specs.Verifying.{IsNarrow}
 use Rattle.anb_compile.proofs.Narrow.{made_narrow}
 use Rattle.anb_compile.proofs.Events.{has_next, formed_any, formed_next, formed_labels}
+use Rattle.anb_compile.specs.Once.{subterms_in, AllAmong}
+use Rattle.anb_compile.proofs.Sharing.{made_chosen, plan_among}
 use Rattle.anb_compile.proofs.Doing.{message_fits, message_sent}
 use Rattle.anb_compile.proofs.emission.Emission.send.Goals as goal
 
@@ -36,7 +38,7 @@ compose-requires-in-Some-clause-room c =
     let u = tree_of c.args.term.now in
     let made : made_for (rows es) u ≡ Some (made_tree c.in-Some.made) = ap (λ q. made_for (rows q) u) (sym c.closure.ensures) ∙ sym c.in_ok-compose.ensures.chosen ∙ ap (option_map made_tree) c.in-Some.is in
     let small = made_small (rows es) u (made_tree c.in-Some.made) made in
-    let most = message_fits r.0 r.1 r.2 e c.args.self.now r.3 r.4 c.given.ensures.few in
+    let most = message_fits r.0 r.1 r.2 e c.args.self.now r.3 r.4 c.tell_basis.ensures.few in
     omega (arith, most, small, size)
 
 pub compose-requires-in-Some-clause-over : goal.compose-requires-in-Some-clause-over
@@ -63,7 +65,7 @@ returns-in-None-clause-blocks c =
       refl,
       λ k before after plan done.
           let P : List Tree → Type 0 = λ l. HasRecipe (has_operator k.formats) l u → ⊥ in
-          subst P done.labels (no_recipe (has_operator k.formats) es u c.given.ensures.known none),
+          subst P done.labels (no_recipe (has_operator k.formats) es u c.tell_basis.ensures.known none),
     )
 
 pub returns-in_ok-send-in-Some-clause-texts : goal.returns-in_ok-send-in-Some-clause-texts
@@ -87,8 +89,10 @@ returns-in_ok-send-in-Some-clause-does c k before after plan done =
     let size = has_next (λ t. tree_size t ≤ 1024) before after e plan.small in
     let small : tree_size m ≤ tree_size u = made_small (rows es) u m made in
     let narrow = made_narrow ARRIVAL WIDE k.formats has (rows es) u m made formed (has_next (IsNarrow k.formats) before after e plan.narrow) in
-    let gives = some_recipe has es u m c.given.ensures.known labels formed made in
+    let gives = some_recipe has es u m c.tell_basis.ensures.known labels formed made in
+    let among = has_next (AllAmong (subterms_in k)) before after e (plan_among k (before ++ (e ∷ after)) plan.events) in
+    let chosen = made_chosen (subterms_in k) (rows es) u m made among in
     let r = c.in_ok-register-in-Some in
     let s = c.in_ok-send-in-Some.ensures in
-    message_sent k before after c.args.action u x plan done (record { known = c.given.ensures.known; all = c.given.ensures.all; fit = c.given.ensures.fit; few = c.given.ensures.few })
-    m c.compose-in-Some.new.self c.send.new.self r.register gives over r.ensures.composes r.ensures.places narrow.1 (omega (arith, small, size)) r.ensures.lays r.ensures.grows s.code s.next s.places
+    message_sent k before after c.args.action u x plan done c.tell_basis.ensures
+    m c.compose-in-Some.new.self c.send.new.self r.register gives over r.ensures.composes r.ensures.places narrow.1 (omega (arith, small, size)) r.ensures.lays r.ensures.grows s.code s.next s.places s.built r.ensures.shares chosen

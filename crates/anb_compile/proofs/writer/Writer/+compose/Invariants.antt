@@ -4,6 +4,7 @@ use Rattle.anb_close.specs.MadeView.{made_tree}
 use Rattle.anb_code.specs.Taking.{take_texts}
 use Rattle.anb_compile.specs.Writing.{ComposesEach}
 use Rattle.anb_compile.specs.Verifying.{GrowsBy, LaysEach}
+use Rattle.anb_compile.specs.Once.{BuiltStays, SharesEach}
 use Rattle.anb_compile.proofs.writer.Writer.+compose.Given as goal
 
 abbrev pub decreases-compose : goal.decreases-compose
@@ -19,5 +20,7 @@ invariant-compose_all-loop-m l = record {
   count : length l.at.items ≡ l.m-index;
   compose : ComposesEach l.fn.self l.self (map made_tree (take l.m-index l.m-items)) l.at.items;
   lay : LaysEach l.fn.self l.self (map made_tree (take l.m-index l.m-items)) l.at.items;
+  share : SharesEach l.fn.self l.self (map made_tree (take l.m-index l.m-items)) l.at.items;
+  stays : BuiltStays l.fn.self l.self;
   grows : GrowsBy l.fn.self l.self (trees_size (trees_of (map made_tree (take l.m-index l.m-items))));
 }

@@ -1,15 +1,19 @@
-use Rattle.std.proofs.Common.{◌≡◌, ℕ, ◌-◌, ◌<◌, List, [], ◌∷◌, length, sym, ap, ◌∙◌, subst, refl, arith}
+use Rattle.std.proofs.Common.{◌≡◌, ℕ, ◌-◌, ◌<◌, List, [], ◌∷◌, ◌++◌, length, Some, sym, ap, ◌∙◌, subst, refl, arith}
 use Rattle.std.specs.List.{range_with_len}
 use Rattle.std.proofs.lemmas.List.FromFn.{length-range_with_len}
 use Rattle.std.proofs.Common.{length-append}
 use Rattle.anb_term.specs.Operator.{arity, keys}
-use Rattle.anb_term.proofs.Lists.{slice_get-at}
+use Rattle.std.specs.Prelude.{slice_get, count_by}
+use Rattle.anb_term.proofs.Lists.{slice_get-at, slice_get-append}
 use Rattle.anb_basis.specs.declared.check.Check.{Check}
 use Rattle.anb_code.specs.declared.instr.Instr.TheVariants as instr
 use Rattle.anb_code.specs.Taking.{take_texts}
 use Rattle.anb_plays.specs.Codes.{works, undo}
 use Rattle.anb_compile.specs.Writing.{IsCheckOf, Asks, count_opened}
 use Rattle.anb_compile.specs.Verifying.{IsUndoing, LaysChecks}
+use Rattle.anb_compile.specs.Counted.{is_building}
+use Rattle.anb_compile.specs.Once.{IsChosenCheck}
+use Rattle.anb_compile.proofs.Sharing.{sharing_on, none_put}
 use Rattle.anb_compile.proofs.Laying.{open_lays, equal_lays}
 use Rattle.anb_compile.proofs.Writing.{texts_put}
 use Rattle.anb_compile.proofs.Asking.{open_asks, equal_asks}
@@ -78,7 +82,7 @@ returns-in_ok-place_next-in-Open-clause-asks c =
     let P : Check → Type 0 = λ u. Asks w new (u ∷ []) in
     let act = c.undone_instr.ensures.act in
     subst P (sym c.in-Open.is) (open_asks w mid put new x ns of c.saturating_sub.result c.undone_instr.result k.compose k.places (slice_get-at mid.places.items x.of of within c.index-of.ensures)
-    p.code p.next p.places (λ formats has. act formats has ∙ ap (λ l. works (undo x.op l of)) c.deref.ensures.value) e.code e.next e.places count)
+    p.code p.next p.places (λ formats has. act formats has ∙ ap (λ l. works (undo x.op l of)) c.deref.ensures.value) e.code e.next e.places (e.built ∙ p.built) count)
 
 pub returns-in_ok-put-in-Equal-clause-texts : goal.returns-in_ok-put-in-Equal-clause-texts
 returns-in_ok-put-in-Equal-clause-texts c =
@@ -96,7 +100,7 @@ returns-in_ok-put-in-Equal-clause-asks c =
     let over = subst (λ u. IsCheckOf c.requires.over.0 c.requires.over.1 (length w.places.items) u) c.in-Equal.is c.requires.over.2 in
     let within : n < length mid.places.items = omega (arith, over.0, ap (λ q. length q.items) k.places) in
     let P : Check → Type 0 = λ u. Asks w new (u ∷ []) in
-    subst P (sym c.in-Equal.is) (equal_asks w mid new n entry c.in_ok-register-in-Equal.register c.in-Equal.made k.composes k.places (slice_get-at mid.places.items n entry within c.index-entry.ensures) p.code p.next p.places)
+    subst P (sym c.in-Equal.is) (equal_asks w mid new n entry c.in_ok-register-in-Equal.register c.in-Equal.made k.composes k.places (slice_get-at mid.places.items n entry within c.index-entry.ensures) p.code p.next p.places p.built)
 
 pub returns-in_ok-place_next-in-Open-clause-lays : goal.returns-in_ok-place_next-in-Open-clause-lays
 returns-in_ok-place_next-in-Open-clause-lays c =
@@ -116,7 +120,7 @@ returns-in_ok-place_next-in-Open-clause-lays c =
     let P : Check → Type 0 = λ u. LaysChecks w new (u ∷ []) in
     let U : List ℕ → Type 0 = λ l. IsUndoing x.op l of c.undone_instr.result in
     subst P (sym c.in-Open.is) (open_lays w mid put new x ns of c.saturating_sub.result c.undone_instr.result k.lay k.places (slice_get-at mid.places.items x.of of within c.index-of.ensures)
-    p.code p.next p.places (subst U c.deref.ensures.value c.undone_instr.ensures.undoing) c.undone_instr.ensures.other e.code e.next e.places count)
+    p.code p.next p.places (subst U c.deref.ensures.value c.undone_instr.ensures.undoing) c.undone_instr.ensures.other e.code e.next e.places (e.built ∙ p.built) count)
 
 pub returns-in_ok-put-in-Equal-clause-lays : goal.returns-in_ok-put-in-Equal-clause-lays
 returns-in_ok-put-in-Equal-clause-lays c =
@@ -130,4 +134,29 @@ returns-in_ok-put-in-Equal-clause-lays c =
     let over = subst (λ u. IsCheckOf c.requires.over.0 c.requires.over.1 (length w.places.items) u) c.in-Equal.is c.requires.over.2 in
     let within : n < length mid.places.items = omega (arith, over.0, ap (λ q. length q.items) k.places) in
     let P : Check → Type 0 = λ u. LaysChecks w new (u ∷ []) in
-    subst P (sym c.in-Equal.is) (equal_lays w mid new n entry c.in_ok-register-in-Equal.register c.in-Equal.made k.lays k.places (slice_get-at mid.places.items n entry within c.index-entry.ensures) p.code p.next p.places)
+    subst P (sym c.in-Equal.is) (equal_lays w mid new n entry c.in_ok-register-in-Equal.register c.in-Equal.made k.lays k.places (slice_get-at mid.places.items n entry within c.index-entry.ensures) p.code p.next p.places p.built)
+
+pub returns-in_ok-place_next-in-Open-clause-shares : goal.returns-in_ok-place_next-in-Open-clause-shares
+returns-in_ok-place_next-in-Open-clause-shares c ts rs chosen s =
+    let mid = c.compose_all.new.self in
+    let put = c.put.new.self in
+    let new = c.place_next.new.self in
+    let e = c.in_ok-place_next-in-Open.ensures in
+    let p = c.in_ok-put-in-Open.ensures in
+    let keys = subst (IsChosenCheck ts rs) c.in-Open.is chosen.0 in
+    let a = c.in_ok-keys-in-Open.ensures.share ts rs keys s in
+    let count = ap (λ v. count_by is_building v.items) e.code ∙ none_put mid.code.items put.code.items c.undone_instr.result p.code c.undone_instr.ensures.building in
+    let all : new.places.items ≡ mid.places.items ++ range_with_len put.next c.saturating_sub.result = e.places ∙ ap (λ q. q.items ++ range_with_len put.next c.saturating_sub.result) p.places in
+    let entries : (n k : ℕ) → slice_get mid.places.items n ≡ Some k → slice_get new.places.items n ≡ Some k =
+    λ n k h. (let P : List ℕ → Type 0 = λ l. slice_get l n ≡ Some k in subst P (sym all) (slice_get-append mid.places.items _ n k h)) in
+    sharing_on ts rs rs mid new (λ us ms h. h) entries (e.built ∙ p.built) count a.sharing
+
+pub returns-in_ok-put-in-Equal-clause-shares : goal.returns-in_ok-put-in-Equal-clause-shares
+returns-in_ok-put-in-Equal-clause-shares c ts rs chosen s =
+    let mid = c.compose.new.self in
+    let new = c.put-in-Equal.new.self in
+    let p = c.in_ok-put-in-Equal.ensures in
+    let made = subst (IsChosenCheck ts rs) c.in-Equal.is chosen.0 in
+    let a = c.in_ok-register-in-Equal.ensures.shares ts rs made s in
+    let entries : (n k : ℕ) → slice_get mid.places.items n ≡ Some k → slice_get new.places.items n ≡ Some k = λ n k h. ap (λ q. slice_get q.items n) p.places ∙ h in
+    sharing_on ts rs rs mid new (λ us ms h. h) entries p.built (none_put mid.code.items new.code.items _ p.code refl) a.sharing

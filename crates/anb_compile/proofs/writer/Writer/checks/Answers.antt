@@ -3,13 +3,15 @@ use Rattle.anb_term.proofs.Lists.{slice_get-at, all_at}
 use Rattle.anb_basis.specs.declared.check.Check.{Check}
 use Rattle.anb_compile.specs.Writing.{IsCheckOf, Asks, count_all_opened}
 use Rattle.anb_compile.specs.Verifying.{GrowsBy, LaysChecks, room_for}
+use Rattle.anb_compile.specs.Once.{SharesChecks}
+use Rattle.anb_compile.proofs.Sharing.{none_shares_checks, more_share_checks}
 use Rattle.anb_compile.proofs.Lists.{taken}
 use Rattle.anb_compile.proofs.Laying.{none_lay_checks, more_lay_checks, grows_none, grows_on}
 use Rattle.anb_compile.proofs.Asking.{checks_at, count_more, none_asks, more_asks}
 use Rattle.anb_compile.proofs.writer.Writer.checks.Goals as goal
 
 pub loop-check-init : goal.loop-check-init
-loop-check-init c = record { places = omega arith; texts = refl; asks = none_asks c.args.self.now; lays = none_lay_checks c.args.self.now; grows = grows_none c.args.self.now }
+loop-check-init c = record { places = omega arith; texts = refl; asks = none_asks c.args.self.now; lays = none_lay_checks c.args.self.now; shares = none_shares_checks c.args.self.now; grows = grows_none c.args.self.now }
 
 pub check-requires-clause-over : goal.check-requires-clause-over
 check-requires-clause-over c =
@@ -49,6 +51,7 @@ loop-check-preserved c =
       texts = e.texts ∙ v.texts;
       asks = subst P (sym on) (more_asks first c.loop-check.self new (take i items) x v.asks v.places e.asks);
       lays = subst Q (sym on) (more_lay_checks first c.loop-check.self new (take i items) x v.lays v.places e.lays);
+      shares = (let R : List Check → Type 0 = λ l. SharesChecks first new l in subst R (sym on) (more_share_checks first c.loop-check.self new (take i items) x v.shares e.shares));
       grows = grows_on first c.loop-check.self new (1025 * i) (room_for x) (1025 * (i + 1)) v.grows e.grows (omega (arith, small));
     }
 
@@ -61,4 +64,5 @@ returns c =
     let Q : List Check → Type 0 = λ l. LaysChecks c.args.self.now c.loop-check.self l in
     let all : c.loop-check.check-index ≡ length items = omega arith in
     let G : ℕ → Type 0 = λ n. GrowsBy c.args.self.now c.loop-check.self (1025 * n) in
-    record { places = omega (arith, v.places, ap count_all_opened whole); texts = v.texts; asks = subst P whole v.asks; lays = subst Q whole v.lays; grows = subst G all v.grows }
+    let R : List Check → Type 0 = λ l. SharesChecks c.args.self.now c.loop-check.self l in
+    record { places = omega (arith, v.places, ap count_all_opened whole); texts = v.texts; asks = subst P whole v.asks; lays = subst Q whole v.lays; shares = subst R whole v.shares; grows = subst G all v.grows }

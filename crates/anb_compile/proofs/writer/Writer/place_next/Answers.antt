@@ -12,6 +12,7 @@ loop-done-preserved c =
     let old : c.register-register.new.self.places.items ≡ first.places.items ++ range_with_len first.next c.loop-done._done = ap (λ p. p.items) r.places ∙ v.places in
     record {
       code = r.code ∙ v.code;
+      built = r.built ∙ v.built;
       next = omega (arith, r.next, v.next);
       places = c.in_ok-push.ensures.items ∙ ap (λ l. l ++ c.register-register.result ∷ []) old ∙ ap (λ k. (first.places.items ++ range_with_len first.next c.loop-done._done) ++ k ∷ []) at
           ∙ append_assoc first.places.items (range_with_len first.next c.loop-done._done) ((first.next + c.loop-done._done) ∷ []) ∙ ap (λ l. first.places.items ++ l) (sym (one_further first.next c.loop-done._done));

@@ -1,0 +1,3 @@
+pub mod Nodes
+-- for proofs alone
+pub mod Pools
