@@ -1,17 +1,17 @@
 -- Lines, word by word.
-use Rattle.std.proofs.Common.{◌≡◌, ℕ, zero, suc, ◌+◌, ◌≤◌, ◌<◌, List, [], ◌∷◌, ◌++◌, length, map, take, drop, Some, Bool, true, false, cond, refl, sym, ap, ◌∙◌, arith, append_assoc}
+use Rattle.std.proofs.Common.{◌≡◌, ℕ, ◌+◌, ◌≤◌, ◌<◌, List, [], ◌∷◌, ◌++◌, length, map, take, drop, Some, Bool, true, false, cond, refl, sym, ap, ◌∙◌, arith, append_assoc}
 use Rattle.std.specs.Prelude.{slice_get, decimal, codes, count_by}
-use Rattle.std.specs.Option.{option_map_or}
 use Rattle.std.specs.List.{flat_map, range_with_len}
 use Rattle.std.proofs.lemmas.Grind.{flat_map-append}
-use Rattle.std.proofs.lemmas.List.{append-nil, length-map}
+use Rattle.std.proofs.lemmas.List.{append-nil, drop-drop}
+use Rattle.std.proofs.lemmas.List.FromFn.{length-range_with_len}
 use Rattle.std.proofs.lemmas.List.Folds.{flat_map-map}
 use Rattle.std.proofs.lemmas.List.Sums.{sum_by-append, sum_by-cons}
 use Rattle.anb_format.specs.Formats.{FormatValue}
 use Rattle.anb_term.specs.declared.term.Term.{Term}
 use Rattle.anb_term.specs.Tree.{Tree}
 use Rattle.anb_term.specs.View.{tree_of}
-use Rattle.anb_term.proofs.Lists.{slice_get-there, slice_get-map, map-take, map-drop}
+use Rattle.anb_term.proofs.Lists.{slice_get-map, map-take, map-drop}
 use Rattle.anb_resolve.specs.Choices.{each_after}
 use Rattle.anb_resolve.specs.Protocols.{ProtocolValue}
 use Rattle.anb_resolve.specs.Texts.{term_text}
@@ -22,8 +22,8 @@ use Rattle.anb_code.specs.Registers.{count_written}
 use Rattle.anb_code.specs.Spelling.{raw_instr, raw_instrs}
 use Rattle.anb_code.specs.Verified.{count_registers}
 use Rattle.anb_text.specs.Lines.{instr_line}
-use Rattle.anb_explain.specs.Explained.{line, event_line, note, register_text, instr_text}
-use Rattle.anb_explain.proofs.Loops.{drop_item, item_drop}
+use Rattle.anb_explain.specs.Explained.{line, event_line, note, instr_texts}
+use Rattle.anb_explain.proofs.Loops.{drop_item, item_drop, take_item}
 
 abbrev pub behind : List ℕ → List ℕ
 behind text = 32 ∷ text
@@ -68,18 +68,16 @@ event_put p before rest e old new whole is joined =
 
 -- ---- one instruction more
 
--- the registers from one on have the texts of the terms from there on
-pub texts_on : (f : Tree → List ℕ) (ts : List Tree) (next n : ℕ) → next + n ≤ length ts → map (λ r. option_map_or f (slice_get ts r) []) (range_with_len next n) ≡ map f (take n (drop next ts))
-texts_on f ts next zero h = refl
-texts_on f ts next (suc n) h =
-    let t = slice_get-there ts next (omega arith) in
-    rw (t.1, drop_item ts next t.0 t.1) (ap (λ l. f t.0 ∷ l) (texts_on f ts (next + 1) n (omega arith)))
+-- as many terms as registers are written
+some_terms : (next n : ℕ) (trees : List Tree) → drop (length (range_with_len next n)) (drop next trees) ≡ drop (next + n) trees
+some_terms next n trees = ap (λ k. drop k (drop next trees)) (length-range_with_len next n) ∙ drop-drop n next trees
 
 -- what a loop over the instructions keeps
 pub record Written (p : ProtocolValue) (formats : List FormatValue) (ts : List Term) (instrs : List Instr) (raws : List RawInstrValue) (i next : ℕ) (out whole : List ℕ) : Type 0 where
+  pub before : next ≡ count_registers formats (take i instrs)
   pub spelled : drop i raws ≡ raw_instrs formats next (drop i instrs)
   pub counted : next + count_registers formats (drop i instrs) ≡ length ts
-  pub joined : out ++ flat_map (instr_text p (map tree_of ts)) (drop i raws) ≡ whole
+  pub joined : out ++ instr_texts p (drop i raws) (drop next (map tree_of ts)) ≡ whole
 
 pub instr_put : (p : ProtocolValue) (formats : List FormatValue) (ts : List Term) (instrs : List Instr) (raws : List RawInstrValue) (i next k : ℕ) (x : Instr) (text old new whole : List ℕ)
     → slice_get instrs i ≡ Some x → k ≡ count_written formats x → slice_get (map instr_line raws) i ≡ Some text
@@ -94,13 +92,18 @@ instr_put p formats ts instrs raws i next k x text old new whole at many said is
     let text_is : text ≡ instr_line raw = (let e = sym said ∙ slice_get-map instr_line raws i raw here.0 in cc) in
     let counts : next + (count_written formats x + count_registers formats rest) ≡ length ts = ap (λ n. next + n) (sym (ap (count_registers formats) left ∙ sum_by-cons (count_written formats) x rest)) ∙ w.counted in
     let trees = map tree_of ts in
-    let size = length-map ts tree_of in
-    let moved : map tree_of (take k (drop next ts)) ≡ take (count_written formats x) (drop next trees) = map-take tree_of k (drop next ts) ∙ ap (take k) (map-drop tree_of next ts) ∙ ap (λ n. take n (drop next trees)) many in
-    let noted : map (term_text p) (map tree_of (take k (drop next ts))) ≡ map (register_text p trees) raw.to = ap (map (term_text p)) moved ∙ sym (texts_on (term_text p) trees next (count_written formats x) (omega (arith, counts, size))) in
-    let put : new ≡ old ++ instr_text p trees raw = is ∙ ap (λ l. old ++ line (l ++ note (map (term_text p) (map tree_of (take k (drop next ts)))))) text_is ∙ ap (λ l. old ++ line (instr_line raw ++ note l)) noted in
+    let left_trees = drop next trees in
+    let width : k ≡ length raw.to = many ∙ sym (length-range_with_len next (count_written formats x)) in
+    let moved : map tree_of (take k (drop next ts)) ≡ take (length raw.to) left_trees = map-take tree_of k (drop next ts) ∙ ap (take k) (map-drop tree_of next ts) ∙ ap (λ n. take n left_trees) width in
+    let shown = line (instr_line raw ++ note (map (term_text p) (take (length raw.to) left_trees))) in
+    let put : new ≡ old ++ shown = is ∙ ap (λ l. old ++ line (l ++ note (map (term_text p) (map tree_of (take k (drop next ts)))))) text_is ∙ ap (λ l. old ++ line (instr_line raw ++ note (map (term_text p) l))) moved in
+    let after = drop (length raw.to) left_trees in
+    let behind_it : drop (next + k) trees ≡ after = ap (λ n. drop (next + n) trees) many ∙ sym (some_terms next (count_written formats x) trees) in
     record {
+      before = ap (λ n. n + k) w.before ∙ omega (arith, many, ap (count_registers formats) (take_item instrs i x at), sum_by-append (count_written formats) (take i instrs) (x ∷ []), sum_by-cons (count_written formats) x []);
       spelled = here.1 ∙ ap (λ n. raw_instrs formats (next + n) rest) (sym many);
       counted = omega (arith, counts, many);
-      joined = ap (λ l. l ++ flat_map (instr_text p trees) (drop (i + 1) raws)) put ∙ append_assoc old (instr_text p trees raw) (flat_map (instr_text p trees) (drop (i + 1) raws))
-          ∙ ap (λ l. old ++ flat_map (instr_text p trees) l) (sym (drop_item raws i raw here.0)) ∙ w.joined;
+      joined = ap (λ l. l ++ instr_texts p (drop (i + 1) raws) (drop (next + k) trees)) put ∙ append_assoc old shown (instr_texts p (drop (i + 1) raws) (drop (next + k) trees))
+          ∙ ap (λ l. old ++ (shown ++ instr_texts p (drop (i + 1) raws) l)) behind_it
+          ∙ ap (λ l. old ++ instr_texts p l left_trees) (sym (drop_item raws i raw here.0)) ∙ w.joined;
     }

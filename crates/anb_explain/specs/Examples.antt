@@ -1,5 +1,6 @@
 -- Worked examples.
-use Rattle.std.specs.Prelude.{[], ◌∷◌, ◌++◌, codes}
+use Rattle.std.specs.Prelude.{◌≡◌, ℕ, List, [], ◌∷◌, ◌++◌, codes, Some}
+use Rattle.std.specs.Option.{option_map}
 use Rattle.anb_base.specs.declared.content.Suite.TheVariants.{One}
 use Rattle.anb_format.specs.declared.pieces.FieldKind.TheVariants.{Len}
 use Rattle.anb_format.specs.declared.pieces.Piece.TheVariants.{Lit, Field}
@@ -10,7 +11,11 @@ use Rattle.anb_code.specs.declared.instr.Instr.TheVariants.{Take, Fresh, Recv, U
 use Rattle.anb_code.specs.declared.instr.Instr.TheVariants as instr
 use Rattle.anb_code.specs.CodeValue.{CodeValue}
 use Rattle.anb_resolve.specs.Protocols.{ProtocolValue}
-use Rattle.anb_explain.specs.Explained.{IsExplained}
+use Rattle.anb_explain.specs.Explained.{explained, register_terms}
+
+-- the text has the terms of the registers
+abbrev IsText : ProtocolValue → ℕ → CodeValue → List ℕ → Type 0
+IsText p role code text = option_map (explained p role code) (register_terms p role code) ≡ Some text
 
 -- A sends a number that both know, and B sends it back
 abbrev ping : ProtocolValue
@@ -29,7 +34,7 @@ abbrev ping_code : CodeValue
 ping_code = record { protocol = codes "Ping"; role = codes "A"; suite = One; formats = []; instrs = Take (codes "N") ∷ Send 0 ∷ Recv ∷ Equal 0 1 ∷ [] }
 
 abbrev pub PingIsExplained : Type 0
-PingIsExplained = IsExplained ping 0 ping_code (codes "role A\nknow 0 N\nsend 1 N\nrecv 2 1 N\ncode\nr0 = take N # N\nsend r0\nr1 = recv # N\nequal r0 r1\n")
+PingIsExplained = IsText ping 0 ping_code (codes "role A\nknow 0 N\nsend 1 N\nrecv 2 1 N\ncode\nr0 = take N # N\nsend r0\nr1 = recv # N\nequal r0 r1\n")
 
 -- Needham and Schroeder's protocol with shared keys, between A, B and the server S
 abbrev needham_schroeder : ProtocolValue
@@ -78,7 +83,7 @@ needham_schroeder_code = record {
 }
 
 abbrev pub NeedhamSchroederIsExplained : Type 0
-NeedhamSchroederIsExplained = IsExplained needham_schroeder 0 needham_schroeder_code (
+NeedhamSchroederIsExplained = IsText needham_schroeder 0 needham_schroeder_code (
     codes "role A\nknow 0 A\nknow 1 B\nknow 2 S\nknow 3 KAS\nfresh 4 NA\nsend 1 m1(A,B,NA)\nrecv 2 5 scrypt(KAS,m2(NA,B,KAB,scrypt(KBS,m3(KAB,A))))\n"
     ++ codes "send 3 scrypt(KBS,m3(KAB,A))\nrecv 4 6 scrypt(KAB,m4(NB))\nsend 5 scrypt(KAB,m5(NB))\n"
     ++ codes "code\nr0 = take A # A\nr1 = take B # B\nr2 = take S # S\nr3 = take KAS # KAS\nr4 = fresh # NA\nr5 = build m1 r0 r1 r4 # m1(A,B,NA)\nsend r5\n"

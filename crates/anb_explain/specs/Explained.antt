@@ -1,14 +1,13 @@
 -- What a role does, as a text.
-use Rattle.std.specs.Prelude.{◌≡◌, ℕ, ◌+◌, List, [], ◌∷◌, ◌++◌, map, codes, decimal, count_by, Bool, true, false, Option, Some, slice_get}
-use Rattle.std.specs.Option.{option_map, option_map_or}
-use Rattle.std.specs.List.{flat_map, join_by}
+use Rattle.std.specs.Prelude.{◌≡◌, ℕ, ◌+◌, List, [], ◌∷◌, ◌++◌, length, take, drop, map, codes, decimal, count_by, Bool, true, false, Option, Some}
+use Rattle.std.specs.List.{AllByRecursion, join_by}
 use Rattle.anb_term.specs.Tree.{Tree}
 use Rattle.anb_term.specs.Value.{values, recipe_trees}
 use Rattle.anb_term.specs.FreeAlgebra.{terms_over}
 use Rattle.anb_algebra.specs.ByteMeaning.{has_operator}
 use Rattle.anb_resolve.specs.Choices.{each_after}
 use Rattle.anb_resolve.specs.Protocols.{ProtocolValue}
-use Rattle.anb_resolve.specs.Texts.{term_text}
+use Rattle.anb_resolve.specs.Texts.{IsTermOf, term_text}
 use Rattle.anb_resolve.specs.Plans.{PlanEvent, to_know, to_make, to_send, to_receive, plan_of}
 use Rattle.anb_resolve.specs.Plays.{events_of}
 use Rattle.anb_code.specs.CodeValue.{CodeValue}
@@ -63,16 +62,15 @@ abbrev pub note : List (List ℕ) → List ℕ
 note [] = []
 note (text ∷ texts) = codes " # " ++ spaced (text ∷ texts)
 
--- the text of a register's term
-abbrev pub register_text : ProtocolValue → List Tree → ℕ → List ℕ
-register_text p terms r = option_map_or (term_text p) (slice_get terms r) []
-
--- an instruction, and the terms of the registers that it writes
-abbrev pub instr_text : ProtocolValue → List Tree → RawInstrValue → List ℕ
-instr_text p terms i = line (instr_line i ++ note (map (register_text p terms) i.to))
+-- Instructions, each with the terms of the registers that it writes. The terms are those of the registers in the
+-- order of writing, from the first one that these instructions write.
+abbrev pub instr_texts : ProtocolValue → List RawInstrValue → List Tree → List ℕ
+instr_texts p [] terms = []
+instr_texts p (i ∷ instrs) terms =
+    line (instr_line i ++ note (map (term_text p) (take (length i.to) terms))) ++ instr_texts p instrs (drop (length i.to) terms)
 
 abbrev pub code_text : ProtocolValue → List Tree → CodeValue → List ℕ
-code_text p terms code = flat_map (instr_text p terms) (raw_of code).code
+code_text p terms code = instr_texts p (raw_of code).code terms
 
 -- ---- all
 
@@ -85,6 +83,9 @@ explained p role code terms =
 abbrev pub register_terms : ProtocolValue → ℕ → CodeValue → Option (List Tree)
 register_terms p role code = values (terms_over (has_operator code.formats)) (all_labels (events_of p role)) (recipe_trees (register_recipes (acts_of code)))
 
--- the text has the terms of the registers, each of which has one
-abbrev pub IsExplained : ProtocolValue → ℕ → CodeValue → List ℕ → Type 0
-IsExplained p role code text = option_map (explained p role code) (register_terms p role code) ≡ Some text
+-- each register has a term, which is one of the protocol's, and the text has these terms
+pub record IsExplained (p : ProtocolValue) (role : ℕ) (code : CodeValue) (text : List ℕ) : Type 0 where
+  pub terms : List Tree
+  pub are : register_terms p role code ≡ Some terms
+  pub ours : AllByRecursion (IsTermOf p) terms
+  pub stands : explained p role code terms ≡ text

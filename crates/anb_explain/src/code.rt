@@ -1,3 +1,4 @@
+//! The lines of a code, with the terms of registers.
 ghost use Rattle.std.specs.Prelude.{◌≡◌, ◌≤◌, ◌++◌, map, length, OnOk};
 ghost use Rattle.std.specs.List.{AllByRecursion};
 ghost use Rattle.anb_format.specs.Formats.{field_count};
@@ -13,7 +14,7 @@ use anb_code::{Instr, RoleCode};
 use anb_format::Format;
 use anb_resolve::Protocol;
 use anb_term::Term;
-use anb_text::instr_text;
+use anb_text::instr_text_behind;
 use std::alloc::Global;
 
 /// Appends the lines of a code's instructions. The terms are those of all registers.
@@ -26,13 +27,14 @@ pub(crate) fn put_code(
 ) -> Result<(), NoMemory>
     requires terms { AllByRecursion (IsTermOf protocol.now) (map tree_of terms.now) }
     requires count { length terms.now ≡ count_registers code.now.formats code.now.instrs }
-    ensures { OnOk result (out.new.items ≡ out.old.items ++ code_text protocol.now (map tree_of terms.now) code.now) }
+    ensures { OnOk result (out.new.items
+        ≡ out.old.items ++ code_text protocol.now (map tree_of terms.now) code.now) }
 {
     let formats = code.formats();
     let mut next = 0;
     for (i, instr) in code.instrs().iter().enumerate() {
         let end = next + count_written(formats, instr);
-        let text = instr_text(alloc, code, i as u32 + 1)?;
+        let text = instr_text_behind(alloc, code, i as u32 + 1, next as u32)?;
         put_instr(alloc, out, protocol, &text, &terms[next..end])?;
         next = end;
     }
@@ -61,7 +63,9 @@ fn put_instr(
     terms: &[Term],
 ) -> Result<(), NoMemory>
     requires { AllByRecursion (IsTermOf protocol.now) (map tree_of terms.now) }
-    ensures { OnOk result (out.new.items ≡ out.old.items ++ line (text.now ++ note (map (term_text protocol.now) (map tree_of terms.now)))) }
+    ensures { OnOk result (out.new.items
+        ≡ out.old.items ++ line
+        (text.now ++ note (map (term_text protocol.now) (map tree_of terms.now)))) }
 {
     out.extend_from_slice(text.as_slice())?;
     put_note(alloc, out, protocol, terms)?;
@@ -77,7 +81,8 @@ fn put_note(
     terms: &[Term],
 ) -> Result<(), NoMemory>
     requires { AllByRecursion (IsTermOf protocol.now) (map tree_of terms.now) }
-    ensures { OnOk result (out.new.items ≡ out.old.items ++ note (map (term_text protocol.now) (map tree_of terms.now))) }
+    ensures { OnOk result (out.new.items
+        ≡ out.old.items ++ note (map (term_text protocol.now) (map tree_of terms.now))) }
 {
     if terms.is_empty() {
         return Ok(());

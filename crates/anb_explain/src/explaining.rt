@@ -1,3 +1,4 @@
+//! A plan and a code for it, explained.
 ghost use Rattle.std.specs.Prelude.{◌<◌, length, IfOk};
 ghost use Rattle.anb_compile.specs.Fitting.{FitsRole};
 ghost use Rattle.anb_explain.specs.Explained.{IsExplained};

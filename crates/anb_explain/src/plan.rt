@@ -1,3 +1,4 @@
+//! The lines of a plan.
 ghost use Rattle.std.specs.Prelude.{◌≡◌, ◌≤◌, ◌<◌, ◌++◌, ◌∷◌, ◌^◌, [], map, OnOk, decimal};
 ghost use Rattle.std.specs.List.{AllByRecursion};
 ghost use Rattle.anb_term.specs.View.{tree_of};
@@ -20,7 +21,8 @@ pub(crate) fn put_plan(
     events: &[Event],
 ) -> Result<(), NoMemory>
     requires { AllByRecursion (λ e. IsTermOf protocol.now (term_in e)) (map plan_event events.now) }
-    ensures { OnOk result (out.new.items ≡ out.old.items ++ plan_text protocol.now (map plan_event events.now)) }
+    ensures { OnOk result (out.new.items
+        ≡ out.old.items ++ plan_text protocol.now (map plan_event events.now)) }
 {
     let mut labels = 0;
     let mut messages = 0;
@@ -47,7 +49,9 @@ fn put_event(
 ) -> Result<(), NoMemory>
     requires term { IsTermOf protocol.now (term_in (plan_event event.now)) }
     requires few { messages < 2 ^ 63 }
-    ensures { OnOk result (out.new.items ≡ out.old.items ++ line (spaced (event_words protocol.now labels messages (plan_event event.now)))) }
+    ensures { OnOk result (out.new.items
+        ≡ out.old.items ++ line
+        (spaced (event_words protocol.now labels messages (plan_event event.now)))) }
 {
     match event {
         Event::Know(term) => put_line(alloc, out, protocol, b"know", &[labels], term),
@@ -69,7 +73,10 @@ fn put_line(
     term: &Term,
 ) -> Result<(), NoMemory>
     requires { IsTermOf protocol.now (tree_of term.now) }
-    ensures { OnOk result (out.new.items ≡ out.old.items ++ line (spaced (word.now ∷ map decimal numbers.now ++ term_text protocol.now (tree_of term.now) ∷ []))) }
+    ensures { OnOk result (out.new.items
+        ≡ out.old.items ++ line
+        (spaced (word.now ∷ map decimal numbers.now ++ term_text protocol.now
+        (tree_of term.now) ∷ []))) }
 {
     out.extend_from_slice(word)?;
     for n in numbers {

@@ -1,4 +1,4 @@
-// The texts are written by hand.
+//! The texts are written by hand.
 ghost use Rattle.anb_explain.specs.Examples.{NeedhamSchroederIsExplained, PingIsExplained};
 
 fn ping_is_explained()

@@ -1,3 +1,4 @@
+//! Numbers and terms behind a space.
 ghost use Rattle.std.specs.Prelude.{◌≡◌, ◌++◌, ◌∷◌, OnOk, decimal};
 ghost use Rattle.anb_term.specs.View.{tree_of};
 ghost use Rattle.anb_resolve.specs.Texts.{IsTermOf, term_text};
@@ -26,7 +27,8 @@ pub(crate) fn put_term(
     term: &Term,
 ) -> Result<(), NoMemory>
     requires { IsTermOf protocol.now (tree_of term.now) }
-    ensures { OnOk result (out.new.items ≡ out.old.items ++ 32 ∷ term_text protocol.now (tree_of term.now)) }
+    ensures { OnOk result (out.new.items
+        ≡ out.old.items ++ 32 ∷ term_text protocol.now (tree_of term.now)) }
 {
     let text = protocol.text_of_term(alloc, term)?;
     out.push(b' ')?;

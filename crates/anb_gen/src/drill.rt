@@ -1,3 +1,4 @@
+//! The narration of a drill.
 ghost use Rattle.std.specs.Prelude.{◌≡◌, ◌+◌, ◌%◌, ◌≤◌, ◌==◌, map, IfOk};
 ghost use Rattle.std.specs.List.{range_with_len};
 ghost use Rattle.anb_syntax.specs.Grammar.{atom, seal, IsSpellable};
@@ -135,7 +136,8 @@ fn closing(alloc: Global) -> Result<ActionItem, NoMemory>
 }
 
 fn action(alloc: Global, from: &str, to: &str, message: Tree) -> Result<ActionItem, NoMemory>
-    ensures { IfOk result (λ item. action_of item ≡ record { from = from.now; to = to.now; message = tree_of message }) }
+    ensures { IfOk result (λ item.
+        action_of item ≡ record { from = from.now; to = to.now; message = tree_of message }) }
 {
     Ok(ActionItem {
         from: text(alloc, from)?,

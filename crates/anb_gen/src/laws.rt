@@ -1,3 +1,4 @@
+//! Laws of drills.
 ghost use Rattle.anb_gen.specs.Laws.{GeneratedIsRead, TurnsAlternate};
 
 /// A law: the canonical text of the narration of a drill is a text of this narration.

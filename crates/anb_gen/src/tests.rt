@@ -1,3 +1,4 @@
+//! A drill of one exchange and of two hundred.
 use crate::{drill_turns, generate};
 use anb_syntax::text_of;
 use std::test::Fail;

@@ -1,3 +1,4 @@
+//! The turns of a drill.
 ghost use Rattle.std.specs.Prelude.{◌≡◌, ◌≤◌, IfOk};
 ghost use Rattle.anb_gen.specs.Drill.{exchange, drill_narration};
 ghost use Rattle.anb_gen.specs.Turns.{action_turns, turns_of};

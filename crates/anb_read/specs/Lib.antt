@@ -1,6 +1,7 @@
 pub mod Laws
+pub mod Refusals
+-- for proofs alone
 pub mod Places
 pub mod Productions
-pub mod Refusals
 pub mod Trees
 pub mod Tellings

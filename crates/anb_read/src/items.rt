@@ -53,7 +53,8 @@ fn names<'p>(
     places: &'p [Place],
 ) -> Result<(Vec<Text>, &'p [Place]), ReadNo>
     requires { length text.now ≤ 1048576 }
-    ensures { Finds (λ x. (x.0.items, toks text.now x.1.now)) result (names_at (toks text.now places.now)) }
+    ensures { Finds (λ x. (x.0.items, toks text.now x.1.now)) result
+        (names_at (toks text.now places.now)) }
 {
     let (first, places) = name(alloc, text, places)?;
     let mut names = Vec::new(alloc);

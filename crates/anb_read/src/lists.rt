@@ -30,7 +30,8 @@ pub(crate) trait Listed: Sized {
         places: &'p [Place],
     ) -> Result<(Self, &'p [Place]), ReadNo>
         requires { length text.now ≤ 1048576 }
-        ensures { Finds (λ x. (view x.0, toks text.now x.1.now)) result (item_at (toks text.now places.now)) };
+        ensures { Finds (λ x. (view x.0, toks text.now x.1.now)) result
+            (item_at (toks text.now places.now)) };
 }
 
 /// Reads items behind those that it is given. There are no more of them than tokens.
@@ -41,7 +42,8 @@ pub(crate) fn many<'p, T: Listed + Drop>(
     places: &'p [Place],
 ) -> Result<(Vec<T>, &'p [Place]), ReadNo>
     requires { length text.now ≤ 1048576 }
-    ensures { Finds (λ x. (map T.view x.0.items, toks text.now x.1.now)) result (with_front (map T.view items.items) (many T.starts T.item_at (toks text.now places.now))) }
+    ensures { Finds (λ x. (map T.view x.0.items, toks text.now x.1.now)) result
+        (with_front (map T.view items.items) (many T.starts T.item_at (toks text.now places.now))) }
 {
     let mut rest = places;
     for _ in 0..places.len() {

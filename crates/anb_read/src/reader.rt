@@ -20,13 +20,15 @@ pub fn read(alloc: Global, text: &[u8]) -> Result<Narration, ReadNo>
     requires { length text.now ≤ 1048576 }
     // What is read is the text's narration, and each narration's text is read.
     ensures found { IfOk result (λ n. Text (narration_of n) text.now) }
-    ensures only { (n : Told) → Text n text.now → MatchResult result (λ m. narration_of m ≡ n) (λ e. e ≡ ReadNo.NoMemory) }
+    ensures only { (n : Told) → Text n text.now
+        → MatchResult result (λ m. narration_of m ≡ n) (λ e. e ≡ ReadNo.NoMemory) }
     // It can be spelled, and is no larger than its text, which calls on narrations ask for.
     ensures spellable { IfOk result (λ n. IsSpellable (narration_of n)) }
     ensures size { IfOk result (λ n. size (narration_of n) ≤ length text.now) }
     // What is refused has the refusal, and each text with a refusal is refused so.
     ensures refused { IfErr result (λ e. UnlessNoMemory e (IsRefusal text.now e)) }
-    ensures exact { (e : No) → IsRefusal text.now e → MatchResult result (λ n. ⊥) (λ f. (f ≡ e) ⊎ (f ≡ ReadNo.NoMemory)) }
+    ensures exact { (e : No) → IsRefusal text.now e
+        → MatchResult result (λ n. ⊥) (λ f. (f ≡ e) ⊎ (f ≡ ReadNo.NoMemory)) }
 {
     let all = places(alloc, text)?;
     match narration(alloc, text, &all) {

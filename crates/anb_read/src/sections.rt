@@ -67,7 +67,8 @@ pub(crate) fn told(alloc: Global, written: Written) -> Narration
 /// Passes the word of a section and its colon.
 #[tactic(auto, unfolding(crate::specs::Productions::heading_at))]
 fn heading<'p>(word: &[u8], text: &[u8], places: &'p [Place]) -> Result<&'p [Place], ReadNo>
-    ensures { Finds (λ r. (tt, toks text.now r.now)) result (heading_at word.now (toks text.now places.now)) }
+    ensures { Finds (λ r. (tt, toks text.now r.now)) result
+        (heading_at word.now (toks text.now places.now)) }
 {
     let places = expect_word(word, text, places)?;
     expect_sign(b':', text, places)
@@ -76,7 +77,8 @@ fn heading<'p>(word: &[u8], text: &[u8], places: &'p [Place]) -> Result<&'p [Pla
 /// Reads the protocol's name.
 #[tactic(auto, unfolding(crate::specs::Productions::title_at))]
 fn title<'p>(alloc: Global, text: &[u8], places: &'p [Place]) -> Result<(Text, &'p [Place]), ReadNo>
-    ensures { Finds (λ x. (x.0, toks text.now x.1.now)) result (title_at (toks text.now places.now)) }
+    ensures { Finds (λ x. (x.0, toks text.now x.1.now)) result
+        (title_at (toks text.now places.now)) }
 {
     let places = heading(b"Protocol", text, places)?;
     let (name, places) = name(alloc, text, places)?;
@@ -87,7 +89,8 @@ fn title<'p>(alloc: Global, text: &[u8], places: &'p [Place]) -> Result<(Text, &
 /// Reads the suite, where it is told.
 #[tactic(auto, unfolding(crate::specs::Productions::optional, crate::specs::Productions::suite_section))]
 fn told_suite<'p>(text: &[u8], places: &'p [Place]) -> Result<(Option<Suite>, &'p [Place]), ReadNo>
-    ensures { Finds (λ x. (x.0, toks text.now x.1.now)) result (optional (is_word suite_word) suite_section (toks text.now places.now)) }
+    ensures { Finds (λ x. (x.0, toks text.now x.1.now)) result
+        (optional (is_word suite_word) suite_section (toks text.now places.now)) }
 {
     if !is_word(b"Suite", text, places) {
         return Ok((None, places));
@@ -106,7 +109,8 @@ fn types<'p>(
     places: &'p [Place],
 ) -> Result<(Vec<TypeItem>, &'p [Place]), ReadNo>
     requires { length text.now ≤ 1048576 }
-    ensures { Finds (λ x. (map type_of x.0.items, toks text.now x.1.now)) result (types_section (toks text.now places.now)) }
+    ensures { Finds (λ x. (map type_of x.0.items, toks text.now x.1.now)) result
+        (types_section (toks text.now places.now)) }
 {
     let places = heading(b"Types", text, places)?;
     many(alloc, Vec::new(alloc), text, places)
@@ -120,7 +124,8 @@ fn formats<'p>(
     places: &'p [Place],
 ) -> Result<(Option<Vec<FormatItem>>, &'p [Place]), ReadNo>
     requires { length text.now ≤ 1048576 }
-    ensures { Finds (λ x. (option_map (λ is. map format_of is.items) x.0, toks text.now x.1.now)) result (optional (is_word formats_word) formats_section (toks text.now places.now)) }
+    ensures { Finds (λ x. (option_map (λ is. map format_of is.items) x.0, toks text.now x.1.now))
+        result (optional (is_word formats_word) formats_section (toks text.now places.now)) }
 {
     if !is_word(b"Formats", text, places) {
         return Ok((None, places));
@@ -138,7 +143,8 @@ fn knows<'p>(
     places: &'p [Place],
 ) -> Result<(Option<Vec<KnowItem>>, &'p [Place]), ReadNo>
     requires { length text.now ≤ 1048576 }
-    ensures { Finds (λ x. (option_map (λ is. map know_of is.items) x.0, toks text.now x.1.now)) result (optional (is_word knowledge_word) (knows_section 64) (toks text.now places.now)) }
+    ensures { Finds (λ x. (option_map (λ is. map know_of is.items) x.0, toks text.now x.1.now))
+        result (optional (is_word knowledge_word) (knows_section 64) (toks text.now places.now)) }
 {
     if !is_word(b"Knowledge", text, places) {
         return Ok((None, places));
@@ -156,7 +162,8 @@ fn actions<'p>(
     places: &'p [Place],
 ) -> Result<(Vec<ActionItem>, &'p [Place]), ReadNo>
     requires { length text.now ≤ 1048576 }
-    ensures { Finds (λ x. (map action_of x.0.items, toks text.now x.1.now)) result (actions_section 64 (toks text.now places.now)) }
+    ensures { Finds (λ x. (map action_of x.0.items, toks text.now x.1.now)) result
+        (actions_section 64 (toks text.now places.now)) }
 {
     let places = heading(b"Actions", text, places)?;
     many(alloc, Vec::new(alloc), text, places)
@@ -165,7 +172,8 @@ fn actions<'p>(
 /// Reads the end, or the word and the sign behind which nothing is looked at.
 #[tactic(auto, unfolding(crate::specs::Productions::ending_at, crate::specs::Productions::goals_at, crate::specs::Productions::end_at))]
 fn ending<'p>(text: &[u8], places: &'p [Place]) -> Result<(bool, &'p [Place]), ReadNo>
-    ensures { Finds (λ x. (x.0, toks text.now x.1.now)) result (ending_at (toks text.now places.now)) }
+    ensures { Finds (λ x. (x.0, toks text.now x.1.now)) result
+        (ending_at (toks text.now places.now)) }
 {
     if is_word(b"Goals", text, places) {
         let places = heading(b"Goals", text, places)?;
@@ -183,7 +191,8 @@ pub(crate) fn narration<'p>(
     places: &'p [Place],
 ) -> Result<(Written, &'p [Place]), ReadNo>
     requires { length text.now ≤ 1048576 }
-    ensures { Finds (λ x. (written_of x.0, toks text.now x.1.now)) result (narration_at 64 (toks text.now places.now)) }
+    ensures { Finds (λ x. (written_of x.0, toks text.now x.1.now)) result
+        (narration_at 64 (toks text.now places.now)) }
 {
     let (name, places) = title(alloc, text, places)?;
     let (suite, places) = told_suite(text, places)?;

@@ -46,7 +46,8 @@ pub(crate) fn expect_sign<'p>(
     text: &[u8],
     places: &'p [Place],
 ) -> Result<&'p [Place], ReadNo>
-    ensures { Finds (λ r. (tt, toks text.now r.now)) result (expect (sign c) (toks text.now places.now)) }
+    ensures { Finds (λ r. (tt, toks text.now r.now)) result
+        (expect (sign c) (toks text.now places.now)) }
 {
     if is_sign(c, text, places) {
         Ok(others(places))
@@ -62,7 +63,8 @@ pub(crate) fn expect_word<'p>(
     text: &[u8],
     places: &'p [Place],
 ) -> Result<&'p [Place], ReadNo>
-    ensures { Finds (λ r. (tt, toks text.now r.now)) result (expect (name wanted.now) (toks text.now places.now)) }
+    ensures { Finds (λ r. (tt, toks text.now r.now)) result
+        (expect (name wanted.now) (toks text.now places.now)) }
 {
     if is_word(wanted, text, places) {
         Ok(others(places))
@@ -74,7 +76,8 @@ pub(crate) fn expect_word<'p>(
 /// Passes the end.
 #[tactic(auto, unfolding(crate::specs::Productions::expect))]
 pub(crate) fn expect_end<'p>(text: &[u8], places: &'p [Place]) -> Result<&'p [Place], ReadNo>
-    ensures { Finds (λ r. (tt, toks text.now r.now)) result (expect end (toks text.now places.now)) }
+    ensures { Finds (λ r. (tt, toks text.now r.now)) result
+        (expect end (toks text.now places.now)) }
 {
     match first(text, places) {
         Word::End => Ok(others(places)),
@@ -110,7 +113,8 @@ pub(crate) fn name<'p>(
     text: &[u8],
     places: &'p [Place],
 ) -> Result<(Text, &'p [Place]), ReadNo>
-    ensures { Finds (λ x. (x.0, toks text.now x.1.now)) result (name_at (toks text.now places.now)) }
+    ensures { Finds (λ x. (x.0, toks text.now x.1.now)) result
+        (name_at (toks text.now places.now)) }
 {
     match first(text, places) {
         Word::Name(bytes) => {
@@ -146,7 +150,8 @@ pub(crate) fn sort_of(text: &[u8], places: &[Place]) -> Option<Sort>
 /// Reads a sort.
 #[tactic(auto, unfolding(crate::specs::Productions::sort_at))]
 pub(crate) fn sort<'p>(text: &[u8], places: &'p [Place]) -> Result<(Sort, &'p [Place]), ReadNo>
-    ensures { Finds (λ x. (x.0, toks text.now x.1.now)) result (sort_at (toks text.now places.now)) }
+    ensures { Finds (λ x. (x.0, toks text.now x.1.now)) result
+        (sort_at (toks text.now places.now)) }
 {
     match sort_of(text, places) {
         Some(sort) => Ok((sort, others(places))),
@@ -167,7 +172,8 @@ fn suite_of(text: &[u8], places: &[Place]) -> Option<Suite>
 /// Reads a suite's hash.
 #[tactic(auto, unfolding(crate::specs::Productions::suite_at))]
 pub(crate) fn suite<'p>(text: &[u8], places: &'p [Place]) -> Result<(Suite, &'p [Place]), ReadNo>
-    ensures { Finds (λ x. (x.0, toks text.now x.1.now)) result (suite_at (toks text.now places.now)) }
+    ensures { Finds (λ x. (x.0, toks text.now x.1.now)) result
+        (suite_at (toks text.now places.now)) }
 {
     match suite_of(text, places) {
         Some(suite) => Ok((suite, others(places))),
@@ -226,7 +232,8 @@ pub(crate) fn piece<'p>(
     places: &'p [Place],
 ) -> Result<(Piece, &'p [Place]), ReadNo>
     requires { length text.now ≤ 1048576 }
-    ensures { Finds (λ x. (x.0, toks text.now x.1.now)) result (piece_at (toks text.now places.now)) }
+    ensures { Finds (λ x. (x.0, toks text.now x.1.now)) result
+        (piece_at (toks text.now places.now)) }
 {
     match first(text, places) {
         Word::Name(bytes) => match kind_of_word(bytes) {

@@ -45,7 +45,8 @@ impl Keyed {
 
 /// The refusal where no level is left.
 fn no_level(text: &[u8], places: &[Place]) -> ReadNo
-    ensures { result ≡ fault (begins_term (head (toks text.now places.now))) (toks text.now places.now) }
+    ensures { result ≡ fault (begins_term (head (toks text.now places.now)))
+        (toks text.now places.now) }
 {
     if begins_term(text, places) {
         too_deep(text, places)
@@ -57,7 +58,8 @@ fn no_level(text: &[u8], places: &[Place]) -> ReadNo
 /// Passes an operator's word and the sign behind it.
 #[tactic(auto, unfolding(crate::specs::Productions::operator_at))]
 fn operator<'p>(word: &[u8], text: &[u8], places: &'p [Place]) -> Result<&'p [Place], ReadNo>
-    ensures { Finds (λ r. (tt, toks text.now r.now)) result (operator_at word.now (toks text.now places.now)) }
+    ensures { Finds (λ r. (tt, toks text.now r.now)) result
+        (operator_at word.now (toks text.now places.now)) }
 {
     let places = expect_word(word, text, places)?;
     expect_sign(b'(', text, places)
@@ -71,7 +73,8 @@ pub(crate) fn term<'p>(
     text: &[u8],
     places: &'p [Place],
 ) -> Result<(Tree, &'p [Place]), ReadNo>
-    ensures { Finds (λ x. (tree_of x.0, toks text.now x.1.now)) result (term_at levels (toks text.now places.now)) }
+    ensures { Finds (λ x. (tree_of x.0, toks text.now x.1.now)) result
+        (term_at levels (toks text.now places.now)) }
 {
     if levels == 0 {
         return Err(no_level(text, places));
@@ -98,7 +101,8 @@ fn hashed<'p>(
     text: &[u8],
     places: &'p [Place],
 ) -> Result<(Tree, &'p [Place]), ReadNo>
-    ensures { Finds (λ x. (tree_of x.0, toks text.now x.1.now)) result (hashed_at (term_at levels) (toks text.now places.now)) }
+    ensures { Finds (λ x. (tree_of x.0, toks text.now x.1.now)) result
+        (hashed_at (term_at levels) (toks text.now places.now)) }
 {
     let places = operator(b"h", text, places)?;
     let (inner, places) = term(alloc, levels, text, places)?;
@@ -116,7 +120,9 @@ fn under_key<'p>(
     text: &[u8],
     places: &'p [Place],
 ) -> Result<(Tree, &'p [Place]), ReadNo>
-    ensures { Finds (λ x. (tree_of x.0, toks text.now x.1.now)) result (keyed_at (term_at levels) (keyed_word operation) (keyed_tree operation) (toks text.now places.now)) }
+    ensures { Finds (λ x. (tree_of x.0, toks text.now x.1.now)) result
+        (keyed_at (term_at levels) (keyed_word operation) (keyed_tree operation)
+        (toks text.now places.now)) }
 {
     let places = operator(operation.word(), text, places)?;
     let (key, body, places) = pair(alloc, levels, text, places)?;
@@ -132,7 +138,8 @@ fn pair<'p>(
     text: &[u8],
     places: &'p [Place],
 ) -> Result<(Tree, Tree, &'p [Place]), ReadNo>
-    ensures { Finds (λ x. ((tree_of x.0, tree_of x.1), toks text.now x.2.now)) result (pair_at (term_at levels) (toks text.now places.now)) }
+    ensures { Finds (λ x. ((tree_of x.0, tree_of x.1), toks text.now x.2.now)) result
+        (pair_at (term_at levels) (toks text.now places.now)) }
 {
     let (first, places) = term(alloc, levels, text, places)?;
     let (second, places) = comma_term(alloc, levels, text, places)?;
@@ -149,7 +156,8 @@ fn wrapped<'p>(
     text: &[u8],
     places: &'p [Place],
 ) -> Result<(Tree, &'p [Place]), ReadNo>
-    ensures { Finds (λ x. (tree_of x.0, toks text.now x.1.now)) result (wrapped_at (term_at levels) (toks text.now places.now)) }
+    ensures { Finds (λ x. (tree_of x.0, toks text.now x.1.now)) result
+        (wrapped_at (term_at levels) (toks text.now places.now)) }
 {
     let places = operator(b"wrap", text, places)?;
     let (key, places) = term(alloc, levels, text, places)?;
@@ -170,7 +178,8 @@ fn named<'p>(
     text: &[u8],
     places: &'p [Place],
 ) -> Result<(Tree, &'p [Place]), ReadNo>
-    ensures { Finds (λ x. (tree_of x.0, toks text.now x.1.now)) result (named_at (term_at levels) (toks text.now places.now)) }
+    ensures { Finds (λ x. (tree_of x.0, toks text.now x.1.now)) result
+        (named_at (term_at levels) (toks text.now places.now)) }
 {
     let (name, places) = name(alloc, text, places)?;
     if !is_sign(b'(', text, places) {
@@ -191,7 +200,8 @@ pub(crate) fn terms<'p>(
     text: &[u8],
     places: &'p [Place],
 ) -> Result<(Vec<Tree>, &'p [Place]), ReadNo>
-    ensures { Finds (λ x. (trees_of (map tree_of x.0.items), toks text.now x.1.now)) result (terms_at (term_at levels) (sign close) (toks text.now places.now)) }
+    ensures { Finds (λ x. (trees_of (map tree_of x.0.items), toks text.now x.1.now)) result
+        (terms_at (term_at levels) (sign close) (toks text.now places.now)) }
 {
     if is_sign(close, text, places) {
         let places = expect_sign(close, text, places)?;
@@ -210,7 +220,8 @@ fn some_terms<'p>(
     text: &[u8],
     places: &'p [Place],
 ) -> Result<(Vec<Tree>, &'p [Place]), ReadNo>
-    ensures { Finds (λ x. (trees_of (map tree_of x.0.items), toks text.now x.1.now)) result (some_terms_at (term_at levels) (sign close) (toks text.now places.now)) }
+    ensures { Finds (λ x. (trees_of (map tree_of x.0.items), toks text.now x.1.now)) result
+        (some_terms_at (term_at levels) (sign close) (toks text.now places.now)) }
 {
     let (first, places) = term(alloc, levels, text, places)?;
     let mut items = Vec::new(alloc);
@@ -229,7 +240,8 @@ fn comma_term<'p>(
     text: &[u8],
     places: &'p [Place],
 ) -> Result<(Tree, &'p [Place]), ReadNo>
-    ensures { Finds (λ x. (tree_of x.0, toks text.now x.1.now)) result (comma_term_at (term_at levels) (toks text.now places.now)) }
+    ensures { Finds (λ x. (tree_of x.0, toks text.now x.1.now)) result
+        (comma_term_at (term_at levels) (toks text.now places.now)) }
 {
     let places = expect_sign(b',', text, places)?;
     term(alloc, levels, text, places)
@@ -244,7 +256,9 @@ fn more_terms<'p>(
     text: &[u8],
     places: &'p [Place],
 ) -> Result<(Vec<Tree>, &'p [Place]), ReadNo>
-    ensures { Finds (λ x. (map tree_of x.0.items, toks text.now x.1.now)) result (with_front (map tree_of items.items) (many is_comma (comma_term_at (term_at levels)) (toks text.now places.now))) }
+    ensures { Finds (λ x. (map tree_of x.0.items, toks text.now x.1.now)) result
+        (with_front (map tree_of items.items)
+        (many is_comma (comma_term_at (term_at levels)) (toks text.now places.now))) }
 {
     let mut rest = places;
     for _ in 0..places.len() {

@@ -1,3 +1,4 @@
+//! Texts that are read, and texts that are refused.
 ghost use Rattle.std.specs.Prelude.{◌≤◌, length};
 
 use crate::{ReadNo, read};

@@ -1,10 +1,13 @@
-// Codes of roles, and what they do over bytes.
-//
-// Values from outside: sealed and wrapped bytes were computed in Python, with hashlib, hmac and the
-// ChaCha20 of the package cryptography. The first name that is drawn under a seed of zeros is the
-// first 32 bytes of ChaCha20 under a zero key.
+//! Codes of roles, and what they do over bytes.
+//!
+//! Values from outside: sealed and wrapped bytes were computed in Python, with hashlib, hmac and the
+//! ChaCha20 of the package cryptography. The first name that is drawn under a seed of zeros is the
+//! first 32 bytes of ChaCha20 under a zero key.
+ghost use Rattle.std.specs.Prelude.{◌≤◌, length, All, IfOk};
+ghost use Rattle.anb_base.specs.declared.TheConstants.{ARRIVAL};
+
 use crate::resolving::{NEEDHAM_SCHROEDER, leaves, protocol};
-use anb_base::Bytes;
+use anb_base::{ARRIVAL, Bytes};
 use anb_code::RoleCode;
 use anb_compile::{CompileNo, compile, compile_all, terms_of};
 use anb_machine::{Machine, Turn};
@@ -260,6 +263,23 @@ fn a_narration_at_the_limit_of_nodes_has_codes(rt: HostRuntime) -> Result<(), Fa
 }
 
 #[test]
+fn an_equal_message_is_built_once(rt: HostRuntime) -> Result<(), Fail> {
+    let alloc = rt.alloc();
+    let tree = leaves(alloc, 9)?;
+    let mut text = format!(in alloc; "{}Actions: ", NAMES)?;
+    for _ in 0..32 {
+        let action = format!(in alloc; "A -> B: {};", tree.as_str())?;
+        text.push_str(action.as_str())?;
+    }
+    let protocol = protocol(&rt, alloc, text.as_str())?;
+    assert!(rt; protocol.roles().len() == 2);
+    // One name is made, and then nine macs; one sends 32 times, and the other compares 31 times.
+    assert_eq!(rt; compile(alloc, &protocol, 0)?.instrs().len(), 1 + 9 + 32);
+    assert_eq!(rt; compile(alloc, &protocol, 1)?.instrs().len(), 32 + 31);
+    Ok(())
+}
+
+#[test]
 fn the_terms_of_registers(rt: HostRuntime) -> Result<(), Fail> {
     let alloc = rt.alloc();
     let text = format!(in alloc;
@@ -315,10 +335,11 @@ fn ran(alloc: Global, mut machine: Machine<'_>, arrivals: Vec<Bytes>) -> Result<
                 hex::encode(alloc, message.as_slice())?.as_str()
             ),
             Turn::Wants(event) => match arrivals.next() {
-                Some(arrival) => {
+                Some(arrival) if arrival.as_slice().len() <= ARRIVAL as usize => {
                     machine.arrive(arrival);
                     continue;
                 }
+                Some(_) => String::from_str(alloc, "too long"),
                 None => format!(in alloc; "waits {event}"),
             },
             Turn::Done => String::from_str(alloc, "done"),
@@ -334,12 +355,25 @@ fn ran(alloc: Global, mut machine: Machine<'_>, arrivals: Vec<Bytes>) -> Result<
 }
 
 /// The bytes of words of hexadecimal digits.
-fn words(alloc: Global, digits: &str) -> Result<Vec<Bytes>, Fail> {
+fn words(alloc: Global, digits: &str) -> Result<Vec<Bytes>, Fail>
+    ensures { IfOk result (λ all. All (λ value. length value ≤ ARRIVAL) all.items) }
+{
     let mut all = Vec::new(alloc);
     for word in digits.split_whitespace() {
-        all.push(Bytes::new(hex::decode(alloc, word)?))?;
+        all.push(short(alloc, word)?)?;
     }
     Ok(all)
+}
+
+/// The bytes of hexadecimal digits, or none where they are too many for an arrival.
+fn short(alloc: Global, digits: &str) -> Result<Bytes, Fail>
+    ensures { IfOk result (λ value. length value ≤ ARRIVAL) }
+{
+    let bytes = hex::decode(alloc, digits)?;
+    if bytes.len() > ARRIVAL as usize {
+        return Ok(Bytes::new(Vec::new(alloc)));
+    }
+    Ok(Bytes::new(bytes))
 }
 
 /// How many codes there are, or what can't be sent.

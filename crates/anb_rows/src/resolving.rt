@@ -1,4 +1,4 @@
-// Texts that are resolved or refused, and the plans of their roles.
+//! Texts that are resolved or refused, and the plans of their roles.
 ghost use Rattle.std.specs.Prelude.{All};
 ghost use Rattle.anb_resolve.specs.Plans.{term_in};
 ghost use Rattle.anb_resolve.specs.Texts.{IsTermOf};

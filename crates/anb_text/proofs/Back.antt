@@ -19,6 +19,7 @@ use Rattle.anb_code.proofs.Accepted.{both_empty, holds_not}
 use Rattle.anb_code.proofs.Naming.{count_written-instr_of, has_fields_there, slice_get-place_of}
 use Rattle.anb_code.proofs.Steps.{written-push}
 use Rattle.anb_text.specs.Lines.{IsInstr, IsNameFor}
+use Rattle.anb_lemmas.proofs.Items.{no_items, one_item, two_items, three_items}
 
 -- ---- one instruction
 
@@ -69,36 +70,20 @@ name_again formats to name args Unwrap is has = sym is
 name_again formats to name args Equal is has = sym is
 name_again formats to name args Send is has = sym is
 
-none_of : (xs : List ℕ) → length xs ≡ 0 → [] ≡ xs
-none_of [] e = refl
-none_of (x ∷ xs) e = absurd (omega (arith, e))
-
-one_of : (xs : List ℕ) → length xs ≡ 1 → slice_index xs 0 ∷ [] ≡ xs
-one_of [] e = absurd (omega (arith, e))
-one_of (x ∷ xs) e = ap (λ rest. x ∷ rest) (none_of xs (omega (arith, e)))
-
-two_of : (xs : List ℕ) → length xs ≡ 2 → slice_index xs 0 ∷ slice_index xs 1 ∷ [] ≡ xs
-two_of [] e = absurd (omega (arith, e))
-two_of (x ∷ xs) e = ap (λ rest. x ∷ rest) (one_of xs (omega (arith, e)))
-
-three_of : (xs : List ℕ) → length xs ≡ 3 → slice_index xs 0 ∷ slice_index xs 1 ∷ slice_index xs 2 ∷ [] ≡ xs
-three_of [] e = absurd (omega (arith, e))
-three_of (x ∷ xs) e = ap (λ rest. x ∷ rest) (two_of xs (omega (arith, e)))
-
 args_again : (formats : List FormatValue) (name args : List ℕ) (to : ℕ) (what : What) → CountsAre what to (length args) → registers.operands (spelled formats name args what) ≡ args
-args_again formats name args to Take counts = none_of args counts.1
-args_again formats name args to Fresh counts = none_of args counts.1
-args_again formats name args to Recv counts = none_of args counts.1
-args_again formats name args to Hash counts = one_of args counts.1
-args_again formats name args to Mac counts = two_of args counts.1
-args_again formats name args to Seal counts = two_of args counts.1
-args_again formats name args to Unseal counts = two_of args counts.1
-args_again formats name args to Wrap counts = three_of args counts.1
-args_again formats name args to Unwrap counts = three_of args counts.1
+args_again formats name args to Take counts = no_items args counts.1
+args_again formats name args to Fresh counts = no_items args counts.1
+args_again formats name args to Recv counts = no_items args counts.1
+args_again formats name args to Hash counts = one_item args counts.1
+args_again formats name args to Mac counts = two_items args counts.1
+args_again formats name args to Seal counts = two_items args counts.1
+args_again formats name args to Unseal counts = two_items args counts.1
+args_again formats name args to Wrap counts = three_items args counts.1
+args_again formats name args to Unwrap counts = three_items args counts.1
 args_again formats name args to Build counts = refl
-args_again formats name args to Parse counts = one_of args counts
-args_again formats name args to Equal counts = two_of args counts.1
-args_again formats name args to Send counts = one_of args counts.1
+args_again formats name args to Parse counts = one_item args counts
+args_again formats name args to Equal counts = two_items args counts.1
+args_again formats name args to Send counts = one_item args counts.1
 
 abbrev instr : List ℕ → What → List ℕ → List ℕ → RawInstrValue
 instr to what name args = record { to = to; what = what; name = name; args = args }

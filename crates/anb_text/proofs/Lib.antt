@@ -14,3 +14,4 @@ pub mod Sizes
 pub mod Back
 pub mod Loaded
 pub mod Printed
+pub mod Refused

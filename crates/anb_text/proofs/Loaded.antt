@@ -31,13 +31,13 @@ use Rattle.anb_text.proofs.Unique.{files, none}
 
 -- ---- one code
 
-abbrev file_of : (text : List ℕ) (raw : RawValue) (s : Spells text raw) → IsRoleFile (file_lines s.v raw)
+abbrev pub file_of : (text : List ℕ) (raw : RawValue) (s : Spells text raw) → IsRoleFile (file_lines s.v raw)
 file_of text raw s = record { v = s.v; raw = raw; suite = s.suite; spellable = s.spellable; stands = refl }
 
-one_raw : (text : List ℕ) (one other : RawValue) → Spells text one → Spells text other → one ≡ other
+pub one_raw : (text : List ℕ) (one other : RawValue) → Spells text one → Spells text other → one ≡ other
 one_raw text one other s t = (files (file_lines s.v one) (file_lines t.v other) (file_of text one s) (file_of text other t) (sym s.stands ∙ t.stands)).1
 
-spelled_by : (text : List ℕ) (code : CodeValue) → IsTextOf text code → Spells text (raw_of code)
+pub spelled_by : (text : List ℕ) (code : CodeValue) → IsTextOf text code → Spells text (raw_of code)
 spelled_by text code is = elim is.1 [
   | inl two ↦ record { v = version.Two; suite = tt; spellable = is.0; stands = two }
   | inr one ↦ record { v = version.One; suite = one.0; spellable = is.0; stands = one.1 }

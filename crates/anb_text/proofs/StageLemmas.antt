@@ -18,6 +18,7 @@ use Rattle.anb_text.specs.Lines.{IsFormat, IsInstr, IsLine}
 use Rattle.anb_text.specs.RoleFiles.{IsFor, IsRoleFile, IsSpellable, file_lines, suite_lines}
 use Rattle.anb_text.specs.Refusals.{Begins}
 use Rattle.anb_text.specs.Stages.{IsStage, heading, lines_to, no_code, stage_after, with_format, with_instr}
+use Rattle.anb_lemmas.proofs.Each.{each_and_last, each_in_front}
 
 -- ---- the stage behind some lines
 
@@ -85,10 +86,6 @@ run-lines_to (End v raw) is = run-file v raw is.0
 
 -- ---- one line more
 
-all_push : {A : Type 0} (P : A → Type 0) (xs : List A) (x : A) → AllByRecursion P xs → P x → AllByRecursion P (xs ++ x ∷ [])
-all_push P [] x all p = (p, tt)
-all_push P (y ∷ ys) x all p = (all.0, all_push P ys x all.1 p)
-
 map_push : {A : Type 0} (f : A → Line) (xs : List A) (x : A) → map f (xs ++ x ∷ []) ≡ map f xs ++ f x ∷ []
 map_push f [] x = refl
 map_push f (y ∷ ys) x = ap (λ ls. f y ∷ ls) (map_push f ys x)
@@ -109,7 +106,7 @@ one_line_more (Protocol version.Two protocol) (line.Role role) is can = ((is, ca
 one_line_more (Role protocol role) (line.Suite suite) is can =
     ((tt, record { protocol = is.0; role = is.1; formats = tt; code = tt }, refl), refl)
 one_line_more (Formats v raw) (line.Format format) is can = (
-  (is.0, record { protocol = is.1.protocol; role = is.1.role; formats = all_push IsFormat raw.formats format is.1.formats can; code = is.1.code }, is.2),
+  (is.0, record { protocol = is.1.protocol; role = is.1.role; formats = each_and_last IsFormat raw.formats format is.1.formats can; code = is.1.code }, is.2),
   ap (λ ls. heading v raw ++ ls) (map_push line.Format raw.formats format) ∙ sym (append_assoc (heading v raw) (map line.Format raw.formats) (line.Format format ∷ [])),
 )
 one_line_more (Formats v raw) line.Code is can = (
@@ -117,7 +114,7 @@ one_line_more (Formats v raw) line.Code is can = (
   ap (λ code. heading v raw ++ (map line.Format raw.formats ++ line.Code ∷ map line.Instr code)) is.2 ∙ sym (append_assoc (heading v raw) (map line.Format raw.formats) (line.Code ∷ [])),
 )
 one_line_more (Code v raw) (line.Instr instr) is can = (
-  (is.0, record { protocol = is.1.protocol; role = is.1.role; formats = is.1.formats; code = all_push IsInstr raw.code instr is.1.code can }),
+  (is.0, record { protocol = is.1.protocol; role = is.1.role; formats = is.1.formats; code = each_and_last IsInstr raw.code instr is.1.code can }),
   ap (λ ls. heading v raw ++ (map line.Format raw.formats ++ line.Code ∷ ls)) (map_push line.Instr raw.code instr) ∙ sym (at_code v raw (map line.Instr raw.code) (line.Instr instr ∷ [])),
 )
 one_line_more (Code v raw) line.End is can = ((is.0, is.1), sym (at_code v raw (map line.Instr raw.code) (line.End ∷ [])))
@@ -241,10 +238,6 @@ all_mapped : {A : Type 0} (P : A → Type 0) (f : A → Line) (xs : List A) (ls 
 all_mapped P f [] ls is all rest = rest
 all_mapped P f (x ∷ xs) ls is all rest = (is x all.0, all_mapped P f xs ls is all.1 rest)
 
-all_front : {A : Type 0} (P : A → Type 0) (xs ys : List A) → AllByRecursion P (xs ++ ys) → AllByRecursion P xs
-all_front P [] ys all = tt
-all_front P (x ∷ xs) ys all = (all.0, all_front P xs ys all.1)
-
 all_last : {A : Type 0} (P : A → Type 0) (xs : List A) (x : A) → AllByRecursion P (xs ++ x ∷ []) → P x
 all_last P [] x all = all.0
 all_last P (y ∷ ys) x all = all_last P ys x all.1
@@ -262,7 +255,7 @@ pub role_file_is : (lines : List Line) → IsRoleFile lines → AllByRecursion I
 role_file_is lines file = subst (AllByRecursion IsLine) (sym file.stands) (file_is file.v file.raw file.spellable)
 
 pub beginning_is : (lines : List Line) → Begins lines → AllByRecursion IsLine lines
-beginning_is lines b = all_front IsLine lines b.0 (role_file_is (lines ++ b.0) b.1)
+beginning_is lines b = each_in_front IsLine lines b.0 (role_file_is (lines ++ b.0) b.1)
 
 pub next_is : (lines : List Line) (next : Line) → Begins (lines ++ next ∷ []) → IsLine next
 next_is lines next b = all_last IsLine lines next (beginning_is (lines ++ next ∷ []) b)

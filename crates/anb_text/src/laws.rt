@@ -1,4 +1,5 @@
-ghost use Rattle.anb_text.specs.Laws.{CodesAreUnique, FaultsAreUnique, FilesAreUnique, NoneIsBoth};
+//! Laws of role files.
+ghost use Rattle.anb_text.specs.Laws.{CodesAreNotRefused, CodesAreUnique, FaultsAreUnique, FilesAreUnique, NoneIsBoth, RefusalsAreUnique};
 
 /// Law: two role files with one text have the same lines and spell the same code.
 pub fn files_are_unique()
@@ -18,4 +19,14 @@ pub fn none_is_both()
 /// Law: a text has one first faulty line at most.
 pub fn faults_are_unique()
     ensures { FaultsAreUnique }
+{}
+
+/// Law: a text has one refusal at most, but for want of memory.
+pub fn refusals_are_unique()
+    ensures { RefusalsAreUnique }
+{}
+
+/// Law: no text of a verified code is refused, but for want of memory.
+pub fn codes_are_not_refused()
+    ensures { CodesAreNotRefused }
 {}

@@ -13,9 +13,12 @@ mod reading;
 mod refusal;
 mod stages;
 
-pub use laws::{codes_are_unique, faults_are_unique, files_are_unique, none_is_both};
+pub use laws::{
+    codes_are_not_refused, codes_are_unique, faults_are_unique, files_are_unique, none_is_both,
+    refusals_are_unique,
+};
 pub use loading::load;
-pub use printing::{instr_text, print};
+pub use printing::{instr_text, instr_text_behind, print};
 pub use refusal::LoadNo;
 
 #[cfg(test)]

@@ -1,3 +1,4 @@
+//! The lines of a role file.
 use anb_base::{Suite, Text};
 use anb_code::{RawFormat, RawInstr};
 

@@ -1,6 +1,8 @@
-ghost use Rattle.std.specs.Prelude.{◌≡◌, ◌≤◌, ◌==◌, length, position, IfOk, IfErr, IfSome, IfNone, MatchResult};
+//! A role file is read and verified.
+ghost use Rattle.std.specs.Prelude.{◌≡◌, ◌≢◌, ◌⊎◌, ◌≤◌, ◌==◌, length, position, IfOk, IfErr, IfSome, IfNone, MatchResult};
 ghost use Rattle.anb_code.specs.CodeValue.{CodeValue};
 ghost use Rattle.anb_code.specs.Verified.{IsVerifiedCode};
+ghost use Rattle.anb_text.specs.declared.refusal.LoadNo.{LoadNo as No};
 ghost use Rattle.anb_text.specs.declared.refusal.LoadNo.TheVariants as refusal;
 ghost use Rattle.anb_text.specs.RoleFiles.{IsTextOf};
 ghost use Rattle.anb_text.specs.Refusals.{IsRefusal};
@@ -17,8 +19,12 @@ use std::alloc::Global;
 pub fn load(alloc: Global, text: &[u8]) -> Result<RoleCode, LoadNo>
     requires size { length text.now ≤ 16777216 }
     ensures spelled { IfOk result (λ code. IsTextOf text.now code) }
-    ensures read { (code : CodeValue) → IsVerifiedCode ARRIVAL WIDE code → IsTextOf text.now code → MatchResult result (λ c. c ≡ code) (λ no. no ≡ refusal.NoMemory) }
+    ensures read { (code : CodeValue) → IsVerifiedCode ARRIVAL WIDE code → IsTextOf text.now code
+        → MatchResult result (λ c. c ≡ code) (λ no. no ≡ refusal.NoMemory) }
+    // What is refused has the refusal, and each text with a refusal is refused so.
     ensures refused { IfErr result (IsRefusal text.now) }
+    ensures exact { (due : No) → due ≢ refusal.NoMemory → IsRefusal text.now due
+        → MatchResult result (λ code. ⊥) (λ no. (no ≡ due) ⊎ (no ≡ refusal.NoMemory)) }
 {
     let raw = read_code(alloc, text)?;
     match verify(alloc, raw) {

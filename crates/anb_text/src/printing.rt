@@ -1,3 +1,4 @@
+//! A code as a role file.
 ghost use Rattle.std.specs.Prelude.{◌≡◌, ◌≤◌, ◌<◌, ◌+◌, ◌-◌, ◌^◌, ◌++◌, ◌∷◌, All, decimal, length, map, slice_get, take, Some, IfOk, OnOk};
 ghost use Rattle.std.specs.List.{flat_map, range_with_len};
 ghost use Rattle.anb_format.specs.Formats.{field_count};
@@ -36,15 +37,32 @@ pub fn print(alloc: Global, code: &RoleCode) -> Result<Bytes, NoMemory>
 }
 
 /// The line of an instruction, numbered from 1, as it stands in the role file, without its end.
+/// It counts the registers of all instructions before it.
 pub fn instr_text(alloc: Global, code: &RoleCode, at: u32) -> Result<Bytes, NoMemory>
     requires from_one { 0 < at }
     requires there { at ≤ length code.now.instrs }
     ensures { IfOk result (λ text. slice_get (instr_lines code.now) (at - 1) ≡ Some text) }
 {
     let i = (at - 1) as usize;
-    let next = count_registers(code.formats(), &code.instrs()[..i]);
+    let written = count_registers(code.formats(), &code.instrs()[..i]);
+    instr_text_behind(alloc, code, at, written)
+}
+
+/// The same, where the instructions before it write so many registers. They aren't looked at.
+pub fn instr_text_behind(
+    alloc: Global,
+    code: &RoleCode,
+    at: u32,
+    written: u32,
+) -> Result<Bytes, NoMemory>
+    requires from_one { 0 < at }
+    requires there { at ≤ length code.now.instrs }
+    requires written { written ≡ count_registers code.now.formats (take (at - 1) code.now.instrs) }
+    ensures { IfOk result (λ text. slice_get (instr_lines code.now) (at - 1) ≡ Some text) }
+{
+    let i = (at - 1) as usize;
     let mut out = Vec::new(alloc);
-    put_instr(&mut out, code.formats(), next, &code.instrs()[i])?;
+    put_instr(&mut out, code.formats(), written, &code.instrs()[i])?;
     Ok(Bytes::new(out))
 }
 
@@ -66,7 +84,8 @@ fn put_suite(out: &mut Vec<u8>, suite: Suite) -> Result<(), NoMemory>
 }
 
 fn put_formats(alloc: Global, out: &mut Vec<u8>, formats: &[Format]) -> Result<(), NoMemory>
-    ensures { OnOk result (out.new.items ≡ out.old.items ++ lines_text (map line.Format formats.now)) }
+    ensures { OnOk result (out.new.items
+        ≡ out.old.items ++ lines_text (map line.Format formats.now)) }
 {
     for format in formats {
         put_format(alloc, out, format)?;
@@ -98,7 +117,8 @@ fn put_pieces(alloc: Global, out: &mut Vec<u8>, pieces: &[Piece]) -> Result<(), 
 fn put_instrs(out: &mut Vec<u8>, formats: &[Format], instrs: &[Instr]) -> Result<(), NoMemory>
     requires fields { All (λ format. field_count format.pieces ≤ 32) formats.now }
     requires few { count_registers formats.now instrs.now < 2 ^ 32 }
-    ensures { OnOk result (out.new.items ≡ out.old.items ++ lines_text (map line.Instr (raw_instrs formats.now 0 instrs.now))) }
+    ensures { OnOk result (out.new.items
+        ≡ out.old.items ++ lines_text (map line.Instr (raw_instrs formats.now 0 instrs.now))) }
 {
     let mut next = 0;
     for instr in instrs {
@@ -118,7 +138,8 @@ fn put_instr(
 ) -> Result<(), NoMemory>
     requires fields { All (λ format. field_count format.pieces ≤ 32) formats.now }
     requires few { next + count_written formats.now instr.now < 2 ^ 32 }
-    ensures { OnOk result (out.new.items ≡ out.old.items ++ instr_line (raw_instr formats.now next instr.now)) }
+    ensures { OnOk result (out.new.items
+        ≡ out.old.items ++ instr_line (raw_instr formats.now next instr.now)) }
 {
     put_destinations(out, next, count_written(formats, instr))?;
     match instr {
@@ -140,7 +161,8 @@ fn put_instr(
 
 /// Appends a word with a name right behind it, and the registers that are read, each behind a space.
 fn put_call(out: &mut Vec<u8>, word: &str, name: &str, registers: &[u32]) -> Result<(), NoMemory>
-    ensures { OnOk result (out.new.items ≡ out.old.items ++ (word.now ++ (name.now ++ operands registers.now))) }
+    ensures { OnOk result (out.new.items
+        ≡ out.old.items ++ (word.now ++ (name.now ++ operands registers.now))) }
 {
     out.extend_from_slice(word.as_bytes())?;
     out.extend_from_slice(name.as_bytes())?;
@@ -155,7 +177,8 @@ fn put_call(out: &mut Vec<u8>, word: &str, name: &str, registers: &[u32]) -> Res
 /// none.
 fn put_destinations(out: &mut Vec<u8>, first: u32, count: u32) -> Result<(), NoMemory>
     requires { first + count < 2 ^ 32 }
-    ensures { OnOk result (out.new.items ≡ out.old.items ++ destinations (range_with_len first count)) }
+    ensures { OnOk result (out.new.items
+        ≡ out.old.items ++ destinations (range_with_len first count)) }
 {
     if count == 0 {
         return Ok(());

@@ -1,3 +1,4 @@
+//! The words of a line.
 ghost use Rattle.std.specs.Prelude.{◌≡◌, ◌≤◌, ◌<◌, ◌^◌, ◌==◌, ◌++◌, ◌∷◌, [], ℕ, List, true, length, position, codes, decimal, MatchOption, IfOk, IfSome, IfNone};
 ghost use Rattle.std.specs.List.{AllByRecursion, flat_map};
 ghost use Rattle.std.specs.Option.{option_map};
@@ -21,7 +22,8 @@ use std::alloc::{AllocError, Global};
 pub(crate) fn read_line(alloc: Global, line: &[u8]) -> Result<Option<Line>, NoMemory>
     requires size { length line.now ≤ 16777216 }
     ensures some { IfOk result (λ r. IfSome r (λ l. IsLine l × (line.now ≡ line_bytes l))) }
-    ensures none { IfOk result (λ r. IfNone r ((l : Line) → IsLine l → line.now ≡ line_bytes l → ⊥)) }
+    ensures none { IfOk result (λ r.
+        IfNone r ((l : Line) → IsLine l → line.now ≡ line_bytes l → ⊥)) }
 {
     if let Some(format) = after_prefix(b"format ", line) {
         return match read_format(alloc, format)? {
@@ -41,7 +43,8 @@ fn is_same(a: &[u8], b: &[u8]) -> bool
 
 /// What follows these bytes, where they stand at the front.
 fn after_prefix<'t>(prefix: &[u8], text: &'t [u8]) -> Option<&'t [u8]>
-    ensures { MatchOption result ((rest : List ℕ) → text.now ≡ prefix.now ++ rest → ⊥) (λ rest. text.now ≡ prefix.now ++ rest.now) }
+    ensures { MatchOption result ((rest : List ℕ) → text.now ≡ prefix.now ++ rest
+        → ⊥) (λ rest. text.now ≡ prefix.now ++ rest.now) }
 {
     text.strip_prefix(prefix)
 }
@@ -250,7 +253,9 @@ fn read_name_for<'w, 't>(
     what: What,
     words: &'w [&'t [u8]],
 ) -> Result<Option<(Text, &'w [&'t [u8]])>, NoMemory>
-    ensures { IfOk result (λ r. option_map (λ x. record { name = x.0; rest = texts x.1.now }) r ≡ named what (texts words.now)) }
+    ensures { IfOk result (λ r.
+        option_map (λ x. record { name = x.0; rest = texts x.1.now }) r
+        ≡ named what (texts words.now)) }
 {
     match what {
         What::Take => read_label(alloc, words),
@@ -263,7 +268,9 @@ fn read_label<'w, 't>(
     alloc: Global,
     words: &'w [&'t [u8]],
 ) -> Result<Option<(Text, &'w [&'t [u8]])>, NoMemory>
-    ensures { IfOk result (λ r. option_map (λ x. record { name = x.0; rest = texts x.1.now }) r ≡ named_if is_label (texts words.now)) }
+    ensures { IfOk result (λ r.
+        option_map (λ x. record { name = x.0; rest = texts x.1.now }) r
+        ≡ named_if is_label (texts words.now)) }
 {
     let [word, rest @ ..] = words else {
         return Ok(None);
@@ -292,7 +299,9 @@ fn read_format_name<'w, 't>(
     alloc: Global,
     words: &'w [&'t [u8]],
 ) -> Result<Option<(Text, &'w [&'t [u8]])>, NoMemory>
-    ensures { IfOk result (λ r. option_map (λ x. record { name = x.0; rest = texts x.1.now }) r ≡ named_if is_name (texts words.now)) }
+    ensures { IfOk result (λ r.
+        option_map (λ x. record { name = x.0; rest = texts x.1.now }) r
+        ≡ named_if is_name (texts words.now)) }
 {
     let [word, rest @ ..] = words else {
         return Ok(None);
@@ -305,7 +314,8 @@ fn read_format_name<'w, 't>(
 
 /// The registers that are all of the words.
 fn read_operands(alloc: Global, words: &[&[u8]]) -> Result<Option<Vec<u32>>, NoMemory>
-    ensures { IfOk result (λ r. option_map (λ args. args.items) r ≡ ended_front (front_of (texts words.now))) }
+    ensures { IfOk result (λ r.
+        option_map (λ args. args.items) r ≡ ended_front (front_of (texts words.now))) }
 {
     let (registers, rest) = read_registers(alloc, words)?;
     if rest.is_empty() {
@@ -369,8 +379,11 @@ fn read_registers<'w, 't>(
 /// Reads what follows the word for a format line.
 fn read_format(alloc: Global, text: &[u8]) -> Result<Option<RawFormat>, NoMemory>
     requires size { length text.now ≤ 16777216 }
-    ensures some { IfOk result (λ r. IfSome r (λ f. IsFormat f × (text.now ≡ f.name ++ flat_map spaced_piece f.pieces))) }
-    ensures none { IfOk result (λ r. IfNone r ((f : FormatValue) → IsFormat f → text.now ≡ f.name ++ flat_map spaced_piece f.pieces → ⊥)) }
+    ensures some { IfOk result (λ r.
+        IfSome r (λ f. IsFormat f × (text.now ≡ f.name ++ flat_map spaced_piece f.pieces))) }
+    ensures none { IfOk result (λ r.
+        IfNone r ((f : FormatValue) → IsFormat f
+        → text.now ≡ f.name ++ flat_map spaced_piece f.pieces → ⊥)) }
 {
     let (word, rest) = first_word(text);
     let Some(name) = read_name(alloc, word)? else {
@@ -406,8 +419,12 @@ fn first_space(text: &[u8]) -> Option<usize>
 /// Reads pieces up to the end, each behind a space.
 fn read_pieces(alloc: Global, text: &[u8]) -> Result<Option<Vec<Piece>>, NoMemory>
     requires size { length text.now ≤ 16777216 }
-    ensures some { IfOk result (λ r. IfSome r (λ pieces. AllByRecursion IsPiece pieces.items × (text.now ≡ flat_map spaced_piece pieces.items))) }
-    ensures none { IfOk result (λ r. IfNone r ((pieces : List Piece) → AllByRecursion IsPiece pieces → text.now ≡ flat_map spaced_piece pieces → ⊥)) }
+    ensures some { IfOk result (λ r.
+        IfSome r (λ pieces. AllByRecursion IsPiece pieces.items
+        × (text.now ≡ flat_map spaced_piece pieces.items))) }
+    ensures none { IfOk result (λ r.
+        IfNone r ((pieces : List Piece) → AllByRecursion IsPiece pieces
+        → text.now ≡ flat_map spaced_piece pieces → ⊥)) }
 {
     let mut pieces = Vec::new(alloc);
     let mut rest = text;
@@ -424,8 +441,11 @@ fn read_pieces(alloc: Global, text: &[u8]) -> Result<Option<Vec<Piece>>, NoMemor
 /// The piece at the front, behind a space, and what follows it.
 fn read_piece(alloc: Global, text: &[u8]) -> Result<Option<(Piece, &[u8])>, NoMemory>
     requires size { length text.now ≤ 16777216 }
-    ensures some { IfOk result (λ r. IfSome r (λ x. IsPiece x.0 × (text.now ≡ spaced_piece x.0 ++ x.1.now))) }
-    ensures none { IfOk result (λ r. IfNone r ((piece : Piece) (rest : List ℕ) → IsPiece piece → IsEnd rest → text.now ≡ spaced_piece piece ++ rest → ⊥)) }
+    ensures some { IfOk result (λ r.
+        IfSome r (λ x. IsPiece x.0 × (text.now ≡ spaced_piece x.0 ++ x.1.now))) }
+    ensures none { IfOk result (λ r.
+        IfNone r ((piece : Piece) (rest : List ℕ) → IsPiece piece → IsEnd rest
+        → text.now ≡ spaced_piece piece ++ rest → ⊥)) }
 {
     match text {
         [b' ', b'"', ..] => read_quoted(alloc, &text[1..]),
@@ -437,8 +457,11 @@ fn read_piece(alloc: Global, text: &[u8]) -> Result<Option<(Piece, &[u8])>, NoMe
 /// The canonical literal at the front, and what follows it.
 fn read_quoted(alloc: Global, text: &[u8]) -> Result<Option<(Piece, &[u8])>, NoMemory>
     requires size { length text.now ≤ 16777216 }
-    ensures some { IfOk result (λ r. IfSome r (λ x. IsPiece x.0 × (32 ∷ text.now ≡ spaced_piece x.0 ++ x.1.now))) }
-    ensures none { IfOk result (λ r. IfNone r ((bytes rest : List ℕ) → IsBytes bytes → text.now ≡ canonical_literal bytes ++ rest → ⊥)) }
+    ensures some { IfOk result (λ r.
+        IfSome r (λ x. IsPiece x.0 × (32 ∷ text.now ≡ spaced_piece x.0 ++ x.1.now))) }
+    ensures none { IfOk result (λ r.
+        IfNone r ((bytes rest : List ℕ) → IsBytes bytes → text.now ≡ canonical_literal bytes ++ rest
+        → ⊥)) }
 {
     let Some(literal) = read_literal(alloc, text, 0)? else {
         return Ok(None);
@@ -460,8 +483,10 @@ fn canonical(alloc: Global, bytes: &[u8]) -> Result<Bytes, NoMemory>
 
 /// The kind of field at the front, and what follows it.
 fn read_field(text: &[u8]) -> Option<(Piece, &[u8])>
-    ensures some { IfSome result (λ x. IsPiece x.0 × (32 ∷ text.now ≡ spaced_piece x.0 ++ x.1.now)) }
-    ensures none { IfNone result ((kind : FieldKind) (rest : List ℕ) → IsEnd rest → text.now ≡ kind_word kind ++ rest → ⊥) }
+    ensures some { IfSome result (λ x. IsPiece x.0
+        × (32 ∷ text.now ≡ spaced_piece x.0 ++ x.1.now)) }
+    ensures none { IfNone result ((kind : FieldKind) (rest : List ℕ) → IsEnd rest
+        → text.now ≡ kind_word kind ++ rest → ⊥) }
 {
     let (word, rest) = first_word(text);
     let kind = kind_of_word(word)?;

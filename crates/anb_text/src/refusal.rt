@@ -1,3 +1,4 @@
+//! Why a text gives no code.
 ghost use Rattle.std.specs.Prelude.{◌≡◌};
 ghost use Rattle.anb_text.specs.declared.refusal.LoadNo.TheVariants as refusal;
 

@@ -1,3 +1,4 @@
+//! What was read of a role file.
 ghost use Rattle.std.specs.Prelude.{◌≡◌, IfOk};
 ghost use Rattle.anb_text.specs.Stages.{no_code, stage_after};
 

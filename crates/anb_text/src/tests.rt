@@ -1,3 +1,4 @@
+//! Role files that are read, and that are refused.
 use super::*;
 use anb_base::Suite;
 use anb_code::{CodeNo, RoleCode};

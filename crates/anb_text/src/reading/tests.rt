@@ -1,3 +1,4 @@
+//! Lines that are read, and that are refused.
 use super::*;
 use anb_base::Suite;
 use std::process::Abort;
