@@ -2,47 +2,70 @@
 //! and ends with the number of the status.
 #![tactic(auto)]
 
-mod standard_error;
-
-use anb_base::{RealShelf, RealWire, Text};
+use anb_base::{NoMemory, Text};
+use anb_command::tell;
+use anb_real::{RealShelf, RealWire, StandardError, fill_standard_descriptors};
 use anb_run::{Status, run};
-use standard_error::StandardError;
+use std::env::{Env, FillError};
 use std::process::ExitCode;
 use std::random::RandomSource;
-use std::{env, io};
 
 fn main(rt: HostRuntime) -> ExitCode {
+    fill_standard_descriptors(&rt);
     ExitCode::from(status(rt, 1).number())
 }
 
 /// Runs the words behind the first ones, of which there are so many.
 fn status(rt: HostRuntime, skipped: usize) -> Status {
-    let words = match words(rt, skipped) {
-        Ok(words) => words,
-        Err(error) if error.kind() == io::ErrorKind::OutOfMemory => return Status::NoMemory,
-        // A word that isn't UTF-8 fits no command, and nor does a list without words.
-        Err(_) => Vec::new(rt.alloc()),
+    let mut err = StandardError::new(rt);
+    let Ok(words) = words(rt, skipped) else {
+        tell(&mut err, &Status::NoMemory);
+        return Status::NoMemory;
     };
     let mut shelf = RealShelf::new(rt);
     let mut wire = RealWire::new(rt);
-    let mut err = StandardError::new(rt);
-    run(
+    let status = run(
         rt.alloc(),
         &words,
         &mut shelf,
         &mut wire,
         &mut err,
         seed(rt),
-    )
+    );
+    wire.finish();
+    status
 }
 
-/// The words behind the first ones.
-fn words(rt: HostRuntime, skipped: usize) -> io::Result<Vec<Text>> {
+/// The words behind the first ones. Where one isn't UTF-8 the list is empty: such a word fits no
+/// command, and nor does a list without words.
+fn words(rt: HostRuntime, skipped: usize) -> Result<Vec<Text>, NoMemory> {
     let mut words = Vec::new(rt.alloc());
-    for word in env::args(&rt)?.skip(skipped) {
+    for place in skipped..usize::MAX {
+        let Some(word) = word(rt, place)? else {
+            break;
+        };
+        let Ok(word) = String::from_utf8(word) else {
+            return Ok(Vec::new(rt.alloc()));
+        };
         words.push(Text::new(word))?;
     }
     Ok(words)
+}
+
+/// The bytes of the word at this place, where there is one.
+fn word(rt: HostRuntime, place: usize) -> Result<Option<Vec<u8>>, NoMemory> {
+    for doublings in 8u32..32 {
+        let mut word = vec![in rt.alloc(); 0u8; 1 << doublings]?;
+        match rt.arg(place, &mut word) {
+            Ok(len) => {
+                word.truncate(len);
+                return Ok(Some(word));
+            }
+            Err(FillError::NotPresent) => return Ok(None),
+            Err(FillError::TooLong) => {}
+        }
+    }
+    Err(NoMemory)
 }
 
 /// Random bytes of the machine, where it gives any.

@@ -1,5 +1,7 @@
 //! The program as a child, over TCP on this machine.
+
 use crate::{status, words};
+use anb_real::fill_standard_descriptors;
 use std::io::{Read, Write};
 use std::net::{OpenListener, TcpListener, TcpStream};
 use std::process::{Child, Command};
@@ -19,17 +21,29 @@ fn child(rt: HostRuntime) -> Result<(), Fail> {
     if words(rt, 2)?.as_slice().is_empty() {
         return Ok(());
     }
+    fill_standard_descriptors(&rt);
     assert_eq!(rt; status(rt, 2).number(), 0);
     Ok(())
 }
 
-/// Starts the child with words that play this role at this place.
-fn start(rt: HostRuntime, role: &str, flag: &str, at: &str) -> Result<Child, Fail> {
+/// Starts the child with words that play this role at this place, and with what a shell makes of
+/// these redirections.
+fn start(
+    rt: HostRuntime,
+    role: &str,
+    flag: &str,
+    at: &str,
+    redirections: &str,
+) -> Result<Child, Fail> {
     fs::write(&rt, "ping.anb", PING.as_bytes())?;
     fs::write(&rt, "ping.values", b"N = \"ab\"")?;
     let program = env::args(&rt)?.next().ok_or("no name")?;
-    let mut command = Command::new(rt.alloc(), program)?;
+    let line = format!(in rt.alloc(); "exec \"$0\" \"$@\" {redirections}")?;
+    let mut command = Command::new(rt.alloc(), "/bin/sh")?;
     for word in [
+        "-c",
+        line.as_str(),
+        program.as_str(),
         "tests::child",
         "play",
         "ping.anb",
@@ -47,25 +61,44 @@ fn start(rt: HostRuntime, role: &str, flag: &str, at: &str) -> Result<Child, Fai
 fn a_role_dials_its_peer(rt: HostRuntime) -> Result<(), Fail> {
     let listener = TcpListener::bind(&rt, "127.0.0.1:0")?;
     let at = format!(in rt.alloc(); "{}", listener.local_addr()?)?;
-    let mut role = start(rt, "A", "--dial", &at)?;
+    let mut role = start(rt, "A", "--dial", &at, "")?;
     let (mut peer, _) = listener.accept()?;
     let mut frame = [0u8; 6];
     peer.read_exact(&mut frame)?;
     assert_eq!(rt; frame, FRAME);
     peer.write_all(&frame)?;
+    drop(peer);
     assert!(rt; role.wait()?.success());
+    Ok(())
+}
+
+#[test]
+fn the_line_of_a_stop_never_goes_to_the_peer(rt: HostRuntime) -> Result<(), Fail> {
+    let listener = TcpListener::bind(&rt, "127.0.0.1:0")?;
+    let at = format!(in rt.alloc(); "{}", listener.local_addr()?)?;
+    for closed in ["2>&-", "0<&- 2>&-", "0<&- 1>&- 2>&-"] {
+        let mut role = start(rt, "A", "--dial", &at, closed)?;
+        let (mut peer, _) = listener.accept()?;
+        peer.write_all(b"\0\0\0\x02ac")?;
+        let mut all = Vec::new(rt.alloc());
+        let _ = peer.read_to_end(&mut all)?;
+        assert_eq!(rt; all.as_slice(), FRAME.as_slice(), "{closed}");
+        drop(peer);
+        let _ = role.wait()?;
+    }
     Ok(())
 }
 
 #[test]
 fn a_role_listens_for_its_peer(rt: HostRuntime) -> Result<(), Fail> {
     let at = free_address(rt)?;
-    let mut role = start(rt, "B", "--listen", &at)?;
+    let mut role = start(rt, "B", "--listen", &at, "")?;
     let mut peer = dial(rt, &at)?;
     peer.write_all(&FRAME)?;
     let mut frame = [0u8; 6];
     peer.read_exact(&mut frame)?;
     assert_eq!(rt; frame, FRAME);
+    drop(peer);
     assert!(rt; role.wait()?.success());
     Ok(())
 }

@@ -1,22 +1,41 @@
--- What the code's reading of the words stands for.
-use Rattle.std.specs.Prelude.{Option, Some, None}
-use Rattle.anb_base.specs.declared.place.Place.{Place}
-use Rattle.anb_base.specs.declared.place.Place.TheVariants as place
-use Rattle.anb_run.specs.declared.words.Command.{Command}
-use Rattle.anb_run.specs.declared.words.Command.TheVariants as command
-use Rattle.anb_run.specs.declared.words.Spot.{Spot}
-use Rattle.anb_run.specs.declared.words.Spot.TheVariants as spot
-use Rattle.anb_run.specs.Words.{Asked, fmt, show, play, enact, help}
+-- What each command does, and when it completes: a case for each. The first arguments of a case are
+-- the words that follow the command's name.
+use Rattle.std.specs.Prelude.{ℕ, List, Option, Some, None}
+use Rattle.anb_base.specs.Wires.{WireState}
+use Rattle.anb_command.specs.declared.status.Status.{Status}
+use Rattle.anb_command.specs.Fetches.{Files}
+use Rattle.anb_command.specs.Words.{Asked, fmt, describe, play, enact, help}
+use Rattle.anb_role_commands.specs.EnactCommand.{CompletesEnact, DoesEnact}
+use Rattle.anb_role_commands.specs.PlayCommand.{CompletesPlay, DoesPlay}
+use Rattle.anb_text_commands.specs.TextCommands.{
+  CompletesDescribe,
+  CompletesFmt,
+  CompletesHelp,
+  DoesDescribe,
+  DoesFmt,
+  DoesHelp,
+}
 
-abbrev pub place_by : Spot → Place
-place_by spot.Stdio = place.Stdio
-place_by (spot.Dial at) = place.Dial at.now
-place_by (spot.Listen at) = place.Listen at.now
+-- by what is asked for, the files and the seed of the host: the wire before and after, and the status
+abbrev pub Does : Option Asked → Option Files → Option (List ℕ) → (old new : WireState) → Status → Type 0
+Does None told seed old new status = Unit {0}
+Does (Some (fmt narration)) told seed old new status = DoesFmt narration told old new status
+Does (Some (describe kind narration role)) told seed old new status =
+    DoesDescribe kind narration role told old new status
+Does (Some (play narration role values place)) told seed old new status =
+    DoesPlay narration role values told seed old new status
+Does (Some (enact code values place)) told seed old new status =
+    DoesEnact code values told seed old new status
+Does (Some help) told seed old new status = DoesHelp old new status
 
-abbrev pub asked_by : Option Command → Option Asked
-asked_by None = None
-asked_by (Some (command.Fmt narration)) = Some (fmt narration.now)
-asked_by (Some (command.Show text narration role)) = Some (show text narration.now role.now)
-asked_by (Some (command.Play role)) = Some (play role.narration.now role.name.now role.values.now (place_by role.spot))
-asked_by (Some (command.Enact file)) = Some (enact file.code.now file.values.now (place_by file.spot))
-asked_by (Some command.Help) = Some help
+-- where nothing failed
+abbrev pub Completes : Option Asked → Option Files → Option (List ℕ) → (old new : WireState) → Status → Type 0
+Completes None told seed old new status = Unit {0}
+Completes (Some (fmt narration)) told seed old new status = CompletesFmt narration told status
+Completes (Some (describe kind narration role)) told seed old new status =
+    CompletesDescribe kind narration role told status
+Completes (Some (play narration role values place)) told seed old new status =
+    CompletesPlay narration role values told seed old new status
+Completes (Some (enact code values place)) told seed old new status =
+    CompletesEnact code values told seed old new status
+Completes (Some help) told seed old new status = CompletesHelp status

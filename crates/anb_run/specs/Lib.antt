@@ -1,16 +1,1 @@
 pub mod Commands
-pub mod Completions
-pub mod EnactCommand
-pub mod Errands
-pub mod Fetches
-pub mod Files
-pub mod Jobs
-pub mod Lines
-pub mod Outcomes
-pub mod PlayCommand
-pub mod Prepared
-pub mod Reaches
-pub mod Statuses
-pub mod Steps
-pub mod TextCommands
-pub mod Words

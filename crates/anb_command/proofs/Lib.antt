@@ -1,0 +1,15 @@
+pub mod Answering
+pub mod Causes
+pub mod Chains
+pub mod Cutting
+pub mod Failing
+pub mod Lines
+pub mod Ones
+pub mod OverWire
+pub mod Preparing
+pub mod Prompt
+pub mod Runs
+pub mod Senders
+pub mod States
+pub mod Taking
+pub mod Written

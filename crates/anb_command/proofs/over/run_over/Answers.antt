@@ -1,0 +1,74 @@
+use Rattle.std.proofs.Common.{List, ℕ, true, subst, ap, refl, ◌≡◌}
+use Rattle.anb_base.specs.declared.place.Place.{Place}
+use Rattle.anb_machine.specs.ByteRuns.{run_bytes}
+use Rattle.anb_machine.specs.Machines.{gives}
+use Rattle.anb_plays.specs.Plays.{Played}
+use Rattle.anb_command.specs.OverWire.{OverWire}
+use Rattle.anb_command.specs.declared.status.Status.TheVariants.{Unreached}
+use Rattle.anb_command.proofs.OverWire.{left_unreached, no_memory, not_before, not_reached, ran, runs_after, runs_nowhere, taken_unreached, written_unreached}
+use Rattle.anb_command.proofs.Prompt.{prompt_after, prompt_nowhere, prompt_same}
+use Rattle.anb_command.proofs.over.run_over.Goals as goal
+
+pub returns-in-Ok-reach-clause-runs : goal.returns-in-Ok-reach-clause-runs
+returns-in-Ok-reach-clause-runs g c =
+    let p = c.args.prepared.now in
+    let machine = c.in-Ok-start.machine in
+    let same = subst (λ (init : List (List ℕ)). (arrivals : List (List ℕ)) → gives machine arrivals ≡ run_bytes p.code init p.seed 0 arrivals) c.as_slice-initial.ensures c.in-Ok-start.ensures.run in
+    runs_after c.in-Ok.place (g.W.Wire.state c.args.wire.now) (g.W.Wire.state c.reach.new.wire) c.in-Ok-reach.ensures.reached (gives machine) (run_bytes p.code p.initial p.seed 0) same
+    (g.W.Wire.state c.run_now.new.wire) c.run_now.result c.run_now.ensures.runs
+
+pub returns-in-Ok-reach-clause-prompt : goal.returns-in-Ok-reach-clause-prompt
+returns-in-Ok-reach-clause-prompt g c =
+    let p = c.args.prepared.now in
+    let machine = c.in-Ok-start.machine in
+    let same = subst (λ (init : List (List ℕ)). (arrivals : List (List ℕ)) → gives machine arrivals ≡ run_bytes p.code init p.seed 0 arrivals) c.as_slice-initial.ensures c.in-Ok-start.ensures.run in
+    prompt_same (gives machine) (run_bytes p.code p.initial p.seed 0) (λ arrivals. ap (λ (q : Played (List ℕ)). q.sent) (same arrivals)) (g.W.Wire.state c.args.wire.now) (g.W.Wire.state c.run_now.new.wire)
+    (prompt_after (gives machine) c.in-Ok.place (g.W.Wire.state c.args.wire.now) (g.W.Wire.state c.reach.new.wire) (g.W.Wire.state c.run_now.new.wire) c.in-Ok-reach.ensures.reached c.run_now.ensures.prompt)
+
+pub returns-in-Ok-reach-clause-wire : goal.returns-in-Ok-reach-clause-wire
+returns-in-Ok-reach-clause-wire g c =
+    subst (λ (place : Place). OverWire place true c.run_now.result (g.W.Wire.state c.args.wire.now) (g.W.Wire.state c.run_now.new.wire)) c.in-Ok.ensures
+    (ran c.in-Ok.place (g.W.Wire.state c.args.wire.now) (g.W.Wire.state c.reach.new.wire) c.in-Ok-reach.ensures.reached (g.W.Wire.state c.run_now.new.wire) c.run_now.ensures.reached
+    c.run_now.result c.run_now.ensures.after (c.run_now.ensures.cause c.in-Ok.place))
+
+pub returns-in-Ok-reach-clause-late : goal.returns-in-Ok-reach-clause-late
+returns-in-Ok-reach-clause-late g c =
+    not_before c.in-Ok.place (g.W.Wire.state c.args.wire.now) (g.W.Wire.state c.reach.new.wire) c.in-Ok-reach.ensures.reached (g.W.Wire.state c.run_now.new.wire) c.run_now.ensures.reached c.run_now.result c.run_now.ensures.after
+
+pub returns-in-Err-reach-clause-wire : goal.returns-in-Err-reach-clause-wire
+returns-in-Err-reach-clause-wire g c =
+    subst (λ (place : Place). OverWire place true (Unreached c.in-Ok.place) (g.W.Wire.state c.args.wire.now) (g.W.Wire.state c.reach.new.wire)) c.in-Ok.ensures
+    (not_reached c.in-Ok.place (g.W.Wire.state c.args.wire.now) (g.W.Wire.state c.reach.new.wire) c.in-Err-reach.ensures.failed true)
+
+pub returns-in-Err-reach-clause-runs : goal.returns-in-Err-reach-clause-runs
+returns-in-Err-reach-clause-runs g c = λ arrivals tail cut. (
+  left_unreached c.in-Ok.place (g.W.Wire.state c.args.wire.now) (g.W.Wire.state c.reach.new.wire) c.in-Err-reach.ensures.failed,
+  written_unreached c.in-Ok.place (g.W.Wire.state c.args.wire.now) (g.W.Wire.state c.reach.new.wire) c.in-Err-reach.ensures.failed,
+)
+
+pub returns-in-Err-reach-clause-prompt : goal.returns-in-Err-reach-clause-prompt
+returns-in-Err-reach-clause-prompt g c =
+    let p = c.args.prepared.now in
+    prompt_nowhere (run_bytes p.code p.initial p.seed 0) (g.W.Wire.state c.args.wire.now) (g.W.Wire.state c.reach.new.wire)
+    (left_unreached c.in-Ok.place (g.W.Wire.state c.args.wire.now) (g.W.Wire.state c.reach.new.wire) c.in-Err-reach.ensures.failed)
+    (taken_unreached c.in-Ok.place (g.W.Wire.state c.args.wire.now) (g.W.Wire.state c.reach.new.wire) c.in-Err-reach.ensures.failed)
+
+pub returns-in-Err-clause-runs : goal.returns-in-Err-clause-runs
+returns-in-Err-clause-runs g c = let p = c.args.prepared.now in runs_nowhere (run_bytes p.code p.initial p.seed 0) (g.W.Wire.state c.args.wire.now)
+
+pub returns-in-Err-clause-prompt : goal.returns-in-Err-clause-prompt
+returns-in-Err-clause-prompt g c =
+    let p = c.args.prepared.now in prompt_nowhere (run_bytes p.code p.initial p.seed 0) (g.W.Wire.state c.args.wire.now) (g.W.Wire.state c.args.wire.now) refl refl
+
+pub returns-in-Err-clause-wire : goal.returns-in-Err-clause-wire
+returns-in-Err-clause-wire g c = no_memory _ true (g.W.Wire.state c.args.wire.now)
+
+pub returns-in-Err-start-clause-runs : goal.returns-in-Err-start-clause-runs
+returns-in-Err-start-clause-runs g c = let p = c.args.prepared.now in runs_nowhere (run_bytes p.code p.initial p.seed 0) (g.W.Wire.state c.args.wire.now)
+
+pub returns-in-Err-start-clause-prompt : goal.returns-in-Err-start-clause-prompt
+returns-in-Err-start-clause-prompt g c =
+    let p = c.args.prepared.now in prompt_nowhere (run_bytes p.code p.initial p.seed 0) (g.W.Wire.state c.args.wire.now) (g.W.Wire.state c.args.wire.now) refl refl
+
+pub returns-in-Err-start-clause-wire : goal.returns-in-Err-start-clause-wire
+returns-in-Err-start-clause-wire g c = no_memory _ true (g.W.Wire.state c.args.wire.now)

@@ -1,0 +1,14 @@
+use Rattle.std.proofs.Common.{inr}
+use Rattle.anb_command.proofs.Chains.{told_map}
+use Rattle.anb_command.proofs.Failing.{IsFailure-map}
+use Rattle.anb_command.proofs.Preparing.{if_ok_map, if_err_map}
+use Rattle.anb_command.proofs.playable.playable_in_file.Goals as goal
+
+pub returns-in-Ok-clause-given : goal.returns-in-Ok-clause-given
+returns-in-Ok-clause-given g c =
+    if_ok_map c.playable_of.result _ _ (λ p is. told_map (g.F.Shelf.files c.args.shelf.now) (λ files f. inr (c.in-Ok.protocol, f, is)) c.in-Ok.ensures.given) c.playable_of.ensures.given
+
+pub returns-in-Ok-clause-refused : goal.returns-in-Ok-clause-refused
+returns-in-Ok-clause-refused g c =
+    if_err_map c.playable_of.result _ _ (λ s fails. IsFailure-map s _ _ _ _ (λ file never. absurd never)
+    (λ is. told_map (g.F.Shelf.files c.args.shelf.now) (λ files f. inr (c.in-Ok.protocol, f, is)) c.in-Ok.ensures.given) fails) c.playable_of.ensures.refused

@@ -1,0 +1,22 @@
+-- What the code's reading of the words stands for.
+use Rattle.std.specs.Prelude.{Option, Some, None}
+use Rattle.anb_base.specs.declared.place.Place.{Place}
+use Rattle.anb_base.specs.declared.place.Place.TheVariants as place
+use Rattle.anb_command.specs.declared.words.Command.{Command}
+use Rattle.anb_command.specs.declared.words.Command.TheVariants as command
+use Rattle.anb_command.specs.declared.words.Endpoint.{Endpoint}
+use Rattle.anb_command.specs.declared.words.Endpoint.TheVariants as endpoint
+use Rattle.anb_command.specs.Words.{Asked, fmt, describe, play, enact, help}
+
+abbrev pub place_by : Endpoint → Place
+place_by endpoint.Stdio = place.Stdio
+place_by (endpoint.Dial at timeout) = place.Dial at.now
+place_by (endpoint.Listen at timeout) = place.Listen at.now
+
+abbrev pub asked_by : Option Command → Option Asked
+asked_by None = None
+asked_by (Some (command.Fmt narration)) = Some (fmt narration.now)
+asked_by (Some (command.Describe text narration role)) = Some (describe text narration.now role.now)
+asked_by (Some (command.Play role)) = Some (play role.narration.now role.name.now role.values.now (place_by role.endpoint))
+asked_by (Some (command.Enact file)) = Some (enact file.code.now file.values.now (place_by file.endpoint))
+asked_by (Some command.Help) = Some help

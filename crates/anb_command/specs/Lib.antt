@@ -1,0 +1,20 @@
+pub mod Causes
+pub mod Errands
+pub mod Fetches
+pub mod Files
+pub mod Lines
+pub mod Outcomes
+pub mod Reaches
+pub mod Refusing
+pub mod Roles
+pub mod Seeds
+pub mod Statuses
+pub mod Steps
+pub mod Touches
+pub mod Words
+pub mod Writing
+-- for proofs alone
+pub mod Commands
+pub mod OverWire
+pub mod Pieces
+pub mod Prepared

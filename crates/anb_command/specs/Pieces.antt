@@ -1,0 +1,7 @@
+-- Pieces of text, one after another.
+use Rattle.std.specs.Prelude.{ℕ, List}
+use Rattle.std.specs.Borrow.{Bor}
+use Rattle.std.specs.List.{flat_map}
+
+abbrev pub joined : List (Bor (List ℕ)) → List ℕ
+joined pieces = flat_map (λ (piece : Bor (List ℕ)). piece.now) pieces

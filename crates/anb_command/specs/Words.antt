@@ -1,0 +1,99 @@
+-- The words that are accepted, and what they ask for.
+use Rattle.std.specs.Prelude.{ℕ, Bool, true, false, not, ◌&&◌, ◌==◌, nat_le, List, [], ◌∷◌, codes, bytes_eq, Option, Some, None, if◌then◌else◌}
+use Rattle.std.specs.Option.{option_map, option_map_or}
+use Rattle.anb_base.specs.declared.place.Place.{Place}
+use Rattle.anb_base.specs.declared.place.Place.TheVariants.{Stdio, Dial, Listen}
+use Rattle.anb_text.specs.Reading.{number_of}
+use Rattle.anb_command.specs.declared.words.RoleText.{RoleText}
+use Rattle.anb_command.specs.declared.words.RoleText.TheVariants.{RoleFile, Explanation}
+
+-- what a word list asks for: the names of its files as they are given, a role, and the place of the wire
+pub data Asked : Type 0 where
+  fmt : (narration : List ℕ) → Asked
+  describe : RoleText → (narration role : List ℕ) → Asked
+  play : (narration role values : List ℕ) → Place → Asked
+  enact : (code values : List ℕ) → Place → Asked
+  help : Asked
+
+-- a name may be any word that isn't empty and doesn't begin with `-`
+abbrev pub is_operand : List ℕ → Bool
+is_operand [] = false
+is_operand (first ∷ rest) = not (first == 45)
+
+-- seconds are a number from 1 to 86,400, in decimal without a sign or leading zeros
+abbrev pub are_seconds : List ℕ → Bool
+are_seconds text = option_map_or (λ n. nat_le 1 n && nat_le n 86400) (number_of text) false
+
+-- the place of a flag and where
+abbrev pub place_at : (flag at : List ℕ) → Option Place
+place_at flag at =
+    if not (is_operand at) then None
+    else if bytes_eq flag (codes "--dial") then Some (Dial at)
+    else if bytes_eq flag (codes "--listen") then Some (Listen at)
+    else None
+
+-- The place that the last words name: none, or `--dial` or `--listen` and where. Behind it may stand
+-- `--timeout` and seconds, on which no meaning depends.
+abbrev pub place_in : List (List ℕ) → Option Place
+place_in [] = Some Stdio
+place_in (flag ∷ at ∷ []) = place_at flag at
+place_in (flag ∷ at ∷ timeout ∷ seconds ∷ []) =
+    if bytes_eq timeout (codes "--timeout") && are_seconds seconds then place_at flag at else None
+place_in words = None
+
+abbrev pub fmt_in : List (List ℕ) → Option Asked
+fmt_in (narration ∷ []) = if is_operand narration then Some (fmt narration) else None
+fmt_in words = None
+
+abbrev pub describe_in : RoleText → List (List ℕ) → Option Asked
+describe_in text (narration ∷ role ∷ []) = if is_operand narration && is_operand role then Some (describe text narration role) else None
+describe_in text words = None
+
+abbrev pub play_in : List (List ℕ) → Option Asked
+play_in (narration ∷ role ∷ values ∷ place) =
+    if is_operand narration && is_operand role && is_operand values then option_map (play narration role values) (place_in place) else None
+play_in words = None
+
+abbrev pub enact_in : List (List ℕ) → Option Asked
+enact_in (code ∷ values ∷ place) =
+    if is_operand code && is_operand values then option_map (enact code values) (place_in place) else None
+enact_in words = None
+
+abbrev pub help_in : List (List ℕ) → Option Asked
+help_in [] = Some help
+help_in words = None
+
+abbrev pub asked_of : List (List ℕ) → Option Asked
+asked_of [] = None
+asked_of (command ∷ words) =
+    if bytes_eq command (codes "fmt") then fmt_in words
+    else if bytes_eq command (codes "compile") then describe_in RoleFile words
+    else if bytes_eq command (codes "explain") then describe_in Explanation words
+    else if bytes_eq command (codes "play") then play_in words
+    else if bytes_eq command (codes "enact") then enact_in words
+    else if bytes_eq command (codes "help") then help_in words
+    else None
+
+-- the files that are asked for, in the order in which they are fetched
+abbrev pub files_of : Option Asked → List (List ℕ)
+files_of None = []
+files_of (Some (fmt narration)) = narration ∷ []
+files_of (Some (describe text narration role)) = narration ∷ []
+files_of (Some (play narration role values place)) = narration ∷ values ∷ []
+files_of (Some (enact code values place)) = code ∷ values ∷ []
+files_of (Some help) = []
+
+-- the place that is reached
+abbrev pub place_of : Option Asked → Option Place
+place_of None = None
+place_of (Some (fmt narration)) = Some Stdio
+place_of (Some (describe text narration role)) = Some Stdio
+place_of (Some (play narration role values place)) = Some place
+place_of (Some (enact code values place)) = Some place
+place_of (Some help) = Some Stdio
+
+-- whether the input is read
+abbrev pub is_reading : Option Asked → Bool
+is_reading (Some (play narration role values place)) = true
+is_reading (Some (enact code values place)) = true
+is_reading asked = false

@@ -1,0 +1,247 @@
+//! Files, and what they hold.
+ghost use Rattle.std.specs.Prelude.{◌≡◌, ◌≢◌, ◌⊎◌, ◌≤◌, ℕ, List, [], ◌∷◌, length, AllPairs, IfOk, IfErr, All};
+ghost use Rattle.anb_base.specs.declared.TheConstants.{ARRIVAL};
+ghost use Rattle.std.specs.List.{AllByRecursion};
+ghost use Rattle.anb_base.specs.Bytes.{IsBytes};
+ghost use Rattle.anb_base.specs.Moves.{Rose};
+ghost use Rattle.anb_syntax.specs.Grammar.{IsSpellable};
+ghost use Rattle.anb_syntax.specs.Sizes.{size};
+ghost use Rattle.anb_syntax.specs.Views.{narration_of};
+ghost use Rattle.anb_command.specs.Fetches.{Fetches, IfTold};
+ghost use Rattle.anb_command.specs.Files.{CodeInFile, CodeIs, HasFile, HasLonger, NarrationIs, NarrationInFile, ProtocolIs, ProtocolInFile, ValuesAre, ValuesInFile};
+ghost use Rattle.anb_command.specs.Statuses.{IsEarly};
+ghost use Rattle.anb_command.specs.Steps.{IsFailure, refused, given};
+ghost use Rattle.anb_command.specs.declared.status.Status.TheVariants as status;
+
+use crate::{NARRATION_LIMIT, NarrationNo, ROLE_FILE_LIMIT, Status, VALUES_LIMIT};
+use anb_base::{Bytes, NoMemory, Shelf, ShelfNo, Text};
+use anb_code::RoleCode;
+use anb_read::{ReadNo, read};
+use anb_resolve::{Protocol, ResolveNo, resolve, small_is_countable};
+use anb_syntax::Narration;
+use anb_text::{LoadNo, load};
+use anb_values::{Fitted, ValuesNo, values};
+use std::alloc::Global;
+
+/// The file of this name, where it has at most `limit` bytes.
+fn fetch_file<F: Shelf>(
+    alloc: Global,
+    shelf: &mut F,
+    name: &Text,
+    limit: u32,
+) -> Result<Bytes, Status>
+    ensures file { IfOk result (λ text. IfTold (F.files shelf.old) (λ files.
+        HasFile files name.now limit text)) }
+    ensures within { IfOk result (λ text. length text ≤ limit) }
+    ensures err { IfErr result (λ why. IsFailure why
+        (λ file. (file ≡ name.now) × Rose (F.faults shelf.old file) (F.faults shelf.new file))
+        ((why ≡ status.FileLong name.now)
+        × IfTold (F.files shelf.old) (λ files. HasLonger files name.now limit))) }
+    ensures fetches { Fetches (name.now ∷ [])
+        (F.files shelf.old) (F.files shelf.new) (F.faults shelf.old) (F.faults shelf.new) }
+{
+    match shelf.fetch(alloc, name.as_str(), limit) {
+        Ok(text) => Ok(text),
+        Err(ShelfNo::Failed) => Err(file_fault(alloc, name)),
+        Err(ShelfNo::Long) => Err(file_long(alloc, name)),
+        Err(ShelfNo::NoMemory) => Err(Status::NoMemory),
+    }
+}
+
+/// The status of a file that couldn't be read.
+fn file_fault(alloc: Global, name: &Text) -> Status
+    ensures { (result ≡ status.FileFault name.now) ⊎ (result ≡ status.NoMemory) }
+{
+    match name.copy(alloc) {
+        Ok(name) => Status::FileFault(name),
+        Err(NoMemory) => Status::NoMemory,
+    }
+}
+
+/// The status of a file that is too long.
+fn file_long(alloc: Global, name: &Text) -> Status
+    ensures { (result ≡ status.FileLong name.now) ⊎ (result ≡ status.NoMemory) }
+{
+    match name.copy(alloc) {
+        Ok(name) => Status::FileLong(name),
+        Err(NoMemory) => Status::NoMemory,
+    }
+}
+
+/// The narration in the file.
+pub fn narration_in_file<F: Shelf>(
+    alloc: Global,
+    shelf: &mut F,
+    name: &Text,
+) -> Result<Narration, Status>
+    ensures given { IfOk result (λ n. IfTold (F.files shelf.old) (λ files.
+        NarrationInFile files name.now (given (narration_of n)))) }
+    ensures spellable { IfOk result (λ n. IsSpellable (narration_of n)) }
+    ensures small { IfOk result (λ n. size (narration_of n) ≤ NARRATION_LIMIT) }
+    ensures refused { IfErr result (λ status. IsFailure status
+        (λ file. (file ≡ name.now) × Rose (F.faults shelf.old file) (F.faults shelf.new file))
+        (IfTold (F.files shelf.old) (λ files. NarrationInFile files name.now (refused status)))) }
+    ensures early { IfErr result IsEarly }
+    ensures fetches { Fetches (name.now ∷ [])
+        (F.files shelf.old) (F.files shelf.new) (F.faults shelf.old) (F.faults shelf.new) }
+{
+    match fetch_file(alloc, shelf, name, NARRATION_LIMIT) {
+        Ok(text) => narration_of_text(alloc, text.as_slice()),
+        Err(status) => Err(status),
+    }
+}
+
+/// The narration that the text is.
+fn narration_of_text(alloc: Global, text: &[u8]) -> Result<Narration, Status>
+    requires { length text.now ≤ NARRATION_LIMIT }
+    ensures given { IfOk result (λ n. NarrationIs text.now (given (narration_of n))) }
+    ensures spellable { IfOk result (λ n. IsSpellable (narration_of n)) }
+    ensures small { IfOk result (λ n. size (narration_of n) ≤ NARRATION_LIMIT) }
+    ensures refused { IfErr result (λ status. IsFailure status (λ file. ⊥)
+        (NarrationIs text.now (refused status))) }
+    ensures early { IfErr result IsEarly }
+{
+    match read(alloc, text) {
+        Ok(narration) => Ok(narration),
+        Err(ReadNo::NoMemory) => Err(Status::NoMemory),
+        Err(why) => Err(Status::BadNarration(NarrationNo::Read(why))),
+    }
+}
+
+/// The protocol in the file.
+pub fn protocol_in_file<F: Shelf>(
+    alloc: Global,
+    shelf: &mut F,
+    name: &Text,
+) -> Result<Protocol, Status>
+    ensures given { IfOk result (λ p. IfTold (F.files shelf.old) (λ files.
+        ProtocolInFile files name.now (given p))) }
+    ensures refused { IfErr result (λ status. IsFailure status
+        (λ file. (file ≡ name.now) × Rose (F.faults shelf.old file) (F.faults shelf.new file))
+        (IfTold (F.files shelf.old) (λ files. ProtocolInFile files name.now (refused status)))) }
+    ensures early { IfErr result IsEarly }
+    ensures fetches { Fetches (name.now ∷ [])
+        (F.files shelf.old) (F.files shelf.new) (F.faults shelf.old) (F.faults shelf.new) }
+{
+    match narration_in_file(alloc, shelf, name) {
+        Ok(narration) => protocol_of_narration(alloc, &narration),
+        Err(status) => Err(status),
+    }
+}
+
+/// The protocol that the narration tells.
+fn protocol_of_narration(alloc: Global, narration: &Narration) -> Result<Protocol, Status>
+    requires spellable { IsSpellable (narration_of narration.now) }
+    requires small { size (narration_of narration.now) ≤ NARRATION_LIMIT }
+    ensures given { IfOk result (λ p. ProtocolIs (narration_of narration.now) (given p)) }
+    ensures refused { IfErr result (λ status. IsFailure status (λ file. ⊥)
+        (ProtocolIs (narration_of narration.now) (refused status))) }
+    ensures early { IfErr result IsEarly }
+{
+    small_is_countable();
+    match resolve(alloc, narration) {
+        Ok(protocol) => Ok(protocol),
+        Err(ResolveNo::NoMemory) => Err(Status::NoMemory),
+        Err(why) => Err(Status::BadNarration(NarrationNo::Resolve(why))),
+    }
+}
+
+/// The code in the role file.
+pub fn code_in_file<F: Shelf>(alloc: Global, shelf: &mut F, name: &Text) -> Result<RoleCode, Status>
+    ensures given { IfOk result (λ code. IfTold (F.files shelf.old) (λ files.
+        CodeInFile files name.now (given code))) }
+    ensures refused { IfErr result (λ status. IsFailure status
+        (λ file. (file ≡ name.now) × Rose (F.faults shelf.old file) (F.faults shelf.new file))
+        (IfTold (F.files shelf.old) (λ files. CodeInFile files name.now (refused status)))) }
+    ensures early { IfErr result IsEarly }
+    ensures fetches { Fetches (name.now ∷ [])
+        (F.files shelf.old) (F.files shelf.new) (F.faults shelf.old) (F.faults shelf.new) }
+{
+    match fetch_file(alloc, shelf, name, ROLE_FILE_LIMIT) {
+        Ok(text) => code_of_text(alloc, text.as_slice()),
+        Err(status) => Err(status),
+    }
+}
+
+/// The code that the text is a role file of.
+fn code_of_text(alloc: Global, text: &[u8]) -> Result<RoleCode, Status>
+    requires { length text.now ≤ ROLE_FILE_LIMIT }
+    ensures given { IfOk result (λ code. CodeIs text.now (given code)) }
+    ensures refused { IfErr result (λ status. IsFailure status (λ file. ⊥)
+        (CodeIs text.now (refused status))) }
+    ensures early { IfErr result IsEarly }
+{
+    match load(alloc, text) {
+        Ok(code) => {
+            let _ = code.instrs();
+            Ok(code)
+        }
+        Err(LoadNo::NoMemory) => Err(Status::NoMemory),
+        Err(why) => Err(Status::BadRoleFile(why)),
+    }
+}
+
+/// What the file gives for the names.
+pub fn values_in_file<F: Shelf>(
+    alloc: Global,
+    shelf: &mut F,
+    name: &Text,
+    names: &[Text],
+) -> Result<Fitted, Status>
+    requires { AllPairs (λ (one other : List ℕ). one ≢ other) names.now }
+    ensures given { IfOk result (λ fitted. IfTold (F.files shelf.old) (λ files.
+        ValuesInFile files name.now names.now (given fitted))) }
+    ensures each { IfOk result (λ fitted. length fitted.values ≡ length names.now) }
+    ensures bytes { IfOk result (λ fitted. AllByRecursion IsBytes fitted.values) }
+    ensures short { IfOk result (λ fitted. All (λ value. length value ≤ ARRIVAL) fitted.values) }
+    ensures refused { IfErr result (λ status. IsFailure status
+        (λ file. (file ≡ name.now) × Rose (F.faults shelf.old file) (F.faults shelf.new file))
+        (IfTold (F.files shelf.old) (λ files.
+        ValuesInFile files name.now names.now (refused status)))) }
+    ensures early { IfErr result IsEarly }
+    ensures fetches { Fetches (name.now ∷ [])
+        (F.files shelf.old) (F.files shelf.new) (F.faults shelf.old) (F.faults shelf.new) }
+{
+    match fetch_file(alloc, shelf, name, VALUES_LIMIT) {
+        Ok(text) => values_of_text(alloc, text.as_slice(), names),
+        Err(status) => Err(status),
+    }
+}
+
+/// What the text gives for the names.
+fn values_of_text(alloc: Global, text: &[u8], names: &[Text]) -> Result<Fitted, Status>
+    requires size { length text.now ≤ VALUES_LIMIT }
+    requires differ { AllPairs (λ (one other : List ℕ). one ≢ other) names.now }
+    ensures given { IfOk result (λ fitted. ValuesAre names.now text.now (given fitted)) }
+    ensures each { IfOk result (λ fitted. length fitted.values ≡ length names.now) }
+    ensures bytes { IfOk result (λ fitted. AllByRecursion IsBytes fitted.values) }
+    ensures short { IfOk result (λ fitted. All (λ value. length value ≤ ARRIVAL) fitted.values) }
+    ensures refused { IfErr result (λ status. IsFailure status (λ file. ⊥)
+        (ValuesAre names.now text.now (refused status))) }
+    ensures early { IfErr result IsEarly }
+{
+    match values(alloc, text, names) {
+        Ok(fitted) => {
+            all_bytes(fitted.values.as_slice());
+            Ok(fitted)
+        }
+        Err(ValuesNo::NoMemory) => Err(Status::NoMemory),
+        Err(why) => Err(Status::BadValues(why)),
+    }
+}
+
+/// A law: these are strings of bytes.
+fn all_bytes(values: &[Bytes])
+    ensures { AllByRecursion IsBytes values.now }
+{
+    for value in values {
+        are_bytes(value.as_slice());
+    }
+}
+
+/// A law: a slice of bytes is a string of bytes.
+fn are_bytes(bytes: &[u8])
+    ensures { IsBytes bytes.now }
+{
+    let _ = bytes;
+}

@@ -1,0 +1,41 @@
+//! Reaching the place of the words, and writing there.
+ghost use Rattle.std.specs.Prelude.{OnOk, OnErr};
+ghost use Rattle.anb_base.specs.Moves.{Rose, Put, PutPrefix};
+ghost use Rattle.anb_command.specs.OverWire.{DidNotReach, HasReached, OnlyWrites};
+
+use anb_base::{Failed, Place, Wire, write_whole};
+
+/// Reaches the place. Reaching it, and each wait from then on, may take so many seconds.
+pub(crate) fn reach<W: Wire>(
+    wire: &mut W,
+    place: &Place,
+    timeout: Option<u32>,
+) -> Result<(), Failed>
+    ensures reached { OnOk result (HasReached place.now (W.state wire.old) (W.state wire.new)) }
+    ensures failed { OnErr result (DidNotReach (W.state wire.old) (W.state wire.new)) }
+{
+    if let Some(seconds) = timeout {
+        wire.wait_at_most(seconds);
+    }
+    reach_now(wire, place)
+}
+
+fn reach_now<W: Wire>(wire: &mut W, place: &Place) -> Result<(), Failed>
+    ensures reached { OnOk result (HasReached place.now (W.state wire.old) (W.state wire.new)) }
+    ensures failed { OnErr result (DidNotReach (W.state wire.old) (W.state wire.new)) }
+{
+    wire.reach(place)
+}
+
+/// Writes the text to a wire that was reached.
+pub(crate) fn write_now<W: Wire>(wire: &mut W, text: &[u8]) -> Result<(), Failed>
+    ensures put { OnOk result
+        (Put (W.state wire.old).written (W.state wire.new).written text.now) }
+    ensures failed { OnErr result
+        (PutPrefix (W.state wire.old).written (W.state wire.new).written text.now) }
+    ensures cause { OnErr result
+        (Rose (W.state wire.old).write_faults (W.state wire.new).write_faults) }
+    ensures only { OnlyWrites (W.state wire.old) (W.state wire.new) }
+{
+    write_whole(wire, text)
+}

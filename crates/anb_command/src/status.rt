@@ -1,0 +1,345 @@
+//! Statuses: why a command did its work or didn't, their numbers and their lines.
+ghost use Rattle.std.specs.Prelude.{◌≡◌, ◌++◌};
+ghost use Rattle.anb_command.specs.Statuses.{instruction_text, item_text, kind_text, where_text, why_ill_formed, why_misshapen, why_unaccepted, why_unfit, why_unloaded, why_unread};
+
+use anb_base::{NoMemory, Place, Text};
+use anb_code::CodeNo;
+use anb_format::FormatNo;
+pub use anb_machine::Halt;
+use anb_read::ReadNo;
+use anb_resolve::{Item, Kind, ResolveNo};
+use anb_text::LoadNo;
+use anb_values::ValuesNo;
+use itoa::Buffer;
+
+/// Why a file holds no narration to work with.
+#[derive(Debug, Drop)]
+pub enum NarrationNo {
+    /// The text is no narration.
+    Read(ReadNo),
+    /// The narration isn't well formed.
+    Resolve(ResolveNo),
+}
+
+/// How a command ended.
+#[derive(Debug, Drop)]
+pub enum Status {
+    /// The command did its whole work.
+    Done,
+    /// The words fit no command.
+    Usage,
+    /// The file of this name couldn't be read.
+    FileFault(Text),
+    /// The file of this name has more bytes than a file of its kind may have.
+    FileLong(Text),
+    /// The narration file holds none.
+    BadNarration(NarrationNo),
+    /// No role of the narration has this name.
+    NoRole(Text),
+    /// The first action, numbered from 1, whose message its sender can't compose.
+    CannotSend { action: u32, role: Text },
+    /// The values file doesn't fit.
+    BadValues(ValuesNo),
+    /// The role makes a name, and there is no seed.
+    NoSeed,
+    /// The place of the words couldn't be reached.
+    Unreached(Place),
+    /// The checks of the role failed at this event, and at this instruction where a code is enacted.
+    Stopped(Halt),
+    /// The input ended before the arrival of this event.
+    Waiting(u32),
+    /// The input ended within a frame, which has `need` bytes with its length, after `have` of them.
+    /// Where the length isn't whole, `need` is 4.
+    Truncated { have: u64, need: u64 },
+    /// A frame has this length, which is too much.
+    TooLarge(u32),
+    /// Reading from the wire failed.
+    ReadFault,
+    /// Writing to the wire failed.
+    WriteFault,
+    /// The role file gives no code.
+    BadRoleFile(LoadNo),
+    /// No memory was left.
+    NoMemory,
+}
+
+impl From<NoMemory> for Status {
+    ghost use Rattle.std.specs.Prelude.{◌≡◌};
+    ghost use Rattle.anb_command.specs.declared.status.Status.TheVariants.{NoMemory};
+
+    ghost from_gives = { λ _ status. status ≡ NoMemory };
+
+    fn from(_none: NoMemory) -> Self {
+        Status::NoMemory
+    }
+}
+
+/// A text in pieces.
+pub type Pieces<'a> = (&'a str, &'a str, &'a str, &'a str, &'a str);
+
+/// Room for the digits of the two numbers that a line may have.
+#[derive(Drop)]
+pub struct Digits {
+    first: Buffer,
+    second: Buffer,
+}
+
+impl Digits {
+    pub fn new() -> Self {
+        Digits {
+            first: Buffer::new(),
+            second: Buffer::new(),
+        }
+    }
+}
+
+impl Status {
+    ghost use Rattle.std.specs.Prelude.{◌≡◌, ◌++◌};
+    ghost use Rattle.anb_command.specs.Statuses.{number_of, text_of};
+
+    /// The exit status of the program.
+    pub fn number(&self) -> u8
+        ensures { result ≡ number_of self.now }
+    {
+        match self {
+            Status::Done => 0,
+            Status::Usage => 1,
+            Status::FileFault(_) => 2,
+            Status::FileLong(_) => 3,
+            Status::BadNarration(_) => 4,
+            Status::NoRole(_) => 5,
+            Status::CannotSend { .. } => 6,
+            Status::BadValues(_) => 7,
+            Status::NoSeed => 8,
+            Status::Unreached(_) => 9,
+            Status::Stopped(_) => 10,
+            Status::Waiting(_) => 11,
+            Status::Truncated { .. } => 12,
+            Status::TooLarge(_) => 13,
+            Status::ReadFault => 14,
+            Status::WriteFault => 15,
+            Status::BadRoleFile(_) => 16,
+            Status::NoMemory => 99,
+        }
+    }
+
+    /// What the status says, in pieces. The digits hold those that are numbers.
+    pub fn pieces<'a>(&'a self, digits: &'a mut Digits) -> Pieces<'a>
+        ensures { text_of self.now ≡
+            result.0.now ++ (result.1.now ++ (result.2.now ++ (result.3.now ++ result.4.now))) }
+    {
+        let Digits { first, second } = digits;
+        match self {
+            Status::Done => ("", "", "", "", ""),
+            Status::Usage => ("the words fit no command", "", "", "", ""),
+            Status::FileFault(name) => ("can't read ", name.as_str(), "", "", ""),
+            Status::FileLong(name) => (name.as_str(), " is too long", "", "", ""),
+            Status::BadNarration(why) => {
+                let (a, b, c, d) = why.pieces(first);
+                ("narration: ", a, b, c, d)
+            }
+            Status::NoRole(name) => ("no role ", name.as_str(), "", "", ""),
+            Status::CannotSend { action, role } => (
+                role.as_str(),
+                " can't compose the message of action ",
+                first.format(*action),
+                "",
+                "",
+            ),
+            Status::BadValues(why) => {
+                let (what, which) = unfit(why, first);
+                ("values: ", what, which, "", "")
+            }
+            Status::NoSeed => ("no seed", "", "", "", ""),
+            Status::Unreached(place) => ("can't reach ", where_text(place), "", "", ""),
+            Status::Stopped(halt) => {
+                let (what, which) = instruction(halt.at, second);
+                (
+                    "stopped at event ",
+                    first.format(halt.event),
+                    what,
+                    which,
+                    "",
+                )
+            }
+            Status::Waiting(event) => ("waiting at event ", first.format(*event), "", "", ""),
+            Status::Truncated { have, need } => (
+                "input ends after ",
+                first.format(*have),
+                " of ",
+                second.format(*need),
+                " bytes",
+            ),
+            Status::TooLarge(len) => ("a frame of ", first.format(*len), " bytes", "", ""),
+            Status::ReadFault => ("read failed", "", "", "", ""),
+            Status::WriteFault => ("write failed", "", "", "", ""),
+            Status::BadRoleFile(why) => {
+                let (what, which, is) = unloaded(*why, first);
+                ("role file: ", what, which, is, "")
+            }
+            Status::NoMemory => ("no memory", "", "", "", ""),
+        }
+    }
+}
+
+impl NarrationNo {
+    ghost use Rattle.std.specs.Prelude.{◌≡◌, ◌++◌};
+    ghost use Rattle.anb_command.specs.Statuses.{why_bad};
+
+    /// Why the file holds no narration.
+    fn pieces<'a>(&'a self, digits: &'a mut Buffer) -> (&'a str, &'a str, &'a str, &'a str)
+        ensures { why_bad self.now ≡
+            result.0.now ++ (result.1.now ++ (result.2.now ++ result.3.now)) }
+    {
+        match self {
+            NarrationNo::Read(why) => {
+                let (what, at) = unread(*why, digits);
+                (what, at, "", "")
+            }
+            NarrationNo::Resolve(why) => ill_formed(why, digits),
+        }
+    }
+}
+
+/// Why a text is no narration, and where.
+fn unread(why: ReadNo, digits: &mut Buffer) -> (&str, &str)
+    ensures { why_unread why ≡ result.0.now ++ result.1.now }
+{
+    match why {
+        ReadNo::Token { at } => ("no token at ", digits.format(at)),
+        ReadNo::Grammar { at } => ("unexpected at ", digits.format(at)),
+        ReadNo::Deep { at } => ("too deep at ", digits.format(at)),
+        ReadNo::NoMemory => ("no memory", ""),
+    }
+}
+
+/// Why a narration isn't well formed.
+fn ill_formed<'a>(
+    why: &'a ResolveNo,
+    digits: &'a mut Buffer,
+) -> (&'a str, &'a str, &'a str, &'a str)
+    ensures { why_ill_formed why.now ≡
+        result.0.now ++ (result.1.now ++ (result.2.now ++ result.3.now)) }
+{
+    match why {
+        ResolveNo::Limit(kind, count) => {
+            ("too many ", kind_text(*kind), ": ", digits.format(*count))
+        }
+        ResolveNo::Twice(name) => (name.as_str(), " twice", "", ""),
+        ResolveNo::Unknown(name) => (name.as_str(), " unknown", "", ""),
+        ResolveNo::WrongSort(name) => (name.as_str(), " has the wrong sort", "", ""),
+        ResolveNo::WrongCount(name) => (name.as_str(), " has the wrong count", "", ""),
+        ResolveNo::FormatShape(name, why) => {
+            let (what, at) = misshapen(*why, digits);
+            (name.as_str(), what, at, "")
+        }
+        ResolveNo::Overlap(f, g) => (f.as_str(), " and ", g.as_str(), " overlap"),
+        ResolveNo::SelfSend(n) => ("action ", digits.format(*n), " goes to its sender", ""),
+        ResolveNo::KnowledgeTwice(role, term) => {
+            (role.as_str(), " knows ", term.as_str(), " twice")
+        }
+        ResolveNo::Wide(what) => {
+            let (kind, which) = item(what, digits);
+            (kind, which, " is too wide", "")
+        }
+        ResolveNo::NoMemory => ("no memory", "", "", ""),
+    }
+}
+
+fn kind_text(kind: Kind) -> &'static str
+    ensures { result.now ≡ kind_text kind }
+{
+    match kind {
+        Kind::Name => "bytes in a name",
+        Kind::Formats => "formats",
+        Kind::Fields => "fields",
+        Kind::Roles => "roles",
+        Kind::Actions => "actions",
+        Kind::TermNodes => "nodes in a term",
+        Kind::AllNodes => "nodes",
+    }
+}
+
+/// Why a format's pieces make none.
+fn misshapen(why: FormatNo, digits: &mut Buffer) -> (&str, &str)
+    ensures { why_misshapen why ≡ result.0.now ++ result.1.now }
+{
+    match why {
+        FormatNo::NoHead => (" has no head", ""),
+        FormatNo::RestNotLast(at) => (" has a rest at ", digits.format(at)),
+    }
+}
+
+/// Where a term stands.
+fn item<'a>(what: &'a Item, digits: &'a mut Buffer) -> (&'a str, &'a str)
+    ensures { item_text what.now ≡ result.0.now ++ result.1.now }
+{
+    match what {
+        Item::Know(role) => ("knowledge of ", role.as_str()),
+        Item::Action(n) => ("action ", digits.format(*n)),
+    }
+}
+
+/// Why a values file doesn't fit.
+fn unfit<'a>(why: &'a ValuesNo, digits: &'a mut Buffer) -> (&'a str, &'a str)
+    ensures { why_unfit why.now ≡ result.0.now ++ result.1.now }
+{
+    match why {
+        ValuesNo::Line(n) => ("line ", digits.format(*n)),
+        ValuesNo::Extra(name) => (name.as_str(), " isn't asked for"),
+        ValuesNo::Twice(name) => (name.as_str(), " twice"),
+        ValuesNo::Long(name) => (name.as_str(), " is too long"),
+        ValuesNo::Missing(name) => (name.as_str(), " is missing"),
+        ValuesNo::NoMemory => ("no memory", ""),
+    }
+}
+
+/// Why a role file gives no code.
+fn unloaded(why: LoadNo, digits: &mut Buffer) -> (&str, &str, &str)
+    ensures { why_unloaded why ≡ result.0.now ++ (result.1.now ++ result.2.now) }
+{
+    match why {
+        LoadNo::Line(n) => ("line ", digits.format(n), ""),
+        LoadNo::Code(why) => unaccepted(why, digits),
+        LoadNo::NoMemory => ("no memory", "", ""),
+    }
+}
+
+/// Why a code isn't accepted.
+fn unaccepted(why: CodeNo, digits: &mut Buffer) -> (&str, &str, &str)
+    ensures { why_unaccepted why ≡ result.0.now ++ (result.1.now ++ result.2.now) }
+{
+    match why {
+        CodeNo::Many(f) => ("format ", digits.format(f), " is too much"),
+        CodeNo::Twice(f) => ("format ", digits.format(f), " has an earlier name"),
+        CodeNo::Shape(f, _) => ("format ", digits.format(f), " has no shape"),
+        CodeNo::Late(at) => ("instruction ", digits.format(at), ": late take"),
+        CodeNo::TakeTwice(at) => ("instruction ", digits.format(at), ": take twice"),
+        CodeNo::BadFormat(at) => ("instruction ", digits.format(at), ": bad format"),
+        CodeNo::Unwritten(at) => ("instruction ", digits.format(at), ": unwritten"),
+        CodeNo::Order(at) => ("instruction ", digits.format(at), ": out of order"),
+        CodeNo::Wide(at) => ("instruction ", digits.format(at), ": too wide"),
+        CodeNo::NoMemory => ("no memory", "", ""),
+    }
+}
+
+/// At which instruction a run stopped, where that is told.
+fn instruction(at: u32, digits: &mut Buffer) -> (&str, &str)
+    ensures { instruction_text at ≡ result.0.now ++ result.1.now }
+{
+    if at == 0 {
+        ("", "")
+    } else {
+        (", instruction ", digits.format(at))
+    }
+}
+
+fn where_text(place: &Place) -> &str
+    ensures { result.now ≡ where_text place.now }
+{
+    match place {
+        Place::Stdio => "stdio",
+        Place::Dial(at) => at.as_str(),
+        Place::Listen(at) => at.as_str(),
+    }
+}

@@ -1,0 +1,25 @@
+//! Writing one text.
+ghost use Rattle.std.specs.Prelude.{false};
+ghost use Rattle.anb_base.specs.declared.place.Place.TheVariants as place;
+ghost use Rattle.anb_command.specs.OverWire.{OverWire};
+ghost use Rattle.anb_command.specs.Writing.{IsWritten};
+
+use crate::Status;
+use crate::reach::{reach, write_now};
+use anb_base::{Failed, Place, Wire};
+
+/// Writes the text to the standard streams.
+pub fn write_text<W: Wire>(wire: &mut W, text: &[u8]) -> Status
+    ensures writes { IsWritten text.now result
+        (W.state wire.old).written (W.state wire.new).written }
+    ensures wire { OverWire place.Stdio false result (W.state wire.old) (W.state wire.new) }
+{
+    match reach(wire, &Place::Stdio, None) {
+        Ok(()) => {}
+        Err(Failed) => return Status::Unreached(Place::Stdio),
+    }
+    match write_now(wire, text) {
+        Ok(()) => Status::Done,
+        Err(Failed) => Status::WriteFault,
+    }
+}

@@ -1,0 +1,246 @@
+//! The words of a command, and what they ask for.
+ghost use Rattle.std.specs.Prelude.{◌≡◌, ◌<◌, ◌^◌, ℕ, decimal, is_some};
+ghost use Rattle.anb_text.specs.Reading.{number_of};
+ghost use Rattle.anb_command.specs.Words.{are_seconds, is_operand};
+
+use anb_base::{NoMemory, Place, Text};
+use itoa::Buffer;
+use std::alloc::Global;
+
+/// What the words ask for.
+pub enum Command<'w> {
+    Fmt {
+        narration: &'w Text,
+    },
+    Describe {
+        kind: RoleText,
+        narration: &'w Text,
+        role: &'w Text,
+    },
+    Play(PlayWords<'w>),
+    Enact(EnactWords<'w>),
+    Help,
+}
+
+/// What is written of a role.
+#[derive(Clone, Copy, Debug, PartialEq, Eq, Drop)]
+pub enum RoleText {
+    /// The role file of its code.
+    RoleFile,
+    /// Its plan and its code, with the terms of the registers.
+    Explanation,
+}
+
+/// What is asked of `play`: the names of the files and of the role, and the place.
+#[derive(Clone, Copy)]
+pub struct PlayWords<'w> {
+    pub narration: &'w Text,
+    pub name: &'w Text,
+    pub values: &'w Text,
+    pub endpoint: Endpoint<'w>,
+}
+
+/// What is asked of `enact`: the names of the files, and the place.
+#[derive(Clone, Copy)]
+pub struct EnactWords<'w> {
+    pub code: &'w Text,
+    pub values: &'w Text,
+    pub endpoint: Endpoint<'w>,
+}
+
+/// The place that the words name, and the most seconds that reaching it or a single wait may take.
+#[derive(Clone, Copy)]
+pub enum Endpoint<'w> {
+    Stdio,
+    Dial(&'w Text, Option<u32>),
+    Listen(&'w Text, Option<u32>),
+}
+
+impl<'w> Command<'w> {
+    ghost use Rattle.std.specs.Prelude.{◌≡◌};
+    ghost use Rattle.anb_command.specs.Commands.{asked_by};
+    ghost use Rattle.anb_command.specs.Words.{asked_of, enact_in, fmt_in, help_in, play_in, describe_in};
+
+    /// Reads a whole word list.
+    pub fn read(words: &'w [Text]) -> Option<Self>
+        ensures { asked_by result ≡ asked_of words.now }
+    {
+        let [command, words @ ..] = words else {
+            return None;
+        };
+        match command.as_str() {
+            "fmt" => Self::read_fmt(words),
+            "compile" => Self::read_describe(RoleText::RoleFile, words),
+            "explain" => Self::read_describe(RoleText::Explanation, words),
+            "play" => Self::read_play(words),
+            "enact" => Self::read_enact(words),
+            "help" => Self::read_help(words),
+            _ => None,
+        }
+    }
+
+    fn read_fmt(words: &'w [Text]) -> Option<Self>
+        ensures { asked_by result ≡ fmt_in words.now }
+    {
+        match words {
+            [narration] if is_operand(narration) => Some(Command::Fmt { narration }),
+            _ => None,
+        }
+    }
+
+    fn read_describe(kind: RoleText, words: &'w [Text]) -> Option<Self>
+        ensures { asked_by result ≡ describe_in kind words.now }
+    {
+        match words {
+            [narration, role] if is_operand(narration) && is_operand(role) => {
+                Some(Command::Describe {
+                    kind,
+                    narration,
+                    role,
+                })
+            }
+            _ => None,
+        }
+    }
+
+    fn read_play(words: &'w [Text]) -> Option<Self>
+        ensures { asked_by result ≡ play_in words.now }
+    {
+        let [narration, name, values, place @ ..] = words else {
+            return None;
+        };
+        if !(is_operand(narration) && is_operand(name) && is_operand(values)) {
+            return None;
+        }
+        let endpoint = Endpoint::read(place)?;
+        Some(Command::Play(PlayWords {
+            narration,
+            name,
+            values,
+            endpoint,
+        }))
+    }
+
+    fn read_enact(words: &'w [Text]) -> Option<Self>
+        ensures { asked_by result ≡ enact_in words.now }
+    {
+        let [code, values, place @ ..] = words else {
+            return None;
+        };
+        if !(is_operand(code) && is_operand(values)) {
+            return None;
+        }
+        let endpoint = Endpoint::read(place)?;
+        Some(Command::Enact(EnactWords {
+            code,
+            values,
+            endpoint,
+        }))
+    }
+
+    fn read_help(words: &'w [Text]) -> Option<Self>
+        ensures { asked_by result ≡ help_in words.now }
+    {
+        match words {
+            [] => Some(Command::Help),
+            _ => None,
+        }
+    }
+}
+
+impl<'w> Endpoint<'w> {
+    ghost use Rattle.std.specs.Prelude.{◌≡◌, IfOk};
+    ghost use Rattle.std.specs.Option.{option_map};
+    ghost use Rattle.anb_command.specs.Commands.{place_by};
+    ghost use Rattle.anb_command.specs.Words.{place_at, place_in};
+
+    /// Reads the words at the end of a command that has a place.
+    fn read(words: &'w [Text]) -> Option<Self>
+        ensures { option_map place_by result ≡ place_in words.now }
+    {
+        match words {
+            [] => Some(Endpoint::Stdio),
+            [flag, at] => Self::at(flag, at, None),
+            [flag, at, timeout, seconds] if timeout.as_str() == "--timeout" => {
+                let seconds = read_seconds(seconds)?;
+                Self::at(flag, at, Some(seconds))
+            }
+            _ => None,
+        }
+    }
+
+    /// The place of a flag and where.
+    fn at(flag: &Text, at: &'w Text, timeout: Option<u32>) -> Option<Self>
+        ensures { option_map place_by result ≡ place_at flag.now at.now }
+    {
+        if !is_operand(at) {
+            return None;
+        }
+        match flag.as_str() {
+            "--dial" => Some(Endpoint::Dial(at, timeout)),
+            "--listen" => Some(Endpoint::Listen(at, timeout)),
+            _ => None,
+        }
+    }
+
+    /// The place, in memory of its own.
+    pub fn place(self, alloc: Global) -> Result<Place, NoMemory>
+        ensures { IfOk result (λ place. place ≡ place_by self.entry) }
+    {
+        match self {
+            Endpoint::Stdio => Ok(Place::Stdio),
+            Endpoint::Dial(at, _) => Ok(Place::Dial(at.copy(alloc)?)),
+            Endpoint::Listen(at, _) => Ok(Place::Listen(at.copy(alloc)?)),
+        }
+    }
+
+    /// The most seconds that reaching the place or a single wait may take, where there is a limit.
+    pub fn timeout(self) -> Option<u32> {
+        match self {
+            Endpoint::Stdio => None,
+            Endpoint::Dial(_, timeout) | Endpoint::Listen(_, timeout) => timeout,
+        }
+    }
+}
+
+/// The seconds that a word spells.
+fn read_seconds(word: &Text) -> Option<u32>
+    ensures { is_some result ≡ are_seconds word.now }
+{
+    let seconds = read_number(word.as_str())?;
+    if 1 <= seconds && seconds <= 86_400 {
+        Some(seconds)
+    } else {
+        None
+    }
+}
+
+/// The number below 2^32 that is written so.
+fn read_number(digits: &str) -> Option<u32>
+    ensures { result ≡ number_of digits.now }
+{
+    let number = parsed(digits)?;
+    let mut buffer = Buffer::new();
+    if buffer.format(number) == digits {
+        Some(number)
+    } else {
+        None
+    }
+}
+
+/// A number, which is the one that is written so where one is.
+fn parsed(digits: &str) -> Option<u32>
+    ensures { (n : ℕ) → n < 2 ^ 32 → digits.now ≡ decimal n → result ≡ Some n }
+{
+    digits.parse::<u32>().ok()
+}
+
+/// Whether a word may stand as a name: it isn't empty and doesn't begin with `-`.
+fn is_operand(word: &Text) -> bool
+    ensures { result ≡ is_operand word.now }
+{
+    match word.as_str().as_bytes() {
+        [first, ..] => *first != b'-',
+        [] => false,
+    }
+}

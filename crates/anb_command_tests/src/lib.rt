@@ -1,0 +1,14 @@
+//! Commands as they are run, from their words to what they leave on the wire: worked examples with
+//! values from outside, and faults of the wire and of the shelf.
+#![tactic(auto)]
+
+#[cfg(test)]
+mod enact;
+#[cfg(test)]
+mod play;
+#[cfg(test)]
+mod role_texts;
+#[cfg(test)]
+mod running;
+#[cfg(test)]
+mod words;

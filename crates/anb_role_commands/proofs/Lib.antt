@@ -1,0 +1,5 @@
+pub mod Completing
+pub mod Draws
+pub mod Enacting
+pub mod Preparing
+pub mod Tasks

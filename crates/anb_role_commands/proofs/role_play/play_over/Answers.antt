@@ -1,0 +1,37 @@
+use Rattle.std.proofs.Common.{refl}
+use Rattle.anb_machine.specs.ByteRuns.{run_bytes}
+use Rattle.anb_command.proofs.Prompt.{prompt_same}
+use Rattle.anb_command.proofs.Runs.{ends_untold, stops_untold}
+use Rattle.anb_role_commands.specs.Playing.{play_by}
+use Rattle.anb_role_commands.proofs.role_play.play_over.Goals as goal
+
+pub returns-in-Stopped-clause-runs : goal.returns-in-Stopped-clause-runs
+returns-in-Stopped-clause-runs g c = λ arrivals tail cut.
+    let p = c.args.prepared.now in
+    stops_untold (run_bytes p.code p.initial p.seed 0) arrivals tail (g.W.Wire.state c.args.wire.now).left (g.W.Wire.state c.run_over.new.wire).left (g.W.Wire.state c.args.wire.now).written (g.W.Wire.state c.run_over.new.wire).written c.in-Stopped.halt (c.in-Stopped.ensures.runs arrivals tail cut)
+
+pub returns-in-Stopped-clause-prompt : goal.returns-in-Stopped-clause-prompt
+returns-in-Stopped-clause-prompt g c =
+    let p = c.args.prepared.now in
+    prompt_same (run_bytes p.code p.initial p.seed 0) (play_by p.code p.initial p.seed) (λ arrivals. refl) (g.W.Wire.state c.args.wire.now) (g.W.Wire.state c.run_over.new.wire) c.in-Stopped.ensures.prompt
+
+pub returns-in-Stopped-clause-wire : goal.returns-in-Stopped-clause-wire
+returns-in-Stopped-clause-wire g c =
+    let wire = c.in-Stopped.ensures.wire in record { cause = tt; reached = wire.reached; touches = wire.touches }
+
+pub returns-in_default-clause-runs : goal.returns-in_default-clause-runs
+returns-in_default-clause-runs g c = λ arrivals tail cut.
+    let p = c.args.prepared.now in
+    ends_untold (run_bytes p.code p.initial p.seed 0) arrivals tail (g.W.Wire.state c.args.wire.now).left (g.W.Wire.state c.run_over.new.wire).left (g.W.Wire.state c.args.wire.now).written (g.W.Wire.state c.run_over.new.wire).written
+    c.run_over.result c.in_default.not-Stopped (c.run_over.ensures.runs arrivals tail cut)
+
+pub returns-in_default-clause-prompt : goal.returns-in_default-clause-prompt
+returns-in_default-clause-prompt g c =
+    let p = c.args.prepared.now in
+    prompt_same (run_bytes p.code p.initial p.seed 0) (play_by p.code p.initial p.seed) (λ arrivals. refl) (g.W.Wire.state c.args.wire.now) (g.W.Wire.state c.run_over.new.wire) c.run_over.ensures.prompt
+
+pub returns-in_default-clause-wire : goal.returns-in_default-clause-wire
+returns-in_default-clause-wire g c = c.run_over.ensures.wire
+
+pub returns-in_default-clause-late : goal.returns-in_default-clause-late
+returns-in_default-clause-late g c = c.run_over.ensures.late

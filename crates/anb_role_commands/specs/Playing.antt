@@ -1,0 +1,18 @@
+-- A code that plays a role.
+use Rattle.std.specs.Prelude.{ℕ, List}
+use Rattle.anb_plays.specs.Plays.{Played}
+use Rattle.anb_plays.specs.Runs.{without_place}
+use Rattle.anb_code.specs.CodeValue.{CodeValue}
+use Rattle.anb_machine.specs.ByteRuns.{run_bytes}
+use Rattle.anb_command.specs.Prepared.{IsReady}
+use Rattle.anb_command.specs.Steps.{Answer}
+use Rattle.anb_role_commands.specs.Jobs.{Job}
+use Rattle.anb_role_commands.specs.PlayCommand.{PlayOf}
+
+-- a code's run in session 0, as a play tells it
+abbrev pub play_by : CodeValue → (initial : List (List ℕ)) → (seed : List ℕ) → List (List ℕ) → Played (List ℕ)
+play_by code initial seed arrivals = without_place (run_bytes code initial seed 0 arrivals)
+
+-- there is something to play, and the code plays it
+abbrev pub IsPlayable : (Answer Job → Type 0) → CodeValue → (initial : List (List ℕ)) → (seed : List ℕ) → Type 0
+IsPlayable Prepares code initial seed = IsReady PlayOf Prepares (play_by code initial seed)

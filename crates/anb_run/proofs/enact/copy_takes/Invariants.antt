@@ -1,6 +1,0 @@
-use Rattle.std.proofs.Common.{◌≡◌, take}
-use Rattle.anb_code.specs.Taking.{take_texts}
-use Rattle.anb_run.proofs.enact.copy_takes.Given as goal
-
-abbrev pub invariant-loop-i : goal.invariant-loop-i
-invariant-loop-i l = l.names.items ≡ take l.i (take_texts l.code.instrs)

@@ -1,0 +1,79 @@
+-- Commands that write one text and read nothing from the wire.
+use Rattle.std.specs.Prelude.{◌≡◌, ℕ, List, ◌++◌, codes, Option}
+use Rattle.anb_base.specs.Wires.{WireState}
+use Rattle.anb_base.specs.declared.TheConstants.{ARRIVAL, WIDE}
+use Rattle.anb_syntax.specs.Canon.{canon}
+use Rattle.anb_syntax.specs.Grammar.{Narration}
+use Rattle.anb_code.specs.CodeValue.{CodeValue}
+use Rattle.anb_code.specs.Verified.{IsVerifiedCode}
+use Rattle.anb_compile.specs.Fitting.{FitsRole}
+use Rattle.anb_text.specs.RoleFiles.{role_text}
+use Rattle.anb_explain.specs.Explained.{IsExplained}
+use Rattle.anb_command.specs.declared.status.Status.{Status}
+use Rattle.anb_command.specs.Fetches.{Files, IfTold}
+use Rattle.anb_command.specs.Files.{NarrationInFile}
+use Rattle.anb_command.specs.Roles.{Part, PartInFile}
+use Rattle.anb_command.specs.Steps.{Answer, refused, given, InTurn}
+use Rattle.anb_command.specs.Writing.{CompletesText, IsWriting, IsWritingOne}
+use Rattle.anb_command.specs.declared.words.RoleText.{RoleText}
+use Rattle.anb_command.specs.declared.words.RoleText.TheVariants.{RoleFile, Explanation}
+
+-- `fmt` writes the canonical text of the narration in the file
+abbrev pub CanonicalOf : Narration → Answer (List ℕ) → Type 0
+CanonicalOf n answer = answer ≡ given (canon n)
+
+abbrev pub FmtText : Files → List ℕ → Answer (List ℕ) → Type 0
+FmtText files narration = InTurn (NarrationInFile files narration) CanonicalOf
+
+module _ (narration : List ℕ) (told : Option Files) where
+  abbrev pub DoesFmt : (old new : WireState) → Status → Type 0
+  DoesFmt old new status =
+      IfTold told (λ files. IsWritingOne (FmtText files narration) status old.written new.written)
+
+  abbrev pub CompletesFmt : Status → Type 0
+  CompletesFmt status = IfTold told (λ files. CompletesText (FmtText files narration) status)
+
+-- the text is the code's role file; or it is the role's plan and the code, with the terms of its registers
+abbrev pub IsTextOf : RoleText → Part → CodeValue → List ℕ → Type 0
+IsTextOf RoleFile part code text = text ≡ role_text code
+IsTextOf Explanation part code text = IsExplained part.protocol part.role code text
+
+-- such a text, of a code that fits the role and is accepted
+pub record IsDescribed (kind : RoleText) (part : Part) (text : List ℕ) : Type 0 where
+  pub code : CodeValue
+  pub accepted : IsVerifiedCode ARRIVAL WIDE code
+  pub fits : FitsRole part.protocol part.role code
+  pub is : IsTextOf kind part code text
+
+-- `compile` and `explain` write such a text of the role in the narration's file
+abbrev pub Describes : RoleText → Part → Answer (List ℕ) → Type 0
+Describes kind part (refused status) = ⊥
+Describes kind part (given text) = IsDescribed kind part text
+
+abbrev pub DescribedText : RoleText → Files → (narration role : List ℕ) → Answer (List ℕ) → Type 0
+DescribedText kind files narration role = InTurn (PartInFile files narration role) (Describes kind)
+
+module _ (kind : RoleText) (narration role : List ℕ) (told : Option Files) where
+  abbrev pub DoesDescribe : (old new : WireState) → Status → Type 0
+  DoesDescribe old new status = IfTold told (λ files.
+      IsWriting (DescribedText kind files narration role) status old.written new.written)
+
+  abbrev pub CompletesDescribe : Status → Type 0
+  CompletesDescribe status =
+      IfTold told (λ files. CompletesText (DescribedText kind files narration role) status)
+
+-- `help` writes a line for each command
+abbrev pub help_text : List ℕ
+help_text =
+    codes "anb fmt <narration>\n" ++ codes "anb compile <narration> <role>\n"
+    ++ codes "anb explain <narration> <role>\n" ++ codes "anb play <narration> <role> <values> [place]\n"
+    ++ codes "anb enact <rolefile> <values> [place]\n" ++ codes "anb help\n"
+
+abbrev pub HelpText : Answer (List ℕ) → Type 0
+HelpText answer = answer ≡ given help_text
+
+abbrev pub DoesHelp : (old new : WireState) → Status → Type 0
+DoesHelp old new status = IsWritingOne HelpText status old.written new.written
+
+abbrev pub CompletesHelp : Status → Type 0
+CompletesHelp status = CompletesText HelpText status

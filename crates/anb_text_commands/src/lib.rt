@@ -1,0 +1,177 @@
+//! Commands that write one text and read nothing from the wire.
+#![tactic(auto)]
+
+ghost use Rattle.std.specs.Prelude.{◌≡◌, ◌<◌, [], ◌∷◌, length, IfOk, IfErr, Some, true, false};
+ghost use Rattle.anb_base.specs.Moves.{Rose};
+ghost use Rattle.anb_base.specs.declared.TheConstants.{ARRIVAL, WIDE};
+ghost use Rattle.anb_base.specs.declared.place.Place.TheVariants as place;
+ghost use Rattle.anb_code.specs.Verified.{IsVerifiedCode};
+ghost use Rattle.anb_compile.specs.Fitting.{FitsRole};
+ghost use Rattle.anb_command.specs.Causes.{HasCause, NoneRose};
+ghost use Rattle.anb_command.specs.Fetches.{Fetches, IfTold};
+ghost use Rattle.anb_command.specs.OverWire.{OverWire};
+ghost use Rattle.anb_command.specs.Reaches.{Reaches};
+ghost use Rattle.anb_command.specs.Statuses.{IsEarly, is_fault, phase_of};
+ghost use Rattle.anb_command.specs.Steps.{IsFailure, refused, given};
+ghost use Rattle.anb_command.specs.Touches.{Touches};
+ghost use Rattle.anb_command.specs.declared.status.Status.TheVariants as status;
+ghost use Rattle.anb_text_commands.specs.TextCommands.{CompletesDescribe, CompletesFmt, CompletesHelp};
+ghost use Rattle.anb_text_commands.specs.TextCommands.{DoesDescribe, DoesFmt, DoesHelp};
+ghost use Rattle.anb_text_commands.specs.TextCommands.{DescribedText, FmtText, IsTextOf};
+
+use anb_base::{Bytes, NoMemory, Shelf, Text, Wire};
+use anb_command::{Playable, RoleText, Status, narration_in_file, playable_in_file, write_text};
+use anb_explain::explain;
+use anb_read::{narrations_are_unique, none_is_both, refusals_are_unique};
+use anb_syntax::text_of;
+use anb_text::print;
+use std::alloc::Global;
+
+/// A line for each command that is built.
+const HELP: &str = concat!(
+    "anb fmt <narration>\n",
+    "anb compile <narration> <role>\n",
+    "anb explain <narration> <role>\n",
+    "anb play <narration> <role> <values> [place]\n",
+    "anb enact <rolefile> <values> [place]\n",
+    "anb help\n",
+);
+
+/// The canonical text of the narration in the file.
+fn canonical_text<F: Shelf>(alloc: Global, shelf: &mut F, narration: &Text) -> Result<Bytes, Status>
+    ensures given { IfOk result (λ text. IfTold (F.files shelf.old) (λ files.
+        FmtText files narration.now (given text))) }
+    ensures refused { IfErr result (λ status. IsFailure status
+        (λ file. (file ≡ narration.now) × Rose (F.faults shelf.old file) (F.faults shelf.new file))
+        (IfTold (F.files shelf.old) (λ files. FmtText files narration.now (refused status)))) }
+    ensures early { IfErr result IsEarly }
+    ensures fetches { Fetches (narration.now ∷ [])
+        (F.files shelf.old) (F.files shelf.new) (F.faults shelf.old) (F.faults shelf.new) }
+{
+    let read = match narration_in_file(alloc, shelf, narration) {
+        Ok(read) => read,
+        Err(status) => return Err(status),
+    };
+    match text_of(alloc, &read) {
+        Ok(text) => Ok(text),
+        Err(NoMemory) => Err(Status::NoMemory),
+    }
+}
+
+/// The text of the role with this name in a narration's file.
+fn described_text<F: Shelf>(
+    alloc: Global,
+    shelf: &mut F,
+    kind: RoleText,
+    narration: &Text,
+    role: &Text,
+) -> Result<Bytes, Status>
+    ensures given { IfOk result (λ described. IfTold (F.files shelf.old) (λ files.
+        DescribedText kind files narration.now role.now (given described))) }
+    ensures refused { IfErr result (λ status. IsFailure status
+        (λ file. (file ≡ narration.now) × Rose (F.faults shelf.old file) (F.faults shelf.new file))
+        (IfTold (F.files shelf.old) (λ files.
+        DescribedText kind files narration.now role.now (refused status)))) }
+    ensures early { IfErr result IsEarly }
+    ensures fetches { Fetches (narration.now ∷ [])
+        (F.files shelf.old) (F.files shelf.new) (F.faults shelf.old) (F.faults shelf.new) }
+{
+    let playable = match playable_in_file(alloc, shelf, narration, role) {
+        Ok(playable) => playable,
+        Err(status) => return Err(status),
+    };
+    match text_of_role(alloc, kind, &playable) {
+        Ok(described) => Ok(described),
+        Err(NoMemory) => Err(Status::NoMemory),
+    }
+}
+
+/// The text of a role.
+fn text_of_role(alloc: Global, kind: RoleText, playable: &Playable) -> Result<Bytes, NoMemory>
+    requires role { playable.now.role < length playable.now.protocol.roles }
+    requires fits { FitsRole playable.now.protocol playable.now.role playable.now.code }
+    ensures text { IfOk result (λ described.
+        IsTextOf kind (record { protocol = playable.now.protocol; role = playable.now.role })
+        playable.now.code described) }
+    ensures accepted { IsVerifiedCode ARRIVAL WIDE playable.now.code }
+{
+    let Playable {
+        protocol,
+        role,
+        code,
+    } = playable;
+    let _verified = code.instrs();
+    match kind {
+        RoleText::RoleFile => print(alloc, code),
+        RoleText::Explanation => explain(alloc, protocol, *role, code),
+    }
+}
+
+/// Writes the canonical text of the narration in the file.
+pub fn fmt<F: Shelf, W: Wire>(
+    alloc: Global,
+    shelf: &mut F,
+    wire: &mut W,
+    narration: &Text,
+) -> Status
+    ensures does { DoesFmt narration.now (F.files shelf.old)
+        (W.state wire.old) (W.state wire.new) result }
+    ensures completes { NoneRose (narration.now ∷ []) (F.faults shelf.old) (F.faults shelf.new)
+        (W.state wire.old) (W.state wire.new)
+        → CompletesFmt narration.now (F.files shelf.old) result }
+    ensures faults { HasCause (narration.now ∷ []) (Some place.Stdio)
+        (F.faults shelf.old) (F.faults shelf.new) (W.state wire.old) (W.state wire.new) result }
+    ensures fetches { Fetches (narration.now ∷ [])
+        (F.files shelf.old) (F.files shelf.new) (F.faults shelf.old) (F.faults shelf.new) }
+    ensures reached { Reaches (Some place.Stdio) (phase_of result)
+        (W.state wire.old).reached (W.state wire.new).reached }
+    ensures touches { Touches false (phase_of result) (W.state wire.old) (W.state wire.new) }
+{
+    narrations_are_unique();
+    refusals_are_unique();
+    none_is_both();
+    match canonical_text(alloc, shelf, narration) {
+        Ok(text) => write_text(wire, text.as_slice()),
+        Err(status) => status,
+    }
+}
+
+/// Writes the text of the role with this name in a narration's file.
+pub fn describe<F: Shelf, W: Wire>(
+    alloc: Global,
+    shelf: &mut F,
+    wire: &mut W,
+    kind: RoleText,
+    narration: &Text,
+    role: &Text,
+) -> Status
+    ensures does { DoesDescribe kind narration.now role.now (F.files shelf.old)
+        (W.state wire.old) (W.state wire.new) result }
+    ensures completes { NoneRose (narration.now ∷ []) (F.faults shelf.old) (F.faults shelf.new)
+        (W.state wire.old) (W.state wire.new)
+        → CompletesDescribe kind narration.now role.now (F.files shelf.old) result }
+    ensures faults { HasCause (narration.now ∷ []) (Some place.Stdio)
+        (F.faults shelf.old) (F.faults shelf.new) (W.state wire.old) (W.state wire.new) result }
+    ensures fetches { Fetches (narration.now ∷ [])
+        (F.files shelf.old) (F.files shelf.new) (F.faults shelf.old) (F.faults shelf.new) }
+    ensures reached { Reaches (Some place.Stdio) (phase_of result)
+        (W.state wire.old).reached (W.state wire.new).reached }
+    ensures touches { Touches false (phase_of result) (W.state wire.old) (W.state wire.new) }
+{
+    narrations_are_unique();
+    refusals_are_unique();
+    none_is_both();
+    match described_text(alloc, shelf, kind, narration, role) {
+        Ok(described) => write_text(wire, described.as_slice()),
+        Err(status) => status,
+    }
+}
+
+/// Writes a line for each command.
+pub fn help<W: Wire>(wire: &mut W) -> Status
+    ensures does { DoesHelp (W.state wire.old) (W.state wire.new) result }
+    ensures completes { (is_fault result ≡ true → result ≡ status.NoMemory) → CompletesHelp result }
+    ensures wire { OverWire place.Stdio false result (W.state wire.old) (W.state wire.new) }
+{
+    write_text(wire, HELP.as_bytes())
+}
