@@ -25,5 +25,11 @@ pub const ARRIVAL: u32 = 262_144;
 /// The most bytes that a term's width allows.
 pub const WIDE: u32 = 67_108_864;
 
+/// The most bytes of a file that people write: a narration, or values.
+pub const SMALL_FILE: u32 = 1_048_576;
+
+/// The most bytes of a file that programs write: a role file, or a transcript.
+pub const LARGE_FILE: u32 = 16_777_216;
+
 #[cfg(test)]
 mod tests;

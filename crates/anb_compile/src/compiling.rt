@@ -14,10 +14,10 @@ ghost use Rattle.anb_compile.specs.Refusing.{IsSooner};
 ghost use Rattle.anb_compile.specs.RoleCodes.{role_code};
 
 use crate::CompileNo;
-use crate::copies::copied_formats;
 use crate::emission::emit;
 use anb_base::NoMemory;
 use anb_code::{Instr, RoleCode};
+use anb_format::Format;
 use anb_resolve::{Protocol, known_texts_differ, protocols_hold};
 use std::alloc::Global;
 
@@ -62,6 +62,16 @@ fn role_code(
     let suite = p.suite();
     let code = RoleCode::new(alloc, protocol, name, suite, formats, instrs)?;
     Ok(code)
+}
+
+fn copied_formats(alloc: Global, formats: &[Format]) -> Result<Vec<Format>, NoMemory>
+    ensures { IfOk result (λ copies. copies.items ≡ formats.now) }
+{
+    let mut copies = Vec::new(alloc);
+    for format in formats {
+        copies.push(format.copy(alloc)?)?;
+    }
+    Ok(copies)
 }
 
 /// The codes of all roles, in order.

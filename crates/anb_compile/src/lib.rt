@@ -7,7 +7,6 @@
 
 mod built;
 mod compiling;
-mod copies;
 mod emission;
 mod laws;
 mod refusal;

@@ -10,7 +10,7 @@ ghost use Rattle.anb_format.specs.declared.pieces.Piece.{Piece};
 
 use crate::fields::{field_at, put_field, tell_bytes};
 use crate::heads::Head;
-use crate::{FieldKind, FormatNo, Piece};
+use crate::{FieldKind, FormatNo, Piece, copy_pieces};
 use anb_base::{ARRIVAL, Bytes, NoMemory, Text, WIDE};
 use std::alloc::Global;
 use std::marker::Model;
@@ -60,6 +60,13 @@ impl Format {
         ensures pieces { result.pieces ≡ pieces.items }
     {
         Format { name, pieces }
+    }
+
+    pub fn copy(&self, alloc: Global) -> Result<Self, NoMemory>
+        ensures { IfOk result (λ copy. copy ≡ self.now) }
+    {
+        let pieces = copy_pieces(alloc, self.pieces())?;
+        Ok(Format::new(self.name.copy(alloc)?, pieces))
     }
 
     pub fn name(&self) -> &Text

@@ -18,4 +18,4 @@ pub use laws::{
     parts_are_exact, parts_are_unique, widths_bound_bytes,
 };
 pub use literals::{Literal, literal_text, read_literal};
-pub use pieces::{FieldKind, FormatNo, Piece};
+pub use pieces::{FieldKind, FormatNo, Piece, copy_pieces};

@@ -1,6 +1,7 @@
 //! Literals of narrations: read, and written in one way.
 ghost use Rattle.std.specs.Prelude.{◌≡◌, ◌≤◌, ◌<◌, ◌+◌, ℕ, List, ◌∷◌, ◌++◌, length, drop, MatchOption, IfOk, OnOk, IfSome, IfNone, IsSomeAnd};
 ghost use Rattle.anb_base.specs.Bytes.{IsBytes};
+ghost use Rattle.anb_base.specs.declared.TheConstants.{LARGE_FILE};
 ghost use Rattle.hex.specs.Hex.{hex_digit_value};
 ghost use Rattle.anb_format.specs.Literals.{AreCharactersAt, BeginsNoCharacter, IsCharacterAt, IsLiteralAt, canonical_literal, canonical_spelling};
 
@@ -21,7 +22,7 @@ pub struct Literal {
 /// `\"`, `\\`, or `\x` with two hexadecimal digits of either case.
 pub fn read_literal(alloc: Global, text: &[u8], from: u32) -> Result<Option<Literal>, NoMemory>
     requires from { from ≤ length text.now }
-    requires size { length text.now ≤ 16777216 }
+    requires size { length text.now ≤ LARGE_FILE }
     ensures some { IfOk result (λ r.
         IfSome r (λ literal. IsLiteralAt text.now from literal.bytes literal.end)) }
     ensures none { IfOk result (λ r.

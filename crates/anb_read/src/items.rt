@@ -1,6 +1,7 @@
 //! Reads the items of the sections.
 
 ghost use Rattle.std.specs.Prelude.{◌≡◌, ◌≤◌, List, ℕ, length, map};
+ghost use Rattle.anb_base.specs.declared.TheConstants.{SMALL_FILE};
 ghost use Rattle.anb_syntax.specs.Grammar as grammar;
 ghost use Rattle.anb_syntax.specs.Views.{type_of, format_of, know_of, action_of};
 ghost use Rattle.anb_format.specs.declared.pieces.Piece as pieces;
@@ -52,7 +53,7 @@ fn names<'p>(
     text: &[u8],
     places: &'p [Place],
 ) -> Result<(Vec<Text>, &'p [Place]), ReadNo>
-    requires { length text.now ≤ 1048576 }
+    requires { length text.now ≤ SMALL_FILE }
     ensures { Finds (λ x. (x.0.items, toks text.now x.1.now)) result
         (names_at (toks text.now places.now)) }
 {

@@ -1,6 +1,7 @@
 //! Reads what stands in lists.
 
 ghost use Rattle.std.specs.Prelude.{◌≡◌, ◌≤◌, List, Bool, Result, length, map};
+ghost use Rattle.anb_base.specs.declared.TheConstants.{SMALL_FILE};
 ghost use Rattle.anb_syntax.specs.Words.{Word, Tok, head};
 ghost use Rattle.anb_read.specs.declared.refusal.ReadNo.{ReadNo};
 ghost use Rattle.anb_read.specs.Productions.{many, with_front};
@@ -29,7 +30,7 @@ pub(crate) trait Listed: Sized {
         text: &[u8],
         places: &'p [Place],
     ) -> Result<(Self, &'p [Place]), ReadNo>
-        requires { length text.now ≤ 1048576 }
+        requires { length text.now ≤ SMALL_FILE }
         ensures { Finds (λ x. (view x.0, toks text.now x.1.now)) result
             (item_at (toks text.now places.now)) };
 }
@@ -41,7 +42,7 @@ pub(crate) fn many<'p, T: Listed + Drop>(
     text: &[u8],
     places: &'p [Place],
 ) -> Result<(Vec<T>, &'p [Place]), ReadNo>
-    requires { length text.now ≤ 1048576 }
+    requires { length text.now ≤ SMALL_FILE }
     ensures { Finds (λ x. (map T.view x.0.items, toks text.now x.1.now)) result
         (with_front (map T.view items.items) (many T.starts T.item_at (toks text.now places.now))) }
 {

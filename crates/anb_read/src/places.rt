@@ -1,6 +1,7 @@
 //! The tokens of a text, and the words that they are to the grammar.
 
 ghost use Rattle.std.specs.Prelude.{◌≡◌, ◌≤◌, ℕ, List, length, take, drop, IfOk};
+ghost use Rattle.anb_base.specs.declared.TheConstants.{SMALL_FILE};
 ghost use Rattle.anb_syntax.specs.Words.{head, tail};
 ghost use Rattle.anb_syntax.specs.Lexing.{Lexes};
 ghost use Rattle.anb_read.specs.Places.{kind_of, tok_of, toks, word_in};
@@ -101,7 +102,7 @@ pub(crate) fn others(places: &[Place]) -> &[Place]
 
 /// All tokens of a text, and what stands behind the last one.
 pub(crate) fn places(alloc: Global, text: &[u8]) -> Result<Vec<Place>, AllocError>
-    requires { length text.now ≤ 1048576 }
+    requires { length text.now ≤ SMALL_FILE }
     ensures { IfOk result (λ v. Lexes 0 text.now (toks text.now v.items)) }
 {
     let mut all = Vec::new(alloc);

@@ -1,6 +1,7 @@
 //! Reads narrations.
 
 ghost use Rattle.std.specs.Prelude.{◌≡◌, ◌≤◌, ◌⊎◌, length, IfOk, IfErr, MatchResult};
+ghost use Rattle.anb_base.specs.declared.TheConstants.{SMALL_FILE};
 ghost use Rattle.anb_syntax.specs.Grammar.{Narration as Told, IsSpellable};
 ghost use Rattle.anb_syntax.specs.Views.{narration_of};
 ghost use Rattle.anb_syntax.specs.Text.{Text};
@@ -17,7 +18,7 @@ use std::alloc::Global;
 
 /// The narration that the text is. Behind `Goals` and its colon nothing is looked at.
 pub fn read(alloc: Global, text: &[u8]) -> Result<Narration, ReadNo>
-    requires { length text.now ≤ 1048576 }
+    requires { length text.now ≤ SMALL_FILE }
     // What is read is the text's narration, and each narration's text is read.
     ensures found { IfOk result (λ n. Text (narration_of n) text.now) }
     ensures only { (n : Told) → Text n text.now

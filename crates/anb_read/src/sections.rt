@@ -1,6 +1,7 @@
 //! Reads the sections of a narration.
 
 ghost use Rattle.std.specs.Prelude.{◌≡◌, ◌≤◌, length, map, option_map};
+ghost use Rattle.anb_base.specs.declared.TheConstants.{SMALL_FILE};
 ghost use Rattle.anb_syntax.specs.Words.{suite_word, formats_word, knowledge_word};
 ghost use Rattle.anb_syntax.specs.Grammar.{told};
 ghost use Rattle.anb_syntax.specs.Views.{type_of, format_of, know_of, action_of, narration_of};
@@ -108,7 +109,7 @@ fn types<'p>(
     text: &[u8],
     places: &'p [Place],
 ) -> Result<(Vec<TypeItem>, &'p [Place]), ReadNo>
-    requires { length text.now ≤ 1048576 }
+    requires { length text.now ≤ SMALL_FILE }
     ensures { Finds (λ x. (map type_of x.0.items, toks text.now x.1.now)) result
         (types_section (toks text.now places.now)) }
 {
@@ -123,7 +124,7 @@ fn formats<'p>(
     text: &[u8],
     places: &'p [Place],
 ) -> Result<(Option<Vec<FormatItem>>, &'p [Place]), ReadNo>
-    requires { length text.now ≤ 1048576 }
+    requires { length text.now ≤ SMALL_FILE }
     ensures { Finds (λ x. (option_map (λ is. map format_of is.items) x.0, toks text.now x.1.now))
         result (optional (is_word formats_word) formats_section (toks text.now places.now)) }
 {
@@ -142,7 +143,7 @@ fn knows<'p>(
     text: &[u8],
     places: &'p [Place],
 ) -> Result<(Option<Vec<KnowItem>>, &'p [Place]), ReadNo>
-    requires { length text.now ≤ 1048576 }
+    requires { length text.now ≤ SMALL_FILE }
     ensures { Finds (λ x. (option_map (λ is. map know_of is.items) x.0, toks text.now x.1.now))
         result (optional (is_word knowledge_word) (knows_section 64) (toks text.now places.now)) }
 {
@@ -161,7 +162,7 @@ fn actions<'p>(
     text: &[u8],
     places: &'p [Place],
 ) -> Result<(Vec<ActionItem>, &'p [Place]), ReadNo>
-    requires { length text.now ≤ 1048576 }
+    requires { length text.now ≤ SMALL_FILE }
     ensures { Finds (λ x. (map action_of x.0.items, toks text.now x.1.now)) result
         (actions_section 64 (toks text.now places.now)) }
 {
@@ -190,7 +191,7 @@ pub(crate) fn narration<'p>(
     text: &[u8],
     places: &'p [Place],
 ) -> Result<(Written, &'p [Place]), ReadNo>
-    requires { length text.now ≤ 1048576 }
+    requires { length text.now ≤ SMALL_FILE }
     ensures { Finds (λ x. (written_of x.0, toks text.now x.1.now)) result
         (narration_at 64 (toks text.now places.now)) }
 {

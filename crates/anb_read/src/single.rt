@@ -1,6 +1,7 @@
 //! Reads single words.
 
 ghost use Rattle.std.specs.Prelude.{◌≡◌, ◌≤◌, length, drop, bytes_eq, IfOk};
+ghost use Rattle.anb_base.specs.declared.TheConstants.{SMALL_FILE};
 ghost use Rattle.anb_base.specs.Bytes.{IsBytes};
 ghost use Rattle.anb_syntax.specs.Words.{head, sign, name, end, word_eqb};
 ghost use Rattle.anb_read.specs.Productions.{expect, name_at, sort_at, suite_at, piece_at, word_sort, word_suite, is_word, is_some_name, is_sort, is_piece, begins_term, some_of};
@@ -194,7 +195,7 @@ pub(crate) fn is_piece(text: &[u8], places: &[Place]) -> bool
 
 /// The bytes of the literal at an offset.
 fn literal(alloc: Global, text: &[u8], at: u32) -> Result<Bytes, NoMemory>
-    requires { length text.now ≤ 1048576 }
+    requires { length text.now ≤ SMALL_FILE }
     ensures { IfOk result (λ b. b ≡ literal_here (drop at text.now)) }
 {
     if at as usize > text.len() {
@@ -231,7 +232,7 @@ pub(crate) fn piece<'p>(
     text: &[u8],
     places: &'p [Place],
 ) -> Result<(Piece, &'p [Place]), ReadNo>
-    requires { length text.now ≤ 1048576 }
+    requires { length text.now ≤ SMALL_FILE }
     ensures { Finds (λ x. (x.0, toks text.now x.1.now)) result
         (piece_at (toks text.now places.now)) }
 {

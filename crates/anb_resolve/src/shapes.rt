@@ -12,7 +12,7 @@ ghost use Rattle.anb_resolve.specs.Checks.{shape_fault, overlaps};
 
 use crate::refusals::ResolveNo;
 use anb_base::NoMemory;
-use anb_format::{Format, FormatNo, Piece, apart};
+use anb_format::{Format, FormatNo, apart, copy_pieces};
 use anb_syntax::FormatItem;
 use std::alloc::Global;
 
@@ -64,27 +64,8 @@ fn format_of(alloc: Global, item: &FormatItem) -> Result<Format, NoMemory>
     requires sound { IsSound item.now.pieces.items }
     ensures { IfOk result (λ format. format ≡ format_value (format_of item.now)) }
 {
-    let pieces = copied_pieces(alloc, &item.pieces)?;
+    let pieces = copy_pieces(alloc, &item.pieces)?;
     Ok(Format::new(item.name.copy(alloc)?, pieces))
-}
-
-fn copied_pieces(alloc: Global, pieces: &[Piece]) -> Result<Vec<Piece>, NoMemory>
-    ensures { IfOk result (λ copies. copies.items ≡ pieces.now) }
-{
-    let mut copies = Vec::new(alloc);
-    for piece in pieces {
-        copies.push(copied_piece(alloc, piece)?)?;
-    }
-    Ok(copies)
-}
-
-fn copied_piece(alloc: Global, piece: &Piece) -> Result<Piece, NoMemory>
-    ensures { IfOk result (λ copy. copy ≡ piece.now) }
-{
-    match piece {
-        Piece::Lit(text) => Ok(Piece::Lit(text.copy(alloc)?)),
-        Piece::Field(kind) => Ok(Piece::Field(*kind)),
-    }
 }
 
 /// The first two formats that aren't apart, by the later one and then the earlier one.

@@ -5,6 +5,7 @@
 #![tactic(auto)]
 
 ghost use Rattle.std.specs.Prelude.{◌≡◌, ◌≤◌, length, IfOk, IfErr};
+ghost use Rattle.anb_base.specs.declared.TheConstants.{SMALL_FILE};
 ghost use Rattle.anb_rows.specs.Telling.{Tells, Refuses};
 
 use anb_read::{ReadNo, read};
@@ -20,7 +21,7 @@ pub enum Refusal {
 
 /// The protocol that a text tells.
 pub fn protocol_in(alloc: Global, text: &[u8]) -> Result<Protocol, Refusal>
-    requires { length text.now ≤ 1048576 }
+    requires { length text.now ≤ SMALL_FILE }
     ensures tells { IfOk result (λ p. Tells text.now p) }
     ensures refused { IfErr result (λ why. Refuses text.now why) }
 {

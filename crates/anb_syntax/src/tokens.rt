@@ -1,6 +1,7 @@
 //! The tokens of a text.
 ghost use Rattle.std.specs.Prelude.{◌≡◌, ◌+◌, ◌<◌, ◌≤◌, ◌==◌, ◌∷◌, length, drop, option_map, IfSome, IfNone, None, true, false, ℕ, List};
 ghost use Rattle.std.specs.List.{prefix_len};
+ghost use Rattle.anb_base.specs.declared.TheConstants.{SMALL_FILE};
 ghost use Rattle.anb_syntax.specs.Words.{is_name_byte, sign};
 ghost use Rattle.anb_syntax.specs.Lexing.{is_blank, is_sign, gap_len, comment_len, token_here};
 ghost use Rattle.anb_syntax.specs.Scanning.{token_of, characters_len, escaped_len, closing, farther};
@@ -205,7 +206,7 @@ fn token_at(text: &[u8], i: usize) -> Option<(TokenKind, usize)>
 /// The first token from an offset on, behind blanks and comments. A literal that isn't closed is no
 /// token.
 pub fn next_token(text: &[u8], from: u32) -> Next
-    requires size { length text.now ≤ 1048576 }
+    requires size { length text.now ≤ SMALL_FILE }
     requires from { from ≤ length text.now }
     ensures next { IsNext text.now from result }
     ensures within { IsWithin (length text.now) result }

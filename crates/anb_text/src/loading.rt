@@ -1,5 +1,6 @@
 //! A role file is read and verified.
 ghost use Rattle.std.specs.Prelude.{◌≡◌, ◌≢◌, ◌⊎◌, ◌≤◌, ◌==◌, length, position, IfOk, IfErr, IfSome, IfNone, MatchResult};
+ghost use Rattle.anb_base.specs.declared.TheConstants.{LARGE_FILE};
 ghost use Rattle.anb_code.specs.CodeValue.{CodeValue};
 ghost use Rattle.anb_code.specs.Verified.{IsVerifiedCode};
 ghost use Rattle.anb_text.specs.declared.refusal.LoadNo.{LoadNo as No};
@@ -17,7 +18,7 @@ use std::alloc::Global;
 
 /// Reads a role file of version 1 or 2, and verifies the code.
 pub fn load(alloc: Global, text: &[u8]) -> Result<RoleCode, LoadNo>
-    requires size { length text.now ≤ 16777216 }
+    requires size { length text.now ≤ LARGE_FILE }
     ensures spelled { IfOk result (λ code. IsTextOf text.now code) }
     ensures read { (code : CodeValue) → IsVerifiedCode ARRIVAL WIDE code → IsTextOf text.now code
         → MatchResult result (λ c. c ≡ code) (λ no. no ≡ refusal.NoMemory) }
@@ -44,7 +45,7 @@ fn refusal_of(fault: CodeNo) -> LoadNo
 
 /// The code that a role file spells.
 fn read_code(alloc: Global, text: &[u8]) -> Result<RawCode, LoadNo>
-    requires { length text.now ≤ 16777216 }
+    requires { length text.now ≤ LARGE_FILE }
     ensures spelled { IfOk result (Spells text.now) }
     ensures refused { IfErr result (IsFault text.now) }
 {
@@ -85,7 +86,7 @@ fn line_end(text: &[u8]) -> Option<usize>
 
 /// What was read with this line more, where it is in the grammar there.
 fn read_on(alloc: Global, stage: Stage, line: &[u8]) -> Result<Option<Stage>, NoMemory>
-    requires { length line.now ≤ 16777216 }
+    requires { length line.now ≤ LARGE_FILE }
     ensures some { IfOk result (λ r. IfSome r (ReadsOn stage line.now)) }
     ensures none { IfOk result (λ r. IfNone r (IsStuck stage line.now)) }
 {

@@ -3,6 +3,7 @@ ghost use Rattle.std.specs.Prelude.{◌≡◌, ◌≤◌, ◌<◌, ◌^◌, ◌=
 ghost use Rattle.std.specs.List.{AllByRecursion, flat_map};
 ghost use Rattle.std.specs.Option.{option_map};
 ghost use Rattle.std.specs.Str.{bytes_eq};
+ghost use Rattle.anb_base.specs.declared.TheConstants.{LARGE_FILE};
 ghost use Rattle.anb_base.specs.Bytes.{IsBytes};
 ghost use Rattle.anb_format.specs.Formats.{FormatValue};
 ghost use Rattle.anb_format.specs.Literals.{canonical_literal};
@@ -20,7 +21,7 @@ use std::alloc::{AllocError, Global};
 
 /// Reads a line, without the byte 0A that ends it.
 pub(crate) fn read_line(alloc: Global, line: &[u8]) -> Result<Option<Line>, NoMemory>
-    requires size { length line.now ≤ 16777216 }
+    requires size { length line.now ≤ LARGE_FILE }
     ensures some { IfOk result (λ r. IfSome r (λ l. IsLine l × (line.now ≡ line_bytes l))) }
     ensures none { IfOk result (λ r.
         IfNone r ((l : Line) → IsLine l → line.now ≡ line_bytes l → ⊥)) }
@@ -378,7 +379,7 @@ fn read_registers<'w, 't>(
 
 /// Reads what follows the word for a format line.
 fn read_format(alloc: Global, text: &[u8]) -> Result<Option<RawFormat>, NoMemory>
-    requires size { length text.now ≤ 16777216 }
+    requires size { length text.now ≤ LARGE_FILE }
     ensures some { IfOk result (λ r.
         IfSome r (λ f. IsFormat f × (text.now ≡ f.name ++ flat_map spaced_piece f.pieces))) }
     ensures none { IfOk result (λ r.
@@ -418,7 +419,7 @@ fn first_space(text: &[u8]) -> Option<usize>
 
 /// Reads pieces up to the end, each behind a space.
 fn read_pieces(alloc: Global, text: &[u8]) -> Result<Option<Vec<Piece>>, NoMemory>
-    requires size { length text.now ≤ 16777216 }
+    requires size { length text.now ≤ LARGE_FILE }
     ensures some { IfOk result (λ r.
         IfSome r (λ pieces. AllByRecursion IsPiece pieces.items
         × (text.now ≡ flat_map spaced_piece pieces.items))) }
@@ -440,7 +441,7 @@ fn read_pieces(alloc: Global, text: &[u8]) -> Result<Option<Vec<Piece>>, NoMemor
 
 /// The piece at the front, behind a space, and what follows it.
 fn read_piece(alloc: Global, text: &[u8]) -> Result<Option<(Piece, &[u8])>, NoMemory>
-    requires size { length text.now ≤ 16777216 }
+    requires size { length text.now ≤ LARGE_FILE }
     ensures some { IfOk result (λ r.
         IfSome r (λ x. IsPiece x.0 × (text.now ≡ spaced_piece x.0 ++ x.1.now))) }
     ensures none { IfOk result (λ r.
@@ -456,7 +457,7 @@ fn read_piece(alloc: Global, text: &[u8]) -> Result<Option<(Piece, &[u8])>, NoMe
 
 /// The canonical literal at the front, and what follows it.
 fn read_quoted(alloc: Global, text: &[u8]) -> Result<Option<(Piece, &[u8])>, NoMemory>
-    requires size { length text.now ≤ 16777216 }
+    requires size { length text.now ≤ LARGE_FILE }
     ensures some { IfOk result (λ r.
         IfSome r (λ x. IsPiece x.0 × (32 ∷ text.now ≡ spaced_piece x.0 ++ x.1.now))) }
     ensures none { IfOk result (λ r.

@@ -1,7 +1,7 @@
 //! Transcripts from their texts.
 ghost use Rattle.std.specs.Prelude.{◌≡◌, ◌<◌, ◌≤◌, ℕ, List, [], ◌∷◌, length, IfOk, IfSome, IfNone, All, Ok};
 ghost use Rattle.hex.specs.Hex.{decode_of};
-ghost use Rattle.anb_base.specs.declared.TheConstants.{ARRIVAL};
+ghost use Rattle.anb_base.specs.declared.TheConstants.{ARRIVAL, LARGE_FILE};
 ghost use Rattle.anb_transcript.specs.Replays.{arrivals_of};
 ghost use Rattle.anb_transcript.specs.Texts.{Says, Reads, lines_of};
 
@@ -12,7 +12,7 @@ use std::alloc::Global;
 
 /// Reads a transcript. Its lines are ended by LF, which the last may lack.
 pub fn read_transcript(alloc: Global, text: &[u8]) -> Result<Transcript, TranscriptNo>
-    requires { length text.now ≤ 16777216 }
+    requires { length text.now ≤ LARGE_FILE }
     ensures reads { Reads text.now result }
     ensures few { IfOk result (λ transcript. length transcript ≤ length text.now) }
     ensures arrivals { IfOk result (λ transcript.

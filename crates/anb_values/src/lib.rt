@@ -6,7 +6,7 @@
 #![tactic(auto)]
 
 ghost use Rattle.std.specs.Prelude.{◌≡◌, ◌≢◌, ◌⊎◌, ◌≤◌, ℕ, List, length, sum_by, All, AllPairs, IfOk, IfErr, MatchResult, Ok, Err};
-ghost use Rattle.anb_base.specs.declared.TheConstants.{ARRIVAL};
+ghost use Rattle.anb_base.specs.declared.TheConstants.{ARRIVAL, SMALL_FILE};
 ghost use Rattle.anb_values.specs.declared.refusal.ValuesNo.TheVariants as refusal;
 ghost use Rattle.anb_values.specs.Fit.{Fit, FitIsUnique, Outcome, UnlessNoMemory};
 
@@ -29,7 +29,7 @@ pub fn one_fit()
 
 /// Reads the values of these names, and the seed.
 pub fn values(alloc: Global, text: &[u8], names: &[Text]) -> Result<Fitted, ValuesNo>
-    requires size { length text.now ≤ 1048576 }
+    requires size { length text.now ≤ SMALL_FILE }
     requires differ { AllPairs (λ (one other : List ℕ). one ≢ other) names.now }
     ensures fits { IfOk result (λ fitted. Fit text.now names.now (Ok fitted)) }
     ensures refused { IfErr result (λ no. UnlessNoMemory no (Fit text.now names.now (Err no))) }

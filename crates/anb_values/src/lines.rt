@@ -1,6 +1,7 @@
 //! The lines of a values text.
 ghost use Rattle.std.specs.Prelude.{◌≡◌, ◌≤◌, ◌↔◌, ◌⊎◌, ◌==◌, ◌<◌, ℕ, not, List, ◌∷◌, length, filter, IsTrue, IfOk, IfErr, IfSome, IfNone, MatchOption, Ok, []};
 ghost use Rattle.std.specs.List.{before_first};
+ghost use Rattle.anb_base.specs.declared.TheConstants.{SMALL_FILE};
 ghost use Rattle.hex.specs.Hex.{decode_of};
 ghost use Rattle.anb_format.specs.Literals.{IsLiteral};
 ghost use Rattle.anb_values.specs.Lines.{is_space, is_edge, is_label_byte, after_leading, before_trailing, content, value_text, IsGiven, IsLabel, IsHex, IsValue, Gives, AreSaid, lines_of, seed_label};
@@ -31,7 +32,7 @@ enum Line {
 
 /// The labels and values of the lines, in order.
 pub(crate) fn entries(alloc: Global, text: &[u8]) -> Result<Vec<Entry>, ValuesNo>
-    requires { length text.now ≤ 1048576 }
+    requires { length text.now ≤ SMALL_FILE }
     ensures said { IfOk result (λ entries. AreSaid (lines_of text.now) entries.items) }
     ensures refused { IfErr result (IsFaulty text.now) }
 {
@@ -49,7 +50,7 @@ pub(crate) fn entries(alloc: Global, text: &[u8]) -> Result<Vec<Entry>, ValuesNo
 }
 
 fn read_line(alloc: Global, line: &[u8]) -> Result<Line, NoMemory>
-    requires { length line.now ≤ 1048576 }
+    requires { length line.now ≤ SMALL_FILE }
     ensures { IfOk result (IsLine line.now) }
 {
     let content = content(line);
@@ -103,7 +104,7 @@ fn after_spaces(bytes: &[u8]) -> &[u8]
 
 /// The label and the value of a line with this content.
 fn read_entry(alloc: Global, content: &[u8]) -> Result<Option<Entry>, NoMemory>
-    requires { length content.now ≤ 1048576 }
+    requires { length content.now ≤ SMALL_FILE }
     ensures some { IfOk result (λ r. IfSome r (Gives content.now)) }
     ensures none { IfOk result (λ r. IfNone r ((entry : Entry) → Gives content.now entry → ⊥)) }
 {
@@ -166,7 +167,7 @@ fn is_label_byte(byte: u8) -> bool
 /// The bytes of the value of a line with this label, where the text is one.
 fn read_value(alloc: Global, label: &str, text: &[u8]) -> Result<Option<Bytes>, NoMemory>
     requires label { IsLabel label.now ⊎ (label.now ≡ seed_label) }
-    requires size { length text.now ≤ 1048576 }
+    requires size { length text.now ≤ SMALL_FILE }
     ensures some { IfOk result (λ r. IfSome r (IsGiven label.now text.now)) }
     ensures none { IfOk result (λ r.
         IfNone r ((bytes : List ℕ) → IsGiven label.now text.now bytes → ⊥)) }
@@ -197,7 +198,7 @@ fn read_seed(alloc: Global, text: &[u8]) -> Result<Option<Bytes>, NoMemory>
 
 /// The bytes of a literal or of digits after `x`.
 fn read_bytes(alloc: Global, text: &[u8]) -> Result<Option<Bytes>, NoMemory>
-    requires { length text.now ≤ 1048576 }
+    requires { length text.now ≤ SMALL_FILE }
     ensures some { IfOk result (λ r. IfSome r (IsValue text.now)) }
     ensures none { IfOk result (λ r. IfNone r ((bytes : List ℕ) → IsValue text.now bytes → ⊥)) }
 {
@@ -235,7 +236,7 @@ fn decoded(alloc: Global, digits: &[u8]) -> Result<Option<Bytes>, NoMemory>
 
 /// The bytes of a literal, where the whole text is one.
 fn literal(alloc: Global, text: &[u8]) -> Result<Option<Bytes>, NoMemory>
-    requires { length text.now ≤ 1048576 }
+    requires { length text.now ≤ SMALL_FILE }
     ensures some { IfOk result (λ r. IfSome r (IsLiteral text.now)) }
     ensures none { IfOk result (λ r. IfNone r ((bytes : List ℕ) → IsLiteral text.now bytes → ⊥)) }
 {

@@ -1,5 +1,5 @@
 use Rattle.std.proofs.Common.{◌≡◌, take}
-use Rattle.anb_compile.proofs.copies.copied_pieces.Given as goal
+use Rattle.anb_format.proofs.pieces.copy_pieces.Given as goal
 
 abbrev pub invariant-loop-piece : goal.invariant-loop-piece
 invariant-loop-piece l = l.copies.items ≡ take l.piece-index l.pieces

@@ -1,5 +1,5 @@
 use Rattle.std.proofs.Common.{◌≡◌, take}
-use Rattle.anb_compile.proofs.copies.copied_formats.Given as goal
+use Rattle.anb_compile.proofs.compiling.copied_formats.Given as goal
 
 abbrev pub invariant-loop-format : goal.invariant-loop-format
 invariant-loop-format l = l.copies.items ≡ take l.format-index l.formats
