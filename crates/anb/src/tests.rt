@@ -27,7 +27,7 @@ fn child(rt: HostRuntime) -> Result<(), Fail> {
 }
 
 /// Starts the child with words that play this role at this place, and with what a shell makes of
-/// these redirections.
+/// these redirections. The files' names are the place's, so that no other test writes them.
 fn start(
     rt: HostRuntime,
     role: &str,
@@ -35,25 +35,16 @@ fn start(
     at: &str,
     redirections: &str,
 ) -> Result<Child, Fail> {
-    fs::write(&rt, "ping.anb", PING.as_bytes())?;
-    fs::write(&rt, "ping.values", b"N = \"ab\"")?;
+    let narration = format!(in rt.alloc(); "{at}.anb")?;
+    let values = format!(in rt.alloc(); "{at}.values")?;
+    fs::write(&rt, narration.as_str(), PING.as_bytes())?;
+    fs::write(&rt, values.as_str(), b"N = \"ab\"")?;
     let program = env::args(&rt)?.next().ok_or("no name")?;
     let line = format!(in rt.alloc(); "exec \"$0\" \"$@\" {redirections}")?;
     let mut command = Command::new(rt.alloc(), "/bin/sh")?;
-    for word in [
-        "-c",
-        line.as_str(),
-        program.as_str(),
-        "tests::child",
-        "play",
-        "ping.anb",
-        role,
-        "ping.values",
-        flag,
-        at,
-    ] {
-        let _ = command.arg(word)?;
-    }
+    let _ = command.arg("-c")?.arg(&line)?.arg(&program)?;
+    let _ = command.arg("tests::child")?.arg("play")?.arg(&narration)?;
+    let _ = command.arg(role)?.arg(&values)?.arg(flag)?.arg(at)?;
     Ok(command.spawn(&rt)?)
 }
 
