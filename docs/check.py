@@ -5,7 +5,8 @@
     python3 docs/check.py crates/anb/out/anb --write   writes what the program gives into the pages
 
 Examples: `fmt` gives the narration's text, each role compiles, all roles play to their ends over pipes, and each message
-has the bytes that docs/narration.py computes apart. What came of it is compared with examples/expected.
+has the bytes that docs/narration.py computes apart. What came of it is compared with examples/expected, and the index
+of the examples with what docs/charts.py writes.
 
 Pages: in a fenced block that begins with a line `$ ...` each such line is a command for sh, and what follows is what
 it writes, errors too. The commands run in a folder of their own with a copy of examples/, block by block, with `anb` on
@@ -21,12 +22,13 @@ import subprocess
 import sys
 import tempfile
 
+import charts
 import narration
 
 ROOT = pathlib.Path(__file__).resolve().parent.parent
 EXAMPLES = ROOT / "examples"
 EXPECTED = EXAMPLES / "expected"
-PAGES = ["README.md", "docs/TUTORIAL.md", "docs/REFERENCE.md", "examples/peer/README.md"]
+PAGES = ["README.md", "docs/TUTORIAL.md", "docs/REFERENCE.md"]
 MARK = "\x1e"
 
 
@@ -38,10 +40,6 @@ def run(program, *words):
 
 
 # Examples.
-
-
-def folders():
-    return sorted(d for d in EXAMPLES.iterdir() if (d / f"{d.name}.anb").is_file())
 
 
 def values_file(folder, role):
@@ -127,7 +125,7 @@ def check_examples(program, write):
     faults = 0
     commands = {line.split()[1] for line in run(program, "help").splitlines()}
     lines = []
-    for folder in folders():
+    for folder in charts.folders():
         signal.alarm(300)
         try:
             lines.append(check_example(program, folder, commands))
@@ -185,6 +183,18 @@ def scratch(program):
     return folder
 
 
+def check_index(program, write):
+    """The index of the examples is as docs/charts.py writes it."""
+    index = EXAMPLES / "README.md"
+    found = charts.page(str(program))
+    if write:
+        index.write_text(found)
+    if index.read_text() == found:
+        return 0
+    print("examples/README.md: not what docs/charts.py writes")
+    return 1
+
+
 def check_page(name, program, write):
     """The number of commands, and how many blocks write something else."""
     lines = (ROOT / name).read_text().splitlines()
@@ -217,6 +227,7 @@ def main():
         sys.exit(__doc__)
     program, write = pathlib.Path(words[0]).resolve(), "--write" in sys.argv
     examples, faults = check_examples(program, write)
+    faults += check_index(program, write)
     commands = 0
     for name in PAGES:
         if (ROOT / name).exists():
