@@ -6,7 +6,7 @@
 
 Examples: `fmt` gives the narration's text, each role compiles, all roles play to their ends over pipes, and each message
 has the bytes that docs/narration.py computes apart. What came of it is compared with examples/expected, and the index
-of the examples with what docs/charts.py writes.
+of the examples with what docs/charts.py writes. Where the program has `rehearse`, all roles are rehearsed too.
 
 Pages: in a fenced block that begins with a line `$ ...` each such line is a command for sh, and what follows is what
 it writes, errors too. The commands run in a folder of their own with a copy of examples/, block by block, with `anb` on
@@ -29,7 +29,13 @@ ROOT = pathlib.Path(__file__).resolve().parent.parent
 EXAMPLES = ROOT / "examples"
 EXPECTED = EXAMPLES / "expected"
 PAGES = ["README.md", "docs/TUTORIAL.md", "docs/REFERENCE.md"]
+# What names each command of the program.
+LISTS = ["README.md", "docs/REFERENCE.md", "anb.1", "completions/anb.bash", "completions/_anb", "completions/anb.fish"]
 MARK = "\x1e"
+
+
+def commands_of(program):
+    return [line.split()[1] for line in run(program, "help").splitlines()]
 
 
 def run(program, *words):
@@ -123,7 +129,8 @@ def check_example(program, folder, commands):
 
 def check_examples(program, write):
     faults = 0
-    commands = {line.split()[1] for line in run(program, "help").splitlines()}
+    commands = commands_of(program)
+    narration.anbwire.check_vectors()
     lines = []
     for folder in charts.folders():
         signal.alarm(300)
@@ -183,6 +190,15 @@ def scratch(program):
     return folder
 
 
+def check_lists(program):
+    """Each command stands in the lists of commands."""
+    gaps = [(name, command) for name in LISTS for command in commands_of(program)
+            if not re.search(rf"\b{command}\b", (ROOT / name).read_text())]
+    for name, command in gaps:
+        print(f"{name}: nothing on {command}")
+    return len(gaps)
+
+
 def check_index(program, write):
     """The index of the examples is as docs/charts.py writes it."""
     index = EXAMPLES / "README.md"
@@ -227,7 +243,7 @@ def main():
         sys.exit(__doc__)
     program, write = pathlib.Path(words[0]).resolve(), "--write" in sys.argv
     examples, faults = check_examples(program, write)
-    faults += check_index(program, write)
+    faults += check_lists(program) + check_index(program, write)
     commands = 0
     for name in PAGES:
         if (ROOT / name).exists():
