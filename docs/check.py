@@ -13,11 +13,13 @@ it writes, errors too. The commands run in a folder of their own with a copy of 
 the path. A fenced block with two words behind its fence, as ```anb mine.anb, is a file that the reader writes.
 """
 
+import hashlib
 import os
 import pathlib
 import re
 import shutil
 import signal
+import struct
 import subprocess
 import sys
 import tempfile
@@ -97,13 +99,25 @@ def relay(program, story, folder):
     return carried
 
 
+def rehearsal(story, folder, turns):
+    """What `rehearse` writes: each message, with the draws of a role in the session of its number."""
+    names = narration.read_values((folder / "all.values").read_text())
+    for session, role in enumerate(story.roles):
+        for number, name in enumerate(story.fresh_names(role)):
+            names[name] = narration.anbwire.draw(names["@seed"], session, number)
+    messages = [story.bytes_of(message, names) for _, _, message in story.actions]
+    lines = [f"{number} {message.hex()}\n" for number, message in enumerate(messages, 1)]
+    return "".join(lines) + f"turns {turns}, taken {turns}, passed 0\n"
+
+
 def check_schedule(program, story, folder, commands):
     words = (folder / "schedule").read_text().split()
     if words != [role for sender, receiver, _ in story.actions for role in (sender, receiver)]:
         raise ValueError("the schedule isn't the actions' senders and receivers")
+    expected = rehearsal(story, folder, len(words))
     if "rehearse" in commands:
         report = run(program, "rehearse", folder / f"{folder.name}.anb", folder / "all.values", folder / "schedule")
-        if report.splitlines()[-1] != f"turns {len(words)}, taken {len(words)}, passed 0":
+        if report != expected:
             raise ValueError(f"rehearse: {report.splitlines()[-1]}")
 
 
@@ -124,7 +138,8 @@ def check_example(program, folder, commands):
     if carried != [story.bytes_of(message, names) for _, _, message in story.actions]:
         raise ValueError("a message has other bytes than those computed apart")
     size = sum(map(len, carried))
-    return f"{folder.name}: {len(story.roles)} roles, {len(carried)} messages, {size} bytes, last {carried[-1].hex()}"
+    sums = hashlib.sha256(b"".join(struct.pack(">I", len(message)) + message for message in carried)).hexdigest()
+    return f"{folder.name}: {len(story.roles)} roles, {len(carried)} messages, {size} bytes, frames {sums}"
 
 
 def check_examples(program, write):
