@@ -45,19 +45,25 @@ def respond(source, sink, response=response, check_confirmation=check_confirmati
     check_confirmation(next_message(source), nb)
 
 
-def main(where, **parts):
+def talk(source, sink, **parts):
+    """Responds once, and says on standard error what came of it. True where all was right."""
     try:
-        if where == "-":
-            respond(sys.stdin.buffer, sys.stdout.buffer, **parts)
-        else:
-            host, port = where.rsplit(":", 1)
-            with socket.create_server((host, int(port))) as listener, listener.accept()[0] as peer:
-                with peer.makefile("rb") as source, peer.makefile("wb") as sink:
-                    respond(source, sink, **parts)
+        respond(source, sink, **parts)
     except (anbwire.Refused, OSError) as refused:
-        sys.exit(f"responder: {refused}")
-    print("responder: done", file=sys.stderr)
+        print(f"responder: {refused}", file=sys.stderr, flush=True)
+        return False
+    print("responder: done", file=sys.stderr, flush=True)
+    return True
+
+
+def main(where, **parts):
+    if where == "-":
+        return talk(sys.stdin.buffer, sys.stdout.buffer, **parts)
+    host, port = where.rsplit(":", 1)
+    with socket.create_server((host, int(port))) as listener, listener.accept()[0] as peer:
+        with peer.makefile("rb") as source, peer.makefile("wb") as sink:
+            return talk(source, sink, **parts)
 
 
 if __name__ == "__main__":
-    main(*sys.argv[1:])
+    sys.exit(not main(*sys.argv[1:]))

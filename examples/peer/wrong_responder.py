@@ -15,4 +15,4 @@ MISTAKES = {
 }
 
 if __name__ == "__main__":
-    responder.main(sys.argv[2], **MISTAKES[sys.argv[1]])
+    sys.exit(not responder.main(sys.argv[2], **MISTAKES[sys.argv[1]]))
