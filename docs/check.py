@@ -201,7 +201,9 @@ def scratch(program):
     folder = pathlib.Path(tempfile.mkdtemp())
     shutil.copytree(EXAMPLES, folder / "examples", ignore=shutil.ignore_patterns("__pycache__"))
     (folder / "bin").mkdir()
-    (folder / "bin" / "anb").symlink_to(program)
+    started = folder / "bin" / "anb"
+    started.write_text(f'#!/bin/sh\nexec "{program}" "$@"\n')
+    started.chmod(0o755)
     return folder
 
 
