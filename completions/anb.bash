@@ -5,7 +5,7 @@ _anb_words() {
         fmt) echo narration ;;
         compile | explain) echo narration role ;;
         play) echo narration role values place ;;
-        enact) echo rolefile values place ;;
+        enact) echo file values place ;;
     esac
 }
 
@@ -33,7 +33,7 @@ _anb() {
         values) _anb_files "$word" values ;;
         role) mapfile -t COMPREPLY < <(compgen -W "$(_anb_roles "${COMP_WORDS[COMP_CWORD-1]}")" -- "$word") ;;
         place) mapfile -t COMPREPLY < <(compgen -W '--dial --listen' -- "$word") ;;
-        rolefile) compopt -o filenames; mapfile -t COMPREPLY < <(compgen -f -- "$word") ;;
+        file) compopt -o filenames; mapfile -t COMPREPLY < <(compgen -f -- "$word") ;;
         *)
             case $before in
                 --dial | --listen | --timeout) ;;
