@@ -1,0 +1,46 @@
+# Completion of anb for bash. Each command has a line with the words that it takes.
+
+_anb_words() {
+    case $1 in
+        fmt) echo narration ;;
+        compile | explain) echo narration role ;;
+        play) echo narration role values place ;;
+        enact) echo file values place ;;
+    esac
+}
+
+# The agents that a narration declares.
+_anb_roles() {
+    [[ -f $1 ]] && sed -n 's/#.*//; s/.*Agent \([^;]*\);.*/\1/p' -- "$1" | tr -s ', ' '\n'
+}
+
+_anb_files() {
+    compopt -o filenames
+    mapfile -t COMPREPLY < <(compgen -f -X "!*.$2" -- "$1"; compgen -d -- "$1")
+}
+
+_anb() {
+    local word=${COMP_WORDS[COMP_CWORD]} before=${COMP_WORDS[COMP_CWORD-1]} kinds kind
+    COMPREPLY=()
+    if ((COMP_CWORD == 1)); then
+        mapfile -t COMPREPLY < <(compgen -W 'fmt compile explain play enact help' -- "$word")
+        return
+    fi
+    read -ra kinds < <(_anb_words "${COMP_WORDS[1]}")
+    kind=${kinds[COMP_CWORD - 2]-}
+    case $kind in
+        narration) _anb_files "$word" anb ;;
+        values) _anb_files "$word" values ;;
+        role) mapfile -t COMPREPLY < <(compgen -W "$(_anb_roles "${COMP_WORDS[COMP_CWORD-1]}")" -- "$word") ;;
+        place) mapfile -t COMPREPLY < <(compgen -W '--dial --listen' -- "$word") ;;
+        file) compopt -o filenames; mapfile -t COMPREPLY < <(compgen -f -- "$word") ;;
+        *)
+            case $before in
+                --dial | --listen | --timeout) ;;
+                *) [[ " ${COMP_WORDS[*]} " == *' --'[dl]* ]] && mapfile -t COMPREPLY < <(compgen -W '--timeout' -- "$word") ;;
+            esac
+            ;;
+    esac
+}
+
+complete -F _anb anb

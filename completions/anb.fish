@@ -1,0 +1,39 @@
+# Completion of anb for fish. Each command has its line, and each of the words that it takes.
+
+# Whether the command is one of these and the word to complete has this place behind it, from 1.
+function __anb_at
+    set -l words (commandline -opc)
+    test (count $words) -eq (math $argv[1] + 1); and contains -- $words[2] $argv[2..]
+end
+
+# The agents that the narration declares.
+function __anb_roles
+    set -l words (commandline -opc)
+    test -f "$words[3]"; and sed -n 's/#.*//; s/.*Agent \([^;]*\);.*/\1/p' $words[3] | tr -s ', ' '\n'
+end
+
+# Whether a place can stand here: behind all other words of these commands.
+function __anb_place
+    set -l words (commandline -opc)
+    test (count $words) -ge 5; and test "$words[2]" = play
+    or begin
+        test (count $words) -ge 4; and test "$words[2]" = enact
+    end
+end
+
+complete -c anb -f
+complete -c anb -n __fish_use_subcommand -a fmt -d 'Write the canonical text'
+complete -c anb -n __fish_use_subcommand -a compile -d 'Write the code of a role'
+complete -c anb -n __fish_use_subcommand -a explain -d 'Write what a role does'
+complete -c anb -n __fish_use_subcommand -a play -d 'Play a role'
+complete -c anb -n __fish_use_subcommand -a enact -d 'Run the code of a role file'
+complete -c anb -n __fish_use_subcommand -a help -d 'List the commands'
+
+complete -c anb -n '__anb_at 1 fmt compile explain play' -k -a '(__fish_complete_suffix .anb)'
+complete -c anb -n '__anb_at 2 compile explain play' -a '(__anb_roles)' -d Role
+complete -c anb -n '__anb_at 3 play' -k -a '(__fish_complete_suffix .values)'
+complete -c anb -n '__anb_at 1 enact' -F
+complete -c anb -n '__anb_at 2 enact' -k -a '(__fish_complete_suffix .values)'
+complete -c anb -n __anb_place -x -l dial -d 'Connect to host:port'
+complete -c anb -n __anb_place -x -l listen -d 'Wait for a connection at host:port'
+complete -c anb -n __anb_place -x -l timeout -d 'Seconds to wait'

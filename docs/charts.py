@@ -1,0 +1,79 @@
+#!/usr/bin/env python3
+"""Writes examples/README.md: python3 docs/charts.py crates/anb/out/anb. Standard library alone.
+
+Each protocol's comment, its messages as a Mermaid chart, and what each role takes as it comes, from `anb explain`.
+"""
+
+import pathlib
+import re
+import subprocess
+import sys
+
+import narration
+
+EXAMPLES = pathlib.Path(__file__).resolve().parent.parent / "examples"
+
+OPENING = """# Examples
+
+{count} narrations, most of them protocols of the literature over symmetric keys and hashes. This page is written by `docs/charts.py`; `docs/check.py` plays each example and compares each byte.
+
+A folder has the narration, `ROLE.values` for each role (three old ones in lower case), `all.values` with a value for each name that some role knows, and `schedule`, the roles in the order in which they take their turns. [expected](expected) has what comes of playing all roles against each other, with the SHA-256 of all frames in a row. Seeds are fixed, so that each run gives the same bytes.
+
+Under each chart stands what a role **takes as it comes**: the received terms on which none of its checks depends, then or later, by the code that `anb explain` shows. A nonce of the partner is often among them, and rightly; a key or a ticket there deserves a thought. What came out of a seal is still from someone who had the seal's key. Nothing here is a claim that a protocol is secure, and some of these are known not to be.
+
+`peer/` has a role in Python, and one with mistakes; the [tutorial](../docs/TUTORIAL.md) uses them.
+"""
+
+
+def comment_of(text):
+    """The first line of the narration's comment, and its other parts by their first words."""
+    lines = [line[1:].strip() for line in re.match(r"(#[^\n]*\n)*", text).group().splitlines()]
+    parts = re.split(r" (?=(?:Source|Changed): )", " ".join(lines))
+    return parts[0], parts[1:]
+
+
+def chart(story):
+    lines = [f"    participant {role}" for role in story.roles]
+    for number, (sender, receiver, message) in enumerate(story.actions, 1):
+        lines.append(f"    {sender}->>{receiver}: {number} {narration.text_of(message)}")
+    return "\n".join(["```mermaid", "sequenceDiagram", *lines, "```"])
+
+
+def taken(program, path, role):
+    explained = subprocess.run([program, "explain", path, role], capture_output=True, check=True, timeout=300)
+    return narration.unchecked(explained.stdout.decode())
+
+
+def section(program, folder):
+    path = folder / f"{folder.name}.anb"
+    text = path.read_text()
+    story = narration.Narration(text)
+    first, others = comment_of(text)
+    lines = [f"## {folder.name}", "", f"[{path.name}]({folder.name}/{path.name}): {first}"]
+    lines += [line for other in others for line in ("", other)]
+    lines += ["", chart(story), ""]
+    for role in story.roles:
+        terms = ", ".join(f"`{term}`" for term in taken(program, path, role))
+        lines.append(f"- {role} takes as it comes: {terms or 'nothing'}.")
+    return "\n".join(lines)
+
+
+def folders():
+    return sorted(d for d in EXAMPLES.iterdir() if (d / f"{d.name}.anb").is_file())
+
+
+def page(program):
+    lines = ["", "| example | roles | messages | |", "|---|---|---|---|"]
+    for folder in folders():
+        text = (folder / f"{folder.name}.anb").read_text()
+        story = narration.Narration(text)
+        name = folder.name
+        lines.append(f"| [{name}](#{name}) | {', '.join(story.roles)} | {len(story.actions)} | {comment_of(text)[0]} |")
+    sections = [section(program, folder) for folder in folders()]
+    return "\n".join([OPENING.format(count=len(folders())).rstrip(), *lines, "", "\n\n".join(sections), ""])
+
+
+if __name__ == "__main__":
+    if len(sys.argv) != 2:
+        sys.exit(__doc__)
+    (EXAMPLES / "README.md").write_text(page(str(pathlib.Path(sys.argv[1]).resolve())))

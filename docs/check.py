@@ -1,0 +1,274 @@
+#!/usr/bin/env python3
+"""Checks the examples and the pages against a built program. Standard library alone.
+
+    python3 docs/check.py crates/anb/out/anb           compares; the status is 0 where all is as it stands
+    python3 docs/check.py crates/anb/out/anb --write   writes what the program gives into the pages
+
+Examples: `fmt` gives the narration's text, each role compiles, all roles play to their ends over pipes, and each message
+has the bytes that docs/narration.py computes apart. What came of it is compared with examples/expected, and the index
+of the examples with what docs/charts.py writes. Where the program has `rehearse`, all roles are rehearsed too.
+
+Pages: in a fenced block that begins with a line `$ ...` each such line is a command for sh, and what follows is what
+it writes, errors too. The commands run in a folder of their own with a copy of examples/, block by block, with `anb` on
+the path. A fenced block with two words behind its fence, as ```anb mine.anb, is a file that the reader writes.
+"""
+
+import hashlib
+import os
+import pathlib
+import re
+import shutil
+import signal
+import struct
+import subprocess
+import sys
+import tempfile
+
+import charts
+import narration
+
+ROOT = pathlib.Path(__file__).resolve().parent.parent
+EXAMPLES = ROOT / "examples"
+EXPECTED = EXAMPLES / "expected"
+PAGES = ["README.md", "docs/TUTORIAL.md", "docs/REFERENCE.md"]
+# What names each command of the program.
+LISTS = ["README.md", "docs/REFERENCE.md", "anb.1", "completions/anb.bash", "completions/_anb", "completions/anb.fish"]
+MARK = "\x1e"
+
+
+def commands_of(program):
+    return [line.split()[1] for line in run(program, "help").splitlines()]
+
+
+def run(program, *words):
+    done = subprocess.run([program, *map(str, words)], stdin=subprocess.DEVNULL, capture_output=True, timeout=300)
+    if done.returncode:
+        raise ValueError(f"{' '.join(map(str, words))}: status {done.returncode}, {done.stderr.decode().strip()}")
+    return done.stdout.decode()
+
+
+# Examples.
+
+
+def values_file(folder, role):
+    """ROLE.values; the oldest examples have it in lower case."""
+    named = folder / f"{role}.values"
+    return named if named.exists() else folder / f"{role.lower()}.values"
+
+
+def without_comment(text):
+    return re.sub(r"\A(#[^\n]*\n)*", "", text)
+
+
+def names_of(story, folder):
+    """The bytes of each name: known ones by the files, fresh ones by the seeds."""
+    files = {role: narration.read_values(values_file(folder, role).read_text()) for role in story.roles}
+    whole = folder / "all.values"
+    tables = list(files.values()) + ([narration.read_values(whole.read_text())] if whole.exists() else [])
+    names = {name: value for table in tables for name, value in table.items() if name in story.sorts}
+    for role, table in files.items():
+        known = {narration.text_of(t): story.bytes_of(t, names) for t in story.knows.get(role, [])}
+        if known != {text: value for text, value in table.items() if text != "@seed"}:
+            raise ValueError(f"the values of {role} aren't those of the others")
+        for number, name in enumerate(story.fresh_names(role)):
+            names[name] = narration.anbwire.draw(table["@seed"], 0, number)
+    return names
+
+
+def relay(program, story, folder):
+    """Plays all roles, one process each, and carries every message from its sender to its receiver."""
+    path = folder / f"{folder.name}.anb"
+    pipes = {"stdin": subprocess.PIPE, "stdout": subprocess.PIPE, "stderr": subprocess.PIPE}
+    roles = {r: subprocess.Popen([program, "play", path, r, values_file(folder, r)], **pipes) for r in story.roles}
+    carried = []
+    try:
+        for sender, receiver, _ in story.actions:
+            message = narration.anbwire.take_frame(roles[sender].stdout)
+            if message is None:
+                raise ValueError(f"{sender} ended: {roles[sender].stderr.read().decode().strip()}")
+            narration.anbwire.put_frame(roles[receiver].stdin, message)
+            carried.append(message)
+        for role, process in roles.items():
+            left, error = process.communicate(timeout=60)
+            if process.returncode or left or error:
+                raise ValueError(f"{role}: status {process.returncode}, {error.decode().strip()}")
+    finally:
+        for process in roles.values():
+            process.kill()
+            process.communicate()
+    return carried
+
+
+def rehearsal(story, folder, turns):
+    """What `rehearse` writes: each message, with the draws of a role in the session of its number."""
+    names = narration.read_values((folder / "all.values").read_text())
+    for session, role in enumerate(story.roles):
+        for number, name in enumerate(story.fresh_names(role)):
+            names[name] = narration.anbwire.draw(names["@seed"], session, number)
+    messages = [story.bytes_of(message, names) for _, _, message in story.actions]
+    lines = [f"{number} {message.hex()}\n" for number, message in enumerate(messages, 1)]
+    return "".join(lines) + f"turns {turns}, taken {turns}, passed 0\n"
+
+
+def check_schedule(program, story, folder, commands):
+    words = (folder / "schedule").read_text().split()
+    if words != [role for sender, receiver, _ in story.actions for role in (sender, receiver)]:
+        raise ValueError("the schedule isn't the actions' senders and receivers")
+    expected = rehearsal(story, folder, len(words))
+    if "rehearse" in commands:
+        report = run(program, "rehearse", folder / f"{folder.name}.anb", folder / "all.values", folder / "schedule")
+        if report != expected:
+            raise ValueError(f"rehearse: {report.splitlines()[-1]}")
+
+
+def check_example(program, folder, commands):
+    text = (folder / f"{folder.name}.anb").read_text()
+    story = narration.Narration(text)
+    for path in folder.glob("*.anb"):
+        if run(program, "fmt", path) != without_comment(text):
+            raise ValueError(f"{path.name} isn't what fmt writes")
+    if story.canonical() != without_comment(text):
+        raise ValueError("docs/narration.py reads another text")
+    for role in story.roles:
+        if not re.fullmatch(r"anb-role 2\n.*\nend\n", run(program, "compile", folder / f"{folder.name}.anb", role), re.S):
+            raise ValueError(f"no role file for {role}")
+    check_schedule(program, story, folder, commands)
+    names = names_of(story, folder)
+    carried = relay(program, story, folder)
+    if carried != [story.bytes_of(message, names) for _, _, message in story.actions]:
+        raise ValueError("a message has other bytes than those computed apart")
+    size = sum(map(len, carried))
+    sums = hashlib.sha256(b"".join(struct.pack(">I", len(message)) + message for message in carried)).hexdigest()
+    return f"{folder.name}: {len(story.roles)} roles, {len(carried)} messages, {size} bytes, frames {sums}"
+
+
+def check_examples(program, write):
+    faults = 0
+    commands = commands_of(program)
+    narration.anbwire.check_vectors()
+    lines = []
+    for folder in charts.folders():
+        signal.alarm(300)
+        try:
+            lines.append(check_example(program, folder, commands))
+        except (ValueError, KeyError, OSError, narration.anbwire.Refused) as fault:
+            print(f"{folder.name}: {fault}")
+            faults += 1
+        signal.alarm(0)
+    found = "".join(line + "\n" for line in lines)
+    if write and not faults:
+        EXPECTED.write_text(found)
+    expected = EXPECTED.read_text() if EXPECTED.exists() else ""
+    for line in sorted(set(lines) ^ set(expected.splitlines())):
+        print(f"{'found' if line in lines else 'expected'}: {line}")
+        faults += 1
+    return len(lines), faults
+
+
+# Pages.
+
+
+def blocks_of(lines):
+    """Each fenced block as its first line's number, the fence's words and its lines."""
+    start = None
+    for at, line in enumerate(lines):
+        if line.startswith("```") and start is None:
+            start = at
+        elif line.startswith("```"):
+            yield start + 1, lines[start][3:].split(), lines[start + 1 : at]
+            start = None
+
+
+def outputs_of(commands, folder, program):
+    """What each command of a block writes."""
+    script = "exec 2>&1\n" + "".join(f"printf '{MARK}'\n{command}\n" for command in commands)
+    path = f"{folder / 'bin'}:{os.environ['PATH']}"
+    done = subprocess.run(["sh", "-c", script], cwd=folder, env={**os.environ, "PATH": path}, timeout=120,
+                          stdin=subprocess.DEVNULL, stdout=subprocess.PIPE)
+    return done.stdout.decode(errors="replace").split(MARK)[1:]
+
+
+def with_outputs(block, folder, program):
+    """The block as the program would have it."""
+    commands = [line[2:] for line in block if line.startswith("$ ")]
+    shown = []
+    for command, output in zip(commands, outputs_of(commands, folder, program)):
+        shown += [f"$ {command}", *output.splitlines()]
+    return shown
+
+
+def scratch(program):
+    folder = pathlib.Path(tempfile.mkdtemp())
+    shutil.copytree(EXAMPLES, folder / "examples", ignore=shutil.ignore_patterns("__pycache__"))
+    (folder / "bin").mkdir()
+    started = folder / "bin" / "anb"
+    started.write_text(f'#!/bin/sh\nexec "{program}" "$@"\n')
+    started.chmod(0o755)
+    return folder
+
+
+def check_lists(program):
+    """Each command stands in the lists of commands."""
+    gaps = [(name, command) for name in LISTS for command in commands_of(program)
+            if not re.search(rf"\b{command}\b", (ROOT / name).read_text())]
+    for name, command in gaps:
+        print(f"{name}: nothing on {command}")
+    return len(gaps)
+
+
+def check_index(program, write):
+    """The index of the examples is as docs/charts.py writes it."""
+    index = EXAMPLES / "README.md"
+    found = charts.page(str(program))
+    if write:
+        index.write_text(found)
+    if index.read_text() == found:
+        return 0
+    print("examples/README.md: not what docs/charts.py writes")
+    return 1
+
+
+def check_page(name, program, write):
+    """The number of commands, and how many blocks write something else."""
+    lines = (ROOT / name).read_text().splitlines()
+    folder = scratch(program)
+    commands, faults, moved = 0, 0, 0
+    for at, words, block in list(blocks_of(lines)):
+        if len(words) == 2:
+            (folder / words[1]).write_text("\n".join(block) + "\n")
+        if not block or not block[0].startswith("$ "):
+            continue
+        found = with_outputs(block, folder, program)
+        commands += sum(line.startswith("$ ") for line in block)
+        if found == block:
+            continue
+        if write:
+            lines[at + moved : at + moved + len(block)] = found
+            moved += len(found) - len(block)
+        else:
+            print(f"{name}:{at + 1}: another output:", *found, sep="\n  ")
+            faults += 1
+    if write:
+        (ROOT / name).write_text("\n".join(lines) + "\n")
+    shutil.rmtree(folder)
+    return commands, faults
+
+
+def main():
+    words = [word for word in sys.argv[1:] if word != "--write"]
+    if len(words) != 1:
+        sys.exit(__doc__)
+    program, write = pathlib.Path(words[0]).resolve(), "--write" in sys.argv
+    examples, faults = check_examples(program, write)
+    faults += check_lists(program) + check_index(program, write)
+    commands = 0
+    for name in PAGES:
+        if (ROOT / name).exists():
+            found, wrong = check_page(name, program, write)
+            commands, faults = commands + found, faults + wrong
+    print(f"checked: {examples} examples, {commands} commands, {faults} faults")
+    sys.exit(faults > 0)
+
+
+if __name__ == "__main__":
+    main()

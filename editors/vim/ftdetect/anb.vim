@@ -1,0 +1,2 @@
+" Narrations are files *.anb.
+autocmd BufNewFile,BufRead *.anb setfiletype anb
