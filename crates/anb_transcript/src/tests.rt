@@ -1,4 +1,8 @@
 //! Transcripts compared with runs.
+ghost use Rattle.std.specs.Prelude.{◌≤◌, length, IfOk, All};
+ghost use Rattle.anb_base.specs.declared.TheConstants.{ARRIVAL};
+ghost use Rattle.anb_transcript.specs.Replays.{arrivals_of};
+
 use crate::{Due, ReplayEnd, Transcript, TranscriptLine, TranscriptNo, read_transcript, replay};
 use anb_base::{Bytes, Suite};
 use anb_machine::Machine;
@@ -11,7 +15,10 @@ use std::test::Fail;
 const SENDER: &str = "take N; send 0; recv; equal 0 1";
 
 /// What is read in a text of at most 16,777,216 bytes.
-fn read(rt: &impl Abort, alloc: Global, text: &[u8]) -> Result<Transcript, TranscriptNo> {
+fn read(rt: &impl Abort, alloc: Global, text: &[u8]) -> Result<Transcript, TranscriptNo>
+    ensures { IfOk result (λ transcript.
+        All (λ arrival. length arrival ≤ ARRIVAL) (arrivals_of transcript)) }
+{
     assert!(rt; text.len() <= 16_777_216);
     read_transcript(alloc, text)
 }
