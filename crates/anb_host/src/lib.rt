@@ -17,6 +17,4 @@ pub use laws::{inputs_have_one_reading, sessions_are_isolated};
 pub use serving::{HostEnd, serve};
 
 #[cfg(test)]
-mod codes;
-#[cfg(test)]
 mod tests;

@@ -1,20 +1,19 @@
 //! Hosts over wires in memory. The draws were computed in Python, with the package cryptography:
 //! the first 32 bytes of ChaCha20 under a key of zeros, with the stream numbers 0 and 1.
 
-use crate::codes::{assert_short, bytes, code};
 use crate::{Cause, Host, HostEnd, HostEvent, Notice, serve};
-use anb_base::{MemWire, read_full};
+use anb_base::{MemWire, Suite, read_full};
 use anb_code::RoleCode;
+use anb_sample_codes::{bytes, code, values};
 use std::alloc::Global;
 use std::process::Abort;
 use std::test::Fail;
 
 /// Sends a nonce.
-const SENDER: &str = "fresh; send 0";
+const SENDER: &str = "take X; fresh; send 1";
 
-/// Answers what it knows with `R` and that, and once more with `OK`.
-const ANSWERER: &str =
-    "take X; recv; equal 0 1; build r 0; send 2; recv; equal 0 3; build ok; send 4";
+/// Answers what it knows with a pair of that, and once more with that itself.
+const ANSWERER: &str = "take X; recv; equal 0 1; build p 0 0; send 2; recv; equal 0 3; send 0";
 
 /// Two sessions of the answerer, of which session 0 stops at its first arrival.
 const TWO: &[u8] = b"\0\0\0\0\0\
@@ -25,21 +24,17 @@ const TWO: &[u8] = b"\0\0\0\0\0\
     \x01\0\0\0\0\0\0\0\x01x";
 
 /// What they are told.
-const TOLD: &[u8] = b"\0\0\0\0\x01\0\0\0\x02Rx\
+const TOLD: &[u8] = b"\0\0\0\0\x01\0\0\0\x05P\x01x\x01x\
     \x01\0\0\0\0\0\0\0\x01\
-    \0\0\0\0\x01\0\0\0\x02OK\
+    \0\0\0\0\x01\0\0\0\x01x\
     \x02\0\0\0\x01\
     \x03\0\0\0\0\x04";
 
-/// A host under a seed of zeros, of a code whose takes have the value `x`.
+/// A host under a seed of zeros, of a code whose one take has the value `x`.
 fn host<'c>(rt: &impl Abort, alloc: Global, code: &'c RoleCode) -> Result<Host<'c>, Fail> {
-    let mut values = Vec::new(alloc);
-    for _ in 0..code.takes() {
-        values.push(bytes(alloc, b"x")?)?;
-    }
-    assert!(rt; code.takes() as usize == values.len());
-    assert_short(rt, &values);
-    Ok(Host::new(alloc, code, values, [0; 32])?)
+    let init = values(alloc, "x")?;
+    assert!(rt; code.takes() as usize == init.len());
+    Ok(Host::new(alloc, code, init, [0; 32])?)
 }
 
 /// A wire with this input, which moves so many bytes in a call, one at least, and fails at one
@@ -73,7 +68,7 @@ fn serves(
 #[test]
 fn each_session_has_draws_of_its_own(rt: HostRuntime) -> Result<(), Fail> {
     let alloc = rt.alloc();
-    let code = code(&rt, alloc, SENDER)?;
+    let code = code(alloc, Suite::One, SENDER)?;
     let mut host = host(&rt, alloc, &code)?;
     let mut wire = wire(alloc, b"\0\0\0\0\x01\0\0\0\0\0", 3, 0)?;
     assert_eq!(&rt; serve(alloc, &mut host, &mut wire, 9), HostEnd::Ended);
@@ -94,14 +89,14 @@ fn each_session_has_draws_of_its_own(rt: HostRuntime) -> Result<(), Fail> {
 #[test]
 fn two_sessions_go_their_own_ways(rt: HostRuntime) -> Result<(), Fail> {
     let alloc = rt.alloc();
-    let code = code(&rt, alloc, ANSWERER)?;
+    let code = code(alloc, Suite::One, ANSWERER)?;
     serves(&rt, alloc, &code, TWO, HostEnd::Ended, TOLD)
 }
 
 #[test]
 fn what_is_refused_and_where_serving_ends(rt: HostRuntime) -> Result<(), Fail> {
     let alloc = rt.alloc();
-    let code = code(&rt, alloc, ANSWERER)?;
+    let code = code(alloc, Suite::One, ANSWERER)?;
     let done = HostEnd::Ended;
     let short = HostEnd::Truncated { have: 3, need: 9 };
     serves(&rt, alloc, &code, b"\x07", HostEnd::BadKind(7), b"")?;
@@ -136,7 +131,7 @@ fn what_is_refused_and_where_serving_ends(rt: HostRuntime) -> Result<(), Fail> {
 #[test]
 fn an_arrival_that_is_too_long_is_refused(rt: HostRuntime) -> Result<(), Fail> {
     let alloc = rt.alloc();
-    let code = code(&rt, alloc, ANSWERER)?;
+    let code = code(alloc, Suite::One, ANSWERER)?;
     let mut input = Vec::from_slice(alloc, b"\0\0\0\0\0\x01\0\0\0\0\0\x04\0\x01")?;
     input.extend_from_slice(&vec![in alloc; 0u8; 262_145]?)?;
     serves(
@@ -157,7 +152,7 @@ fn an_arrival_that_is_too_long_is_refused(rt: HostRuntime) -> Result<(), Fail> {
 #[test]
 fn a_budget_is_spent(rt: HostRuntime) -> Result<(), Fail> {
     let alloc = rt.alloc();
-    let code = code(&rt, alloc, ANSWERER)?;
+    let code = code(alloc, Suite::One, ANSWERER)?;
     let mut host = host(&rt, alloc, &code)?;
     let mut wire = wire(alloc, b"\0\0\0\0\0\0\0\0\0\x01\0\0\0\0\x02", 16, 0)?;
     assert_eq!(&rt; serve(alloc, &mut host, &mut wire, 2), HostEnd::Spent(2));
@@ -169,7 +164,7 @@ fn a_budget_is_spent(rt: HostRuntime) -> Result<(), Fail> {
 #[test]
 fn an_event_is_answered(rt: HostRuntime) -> Result<(), Fail> {
     let alloc = rt.alloc();
-    let code = code(&rt, alloc, ANSWERER)?;
+    let code = code(alloc, Suite::One, ANSWERER)?;
     let mut host = host(&rt, alloc, &code)?;
     assert!(&rt; host.event(alloc, HostEvent::Start(1_023))?.is_empty());
     let told = host.event(alloc, HostEvent::Start(1_024))?;
