@@ -13,6 +13,7 @@ pub data Asked : Type 0 where
   describe : RoleText → (narration role : List ℕ) → Asked
   play : (narration role values : List ℕ) → Place → Asked
   enact : (code values : List ℕ) → Place → Asked
+  host : (narration role values : List ℕ) → Place → Asked
   help : Asked
 
 -- a name may be any word that isn't empty and doesn't begin with `-`
@@ -59,6 +60,11 @@ enact_in (code ∷ values ∷ place) =
     if is_operand code && is_operand values then option_map (enact code values) (place_in place) else None
 enact_in words = None
 
+abbrev pub host_in : List (List ℕ) → Option Asked
+host_in (narration ∷ role ∷ values ∷ place) =
+    if is_operand narration && is_operand role && is_operand values then option_map (host narration role values) (place_in place) else None
+host_in words = None
+
 abbrev pub help_in : List (List ℕ) → Option Asked
 help_in [] = Some help
 help_in words = None
@@ -71,6 +77,7 @@ asked_of (command ∷ words) =
     else if bytes_eq command (codes "explain") then describe_in Explanation words
     else if bytes_eq command (codes "play") then play_in words
     else if bytes_eq command (codes "enact") then enact_in words
+    else if bytes_eq command (codes "host") then host_in words
     else if bytes_eq command (codes "help") then help_in words
     else None
 
@@ -81,6 +88,7 @@ files_of (Some (fmt narration)) = narration ∷ []
 files_of (Some (describe text narration role)) = narration ∷ []
 files_of (Some (play narration role values place)) = narration ∷ values ∷ []
 files_of (Some (enact code values place)) = code ∷ values ∷ []
+files_of (Some (host narration role values place)) = narration ∷ values ∷ []
 files_of (Some help) = []
 
 -- the place that is reached
@@ -90,10 +98,12 @@ place_of (Some (fmt narration)) = Some Stdio
 place_of (Some (describe text narration role)) = Some Stdio
 place_of (Some (play narration role values place)) = Some place
 place_of (Some (enact code values place)) = Some place
+place_of (Some (host narration role values place)) = Some place
 place_of (Some help) = Some Stdio
 
 -- whether the input is read
 abbrev pub is_reading : Option Asked → Bool
 is_reading (Some (play narration role values place)) = true
 is_reading (Some (enact code values place)) = true
+is_reading (Some (host narration role values place)) = true
 is_reading asked = false

@@ -15,7 +15,7 @@ ghost use Rattle.anb_command.specs.declared.status.Status.TheVariants as status;
 
 use crate::Status;
 use crate::prepare::Prepared;
-use crate::reach::reach;
+use crate::reaching::reach;
 use crate::words::Endpoint;
 use anb_base::{Failed, NoMemory, Wire};
 use anb_machine::Machine;

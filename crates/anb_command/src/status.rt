@@ -49,7 +49,8 @@ pub enum Status {
     /// The input ended before the arrival of this event.
     Waiting(u32),
     /// The input ended within a frame, which has `need` bytes with its length, after `have` of them.
-    /// Where the length isn't whole, `need` is 4.
+    /// Where the length isn't whole, `need` is 4. Of a host's frame both count from its kind on:
+    /// `need` is 5 for a start, 9 for an arrival while its length isn't whole, and then 9 plus that.
     Truncated { have: u64, need: u64 },
     /// A frame has this length, which is too much.
     TooLarge(u32),
@@ -59,6 +60,10 @@ pub enum Status {
     WriteFault,
     /// The role file gives no code.
     BadRoleFile(LoadNo),
+    /// A frame of a host begins with this byte, which is no kind of frame.
+    BadKind(u8),
+    /// As many frames of a host were handled as may be.
+    Spent(u32),
     /// No memory was left.
     NoMemory,
 }
@@ -119,6 +124,8 @@ impl Status {
             Status::ReadFault => 14,
             Status::WriteFault => 15,
             Status::BadRoleFile(_) => 16,
+            Status::BadKind(_) => 20,
+            Status::Spent(_) => 21,
             Status::NoMemory => 99,
         }
     }
@@ -177,6 +184,8 @@ impl Status {
                 let (what, which, is) = unloaded(*why, first);
                 ("role file: ", what, which, is, "")
             }
+            Status::BadKind(kind) => ("no frame kind ", first.format(*kind), "", "", ""),
+            Status::Spent(frames) => (first.format(*frames), " frames handled", "", "", ""),
             Status::NoMemory => ("no memory", "", "", "", ""),
         }
     }

@@ -5,7 +5,7 @@ ghost use Rattle.anb_command.specs.OverWire.{OverWire};
 ghost use Rattle.anb_command.specs.Writing.{IsWritten};
 
 use crate::Status;
-use crate::reach::{reach, write_now};
+use crate::reaching::{reach, write_now};
 use anb_base::{Failed, Place, Wire};
 
 /// Writes the text to the standard streams.

@@ -19,6 +19,7 @@ pub enum Command<'w> {
     },
     Play(PlayWords<'w>),
     Enact(EnactWords<'w>),
+    Host(PlayWords<'w>),
     Help,
 }
 
@@ -31,7 +32,7 @@ pub enum RoleText {
     Explanation,
 }
 
-/// What is asked of `play`: the names of the files and of the role, and the place.
+/// What is asked of `play` and of `host`: the names of the files and of the role, and the place.
 #[derive(Clone, Copy)]
 pub struct PlayWords<'w> {
     pub narration: &'w Text,
@@ -59,7 +60,7 @@ pub enum Endpoint<'w> {
 impl<'w> Command<'w> {
     ghost use Rattle.std.specs.Prelude.{◌≡◌};
     ghost use Rattle.anb_command.specs.Commands.{asked_by};
-    ghost use Rattle.anb_command.specs.Words.{asked_of, enact_in, fmt_in, help_in, play_in, describe_in};
+    ghost use Rattle.anb_command.specs.Words.{asked_of, enact_in, fmt_in, help_in, host_in, play_in, describe_in};
 
     /// Reads a whole word list.
     pub fn read(words: &'w [Text]) -> Option<Self>
@@ -74,6 +75,7 @@ impl<'w> Command<'w> {
             "explain" => Self::read_describe(RoleText::Explanation, words),
             "play" => Self::read_play(words),
             "enact" => Self::read_enact(words),
+            "host" => Self::read_host(words),
             "help" => Self::read_help(words),
             _ => None,
         }
@@ -133,6 +135,24 @@ impl<'w> Command<'w> {
         let endpoint = Endpoint::read(place)?;
         Some(Command::Enact(EnactWords {
             code,
+            values,
+            endpoint,
+        }))
+    }
+
+    fn read_host(words: &'w [Text]) -> Option<Self>
+        ensures { asked_by result ≡ host_in words.now }
+    {
+        let [narration, name, values, place @ ..] = words else {
+            return None;
+        };
+        if !(is_operand(narration) && is_operand(name) && is_operand(values)) {
+            return None;
+        }
+        let endpoint = Endpoint::read(place)?;
+        Some(Command::Host(PlayWords {
+            narration,
+            name,
             values,
             endpoint,
         }))

@@ -5,6 +5,8 @@
 #[cfg(test)]
 mod enact;
 #[cfg(test)]
+mod host;
+#[cfg(test)]
 mod play;
 #[cfg(test)]
 mod role_texts;

@@ -23,7 +23,7 @@ use Rattle.anb_command.proofs.Ones.{as_given, as_refused, not_both, same_given, 
 use Rattle.anb_command.proofs.Preparing.{told_both}
 use Rattle.anb_role_commands.specs.Jobs.{IsRead, Job, JobIs, JobOf, makes_names}
 use Rattle.anb_role_commands.specs.PlayCommand.{PlayOf}
-use Rattle.anb_role_commands.specs.Playing.{IsPlayable, play_by}
+use Rattle.anb_role_commands.specs.Playing.{IsPlayable, IsPlayableInEach, PlayIn, play_by, play_in}
 use Rattle.anb_role_commands.proofs.Draws.{draws_as_made}
 
 -- ---- a code that fits plays its job
@@ -32,12 +32,16 @@ use Rattle.anb_role_commands.proofs.Draws.{draws_as_made}
 count_known : (p : ProtocolValue) (role : ℕ) (code : CodeValue) (initial : List (List ℕ)) → FitsRole p role code → length initial ≡ length (take_texts code.instrs) → length initial ≡ length (known_by p role)
 count_known p role code initial fits each = each ∙ ap length fits.texts ∙ length-map (known_by p role) (term_text p)
 
+plays_in : (p : ProtocolValue) (role : ℕ) (code : CodeValue) (initial : List (List ℕ)) (seed : List ℕ) → FittingCodesPlay p → FitsRole p role code
+    → length initial ≡ length (known_by p role) → AllByRecursion IsBytes initial → (session : ℕ) → IsRunBy (PlayIn session) (record { protocol = p; role = role; initial = initial; seed = seed }) (play_in code initial seed session)
+plays_in p role code initial seed law fits count bytes session arrivals are_bytes q =
+    let both = law role code initial seed session arrivals fits count bytes are_bytes in
+    let J : Job = record { protocol = p; role = role; initial = initial; seed = seed } in
+    (λ plays. both.1 q plays, λ is. subst (λ (r : Played (List ℕ)). PlayIn session J arrivals r) (sym is) both.0)
+
 plays_as : (p : ProtocolValue) (role : ℕ) (code : CodeValue) (initial : List (List ℕ)) (seed : List ℕ) → FittingCodesPlay p → FitsRole p role code
     → length initial ≡ length (known_by p role) → AllByRecursion IsBytes initial → IsRunBy PlayOf (record { protocol = p; role = role; initial = initial; seed = seed }) (play_by code initial seed)
-plays_as p role code initial seed law fits count bytes arrivals are_bytes q =
-    let both = law role code initial seed 0 arrivals fits count bytes are_bytes in
-    let J : Job = record { protocol = p; role = role; initial = initial; seed = seed } in
-    (λ plays. both.1 q plays, λ is. subst (λ (r : Played (List ℕ)). PlayOf J arrivals r) (sym is) both.0)
+plays_as p role code initial seed law fits count bytes arrivals are_bytes q = plays_in p role code initial seed law fits count bytes 0 arrivals are_bytes q
 
 -- ---- the values and the seed
 
@@ -82,6 +86,17 @@ module _ (values : List ℕ) (host_seed : Option (List ℕ)) (p : ProtocolValue)
         comes = plays_as p role code initial seed law fits (count_known p role code initial fits (subst (λ (c : CodeValue). length initial ≡ length (take_texts c.instrs)) is each)) bytes;
       }) (subst (λ (c : CodeValue). IfTold told (λ files. ErrandOf files values host_seed code (given (record { code = c; initial = initial; seed = seed })))) is errand))
 
+  pub role_ready_in_each : (told : Option Files) (same : CodeValue) (initial : List (List ℕ)) (seed : List ℕ) → same ≡ code → IfTold told (λ files. ErrandOf files values host_seed code (given (record { code = same; initial = initial; seed = seed })))
+      → FittingCodesPlay p → length initial ≡ length (take_texts same.instrs) → AllByRecursion IsBytes initial
+      → IfTold told (λ files. IsPlayableInEach (JobOf files values host_seed (record { protocol = p; role = role })) same initial seed)
+  role_ready_in_each told same initial seed is errand law each bytes =
+      subst (λ (c : CodeValue). IfTold told (λ files. IsPlayableInEach (JobOf files values host_seed (record { protocol = p; role = role })) c initial seed)) (sym is)
+      (told_map told (λ files e. record {
+        asked = record { protocol = p; role = role; initial = initial; seed = seed };
+        asks = job_given files initial seed e;
+        comes = plays_in p role code initial seed law fits (count_known p role code initial fits (subst (λ (c : CodeValue). length initial ≡ length (take_texts c.instrs)) is each)) bytes;
+      }) (subst (λ (c : CodeValue). IfTold told (λ files. ErrandOf files values host_seed code (given (record { code = c; initial = initial; seed = seed })))) is errand))
+
 -- ---- all steps
 
 module _ (told : Option Files) (narration name values : List ℕ) (host_seed : Option (List ℕ)) where
@@ -95,6 +110,10 @@ module _ (told : Option Files) (narration name values : List ℕ) (host_seed : O
   pub whole_ready : (part : Part) (code : CodeValue) (initial : List (List ℕ)) (seed : List ℕ) → IfTold told (λ files. PartInFile files narration name (given part))
       → IfTold told (λ files. IsPlayable (JobOf files values host_seed part) code initial seed) → IfTold told (λ files. IsPlayable (JobIs files narration name values host_seed) code initial seed)
   whole_ready part code initial seed first next = told_both told (λ files f n. record { asked = n.asked; asks = inr (part, f, n.asks); comes = n.comes }) first next
+
+  pub whole_ready_in_each : (part : Part) (code : CodeValue) (initial : List (List ℕ)) (seed : List ℕ) → IfTold told (λ files. PartInFile files narration name (given part))
+      → IfTold told (λ files. IsPlayableInEach (JobOf files values host_seed part) code initial seed) → IfTold told (λ files. IsPlayableInEach (JobIs files narration name values host_seed) code initial seed)
+  whole_ready_in_each part code initial seed first next = told_both told (λ files f n. record { asked = n.asked; asks = inr (part, f, n.asks); comes = n.comes }) first next
 
   pub narration_read : (file : List ℕ) → file ≡ narration → IfTold told (λ files. IsRead files narration name values file)
   narration_read file is = by told where

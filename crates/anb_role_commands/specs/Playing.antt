@@ -4,8 +4,9 @@ use Rattle.anb_plays.specs.Plays.{Played}
 use Rattle.anb_plays.specs.Runs.{without_place}
 use Rattle.anb_code.specs.CodeValue.{CodeValue}
 use Rattle.anb_machine.specs.ByteRuns.{run_bytes}
-use Rattle.anb_command.specs.Prepared.{IsReady}
-use Rattle.anb_command.specs.Steps.{Answer}
+use Rattle.anb_resolve.specs.Plays.{IsPlay}
+use Rattle.anb_command.specs.Prepared.{IsReady, IsRunBy}
+use Rattle.anb_command.specs.Steps.{Answer, given}
 use Rattle.anb_role_commands.specs.Jobs.{Job}
 use Rattle.anb_role_commands.specs.PlayCommand.{PlayOf}
 
@@ -16,3 +17,17 @@ play_by code initial seed arrivals = without_place (run_bytes code initial seed 
 -- there is something to play, and the code plays it
 abbrev pub IsPlayable : (Answer Job → Type 0) → CodeValue → (initial : List (List ℕ)) → (seed : List ℕ) → Type 0
 IsPlayable Prepares code initial seed = IsReady PlayOf Prepares (play_by code initial seed)
+
+-- ---- in any session
+
+abbrev pub PlayIn : (session : ℕ) → Job → List (List ℕ) → Played (List ℕ) → Type 0
+PlayIn session job arrivals p = IsPlay job.protocol job.role job.initial job.seed session arrivals p
+
+abbrev pub play_in : CodeValue → (initial : List (List ℕ)) → (seed : List ℕ) → (session : ℕ) → List (List ℕ) → Played (List ℕ)
+play_in code initial seed session arrivals = without_place (run_bytes code initial seed session arrivals)
+
+-- there is something to play, and the code plays it in each session
+pub record IsPlayableInEach (Prepares : Answer Job → Type 0) (code : CodeValue) (initial : List (List ℕ)) (seed : List ℕ) : Type 0 where
+  pub asked : Job
+  pub asks : Prepares (given asked)
+  pub comes : (session : ℕ) → IsRunBy (PlayIn session) asked (play_in code initial seed session)

@@ -5,4 +5,4 @@ mod role_file;
 mod role_play;
 
 pub use role_file::enact;
-pub use role_play::play;
+pub use role_play::{play, prepare};

@@ -16,7 +16,7 @@ ghost use Rattle.anb_command.specs.Steps.{IsFailure, refused, given};
 ghost use Rattle.anb_command.specs.Touches.{Touches};
 ghost use Rattle.anb_role_commands.specs.Jobs.{IsRead, JobIs, JobOf};
 ghost use Rattle.anb_role_commands.specs.PlayCommand.{CompletesPlay, DoesPlay};
-ghost use Rattle.anb_role_commands.specs.Playing.{IsPlayable, play_by};
+ghost use Rattle.anb_role_commands.specs.Playing.{IsPlayable, IsPlayableInEach, play_by};
 
 use anb_base::{ARRIVAL, Shelf, Text, Wire};
 use anb_command::{
@@ -88,8 +88,8 @@ fn play_over<W: Wire>(
     }
 }
 
-/// Reads the files of a play.
-fn prepare<F: Shelf>(
+/// What a role is played with, from the files of its words. Whatever the session, its code plays it.
+pub fn prepare<F: Shelf>(
     alloc: Global,
     shelf: &mut F,
     words: PlayWords,
@@ -97,6 +97,10 @@ fn prepare<F: Shelf>(
 ) -> Result<Prepared, Status>
     ensures ready { IfOk result (λ p. IfTold (F.files shelf.old) (λ files.
         IsPlayable
+        (JobIs files words.entry.narration.now words.entry.name.now words.entry.values.now host_seed)
+        p.code p.initial p.seed)) }
+    ensures sessions { IfOk result (λ p. IfTold (F.files shelf.old) (λ files.
+        IsPlayableInEach
         (JobIs files words.entry.narration.now words.entry.name.now words.entry.values.now host_seed)
         p.code p.initial p.seed)) }
     ensures takes { IfOk result (λ p. length p.initial ≡ length (take_texts p.code.instrs)) }
@@ -131,6 +135,9 @@ fn prepare_role<F: Shelf>(
     requires fits { FitsRole playable.protocol playable.role playable.code }
     ensures ready { IfOk result (λ p. IfTold (F.files shelf.old) (λ files.
         IsPlayable (JobOf files values.now host_seed
+        (record { protocol = playable.protocol; role = playable.role })) p.code p.initial p.seed)) }
+    ensures sessions { IfOk result (λ p. IfTold (F.files shelf.old) (λ files.
+        IsPlayableInEach (JobOf files values.now host_seed
         (record { protocol = playable.protocol; role = playable.role })) p.code p.initial p.seed)) }
     ensures takes { IfOk result (λ p. length p.initial ≡ length (take_texts p.code.instrs)) }
     ensures short { IfOk result (λ p. All (λ value. length value ≤ ARRIVAL) p.initial) }

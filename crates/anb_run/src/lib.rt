@@ -19,6 +19,7 @@ ghost use Rattle.anb_run.specs.Commands.{Completes, Does};
 use anb_base::{Shelf, Sink, Text, Wire};
 use anb_command::{Command, tell};
 pub use anb_command::{Halt, NarrationNo, Status};
+use anb_many_commands::host;
 use anb_role_commands::{enact, play};
 use anb_text_commands::{describe, fmt, help};
 use std::alloc::Global;
@@ -68,6 +69,7 @@ pub fn run<F: Shelf, W: Wire, E: Sink>(
         ) => describe(alloc, shelf, wire, kind, narration, role),
         Some(Command::Play(words)) => play(alloc, shelf, wire, words, seed),
         Some(Command::Enact(words)) => enact(alloc, shelf, wire, words, seed),
+        Some(Command::Host(words)) => host(alloc, shelf, wire, words, seed),
         Some(Command::Help) => help(wire),
     };
     tell(err, &status);

@@ -67,7 +67,8 @@ abbrev pub help_text : List ℕ
 help_text =
     codes "anb fmt <narration>\n" ++ codes "anb compile <narration> <role>\n"
     ++ codes "anb explain <narration> <role>\n" ++ codes "anb play <narration> <role> <values> [place]\n"
-    ++ codes "anb enact <rolefile> <values> [place]\n" ++ codes "anb help\n"
+    ++ codes "anb enact <rolefile> <values> [place]\n"
+    ++ codes "anb host <narration> <role> <values> [place]\n" ++ codes "anb help\n"
 
 abbrev pub HelpText : Answer (List ℕ) → Type 0
 HelpText answer = answer ≡ given help_text

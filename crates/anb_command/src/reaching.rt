@@ -6,11 +6,7 @@ ghost use Rattle.anb_command.specs.OverWire.{DidNotReach, HasReached, OnlyWrites
 use anb_base::{Failed, Place, Wire, write_whole};
 
 /// Reaches the place. Reaching it, and each wait from then on, may take so many seconds.
-pub(crate) fn reach<W: Wire>(
-    wire: &mut W,
-    place: &Place,
-    timeout: Option<u32>,
-) -> Result<(), Failed>
+pub fn reach<W: Wire>(wire: &mut W, place: &Place, timeout: Option<u32>) -> Result<(), Failed>
     ensures reached { OnOk result (HasReached place.now (W.state wire.old) (W.state wire.new)) }
     ensures failed { OnErr result (DidNotReach (W.state wire.old) (W.state wire.new)) }
 {

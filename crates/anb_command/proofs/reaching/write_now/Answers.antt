@@ -1,6 +1,6 @@
 use Rattle.std.proofs.Common.{sym, ◌∙◌}
 use Rattle.anb_command.proofs.States.{only_writes, puts, puts_prefix, write_rose}
-use Rattle.anb_command.proofs.reach.write_now.Goals as goal
+use Rattle.anb_command.proofs.reaching.write_now.Goals as goal
 
 pub returns-clause-put : goal.returns-clause-put
 returns-clause-put g c =

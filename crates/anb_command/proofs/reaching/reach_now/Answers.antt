@@ -1,5 +1,5 @@
 use Rattle.anb_command.proofs.States.{did_not_reach, has_reached}
-use Rattle.anb_command.proofs.reach.reach_now.Goals as goal
+use Rattle.anb_command.proofs.reaching.reach_now.Goals as goal
 
 pub returns-clause-reached : goal.returns-clause-reached
 returns-clause-reached g c =

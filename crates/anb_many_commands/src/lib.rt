@@ -1,0 +1,6 @@
+//! Commands of many sessions, or of many roles.
+#![tactic(auto)]
+
+mod hosting;
+
+pub use hosting::{FRAMES, host};
