@@ -304,10 +304,10 @@ def letters(number):
 
 
 def long_refusals(program):
-    """what is beyond a limit is refused at once, however far"""
+    """what is beyond a limit is refused at once, however far; what is built 20,000 times is dropped"""
     names = [letters(k) for k in range(105_000)]
     roles = "Protocol:P;Types:Agent " + ",".join(names) + ";Knowledge:" + "".join(f"{name}:;" for name in names)
-    program.write("roles.anb", roles + f"Actions:a->b:a;")
+    program.write("roles.anb", roles + "Actions:a->b:a;")
     head = "anb-role 2\nprotocol P\nrole A\nsuite sha256\n"
     takes = "".join(f"r{k} = take {letters(k)}\n" for k in range(120_000))
     program.write("takes.role", f"{head}code\n{takes}r120000 = take a\nend\n")
@@ -316,14 +316,15 @@ def long_refusals(program):
     program.write("pieces.role", f"{head}{pieces}\ncode\n{builds}end\n")
     program.write("no.values", "")
     found = []
-    for file, words, status in (
-        ("roles.anb", ["compile", "roles.anb", "a"], 4),
-        ("takes.role", ["enact", "takes.role", "no.values"], 16),
-        ("pieces.role", ["enact", "pieces.role", "no.values"], 0),
+    for file, words, status, seconds in (
+        ("roles.anb", ["compile", "roles.anb", "a"], 4, AT_ONCE),
+        ("takes.role", ["enact", "takes.role", "no.values"], 16, AT_ONCE),
+        # 1.6 gigabytes are built here, a byte at a time.
+        ("pieces.role", ["enact", "pieces.role", "no.values"], 0, PATIENCE),
     ):
         run, (ended, _, line) = program.run(*words)
         want(f"the status of {file}, which says {line[:80]}", ended, status)
-        want_below(f"seconds of {file}", run.seconds, AT_ONCE)
+        want_below(f"seconds of {file}", run.seconds, seconds)
         want_below(f"megabytes of {file}", run.memory, MOST_MEMORY)
         found.append(f"{file} {run.seconds:.2f} s, {run.memory:.0f} MB, {line[:60].decode().strip() or 'no line'}")
     return "; ".join(found)
