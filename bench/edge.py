@@ -53,7 +53,9 @@ class Run:
 
     def __init__(self, path, folder, words, before="", redirections="", **streams):
         line = f'{before} exec "$0" "$@" {redirections}'
-        pipes = dict.fromkeys(("stdin", "stdout", "stderr"), subprocess.PIPE)
+        # A file takes any line while standard output is read.
+        self.line = tempfile.TemporaryFile()
+        pipes = {"stdin": subprocess.PIPE, "stdout": subprocess.PIPE, "stderr": self.line}
         self.began = time.monotonic()
         self.child = subprocess.Popen(["/bin/sh", "-c", line, path, *words], cwd=folder, **{**pipes, **streams})
         self.memory = self.seconds = None
@@ -83,11 +85,11 @@ class Run:
                 self.child.stdin.write(given)
                 self.child.stdin.close()
         wrote = self.child.stdout.read() if self.child.stdout else b""
-        line = self.child.stderr.read() if self.child.stderr else b""
         _, status, usage = os.wait4(self.child.pid, 0)
         self.seconds, self.memory = time.monotonic() - self.began, usage.ru_maxrss / 1024
         self.child.returncode = os.waitstatus_to_exitcode(status)
-        return self.child.returncode, wrote, line
+        self.line.seek(0)
+        return self.child.returncode, wrote, self.line.read()
 
 
 class Program:
@@ -279,18 +281,23 @@ def small_narration(program):
 
 def no_memory_for_words(program):
     """where memory runs out while the words are read, the line is told with the status"""
-    told = 0
+    found = []
     for words in (["help"], ["fmt", "a" * 120_000], ["fmt"] + ["a" * 100_000] * 8):
-        for limit in range(2000, 6000, 8):
+        _, (usual, _, usual_line) = program.run(*words)
+        runs, told, as_usual, limit = 0, 0, 0, 1000
+        while as_usual < 10:
             _, (status, _, line) = program.run(*words, before=f"ulimit -v {limit};")
+            is_usual = (status, line) == (usual, usual_line)
             if status == 99:
                 want(f"the line at {limit} kB", line, b"anb: no memory\n")
                 told += 1
-            # Below, the program isn't started at all; above, all is as with much memory.
             elif line.startswith(b"anb: "):
-                want(f"the status at {limit} kB", status in (1, 2, 14, 15), True)
-    want("that memory ran out", told > 0, True)
-    return f"{told} runs out of 1,500 had no memory, each with its line"
+                want(f"the status and the line at {limit} kB", (status, line), (usual, usual_line))
+            # Below these limits the program isn't started at all.
+            runs, as_usual, limit = runs + 1, as_usual + 1 if is_usual else 0, limit + 16
+        want("that memory ran out", told > 0, True)
+        found.append(f"{told} of {runs}")
+    return f"{', '.join(found)} runs had no memory, each with its line"
 
 
 def letters(number):
