@@ -30,7 +30,7 @@ ARRIVAL = 262_144
 # be passed by, and how long a program is waited for at most, in seconds.
 AT_ONCE, LATE, PATIENCE = 1.0, 2.0, 60.0
 
-# The most memory that stays in use, in megabytes.
+# The most memory that stays in use, in megabytes. What is found is at least what this script takes.
 MOST_MEMORY = 200
 
 
@@ -308,7 +308,7 @@ def letters(number):
     while number >= 52:
         number = number // 52 - 1
         text = digits[number % 52] + text
-    return "z" + text if text in ("h", "mac", "Key", "wrap") else text
+    return text + "0" if text in ("h", "mac", "Key") else text
 
 
 def long_refusals(program):
