@@ -1,9 +1,12 @@
-"""Seconds, growth and memory of `compile` on narrations that are hard to compile.
+"""Seconds, growth and memory of the program on files that are hard for it.
 
     python3 bench/measure.py [--program FILE] [--limit SECONDS] [ROW ..]
 
-The program is crates/anb/out/anb unless another is named. A size that takes longer than the limit is
-cut off, and the larger ones of its row are left out.
+The rows are those of narrations.py, which are compiled; `explained`, where such a narration is
+explained; and role files that are run, `takes` with a value for each of its takes, `most_takes` up to
+the size that a role file may have, with as many values as fit into theirs. The program is
+crates/anb/out/anb unless another is named. A size that takes longer than the limit is cut off, and the
+larger ones of its row are left out.
 """
 import argparse
 import os
@@ -12,16 +15,55 @@ import sys
 import tempfile
 import time
 
-from narrations import ROWS
+from narrations import ROWS, name
 
 PROGRAM = os.path.join(os.path.dirname(os.path.abspath(__file__)), "..", "crates", "anb", "out", "anb")
 
 
-def run(program, path, role, limit):
+ROLE_FILE_LIMIT, VALUES_LIMIT = 16_777_216, 1_048_576
+
+
+class Case:
+    """Files, the words of a run on them, and the statuses that it may end with."""
+
+    def __init__(self, files, words, statuses=(0,)):
+        self.files, self.words, self.statuses = files, words, statuses
+
+
+def narration_case(command, row, size):
+    make, role, _ = ROWS[row]
+    return Case({"bench.anb": make(size).text()}, [command, "bench.anb", role])
+
+
+def takes_case(size, statuses):
+    """A role file of so many takes, and values for as many of them as fit."""
+    names = [name("x", k) for k in range(size)]
+    code = "".join(f"r{k} = take {title}\n" for k, title in enumerate(names))
+    role = f"anb-role 2\nprotocol Bench\nrole A\nsuite sha256\ncode\n{code}end\n"
+    if len(role) > ROLE_FILE_LIMIT:
+        sys.exit(f"{size} takes don't fit into a role file")
+    values = "".join(f"{title}=x\n" for title in names)[:VALUES_LIMIT]
+    values = values[: values.rfind("\n") + 1]
+    return Case({"bench.role": role, "bench.values": values}, ["enact", "bench.role", "bench.values"], statuses)
+
+
+# each row's case, and its sizes, which double up to the largest within the limits
+CASES = {
+    **{row: (lambda size, row=row: narration_case("compile", row, size), ROWS[row][2]) for row in ROWS},
+    "explained": (lambda size: narration_case("explain", "format_trees", size), ROWS["format_trees"][2]),
+    "takes": (lambda size: takes_case(size, (0,)), [17500, 35000, 70000, 140000]),
+    "most_takes": (lambda size: takes_case(size, (0, 7)), [95000, 190000, 380000, 760000]),
+}
+
+
+def run(program, folder, case, limit):
     """The seconds and megabytes of one run, or None where it was cut off."""
+    for title, text in case.files.items():
+        with open(os.path.join(folder, title), "w") as file:
+            file.write(text)
     start = time.monotonic()
     with open(os.devnull, "w") as nothing:
-        child = subprocess.Popen([program, "compile", path, role], stdout=nothing, stderr=subprocess.PIPE)
+        child = subprocess.Popen([program, *case.words], cwd=folder, stdout=nothing, stderr=subprocess.PIPE)
         while True:
             pid, status, usage = os.wait4(child.pid, os.WNOHANG)
             if pid:
@@ -32,8 +74,8 @@ def run(program, path, role, limit):
                 return None
             time.sleep(0.001)
     seconds = time.monotonic() - start
-    if os.waitstatus_to_exitcode(status) != 0:
-        sys.exit(f"{path}: {child.stderr.read().decode()}")
+    if os.waitstatus_to_exitcode(status) not in case.statuses:
+        sys.exit(f"{' '.join(case.words)}: {child.stderr.read().decode()}")
     return seconds, usage.ru_maxrss / 1024
 
 
@@ -43,16 +85,14 @@ def main():
     words.add_argument("--limit", type=float, default=60)
     words.add_argument("rows", nargs="*")
     asked = words.parse_args()
+    program = os.path.abspath(asked.program)
     print(f"{'row':<20}{'size':>8}{'seconds':>10}{'growth':>8}{'MB':>8}")
     with tempfile.TemporaryDirectory() as folder:
-        for row in asked.rows or ROWS:
-            make, role, sizes = ROWS[row]
+        for row in asked.rows or CASES:
+            make, sizes = CASES[row]
             before = None
             for size in sizes:
-                path = os.path.join(folder, f"{row}.anb")
-                with open(path, "w") as file:
-                    file.write(make(size).text())
-                found = run(asked.program, path, role, asked.limit)
+                found = run(program, folder, make(size), asked.limit)
                 if found is None:
                     print(f"{row:<20}{size:>8}{'over ' + format(asked.limit, 'g'):>10}", flush=True)
                     break

@@ -62,6 +62,13 @@ def tree(operator, leaves):
     return leaves[0]
 
 
+def declared_names(n):
+    """A narration that declares n names and mentions one."""
+    w = Narration()
+    w.send("A", w.fresh("x", n)[0])
+    return w
+
+
 def known_names(n):
     """A role that knows n names and sends one."""
     w = Narration()
@@ -167,6 +174,7 @@ def same_trees(n):
 
 # each row's narration, the role to compile, and the sizes to measure, which double up to the largest
 ROWS = {
+    "declared_names": (declared_names, "A", [18750, 37500, 75000, 150000]),
     "known_names": (known_names, "A", [8125, 16250, 32500, 65000]),
     "format_trees": (format_trees, "B", [32, 64, 128, 256]),
     "nested_seals": (nested_seals, "B", [32, 64, 128, 256]),

@@ -12,7 +12,6 @@ use Rattle.anb_term.specs.declared.term.Term.{Term}
 use Rattle.anb_term.specs.Tree.{Tree}
 use Rattle.anb_term.specs.View.{tree_of}
 use Rattle.anb_term.proofs.Lists.{slice_get-map, map-take, map-drop}
-use Rattle.anb_resolve.specs.Choices.{each_after}
 use Rattle.anb_resolve.specs.Protocols.{ProtocolValue}
 use Rattle.anb_resolve.specs.Texts.{term_text}
 use Rattle.anb_resolve.specs.Plans.{PlanEvent}
@@ -22,7 +21,7 @@ use Rattle.anb_code.specs.Registers.{count_written}
 use Rattle.anb_code.specs.Spelling.{raw_instr, raw_instrs}
 use Rattle.anb_code.specs.Verified.{count_registers}
 use Rattle.anb_text.specs.Lines.{instr_line}
-use Rattle.anb_explain.specs.Explained.{line, event_line, note, instr_texts}
+use Rattle.anb_explain.specs.Explained.{line, note, instr_texts}
 use Rattle.anb_explain.proofs.Loops.{drop_item, item_drop, take_item}
 
 abbrev pub behind : List ℕ → List ℕ
@@ -61,11 +60,6 @@ pub at_most_one : (b : Bool) → counted_one b ≤ 1
 at_most_one true = omega arith
 at_most_one false = omega arith
 
-pub event_put : (p : ProtocolValue) (before rest : List PlanEvent) (e : PlanEvent) (old new whole : List ℕ) → new ≡ old ++ event_line p before e
-    → old ++ each_after (event_line p) before (e ∷ rest) ≡ whole → new ++ each_after (event_line p) (before ++ e ∷ []) rest ≡ whole
-event_put p before rest e old new whole is joined =
-    ap (λ l. l ++ each_after (event_line p) (before ++ e ∷ []) rest) is ∙ append_assoc old (event_line p before e) (each_after (event_line p) (before ++ e ∷ []) rest) ∙ joined
-
 -- ---- one instruction more
 
 -- as many terms as registers are written
@@ -73,37 +67,50 @@ some_terms : (next n : ℕ) (trees : List Tree) → drop (length (range_with_len
 some_terms next n trees = ap (λ k. drop k (drop next trees)) (length-range_with_len next n) ∙ drop-drop n next trees
 
 -- what a loop over the instructions keeps
-pub record Written (p : ProtocolValue) (formats : List FormatValue) (ts : List Term) (instrs : List Instr) (raws : List RawInstrValue) (i next : ℕ) (out whole : List ℕ) : Type 0 where
+pub record Explaining (formats : List FormatValue) (ts : List Term) (instrs : List Instr) (raws : List RawInstrValue) (i next : ℕ) : Type 0 where
   pub before : next ≡ count_registers formats (take i instrs)
   pub spelled : drop i raws ≡ raw_instrs formats next (drop i instrs)
   pub counted : next + count_registers formats (drop i instrs) ≡ length ts
-  pub joined : out ++ instr_texts p (drop i raws) (drop next (map tree_of ts)) ≡ whole
 
-pub instr_put : (p : ProtocolValue) (formats : List FormatValue) (ts : List Term) (instrs : List Instr) (raws : List RawInstrValue) (i next k : ℕ) (x : Instr) (text old new whole : List ℕ)
-    → slice_get instrs i ≡ Some x → k ≡ count_written formats x → slice_get (map instr_line raws) i ≡ Some text
-    → new ≡ old ++ line (text ++ note (map (term_text p) (map tree_of (take k (drop next ts)))))
-    → Written p formats ts instrs raws i next old whole → Written p formats ts instrs raws (i + 1) (next + k) new whole
-instr_put p formats ts instrs raws i next k x text old new whole at many said is w =
-    let rest = drop (i + 1) instrs in
-    let left = drop_item instrs i x at in
-    let raw = raw_instr formats next x in
-    let later = raw_instrs formats (next + count_written formats x) rest in
-    let here = item_drop raws later i raw (w.spelled ∙ ap (raw_instrs formats next) left) in
-    let text_is : text ≡ instr_line raw = (let e = sym said ∙ slice_get-map instr_line raws i raw here.0 in cc) in
-    let counts : next + (count_written formats x + count_registers formats rest) ≡ length ts = ap (λ n. next + n) (sym (ap (count_registers formats) left ∙ sum_by-cons (count_written formats) x rest)) ∙ w.counted in
-    let trees = map tree_of ts in
-    let left_trees = drop next trees in
-    let width : k ≡ length raw.to = many ∙ sym (length-range_with_len next (count_written formats x)) in
-    let moved : map tree_of (take k (drop next ts)) ≡ take (length raw.to) left_trees = map-take tree_of k (drop next ts) ∙ ap (take k) (map-drop tree_of next ts) ∙ ap (λ n. take n left_trees) width in
-    let shown = line (instr_line raw ++ note (map (term_text p) (take (length raw.to) left_trees))) in
-    let put : new ≡ old ++ shown = is ∙ ap (λ l. old ++ line (l ++ note (map (term_text p) (map tree_of (take k (drop next ts)))))) text_is ∙ ap (λ l. old ++ line (instr_line raw ++ note (map (term_text p) l))) moved in
-    let after = drop (length raw.to) left_trees in
-    let behind_it : drop (next + k) trees ≡ after = ap (λ n. drop (next + n) trees) many ∙ sym (some_terms next (count_written formats x) trees) in
-    record {
-      before = ap (λ n. n + k) w.before ∙ omega (arith, many, ap (count_registers formats) (take_item instrs i x at), sum_by-append (count_written formats) (take i instrs) (x ∷ []), sum_by-cons (count_written formats) x []);
-      spelled = here.1 ∙ ap (λ n. raw_instrs formats (next + n) rest) (sym many);
-      counted = omega (arith, counts, many);
-      joined = ap (λ l. l ++ instr_texts p (drop (i + 1) raws) (drop (next + k) trees)) put ∙ append_assoc old shown (instr_texts p (drop (i + 1) raws) (drop (next + k) trees))
-          ∙ ap (λ l. old ++ (shown ++ instr_texts p (drop (i + 1) raws) l)) behind_it
-          ∙ ap (λ l. old ++ instr_texts p l left_trees) (sym (drop_item raws i raw here.0)) ∙ w.joined;
-    }
+module _ (p : ProtocolValue) (formats : List FormatValue) (ts : List Term) (instrs : List Instr) (raws : List RawInstrValue) (i next k : ℕ) (x : Instr)
+    (at : slice_get instrs i ≡ Some x) (many : k ≡ count_written formats x) (w : Explaining formats ts instrs raws i next) where
+  abbrev pub rest : List Instr
+  rest = drop (i + 1) instrs
+
+  abbrev pub trees : List Tree
+  trees = map tree_of ts
+
+  abbrev pub raw : RawInstrValue
+  raw = raw_instr formats next x
+
+  here : (slice_get raws i ≡ Some raw) × (drop (i + 1) raws ≡ raw_instrs formats (next + count_written formats x) rest)
+  here = item_drop raws (raw_instrs formats (next + count_written formats x) rest) i raw (w.spelled ∙ ap (raw_instrs formats next) (drop_item instrs i x at))
+
+  width : k ≡ length raw.to
+  width = many ∙ sym (length-range_with_len next (count_written formats x))
+
+  pub one_more : Explaining formats ts instrs raws (i + 1) (next + k)
+  one_more =
+      let counts : next + (count_written formats x + count_registers formats rest) ≡ length ts = ap (λ n. next + n) (sym (ap (count_registers formats) (drop_item instrs i x at) ∙ sum_by-cons (count_written formats) x rest)) ∙ w.counted in
+      record {
+        before = ap (λ n. n + k) w.before ∙ omega (arith, many, ap (count_registers formats) (take_item instrs i x at), sum_by-append (count_written formats) (take i instrs) (x ∷ []), sum_by-cons (count_written formats) x []);
+        spelled = here.1 ∙ ap (λ n. raw_instrs formats (next + n) rest) (sym many);
+        counted = omega (arith, counts, many);
+      }
+
+  pub said : slice_get (map instr_line raws) i ≡ Some (instr_line raw)
+  said = slice_get-map instr_line raws i raw here.0
+
+  -- its line, which is the first that is due
+  abbrev pub shown : List ℕ
+  shown = line (instr_line raw ++ note (map (term_text p) (map tree_of (take k (drop next ts)))))
+
+  pub shown_first : instr_texts p (drop i raws) (drop next trees) ≡ shown ++ instr_texts p (drop (i + 1) raws) (drop (next + k) trees)
+  shown_first =
+      let left_trees = drop next trees in
+      let moved : map tree_of (take k (drop next ts)) ≡ take (length raw.to) left_trees = map-take tree_of k (drop next ts) ∙ ap (take k) (map-drop tree_of next ts) ∙ ap (λ n. take n left_trees) width in
+      let said_so : line (instr_line raw ++ note (map (term_text p) (take (length raw.to) left_trees))) ≡ shown = ap (λ l. line (instr_line raw ++ note (map (term_text p) l))) (sym moved) in
+      let behind_it : drop (length raw.to) left_trees ≡ drop (next + k) trees = some_terms next (count_written formats x) trees ∙ ap (λ n. drop (next + n) trees) (sym many) in
+      ap (λ l. instr_texts p l left_trees) (drop_item raws i raw here.0)
+      ∙ ap (λ l. l ++ instr_texts p (drop (i + 1) raws) (drop (length raw.to) left_trees)) said_so
+      ∙ ap (λ l. shown ++ instr_texts p (drop (i + 1) raws) l) behind_it

@@ -74,10 +74,13 @@ code_text p terms code = instr_texts p (raw_of code).code terms
 
 -- ---- all
 
--- where the registers have these terms
+-- where the plan has these events, and the registers these terms
+abbrev pub explained_by : ProtocolValue → List PlanEvent → CodeValue → List Tree → List ℕ
+explained_by p plan code terms =
+    line (codes "role " ++ code.role) ++ (plan_text p plan ++ (line (codes "code") ++ code_text p terms code))
+
 abbrev pub explained : ProtocolValue → ℕ → CodeValue → List Tree → List ℕ
-explained p role code terms =
-    line (codes "role " ++ code.role) ++ (plan_text p (plan_of p role) ++ (line (codes "code") ++ code_text p terms code))
+explained p role code terms = explained_by p (plan_of p role) code terms
 
 -- the terms of the registers, in the order of writing: what their recipes are worth in terms, over all labels of the plan
 abbrev pub register_terms : ProtocolValue → ℕ → CodeValue → Option (List Tree)

@@ -1,5 +1,5 @@
 //! The lines of a code, with the terms of registers.
-ghost use Rattle.std.specs.Prelude.{◌≡◌, ◌≤◌, ◌++◌, map, length, OnOk};
+ghost use Rattle.std.specs.Prelude.{◌≡◌, ◌≤◌, ◌<◌, ◌-◌, ◌++◌, map, length, slice_get, take, IfOk, IfSome, OnOk};
 ghost use Rattle.std.specs.List.{AllByRecursion};
 ghost use Rattle.anb_format.specs.Formats.{field_count};
 ghost use Rattle.anb_term.specs.View.{tree_of};
@@ -7,35 +7,48 @@ ghost use Rattle.anb_code.specs.Registers.{count_written};
 ghost use Rattle.anb_code.specs.Verified.{HasItsFormat, count_registers};
 ghost use Rattle.anb_resolve.specs.Texts.{IsTermOf, term_text};
 ghost use Rattle.anb_explain.specs.Explained.{code_text, line, note};
+ghost use Rattle.anb_text.specs.RoleFiles.{instr_lines};
+ghost use Rattle.anb_text.specs.Writing.{IsWritten};
 
 use crate::writing::put_term;
-use anb_base::{Bytes, NoMemory};
+use anb_base::{NoMemory, Sink};
 use anb_code::{Instr, RoleCode};
 use anb_format::Format;
 use anb_resolve::Protocol;
 use anb_term::Term;
-use anb_text::instr_text_behind;
+use anb_text::{WriteNo, instr_text_behind, write_part};
 use std::alloc::Global;
 
-/// Appends the lines of a code's instructions. The terms are those of all registers.
-pub(crate) fn put_code(
+/// Writes the lines of a code's instructions. The terms are those of all registers.
+pub(crate) fn write_code<K: Sink>(
     alloc: Global,
-    out: &mut Vec<u8>,
+    snk: &mut K,
     protocol: &Protocol,
     code: &RoleCode,
     terms: &[Term],
-) -> Result<(), NoMemory>
+) -> Result<(), WriteNo>
     requires terms { AllByRecursion (IsTermOf protocol.now) (map tree_of terms.now) }
     requires count { length terms.now ≡ count_registers code.now.formats code.now.instrs }
-    ensures { OnOk result (out.new.items
-        ≡ out.old.items ++ code_text protocol.now (map tree_of terms.now) code.now) }
+    ensures written { IsWritten (code_text protocol.now (map tree_of terms.now) code.now) result
+        (K.written snk.old) (K.written snk.new) (K.faults snk.old) (K.faults snk.new) }
+    ensures kept { K.kept snk.new ≡ K.kept snk.old }
 {
     let formats = code.formats();
     let mut next = 0;
     for (i, instr) in code.instrs().iter().enumerate() {
         let end = next + count_written(formats, instr);
-        let text = instr_text_behind(alloc, code, i as u32 + 1, next as u32)?;
-        put_instr(alloc, out, protocol, &text, &terms[next..end])?;
+        let line = instr_text(
+            alloc,
+            protocol,
+            code,
+            i as u32 + 1,
+            next as u32,
+            &terms[next..end],
+        );
+        match write_part(snk, line) {
+            Ok(()) => {}
+            Err(no) => return Err(no),
+        }
         next = end;
     }
     Ok(())
@@ -54,23 +67,28 @@ fn count_written(formats: &[Format], instr: &Instr) -> usize
     }
 }
 
-/// Appends the line of an instruction that writes registers with these terms.
-fn put_instr(
+/// The line of an instruction, numbered from 1, that writes registers with these terms, where those
+/// before it write so many.
+fn instr_text(
     alloc: Global,
-    out: &mut Vec<u8>,
     protocol: &Protocol,
-    text: &Bytes,
+    code: &RoleCode,
+    at: u32,
+    written: u32,
     terms: &[Term],
-) -> Result<(), NoMemory>
-    requires { AllByRecursion (IsTermOf protocol.now) (map tree_of terms.now) }
-    ensures { OnOk result (out.new.items
-        ≡ out.old.items ++ line
-        (text.now ++ note (map (term_text protocol.now) (map tree_of terms.now)))) }
+) -> Result<Vec<u8>, NoMemory>
+    requires from_one { 0 < at }
+    requires there { at ≤ length code.now.instrs }
+    requires written { written ≡ count_registers code.now.formats (take (at - 1) code.now.instrs) }
+    requires terms { AllByRecursion (IsTermOf protocol.now) (map tree_of terms.now) }
+    ensures { IfOk result (λ bytes. IfSome (slice_get (instr_lines code.now) (at - 1)) (λ said.
+        bytes.items ≡ line
+        (said ++ note (map (term_text protocol.now) (map tree_of terms.now))))) }
 {
-    out.extend_from_slice(text.as_slice())?;
-    put_note(alloc, out, protocol, terms)?;
+    let mut out = instr_text_behind(alloc, code, at, written)?.into_vec();
+    put_note(alloc, &mut out, protocol, terms)?;
     out.push(b'\n')?;
-    Ok(())
+    Ok(out)
 }
 
 /// Appends the note of what is written.

@@ -10,7 +10,7 @@ mod explaining;
 mod plan;
 mod writing;
 
-pub use explaining::explain;
+pub use explaining::{Explanation, explain, explanation_of, write_explanation};
 
 #[cfg(test)]
 mod tests;

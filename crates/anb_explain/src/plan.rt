@@ -1,33 +1,39 @@
 //! The lines of a plan.
-ghost use Rattle.std.specs.Prelude.{◌≡◌, ◌≤◌, ◌<◌, ◌++◌, ◌∷◌, ◌^◌, [], map, OnOk, decimal};
+ghost use Rattle.std.specs.Prelude.{◌≡◌, ◌≤◌, ◌<◌, ◌++◌, ◌∷◌, ◌^◌, [], map, IfOk, decimal};
 ghost use Rattle.std.specs.List.{AllByRecursion};
 ghost use Rattle.anb_term.specs.View.{tree_of};
 ghost use Rattle.anb_resolve.specs.Plans.{term_in};
 ghost use Rattle.anb_resolve.specs.Texts.{IsTermOf, term_text};
 ghost use Rattle.anb_resolve.specs.Views.{plan_event};
 ghost use Rattle.anb_explain.specs.Explained.{spaced, line, has_label, is_message, event_words, plan_text};
+ghost use Rattle.anb_text.specs.Writing.{IsWritten};
 
 use crate::writing::{put_number, put_term};
-use anb_base::NoMemory;
+use anb_base::{NoMemory, Sink};
 use anb_resolve::{Event, Protocol};
 use anb_term::Term;
+use anb_text::{WriteNo, write_part};
 use std::alloc::Global;
 
-/// Appends the lines of a plan's events.
-pub(crate) fn put_plan(
+/// Writes the lines of a plan's events.
+pub(crate) fn write_plan<K: Sink>(
     alloc: Global,
-    out: &mut Vec<u8>,
+    snk: &mut K,
     protocol: &Protocol,
     events: &[Event],
-) -> Result<(), NoMemory>
+) -> Result<(), WriteNo>
     requires { AllByRecursion (λ e. IsTermOf protocol.now (term_in e)) (map plan_event events.now) }
-    ensures { OnOk result (out.new.items
-        ≡ out.old.items ++ plan_text protocol.now (map plan_event events.now)) }
+    ensures written { IsWritten (plan_text protocol.now (map plan_event events.now)) result
+        (K.written snk.old) (K.written snk.new) (K.faults snk.old) (K.faults snk.new) }
+    ensures kept { K.kept snk.new ≡ K.kept snk.old }
 {
     let mut labels = 0;
     let mut messages = 0;
     for event in events {
-        put_event(alloc, out, protocol, labels, messages, event)?;
+        match write_part(snk, event_text(alloc, protocol, labels, messages, event)) {
+            Ok(()) => {}
+            Err(no) => return Err(no),
+        }
         if has_label(event) {
             labels += 1;
         }
@@ -38,53 +44,49 @@ pub(crate) fn put_plan(
     Ok(())
 }
 
-/// Appends the line of an event, behind so many labels and so many messages.
-fn put_event(
+/// The line of an event, behind so many labels and so many messages.
+fn event_text(
     alloc: Global,
-    out: &mut Vec<u8>,
     protocol: &Protocol,
     labels: usize,
     messages: usize,
     event: &Event,
-) -> Result<(), NoMemory>
+) -> Result<Vec<u8>, NoMemory>
     requires term { IsTermOf protocol.now (term_in (plan_event event.now)) }
     requires few { messages < 2 ^ 63 }
-    ensures { OnOk result (out.new.items
-        ≡ out.old.items ++ line
+    ensures { IfOk result (λ bytes. bytes.items ≡ line
         (spaced (event_words protocol.now labels messages (plan_event event.now)))) }
 {
     match event {
-        Event::Know(term) => put_line(alloc, out, protocol, b"know", &[labels], term),
-        Event::Fresh(term) => put_line(alloc, out, protocol, b"fresh", &[labels], term),
-        Event::Send { term, .. } => put_line(alloc, out, protocol, b"send", &[messages + 1], term),
+        Event::Know(term) => line_text(alloc, protocol, b"know", &[labels], term),
+        Event::Fresh(term) => line_text(alloc, protocol, b"fresh", &[labels], term),
+        Event::Send { term, .. } => line_text(alloc, protocol, b"send", &[messages + 1], term),
         Event::Recv { term, .. } => {
-            put_line(alloc, out, protocol, b"recv", &[messages + 1, labels], term)
+            line_text(alloc, protocol, b"recv", &[messages + 1, labels], term)
         }
     }
 }
 
-/// Appends a line of a word, numbers and a term.
-fn put_line(
+/// The line of a word, numbers and a term.
+fn line_text(
     alloc: Global,
-    out: &mut Vec<u8>,
     protocol: &Protocol,
     word: &[u8],
     numbers: &[usize],
     term: &Term,
-) -> Result<(), NoMemory>
+) -> Result<Vec<u8>, NoMemory>
     requires { IsTermOf protocol.now (tree_of term.now) }
-    ensures { OnOk result (out.new.items
-        ≡ out.old.items ++ line
+    ensures { IfOk result (λ bytes. bytes.items ≡ line
         (spaced (word.now ∷ map decimal numbers.now ++ term_text protocol.now
         (tree_of term.now) ∷ []))) }
 {
-    out.extend_from_slice(word)?;
+    let mut out = Vec::from_slice(alloc, word)?;
     for n in numbers {
-        put_number(out, *n)?;
+        put_number(&mut out, *n)?;
     }
-    put_term(alloc, out, protocol, term)?;
+    put_term(alloc, &mut out, protocol, term)?;
     out.push(b'\n')?;
-    Ok(())
+    Ok(out)
 }
 
 /// Whether an event brings a label.

@@ -15,3 +15,4 @@ pub mod Back
 pub mod Loaded
 pub mod Printed
 pub mod Refused
+pub mod Written

@@ -6,14 +6,15 @@ use Rattle.std.proofs.lemmas.List.Elements.{All-from_recursion}
 use Rattle.std.proofs.lemmas.List.Sums.{sum_by-cons}
 use Rattle.anb_base.specs.declared.TheConstants.{ARRIVAL, WIDE}
 use Rattle.anb_format.specs.Formats.{FormatValue, field_count}
-use Rattle.anb_syntax.specs.Words.{hash_name}
 use Rattle.anb_code.specs.declared.instr.Instr.{Instr}
 use Rattle.anb_code.specs.CodeValue.{CodeValue}
 use Rattle.anb_code.specs.Registers.{count_written}
 use Rattle.anb_code.specs.Spelling.{raw_instr, raw_instrs, raw_of}
 use Rattle.anb_code.specs.Verified.{EachAfter, IsFormatAfter, IsVerifiedCode, count_registers}
 use Rattle.anb_code.proofs.Numbers.{range_more}
+use Rattle.anb_text.specs.declared.lines.Line.{Line}
 use Rattle.anb_text.specs.declared.lines.Line.TheVariants as line
+use Rattle.anb_text.specs.declared.lines.Version.TheVariants as version
 use Rattle.anb_text.specs.Lines.{destinations, instr_line, register}
 use Rattle.anb_text.specs.RoleFiles.{instr_lines, lines_text, role_text}
 use Rattle.anb_text.proofs.Sizes.{lines_parts}
@@ -102,25 +103,18 @@ few_taken code i verified = let few = few_so_far code.formats code.instrs i in o
 
 -- ---- the whole file
 
-pub put_behind : (a b x y : List ℕ) → a ≡ b ++ x → b ≡ y → a ≡ y ++ x
-put_behind a b x y e f = e ∙ ap (λ t. t ++ x) f
-
-pub put_same : (a b x z y : List ℕ) → a ≡ b ++ x → x ≡ z → b ≡ y → a ≡ y ++ z
-put_same a b x z y e same f = e ∙ ap (λ t. b ++ t) same ∙ ap (λ t. t ++ z) f
-
 body_parts : (code : CodeValue) → lines_text (map line.Format code.formats ++ line.Code ∷ (map line.Instr (raw_of code).code ++ line.End ∷ []))
     ≡ lines_text (map line.Format code.formats) ++ (codes "code\n" ++ (lines_text (map line.Instr (raw_of code).code) ++ codes "end\n"))
 body_parts code =
     lines_parts (map line.Format code.formats) (line.Code ∷ (map line.Instr (raw_of code).code ++ line.End ∷ []))
     ∙ ap (λ t. lines_text (map line.Format code.formats) ++ (codes "code\n" ++ t)) (lines_parts (map line.Instr (raw_of code).code) (line.End ∷ []))
 
-regroup : (p r h f i : List ℕ) → (((((((((([] ++ codes "anb-role 2\nprotocol ") ++ p) ++ codes "\nrole ") ++ r) ++ codes "\nsuite ") ++ h) ++ codes "\n") ++ f) ++ codes "code\n") ++ i) ++ codes "end\n"
-    ≡ codes "anb-role 2\nprotocol " ++ ((p ++ 10 ∷ []) ++ (codes "role " ++ ((r ++ 10 ∷ []) ++ (codes "suite " ++ ((h ++ 10 ∷ []) ++ (f ++ (codes "code\n" ++ (i ++ codes "end\n"))))))))
-regroup p r h f i = simp append_assoc refl
+-- the lines above the formats
+abbrev pub head_lines : CodeValue → List Line
+head_lines code = line.Version version.Two ∷ line.Protocol code.protocol ∷ line.Role code.role ∷ line.Suite code.suite ∷ []
 
 pub file_parts : (code : CodeValue)
-    → (((((((((([] ++ codes "anb-role 2\nprotocol ") ++ code.protocol) ++ codes "\nrole ") ++ code.role) ++ codes "\nsuite ") ++ hash_name code.suite) ++ codes "\n") ++ lines_text (map line.Format code.formats)) ++ codes "code\n") ++ lines_text (map line.Instr (raw_of code).code)) ++ codes "end\n"
-    ≡ role_text code
+    → role_text code ≡ lines_text (head_lines code) ++ (lines_text (map line.Format code.formats) ++ (codes "code\n" ++ (lines_text (map line.Instr (raw_of code).code) ++ codes "end\n")))
 file_parts code =
-    regroup code.protocol code.role (hash_name code.suite) (lines_text (map line.Format code.formats)) (lines_text (map line.Instr (raw_of code).code))
-    ∙ ap (λ t. codes "anb-role 2\nprotocol " ++ ((code.protocol ++ 10 ∷ []) ++ (codes "role " ++ ((code.role ++ 10 ∷ []) ++ (codes "suite " ++ ((hash_name code.suite ++ 10 ∷ []) ++ t)))))) (sym (body_parts code))
+    lines_parts (head_lines code) (map line.Format code.formats ++ line.Code ∷ (map line.Instr (raw_of code).code ++ line.End ∷ []))
+    ∙ ap (λ t. lines_text (head_lines code) ++ t) (body_parts code)

@@ -2,6 +2,7 @@ pub mod Lines
 pub mod RoleFiles
 pub mod Refusals
 pub mod Laws
+pub mod Writing
 -- for proofs alone
 pub mod Reading
 pub mod Stages

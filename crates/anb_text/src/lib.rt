@@ -8,18 +8,22 @@
 mod laws;
 mod lines;
 mod loading;
+mod page;
 mod printing;
 mod reading;
 mod refusal;
 mod stages;
+mod writing;
 
 pub use laws::{
     codes_are_not_refused, codes_are_unique, faults_are_unique, files_are_unique, none_is_both,
     refusals_are_unique,
 };
 pub use loading::load;
-pub use printing::{instr_text, instr_text_behind, print};
+pub use page::Page;
+pub use printing::{instr_text, instr_text_behind, print, write_role_file};
 pub use refusal::LoadNo;
+pub use writing::{WriteNo, write_bytes, write_part};
 
 #[cfg(test)]
 mod tests;

@@ -1,5 +1,5 @@
-//! A code as a role file.
-ghost use Rattle.std.specs.Prelude.{◌≡◌, ◌≤◌, ◌<◌, ◌+◌, ◌-◌, ◌^◌, ◌++◌, ◌∷◌, All, decimal, length, map, slice_get, take, Some, IfOk, OnOk};
+//! A code as a role file, written to a sink or in memory.
+ghost use Rattle.std.specs.Prelude.{[], ◌≡◌, ◌≤◌, ◌<◌, ◌+◌, ◌-◌, ◌^◌, ◌++◌, ◌∷◌, All, decimal, length, map, slice_get, take, Some, IfOk, OnOk};
 ghost use Rattle.std.specs.List.{flat_map, range_with_len};
 ghost use Rattle.anb_format.specs.Formats.{field_count};
 ghost use Rattle.anb_syntax.specs.Words.{hash_name};
@@ -7,10 +7,14 @@ ghost use Rattle.anb_code.specs.Registers.{count_written, pieces_at};
 ghost use Rattle.anb_code.specs.Spelling.{name_at, raw_instr, raw_instrs};
 ghost use Rattle.anb_code.specs.Verified.{count_registers};
 ghost use Rattle.anb_text.specs.declared.lines.Line.TheVariants as line;
+ghost use Rattle.anb_text.specs.declared.lines.Version.TheVariants as version;
 ghost use Rattle.anb_text.specs.Lines.{destinations, format_line, instr_line, operands, register, spaced_piece};
-ghost use Rattle.anb_text.specs.RoleFiles.{instr_lines, lines_text, role_text};
+ghost use Rattle.anb_text.specs.RoleFiles.{ended, instr_lines, lines_text, role_text};
+ghost use Rattle.anb_text.specs.Writing.{IsWritten};
 
-use anb_base::{Bytes, NoMemory, Suite, Text};
+use crate::page::Page;
+use crate::writing::{WriteNo, write_bytes, write_part};
+use anb_base::{Bytes, NoMemory, Sink, Suite, Text};
 use anb_code::{Instr, RoleCode};
 use anb_format::{Format, Piece};
 use anb_syntax::put_piece;
@@ -21,19 +25,36 @@ use std::alloc::Global;
 pub fn print(alloc: Global, code: &RoleCode) -> Result<Bytes, NoMemory>
     ensures { IfOk result (λ text. text ≡ role_text code.now) }
 {
-    let mut out = Vec::new(alloc);
-    out.extend_from_slice(b"anb-role 2\nprotocol ")?;
-    put_text(&mut out, code.protocol())?;
-    out.extend_from_slice(b"\nrole ")?;
-    put_text(&mut out, code.role())?;
-    out.extend_from_slice(b"\nsuite ")?;
-    put_suite(&mut out, code.suite())?;
-    out.extend_from_slice(b"\n")?;
-    put_formats(alloc, &mut out, code.formats())?;
-    out.extend_from_slice(b"code\n")?;
-    put_instrs(&mut out, code.formats(), code.instrs())?;
-    out.extend_from_slice(b"end\n")?;
-    Ok(Bytes::new(out))
+    let mut page = Page::new(alloc);
+    match write_role_file(alloc, &mut page, code) {
+        Ok(()) => Ok(page.into_bytes()),
+        Err(_) => Err(NoMemory),
+    }
+}
+
+/// Writes the role file of a code, of version 2. A line is in memory at a time.
+pub fn write_role_file<K: Sink>(alloc: Global, snk: &mut K, code: &RoleCode) -> Result<(), WriteNo>
+    ensures written { IsWritten (role_text code.now) result
+        (K.written snk.old) (K.written snk.new) (K.faults snk.old) (K.faults snk.new) }
+    ensures kept { K.kept snk.new ≡ K.kept snk.old }
+{
+    match write_part(snk, head_text(alloc, code)) {
+        Ok(()) => {}
+        Err(no) => return Err(no),
+    }
+    match write_formats(alloc, snk, code.formats()) {
+        Ok(()) => {}
+        Err(no) => return Err(no),
+    }
+    match write_bytes(snk, b"code\n") {
+        Ok(()) => {}
+        Err(no) => return Err(no),
+    }
+    match write_instrs(alloc, snk, code.formats(), code.instrs()) {
+        Ok(()) => {}
+        Err(no) => return Err(no),
+    }
+    write_bytes(snk, b"end\n")
 }
 
 /// The line of an instruction, numbered from 1, as it stands in the role file, without its end.
@@ -66,6 +87,23 @@ pub fn instr_text_behind(
     Ok(Bytes::new(out))
 }
 
+/// The lines above the formats.
+fn head_text(alloc: Global, code: &RoleCode) -> Result<Vec<u8>, NoMemory>
+    ensures { IfOk result (λ bytes. bytes.items ≡ lines_text
+        (line.Version version.Two ∷ line.Protocol code.now.protocol ∷ line.Role code.now.role
+        ∷ line.Suite code.now.suite ∷ [])) }
+{
+    let mut out = Vec::new(alloc);
+    out.extend_from_slice(b"anb-role 2\nprotocol ")?;
+    put_text(&mut out, code.protocol())?;
+    out.extend_from_slice(b"\nrole ")?;
+    put_text(&mut out, code.role())?;
+    out.extend_from_slice(b"\nsuite ")?;
+    put_suite(&mut out, code.suite())?;
+    out.extend_from_slice(b"\n")?;
+    Ok(out)
+}
+
 fn put_text(out: &mut Vec<u8>, text: &Text) -> Result<(), NoMemory>
     ensures { OnOk result (out.new.items ≡ out.old.items ++ text.now) }
 {
@@ -83,15 +121,28 @@ fn put_suite(out: &mut Vec<u8>, suite: Suite) -> Result<(), NoMemory>
     Ok(())
 }
 
-fn put_formats(alloc: Global, out: &mut Vec<u8>, formats: &[Format]) -> Result<(), NoMemory>
-    ensures { OnOk result (out.new.items
-        ≡ out.old.items ++ lines_text (map line.Format formats.now)) }
+fn write_formats<K: Sink>(alloc: Global, snk: &mut K, formats: &[Format]) -> Result<(), WriteNo>
+    ensures written { IsWritten (lines_text (map line.Format formats.now)) result
+        (K.written snk.old) (K.written snk.new) (K.faults snk.old) (K.faults snk.new) }
+    ensures kept { K.kept snk.new ≡ K.kept snk.old }
 {
     for format in formats {
-        put_format(alloc, out, format)?;
-        out.extend_from_slice(b"\n")?;
+        match write_part(snk, format_text(alloc, format)) {
+            Ok(()) => {}
+            Err(no) => return Err(no),
+        }
     }
     Ok(())
+}
+
+/// The line of a format.
+fn format_text(alloc: Global, format: &Format) -> Result<Vec<u8>, NoMemory>
+    ensures { IfOk result (λ bytes. bytes.items ≡ ended (line.Format format.now)) }
+{
+    let mut out = Vec::new(alloc);
+    put_format(alloc, &mut out, format)?;
+    out.extend_from_slice(b"\n")?;
+    Ok(out)
 }
 
 fn put_format(alloc: Global, out: &mut Vec<u8>, format: &Format) -> Result<(), NoMemory>
@@ -113,20 +164,46 @@ fn put_pieces(alloc: Global, out: &mut Vec<u8>, pieces: &[Piece]) -> Result<(), 
     Ok(())
 }
 
-/// Appends the lines of instructions, whose registers are numbered from 0.
-fn put_instrs(out: &mut Vec<u8>, formats: &[Format], instrs: &[Instr]) -> Result<(), NoMemory>
+/// Writes the lines of instructions, whose registers are numbered from 0.
+fn write_instrs<K: Sink>(
+    alloc: Global,
+    snk: &mut K,
+    formats: &[Format],
+    instrs: &[Instr],
+) -> Result<(), WriteNo>
     requires fields { All (λ format. field_count format.pieces ≤ 32) formats.now }
     requires few { count_registers formats.now instrs.now < 2 ^ 32 }
-    ensures { OnOk result (out.new.items
-        ≡ out.old.items ++ lines_text (map line.Instr (raw_instrs formats.now 0 instrs.now))) }
+    ensures written { IsWritten (lines_text (map line.Instr (raw_instrs formats.now 0 instrs.now))) result
+        (K.written snk.old) (K.written snk.new) (K.faults snk.old) (K.faults snk.new) }
+    ensures kept { K.kept snk.new ≡ K.kept snk.old }
 {
     let mut next = 0;
     for instr in instrs {
-        put_instr(out, formats, next, instr)?;
-        out.extend_from_slice(b"\n")?;
+        match write_part(snk, instr_text_at(alloc, formats, next, instr)) {
+            Ok(()) => {}
+            Err(no) => return Err(no),
+        }
         next += count_written(formats, instr);
     }
     Ok(())
+}
+
+/// The line of an instruction whose first register is this one.
+fn instr_text_at(
+    alloc: Global,
+    formats: &[Format],
+    next: u32,
+    instr: &Instr,
+) -> Result<Vec<u8>, NoMemory>
+    requires fields { All (λ format. field_count format.pieces ≤ 32) formats.now }
+    requires few { next + count_written formats.now instr.now < 2 ^ 32 }
+    ensures { IfOk result (λ bytes. bytes.items
+        ≡ ended (line.Instr (raw_instr formats.now next instr.now))) }
+{
+    let mut out = Vec::new(alloc);
+    put_instr(&mut out, formats, next, instr)?;
+    out.extend_from_slice(b"\n")?;
+    Ok(out)
 }
 
 /// Appends an instruction whose first register is this one.

@@ -1,7 +1,7 @@
 use Rattle.std.proofs.Common.{◌≡◌, ◌++◌, ◌∷◌, drop}
 use Rattle.std.specs.Prelude.{decimal}
 use Rattle.std.specs.List.{flat_map}
-use Rattle.anb_explain.proofs.plan.put_line.Given as goal
+use Rattle.anb_explain.proofs.plan.line_text.Given as goal
 
 abbrev pub invariant-loop-n : goal.invariant-loop-n
 invariant-loop-n l = l.out.items ++ flat_map (λ n. 32 ∷ decimal n) (drop l.n-index l.numbers) ≡ l.initial.out.items ++ flat_map (λ n. 32 ∷ decimal n) l.numbers

@@ -1,10 +1,7 @@
-use Rattle.std.proofs.Common.{◌≡◌, ℕ, List, [], ◌++◌, append_assoc, refl, rules, length, map, Some, sym, ap, ◌∙◌, subst}
-use Rattle.std.specs.Prelude.{codes}
+use Rattle.std.proofs.Common.{◌≡◌, ℕ, List, length, map, Some, sym, ap, ◌∙◌, subst}
 use Rattle.std.specs.List.{AllByRecursion}
 use Rattle.anb_base.specs.declared.content.Suite.{Suite}
 use Rattle.anb_format.specs.Formats.{FormatValue}
-use Rattle.std.proofs.lemmas.List.{length-map}
-use Rattle.anb_term.specs.declared.term.Term.{Term}
 use Rattle.anb_term.specs.Tree.{Tree}
 use Rattle.anb_term.specs.Value.{values, recipe_trees}
 use Rattle.anb_term.specs.FreeAlgebra.{terms_over}
@@ -18,15 +15,11 @@ use Rattle.anb_resolve.specs.Plans.{PlanEvent, plan_of, term_in}
 use Rattle.anb_resolve.specs.Plays.{event_of, events_of}
 use Rattle.anb_resolve.specs.Texts.{IsTermOf}
 use Rattle.anb_compile.specs.Registers.{register_recipes, all_labels}
-use Rattle.anb_explain.specs.Explained.{code_text, line, plan_text, register_terms}
+use Rattle.anb_code.specs.Verified.{count_registers}
+use Rattle.anb_explain.specs.Explained.{explained_by, register_terms}
 use Rattle.anb_explain.proofs.Terms.{labels_are, registers_count, values_are_terms, values_count}
-use Rattle.anb_explain.proofs.explaining.explain.Goals as goal
-use Rattle.anb_explain.proofs.explaining.explain.Goals.{In_ok-terms}
-
-parts : (role plan code : List ℕ) → ((((([] ++ codes "role ") ++ role) ++ codes "\n") ++ plan) ++ codes "code\n") ++ code ≡ line (codes "role " ++ role) ++ (plan ++ (line (codes "code") ++ code))
-parts role plan code =
-    append_assoc (((codes "role " ++ role) ++ codes "\n") ++ plan) (codes "code\n") code
-    ∙ append_assoc ((codes "role " ++ role) ++ codes "\n") plan (codes "code\n" ++ code)
+use Rattle.anb_explain.proofs.explaining.explanation_of.Goals as goal
+use Rattle.anb_explain.proofs.explaining.explanation_of.Goals.{In_ok-terms}
 
 -- the terms of the registers are the protocol's
 ours : (p : ProtocolValue) (role : ℕ) (code : CodeValue) (trees : List Tree) → AllByRecursion (λ e. IsTermOf p (term_in e)) (plan_of p role) → code.formats ≡ p.formats
@@ -45,11 +38,11 @@ terms_of-requires-clause-sound c =
     let formats = subst (λ f. Q f c.args.protocol.now.suite) (sym fits.formats) fits.fits.sound in
     subst P (sym c.in_ok-plan.ensures.plan) (subst (λ s. Q c.args.code.now.formats s) (sym fits.suite) formats)
 
-pub put_plan-requires : goal.put_plan-requires
-put_plan-requires c =
+plan_ours : (c : In_ok-terms) → AllByRecursion (λ e. IsTermOf c.args.protocol.now (term_in e)) c.in_ok-plan.plan
+plan_ours c =
     let p = c.args.protocol.now in
     let P : List PlanEvent → Type 0 = AllByRecursion (λ e. IsTermOf p (term_in e)) in
-    subst P (sym (c.events.ensures ∙ c.in_ok-plan.ensures.plan)) (c.terms_of_plans.ensures p c.args.role c.in_ok-plan.ensures.protocol)
+    subst P (sym c.in_ok-plan.ensures.plan) (c.terms_of_plans.ensures p c.args.role c.in_ok-plan.ensures.protocol)
 
 have : (c : In_ok-terms) → register_terms c.args.protocol.now c.args.role c.args.code.now ≡ Some (map tree_of c.in_ok-terms.terms.items)
 have c =
@@ -62,38 +55,31 @@ all_ours c =
     let p = c.args.protocol.now in
     ours p c.args.role c.args.code.now _ (c.terms_of_plans.ensures p c.args.role c.in_ok-plan.ensures.protocol) c.requires.fits.formats (have c)
 
-pub put_code-requires-clause-terms : goal.put_code-requires-clause-terms
-put_code-requires-clause-terms c =
-    let R : List Term → Type 0 = λ l. AllByRecursion (IsTermOf c.args.protocol.now) (map tree_of l) in
-    subst R (sym c.deref.ensures.value) (all_ours (goal.at.put_code-requires-clause-terms c).In_ok-terms)
-
-pub put_code-requires-clause-count : goal.put_code-requires-clause-count
-put_code-requires-clause-count c =
+counted : (c : In_ok-terms) → length (map tree_of c.in_ok-terms.terms.items) ≡ count_registers c.args.code.now.formats c.args.code.now.instrs
+counted c =
     let code = c.args.code.now in
     let ts = c.in_ok-terms.terms.items in
     let recipes = register_recipes (acts_of code) in
-    ap length c.deref.ensures.value ∙ sym (length-map ts tree_of)
-    ∙ values_count (terms_over (has_operator code.formats)) (all_labels (map event_of c.in_ok-plan.plan)) recipes (map tree_of ts) c.in_ok-terms.ensures ∙ registers_count code.formats code.instrs
+    values_count (terms_over (has_operator code.formats)) (all_labels (map event_of c.in_ok-plan.plan)) recipes (map tree_of ts) c.in_ok-terms.ensures ∙ registers_count code.formats code.instrs
 
-then : (new old x y z : List ℕ) → new ≡ old ++ x → x ≡ z → old ≡ y → new ≡ y ++ z
-then new old x y z is same old_is = is ∙ ap (λ l. old ++ l) same ∙ ap (λ l. l ++ z) old_is
-
-pub returns : goal.returns
-returns c =
-    let step = (goal.at.returns c).In_ok-terms in
+pub returns-clause-is : goal.returns-clause-is
+returns-clause-is c =
+    let step = (goal.at.returns-clause-is c).In_ok-terms in
     let p = c.args.protocol.now in
     let code = c.args.code.now in
     let trees = map tree_of c.in_ok-terms.terms.items in
-    let role_is : c.as_bytes.result.now ≡ code.role = search rules in
-    let e1 = then _ _ _ [] _ c.in_ok-extend_from_slice.ensures.items refl c.new-out.ensures.items in
-    let e2 = then _ _ _ _ code.role c.in_ok-extend_from_slice-2.ensures.items role_is e1 in
-    let e3 = then _ _ _ _ (codes "\n") c.in_ok-extend_from_slice-3.ensures.items refl e2 in
-    let e4 = then _ _ _ _ (plan_text p (plan_of p c.args.role)) c.in_ok-put_plan.ensures (ap (plan_text p) (c.events.ensures ∙ c.in_ok-plan.ensures.plan)) e3 in
-    let e5 = then _ _ _ _ (codes "code\n") c.in_ok-extend_from_slice-4.ensures.items refl e4 in
-    let e6 = then _ _ _ _ (code_text p trees code) c.in_ok-put_code.ensures (ap (λ (l : List Term). code_text p (map tree_of l) code) c.deref.ensures.value) e5 in
     record {
       terms = trees;
       are = have step;
       ours = all_ours step;
-      stands = sym (c.new.ensures ∙ e6 ∙ parts code.role (plan_text p (plan_of p c.args.role)) (code_text p trees code));
+      stands = ap (λ (plan : List PlanEvent). explained_by p plan code trees) (sym c.in_ok-plan.ensures.plan);
+    }
+
+pub returns-clause-ours : goal.returns-clause-ours
+returns-clause-ours c =
+    let step = (goal.at.returns-clause-ours c).In_ok-terms in
+    record {
+      plan = plan_ours step;
+      terms = all_ours step;
+      count = counted step;
     }

@@ -1,0 +1,86 @@
+-- A text that is written part by part.
+use Rattle.std.proofs.Common.{◌≡◌, ℕ, ◌+◌, ◌≤◌, ◌<◌, List, [], ◌∷◌, ◌++◌, drop, get_or, length, take, Option, Some, None, Result, Ok, Err, refl, sym, ap, ◌∙◌, subst, append_assoc, arith, length-append, inl, inr}
+use Rattle.std.proofs.Math.Seq.{take-append-add}
+use Rattle.std.proofs.lemmas.List.{append-nil, drop_more, take-append-le}
+use Rattle.anb_base.specs.Moves.{Put, Rose}
+use Rattle.anb_base.proofs.Joined.{Put-joined}
+use Rattle.anb_text.specs.declared.writing.WriteNo.{WriteNo}
+use Rattle.anb_text.specs.Writing.{IsWritten}
+
+pub put_nothing : (w : Option (List ℕ)) → Put w w []
+put_nothing None = refl
+put_nothing (Some bytes) = ap Some (sym (append-nil bytes))
+
+-- of a text this is written, and this is due; no count of faults fell
+pub record Due (whole : List ℕ) (old now : Option (List ℕ)) (faults faults_now : ℕ) (due : List ℕ) : Type 0 where
+  pub done : List ℕ
+  pub put : Put old now done
+  pub joined : done ++ due ≡ whole
+  pub never_falls : faults ≤ faults_now
+
+rose_after : (f g h : ℕ) → f ≤ g → Rose g h → Rose f h
+rose_after f g h less (inl rose) = inl (omega (arith, less, rose))
+rose_after f g h less (inr last) = inr last
+
+module _ (whole : List ℕ) (a b c : Option (List ℕ)) (f g h : ℕ) (part rest : List ℕ) (due : Due whole a b f g (part ++ rest)) where
+  -- a part more is written
+  pub one_part : (r : Unit {0}) → IsWritten part (Ok r) b c g h → Due whole a c f h rest
+  one_part r is = record {
+    done = due.done ++ part;
+    put = Put-joined a b c due.done part due.put is.whole;
+    joined = append_assoc due.done part rest ∙ due.joined;
+    never_falls = omega (arith, due.never_falls, is.never_falls);
+  }
+
+  front : (n : ℕ) → n ≤ length part → due.done ++ take n part ≡ take (length due.done + n) whole
+  front n within =
+      ap (λ t. due.done ++ t) (sym (take-append-le n part rest within)) ∙ sym (take-append-add due.done (part ++ rest) n) ∙ ap (take (length due.done + n)) due.joined
+
+  -- or not all of it
+  pub not_all : (why : WriteNo) → IsWritten part (Err why) b c g h → IsWritten whole (Err why) a c f h
+  not_all why is =
+      let n : ℕ = is.part.0 in
+      let within : n ≤ length part = is.part.1 in
+      let size = ap length due.joined in
+      record {
+        whole = tt;
+        part = (
+          length due.done + n,
+          omega (arith, size, length-append due.done (part ++ rest), length-append part rest, within),
+          subst (Put a c) (front n within) (Put-joined a b c due.done (take n part) due.put is.part.2),
+        );
+        cause = λ failed. rose_after f g h due.never_falls (is.cause failed);
+        never_falls = omega (arith, due.never_falls, is.never_falls);
+      }
+
+-- all of it is
+pub all_written : (whole : List ℕ) (a b : Option (List ℕ)) (f g : ℕ) (r : Unit {0}) → Due whole a b f g [] → IsWritten whole (Ok r) a b f g
+all_written whole a b f g r due = record {
+  whole = subst (Put a b) (sym (append-nil due.done) ∙ due.joined) due.put;
+  part = tt;
+  cause = tt;
+  never_falls = due.never_falls;
+}
+
+-- the last part is
+pub last_part : (whole : List ℕ) (a b c : Option (List ℕ)) (f g h : ℕ) (part : List ℕ) → Due whole a b f g part → (r : Result (Unit {0}) WriteNo) → IsWritten part r b c g h → IsWritten whole r a c f h
+last_part whole a b c f g h part due r is = by_result r is where
+  due_all : Due whole a b f g (part ++ [])
+  due_all = record { done = due.done; put = due.put; joined = ap (λ t. due.done ++ t) (append-nil part) ∙ due.joined; never_falls = due.never_falls }
+
+  by_result : (r : Result (Unit {0}) WriteNo) → IsWritten part r b c g h → IsWritten whole r a c f h
+  by_result (Ok u) is = all_written whole a c f h u (one_part whole a b c f g h part [] due_all u is)
+  by_result (Err why) is = not_all whole a b c f g h part [] due_all why is
+
+pub due_as : (whole text : List ℕ) (w : Option (List ℕ)) (f : ℕ) → whole ≡ text → Due whole w w f f text
+due_as whole text w f is = record { done = []; put = put_nothing w; joined = sym is; never_falls = omega arith }
+
+pub same_due : (whole x y : List ℕ) (a b : Option (List ℕ)) (f g : ℕ) → x ≡ y → Due whole a b f g x → Due whole a b f g y
+same_due whole x y a b f g is due = record { done = due.done; put = due.put; joined = ap (λ t. due.done ++ t) (sym is) ∙ due.joined; never_falls = due.never_falls }
+
+pub same_written : (x y : List ℕ) (r : Result (Unit {0}) WriteNo) (a b : Option (List ℕ)) (f g : ℕ) → x ≡ y → IsWritten x r a b f g → IsWritten y r a b f g
+same_written x y r a b f g is written = subst (λ t. IsWritten t r a b f g) is written
+
+-- what is left of a list from a place on begins with what stands there
+pub from_item : {A : Type 0} (xs : List A) (i : ℕ) (x : A) → i < length xs → x ≡ get_or xs i x → drop i xs ≡ x ∷ drop (i + 1) xs
+from_item xs i x within is = drop_more xs i x within ∙ ap (λ y. y ∷ drop (i + 1) xs) (sym is)
