@@ -9,3 +9,4 @@ pub mod Keeping
 pub mod Closing
 pub mod Origins
 pub mod Sound
+pub mod Indexing

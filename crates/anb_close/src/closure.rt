@@ -16,6 +16,7 @@ ghost use Rattle.anb_close.specs.declared.entry.Entry.{Entry};
 
 use crate::entry::Entry;
 use crate::growth::Growth;
+use crate::index::Index;
 use crate::made::{Compositions, Made};
 use crate::step::Step;
 use anb_term::{NoMemory, Term};
@@ -40,10 +41,11 @@ impl Model for Closure {
 
     ghost view = { λ a. a.growth.entries.items };
 
-    ghost use Rattle.anb_close.specs.Entries.{IsKept};
+    ghost use Rattle.std.specs.Prelude.{◌≡◌};
+    ghost use Rattle.anb_close.specs.Entries.{IsKept, terms_of};
 
     ghost invariant = { λ a. IsKept a.growth.entries.items a.growth.doubles.items
-        a.growth.firsts.items };
+        a.growth.firsts.items × (a.growth.index.0 ≡ terms_of a.growth.entries.items) };
 }
 
 impl Closure {
@@ -55,6 +57,7 @@ impl Closure {
                 entries: Vec::new(alloc),
                 doubles: Vec::new(alloc),
                 firsts: Vec::new(alloc),
+                index: Index::new(alloc),
             },
         }
     }

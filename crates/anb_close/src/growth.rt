@@ -5,53 +5,37 @@ ghost use Rattle.anb_term.specs.View.{tree_of};
 ghost use Rattle.anb_term.specs.Tree.{trees_of};
 ghost use Rattle.anb_close.specs.Rows.{place, made_for, mades_for, row_unless};
 ghost use Rattle.anb_close.specs.MadeView.{made_tree};
-ghost use Rattle.anb_close.specs.Entries.{rows, terms_of, is_double, part_entries, openings_from, labels_of, cut, cut_first, Extends, NoKeys, Opens, IsGrown, Keeps, GoesBack, HasOpened, HasGrown, IsLastLabel};
+ghost use Rattle.anb_close.specs.Entries.{rows, terms_of, is_double, part_entries, openings_from, labels_of, cut, cut_first, Extends, Follow, NoKeys, Opens, IsGrown, Keeps, GoesBack, HasOpened, HasGrown, IsLastLabel};
 ghost use Rattle.anb_term.specs.Tree.{IsFormed};
 ghost use Rattle.anb_term.specs.Tree.{tree_size, nodes};
 ghost use Rattle.anb_close.specs.declared.entry.Entry.{Entry};
 ghost use Rattle.anb_term.specs.Operator.{keys as keys_of};
 
 use crate::entry::{Entry, Opening, Origin};
+use crate::index::Index;
 use crate::made::{Compositions, Made};
 use crate::step::{Openings, Step};
 use anb_term::{NoMemory, Op, Term};
 use std::alloc::Global;
 
-/// The entries, which of them are doubles, and where each was opened, or 0.
+/// The entries, which of them are doubles, where each was opened, or 0, and where terms stand.
 #[derive(Drop)]
 pub struct Growth {
     pub entries: Vec<Entry>,
     pub doubles: Vec<bool>,
     pub firsts: Vec<u32>,
+    pub index: Index,
 }
 
 impl Growth {
-    /// The place where the term stands.
-    fn find(&self, t: &Term) -> Option<u32>
-        requires doubles { self.now.doubles.items ≡ map is_double (rows self.now.entries.items) }
-        requires few { length self.now.entries.items < 2 ^ 32 }
-        ensures { result ≡ place (rows self.now.entries.items) (tree_of t.now) }
-    {
-        for i in 0..self.entries.len() {
-            if self.doubles[i] {
-                continue;
-            }
-            if self.entries[i].term.same(t) {
-                return Some(i as u32);
-            }
-        }
-        None
-    }
-
     /// The chosen composition of a term.
     #[cycle(made)]
     pub fn made(&self, alloc: Global, t: &Term) -> Result<Option<Made>, NoMemory>
-        requires doubles { self.now.doubles.items ≡ map is_double (rows self.now.entries.items) }
-        requires few { length self.now.entries.items < 2 ^ 32 }
+        requires indexed { self.now.index.0 ≡ terms_of self.now.entries.items }
         ensures { IfOk result (λ r.
             option_map made_tree r ≡ made_for (rows self.now.entries.items) (tree_of t.now)) }
     {
-        match self.find(t) {
+        match self.index.find(alloc, t)? {
             Some(n) => return Ok(Some(Made::Entry(n))),
             None => {}
         }
@@ -72,8 +56,7 @@ impl Growth {
     /// The chosen compositions of all of these.
     #[cycle(made)]
     pub fn mades(&self, alloc: Global, ts: &[Term]) -> Result<Option<Compositions>, NoMemory>
-        requires doubles { self.now.doubles.items ≡ map is_double (rows self.now.entries.items) }
-        requires few { length self.now.entries.items < 2 ^ 32 }
+        requires indexed { self.now.index.0 ≡ terms_of self.now.entries.items }
         ensures { IfOk result (λ r.
             option_map trees_of r
             ≡ mades_for (rows self.now.entries.items) (trees_of (map tree_of ts.now))) }
@@ -88,25 +71,13 @@ impl Growth {
         Ok(Some(all))
     }
 
-    /// Whether an entry with this term would be a double.
-    fn is_double(&self, alloc: Global, t: &Term) -> Result<bool, NoMemory>
-        requires doubles { self.now.doubles.items ≡ map is_double (rows self.now.entries.items) }
-        requires few { length self.now.entries.items < 2 ^ 32 }
-        ensures { IfOk result (λ b.
-            b ≡ is_double (row_unless (made_for (rows self.now.entries.items) (tree_of t.now))
-            (tree_of t.now))) }
-    {
-        match self.made(alloc, t)? {
-            Some(_) => Ok(true),
-            None => Ok(false),
-        }
-    }
-
     /// Adds an entry. After an error nothing has changed.
     fn push(&mut self, alloc: Global, origin: Origin, term: Term) -> Result<(), NoMemory>
         requires doubles { self.old.doubles.items ≡ map is_double (rows self.old.entries.items) }
+        requires indexed { self.old.index.0 ≡ terms_of self.old.entries.items }
         requires few { length self.old.entries.items < 2 ^ 32 }
         ensures doubles { self.new.doubles.items ≡ map is_double (rows self.new.entries.items) }
+        ensures indexed { self.new.index.0 ≡ terms_of self.new.entries.items }
         ensures ok { OnOk result
             (Extends self.old.entries.items self.old.firsts.items self.new.entries.items
             self.new.firsts.items (record { origin = origin; term = term } ∷ [])) }
@@ -114,7 +85,29 @@ impl Growth {
             (Extends self.old.entries.items self.old.firsts.items self.new.entries.items
             self.new.firsts.items []) }
     {
-        let double = self.is_double(alloc, &term)?;
+        let at = self.entries.len();
+        let double = self.index.push(alloc, &term)?;
+        match self.push_row(double, origin, term) {
+            Ok(()) => return Ok(()),
+            Err(_) => {}
+        }
+        self.index.cut(at);
+        Err(NoMemory)
+    }
+
+    /// Adds an entry whose term stands in the index. After an error nothing has changed.
+    fn push_row(&mut self, double: bool, origin: Origin, term: Term) -> Result<(), NoMemory>
+        ensures index { self.new.index ≡ self.old.index }
+        ensures ok { OnOk result
+            (Extends self.old.entries.items self.old.firsts.items self.new.entries.items
+            self.new.firsts.items (record { origin = origin; term = term } ∷ [])) }
+        ensures double { OnOk result (self.new.doubles.items
+            ≡ self.old.doubles.items ++ double ∷ []) }
+        ensures err { OnErr result
+            (Extends self.old.entries.items self.old.firsts.items self.new.entries.items
+            self.new.firsts.items []) }
+        ensures same { OnErr result (self.new.doubles.items ≡ self.old.doubles.items) }
+    {
         self.doubles.push(double)?;
         match self.firsts.push(0) {
             Ok(()) => {}
@@ -144,9 +137,11 @@ impl Growth {
         operands: &[Term],
     ) -> Result<(), NoMemory>
         requires doubles { self.old.doubles.items ≡ map is_double (rows self.old.entries.items) }
+        requires indexed { self.old.index.0 ≡ terms_of self.old.entries.items }
         requires few { length self.old.entries.items + length operands.now < 2 ^ 32 }
         requires arity { length operands.now < 2 ^ 16 }
         ensures doubles { self.new.doubles.items ≡ map is_double (rows self.new.entries.items) }
+        ensures indexed { self.new.index.0 ≡ terms_of self.new.entries.items }
         ensures ok { OnOk result
             (Extends self.old.entries.items self.old.firsts.items self.new.entries.items
             self.new.firsts.items
@@ -171,6 +166,7 @@ impl Growth {
     /// The compositions of the keys with which an entry can be opened.
     fn opens(&self, alloc: Global, i: usize) -> Result<Option<Compositions>, NoMemory>
         requires doubles { self.now.doubles.items ≡ map is_double (rows self.now.entries.items) }
+        requires indexed { self.now.index.0 ≡ terms_of self.now.entries.items }
         requires few { length self.now.entries.items < 2 ^ 32 }
         requires long { length self.now.firsts.items ≡ length self.now.entries.items }
         requires within { i < length self.now.entries.items }
@@ -194,6 +190,9 @@ impl Growth {
                 if operands.len() <= keys {
                     return Ok(None);
                 }
+                if !self.index.composes(i, keys) {
+                    return Ok(None);
+                }
                 match self.mades(alloc, &operands.as_slice()[..keys])? {
                     None => Ok(None),
                     Some(made) => Ok(Some(made)),
@@ -202,17 +201,18 @@ impl Growth {
         }
     }
 
-    /// The first entry that can be opened, and its keys.
-    fn next(&self, alloc: Global) -> Result<Option<(u32, Compositions)>, NoMemory>
+    /// The first entry from a place on that can be opened, and its keys.
+    fn next(&self, alloc: Global, from: usize) -> Result<Option<(u32, Compositions)>, NoMemory>
         requires doubles { self.now.doubles.items ≡ map is_double (rows self.now.entries.items) }
+        requires indexed { self.now.index.0 ≡ terms_of self.now.entries.items }
         requires few { length self.now.entries.items < 2 ^ 32 }
         requires long { length self.now.firsts.items ≡ length self.now.entries.items }
         ensures { IfOk result (λ r.
-            MatchOption r ((i : ℕ)
+            MatchOption r ((i : ℕ) → from ≤ i
             → NoKeys self.now.entries.items self.now.firsts.items i) (λ f.
             Opens self.now.entries.items self.now.firsts.items f.0 f.1)) }
     {
-        for i in 0..self.entries.len() {
+        for i in from..self.entries.len() {
             match self.opens(alloc, i)? {
                 None => {}
                 Some(keys) => return Ok(Some((i as u32, keys))),
@@ -224,10 +224,12 @@ impl Growth {
     /// Opens an entry.
     fn open(&mut self, alloc: Global, of: u32, keys: &Compositions) -> Result<(), NoMemory>
         requires doubles { self.old.doubles.items ≡ map is_double (rows self.old.entries.items) }
+        requires indexed { self.old.index.0 ≡ terms_of self.old.entries.items }
         requires grown { IsGrown self.old.entries.items self.old.firsts.items }
         requires opens { Opens self.old.entries.items self.old.firsts.items of keys.now }
         requires few { nodes (labels_of self.old.entries.items) < 2 ^ 32 }
         ensures doubles { self.new.doubles.items ≡ map is_double (rows self.new.entries.items) }
+        ensures indexed { self.new.index.0 ≡ terms_of self.new.entries.items }
         ensures back { Keeps self.old.entries.items self.old.firsts.items self.new.entries.items
             self.new.firsts.items }
         ensures grown { OnOk result (IsGrown self.new.entries.items self.new.firsts.items) }
@@ -246,29 +248,33 @@ impl Growth {
         }
     }
 
-    /// How many labels there are.
+    /// How many labels there are. It looks at the last label's entry and those after it.
     fn labels(&self) -> u32
+        requires follow { Follow [] self.now.entries.items }
         requires few { length self.now.entries.items < 2 ^ 32 }
         ensures { result ≡ length (labels_of self.now.entries.items) }
     {
-        let mut n = 0;
-        for e in &self.entries {
-            match &e.origin {
-                Origin::Label(_) => n += 1,
+        let mut at = self.entries.len();
+        while at > 0 {
+            at -= 1;
+            match &self.entries[at].origin {
+                Origin::Label(n) => return *n + 1,
                 Origin::Part { .. } => {}
             }
         }
-        n
+        0
     }
 
     /// Takes the next label's term, and opens what can be opened.
     pub fn grow(&mut self, alloc: Global, t: &Term) -> Result<(), NoMemory>
         requires doubles { self.old.doubles.items ≡ map is_double (rows self.old.entries.items) }
+        requires indexed { self.old.index.0 ≡ terms_of self.old.entries.items }
         requires grown { IsGrown self.old.entries.items self.old.firsts.items }
         requires formed { IsFormed (λ o. true) (tree_of t.now) }
         requires few { nodes (labels_of self.old.entries.items) + tree_size (tree_of t.now)
             < 2 ^ 32 }
         ensures doubles { self.new.doubles.items ≡ map is_double (rows self.new.entries.items) }
+        ensures indexed { self.new.index.0 ≡ terms_of self.new.entries.items }
         ensures back { GoesBack self.old.entries.items self.old.firsts.items self.new.entries.items
             self.new.firsts.items }
         ensures ok { OnOk result
@@ -276,10 +282,19 @@ impl Growth {
     {
         let label = self.labels();
         self.push(alloc, Origin::Label(label), t.copy(alloc)?)?;
+        let mut from = 0;
         'worklist: loop {
-            match self.next(alloc)? {
-                None => return Ok(()),
-                Some((of, keys)) => self.open(alloc, of, &keys)?,
+            match self.next(alloc, from)? {
+                None => {
+                    if from == 0 {
+                        return Ok(());
+                    }
+                    from = 0;
+                }
+                Some((of, keys)) => {
+                    self.open(alloc, of, &keys)?;
+                    from = of as usize + 1;
+                }
             }
         }
     }
@@ -313,11 +328,13 @@ impl Growth {
     /// Takes the next label's term, and says what was opened.
     pub fn step(&mut self, alloc: Global, t: &Term) -> Result<Step, NoMemory>
         requires doubles { self.old.doubles.items ≡ map is_double (rows self.old.entries.items) }
+        requires indexed { self.old.index.0 ≡ terms_of self.old.entries.items }
         requires grown { IsGrown self.old.entries.items self.old.firsts.items }
         requires formed { IsFormed (λ o. true) (tree_of t.now) }
         requires few { nodes (labels_of self.old.entries.items) + tree_size (tree_of t.now)
             < 2 ^ 32 }
         ensures doubles { self.new.doubles.items ≡ map is_double (rows self.new.entries.items) }
+        ensures indexed { self.new.index.0 ≡ terms_of self.new.entries.items }
         ensures back { GoesBack self.old.entries.items self.old.firsts.items self.new.entries.items
             self.new.firsts.items }
         ensures ok { OnOk result
@@ -354,14 +371,17 @@ impl Growth {
     /// Goes back to the first entries.
     pub fn cut(&mut self, at: usize)
         requires doubles { self.old.doubles.items ≡ map is_double (rows self.old.entries.items) }
+        requires indexed { self.old.index.0 ≡ terms_of self.old.entries.items }
         requires within { at ≤ length self.old.entries.items }
         ensures doubles { self.new.doubles.items ≡ map is_double (rows self.new.entries.items) }
+        ensures indexed { self.new.index.0 ≡ terms_of self.new.entries.items }
         ensures entries { self.new.entries.items ≡ take at self.old.entries.items }
         ensures firsts { self.new.firsts.items ≡ cut at self.old.firsts.items }
     {
         self.entries.truncate(at);
         self.doubles.truncate(at);
         self.firsts.truncate(at);
+        self.index.cut(at);
         clear_from(&mut self.firsts, at);
     }
 }

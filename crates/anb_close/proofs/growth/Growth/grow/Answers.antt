@@ -2,8 +2,8 @@ use Rattle.std.proofs.Common.{◌++◌, [], arith}
 use Rattle.anb_close.proofs.Growing.{grown_few, cut_grown, back_none, back_extends, labelled, nodes_grown, more_parts, fewer_left}
 use Rattle.anb_close.proofs.growth.Growth.grow.Goals as goal
 
-pub labels-label-requires : goal.labels-label-requires
-labels-label-requires c = omega (arith, grown_few _ _ c.requires.grown)
+pub labels-label-requires-clause-few : goal.labels-label-requires-clause-few
+labels-label-requires-clause-few c = omega (arith, grown_few _ _ c.requires.grown)
 
 pub returns-in_err-copy-clause-back : goal.returns-in_err-copy-clause-back
 returns-in_err-copy-clause-back c = back_none _ _ (cut_grown _ _ c.requires.grown) c.requires.grown.long
@@ -19,6 +19,7 @@ worklist-init c =
     let l = labelled _ _ _ _ c.labels-label.result c.args.t.now c.in_ok-copy.field-0 c.requires.grown c.labels-label.ensures c.in_ok-copy.ensures c.requires.formed c.in_ok-push.ensures.ok in
     record {
       doubles = c.in_ok-push.ensures.doubles;
+      indexed = c.in_ok-push.ensures.indexed;
       back = back_extends _ _ _ _ _ c.in_ok-push.ensures.ok _ _ (back_none _ _ (cut_grown _ _ c.requires.grown) c.requires.grown.long);
       grown = l.0;
       parts = [];
@@ -40,7 +41,9 @@ pub returns-in_err-open-in-Some-clause-back : goal.returns-in_err-open-in-Some-c
 returns-in_err-open-in-Some-clause-back c = c.in_err-open-in-Some.ensures.back _ _ c.worklist.invariant.back
 
 pub worklist-smaller : goal.worklist-smaller
-worklist-smaller c = fewer_left _ _ _ c.in_ok-open-in-Some.ensures.grown c.in_ok-open-in-Some.ensures.opened
+worklist-smaller c =
+    let fewer = fewer_left _ _ _ c.in_ok-open-in-Some.ensures.grown c.in_ok-open-in-Some.ensures.opened in
+    omega (arith, fewer)
 
 pub worklist-preserved : goal.worklist-preserved
 worklist-preserved c =
@@ -49,6 +52,7 @@ worklist-preserved c =
     let m = more_parts _ _ _ _ _ i.parts i.is i.are e.opened in
     record {
       doubles = e.doubles;
+      indexed = e.indexed;
       back = e.back _ _ i.back;
       grown = e.grown;
       parts = i.parts ++ e.opened.parts;

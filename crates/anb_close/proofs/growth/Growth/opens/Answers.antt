@@ -2,9 +2,11 @@ use Rattle.std.proofs.Common.{length, option_map, ap, sym, ◌∙◌, arith, Lis
 use Rattle.std.proofs.lemmas.List.{length-map}
 use Rattle.anb_term.specs.Tree.{Tree, trees_of}
 use Rattle.anb_term.specs.Operator.{keys}
+use Rattle.anb_term.specs.View.{tree_of}
+use Rattle.anb_close.specs.declared.entry.Entry.{Entry}
 use Rattle.anb_close.specs.Entries.{rows, is_double}
 use Rattle.anb_close.proofs.Finding.{rows_length}
-use Rattle.anb_close.proofs.Openable.{no_double, no_first, no_atom, no_undo, no_parts, no_keys, some_keys, keys_are}
+use Rattle.anb_close.proofs.Openable.{index_says, not_some, no_double, no_first, no_atom, no_undo, no_parts, no_keys, some_keys, keys_are}
 use Rattle.anb_close.proofs.growth.Growth.opens.Goals as goal
 
 pub index-requires : goal.index-requires
@@ -34,3 +36,12 @@ pub returns-in-Some : goal.returns-in-Some
 returns-in-Some c =
     let made = keys_are _ c.as_slice.result.now c.in-Node.operands _ (keys c.in-Node.op) _ c.in_ok-mades-in-Node.ensures c.as_slice.ensures c.keys-keys.ensures in
     some_keys _ _ _ c.index-3.result.now c.requires.within c.index-3.ensures c.args.self.now.doubles.items c.index.result.now c.index-2.result.now c.in-Node.op c.in-Node.operands c.in-Some.made c.requires.doubles c.index.ensures c.if-index.false (omega arith) c.index-2.ensures c.if-index-ne0.false c.in-Node.is (sym c.undoes.ensures ∙ c.if-not-undoes.false) (omega arith) (sym (ap (option_map (λ (ms : List Tree). trees_of ms)) c.in-Some.is) ∙ made)
+
+pub composes-requires : goal.composes-requires
+composes-requires c = omega (arith, c.requires.within, ap length c.requires.indexed, length-map c.args.self.now.entries.items (λ (e : Entry). tree_of e.term))
+
+pub returns-then-not-composes : goal.returns-then-not-composes
+returns-then-not-composes c =
+    let es = c.args.self.now.entries.items in
+    let says = index_says es c.args.self.now.index.0 c.args.i c.index-3.result.now c.in-Node.op c.in-Node.operands c.keys-keys.result c.composes.result c.requires.indexed c.requires.within c.index-3.ensures c.in-Node.is c.keys-keys.ensures c.composes.ensures in
+    no_keys _ _ _ c.index-3.result.now c.requires.within c.index-3.ensures c.in-Node.op c.in-Node.operands c.in-Node.is (not_some _ c.composes.result says c.if-not-composes.true)

@@ -1,5 +1,12 @@
+use Rattle.std.proofs.Common.{◌∙◌, ap}
+use Rattle.anb_term.specs.View.{tree_of}
+use Rattle.anb_close.specs.Rows.{made_for, row_unless, rows_of}
+use Rattle.anb_close.specs.Entries.{is_double}
 use Rattle.anb_close.proofs.Finding.{doubles_last}
 use Rattle.anb_close.proofs.growth.Growth.push.Goals as goal
 
-pub returns-clause-doubles : goal.returns-clause-doubles
-returns-clause-doubles c = doubles_last c.args.self.now.entries.items _ c.args.self.now.doubles.items _ c.in_ok-double.double _ c.requires.doubles c.in_ok-double.ensures c.in_ok-push.ensures.items c.in-Ok-push.ensures.items
+pub returns-in-Ok-clause-doubles : goal.returns-in-Ok-clause-doubles
+returns-in-Ok-clause-doubles c =
+    let t = tree_of c.args.term in
+    let double = c.in_ok-double.ensures.double ∙ ap (λ l. is_double (row_unless (made_for (rows_of l) t) t)) c.requires.indexed in
+    doubles_last c.args.self.now.entries.items _ c.args.self.now.doubles.items _ c.in_ok-double.double (record { origin = c.args.origin; term = c.args.term }) c.requires.doubles double c.in-Ok.ensures.double c.in-Ok.ensures.ok.entries
