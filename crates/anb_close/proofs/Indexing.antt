@@ -143,7 +143,7 @@ set_either (y ∷ xs) zero (suc k) v x e = inr ((λ z. absurd (omega arith)), e)
 set_either (y ∷ xs) (suc i) zero v x e = inr ((λ z. absurd (omega arith)), e)
 set_either (y ∷ xs) (suc i) (suc k) v x e = ⊎_elim (λ (a, b). inl (ap suc a, b)) (λ (a, b). inr ((λ z. a (omega arith)), b)) (set_either xs i k v x e)
 
-below_or : (k n : ℕ) → k < n + 1 → (k < n) ⊎ (k ≡ n)
+pub below_or : (k n : ℕ) → k < n + 1 → (k < n) ⊎ (k ≡ n)
 below_or zero zero h = inr refl
 below_or zero (suc n) h = inl (omega arith)
 below_or (suc k) zero h = absurd (omega arith)
@@ -214,19 +214,32 @@ module _ (ts : List Tree) (ids : List NodeId) (ss : List Standing) (ix : IsIndex
   pub no_operands : (n : ℕ) → k ≡ Atom n → (o : Op) (us : Trees) → slice_get (operands_at ts ids) i ≡ Some (node o us) → ⊥
   no_operands n is o us e = let a = entry_node o us e in let b = ap (tree_at ts) is in cc
 
-  pub front_under : (p : Op) (js : Vec NodeId Global) (n : ℕ) → k ≡ Apply p js → IsOver id.0 k → AreUnder (length ss) (take n js.items)
-  front_under p js n is over =
+  pub operands_under : (p : Op) (js : Vec NodeId Global) → k ≡ Apply p js → IsOver id.0 k → AreUnder (length ss) js.items
+  operands_under p js is over =
       let u : AreUnder id.0 js.items = subst (IsOver id.0) is over in
-      under_more id.0 (length ss) (take n js.items) (omega (arith, slice_get-within ts id.0 (tree_at ts k) at, standings_long (rows_of (operands_at ts ids)) ts ss ix.right)) (under_take id.0 n js.items u)
+      under_more id.0 (length ss) js.items (omega (arith, slice_get-within ts id.0 (tree_at ts k) at, standings_long (rows_of (operands_at ts ids)) ts ss ix.right)) u
+
+  pub front_under : (p : Op) (js : Vec NodeId Global) (n : ℕ) → k ≡ Apply p js → IsOver id.0 k → AreUnder (length ss) (take n js.items)
+  front_under p js n is over = under_take (length ss) n js.items (operands_under p js is over)
+
+  operands_are : (p : Op) (js : Vec NodeId Global) → k ≡ Apply p js → (o : Op) (us : Trees) → slice_get (operands_at ts ids) i ≡ Some (node o us) → us ≡ trees_of (operands_at ts js.items)
+  operands_are p js is o us e = let a = entry_node o us e in let b = ap (tree_at ts) is in cc
+
+  within_pool : (p : Op) (js : Vec NodeId Global) → k ≡ Apply p js → IsOver id.0 k → AreUnder (length ts) js.items
+  within_pool p js is over =
+      let u : AreUnder id.0 js.items = subst (IsOver id.0) is over in
+      under_more id.0 (length ts) js.items (omega (arith, slice_get-within ts id.0 (tree_at ts k) at)) u
 
   pub front_is : (p : Op) (js : Vec NodeId Global) (n : ℕ) → k ≡ Apply p js → IsOver id.0 k → (o : Op) (us : Trees) → slice_get (operands_at ts ids) i ≡ Some (node o us)
       → all_stand ss (take n js.items) ≡ is_some (mades_for (rows_of (operands_at ts ids)) (trees_of (take n (list_of us))))
-  front_is p js n is over o us e =
-      let u : AreUnder id.0 js.items = subst (IsOver id.0) is over in
-      let a = entry_node o us e in
-      let b = ap (tree_at ts) is in
-      let c : us ≡ trees_of (operands_at ts js.items) = cc in
-      front_composes (rows_of (operands_at ts ids)) ts ss js.items n us ix.right (under_more id.0 (length ts) js.items (omega (arith, slice_get-within ts id.0 (tree_at ts k) at)) u) c
+  front_is p js n is over o us e = front_composes (rows_of (operands_at ts ids)) ts ss js.items n us ix.right (within_pool p js is over) (operands_are p js is o us e)
+
+  pub operands_is : (p : Op) (js : Vec NodeId Global) → k ≡ Apply p js → IsOver id.0 k → (o : Op) (us : Trees) → slice_get (operands_at ts ids) i ≡ Some (node o us)
+      → all_stand ss js.items ≡ is_some (mades_for (rows_of (operands_at ts ids)) us)
+  operands_is p js is over o us e =
+      let rs = rows_of (operands_at ts ids) in
+      all_made rs ts ss (length ts) (omega arith) (λ j t h here. right_all rs ts ss ix.right j t here) js.items (within_pool p js is over)
+      ∙ ap (λ l. is_some (mades_for rs l)) (sym (operands_are p js is o us e))
 
 -- rows where terms stand as before leave their compositions
 module _ (rs rs' : List (Option Tree)) (Q : Tree → Type 0) (same : (t : Tree) → Q t → place rs' t ≡ place rs t) (below : (o : Op) (us : Trees) → Q (node o us) → AllByRecursion Q (list_of us)) where
@@ -358,7 +371,7 @@ nowhere_after [] n k s e = inr (omega arith, all_nowhere n k s e)
 nowhere_after (x ∷ ss) n zero s e = inl e
 nowhere_after (x ∷ ss) n (suc k) s e = ⊎_elim (λ a. inl a) (λ (h, b). inr (omega arith, b)) (nowhere_after ss n k s e)
 
-front_get : {A : Type 0} (xs ys : List A) (k : ℕ) (x : A) → k < length xs → slice_get (xs ++ ys) k ≡ Some x → slice_get xs k ≡ Some x
+pub front_get : {A : Type 0} (xs ys : List A) (k : ℕ) (x : A) → k < length xs → slice_get (xs ++ ys) k ≡ Some x → slice_get xs k ≡ Some x
 front_get [] ys k x h e = absurd (omega arith)
 front_get (y ∷ xs) ys zero x h e = e
 front_get (y ∷ xs) ys (suc k) x h e = front_get xs ys k x (omega arith) e

@@ -10,3 +10,4 @@ pub mod Closing
 pub mod Origins
 pub mod Sound
 pub mod Indexing
+pub mod Listing

@@ -7,3 +7,4 @@ pub mod Entries
 pub mod Recipes
 -- for proofs alone
 pub mod Standings
+pub mod Listed

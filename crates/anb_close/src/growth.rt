@@ -1,12 +1,15 @@
 // Entries while they grow.
 
-ghost use Rattle.std.specs.Prelude.{◌≡◌, ◌+◌, ◌++◌, ◌∷◌, [], ◌<◌, ◌≤◌, ◌^◌, length, ℕ, List, map, take, drop, Bool, true, IfOk, MatchOption, OnOk, OnErr, Some, option_map};
+ghost use Rattle.std.specs.Prelude.{◌≡◌, ◌+◌, ◌++◌, ◌∷◌, [], ◌<◌, ◌≤◌, ◌^◌, length, ℕ, List, map, take, drop, Bool, true, IfOk, IsTrue, MatchOption, OnOk, OnErr, Some, option_map, slice_get};
 ghost use Rattle.anb_term.specs.View.{tree_of};
 ghost use Rattle.anb_term.specs.Tree.{trees_of};
 ghost use Rattle.anb_close.specs.Rows.{place, made_for, mades_for, row_unless};
 ghost use Rattle.anb_close.specs.MadeView.{made_tree};
 ghost use Rattle.anb_close.specs.Entries.{rows, terms_of, is_double, part_entries, openings_from, labels_of, cut, cut_first, Extends, Follow, NoKeys, Opens, IsGrown, Keeps, GoesBack, HasOpened, HasGrown, IsLastLabel};
-ghost use Rattle.anb_term.specs.Tree.{IsFormed};
+ghost use Rattle.anb_term.specs.declared.term.Op.{Op};
+ghost use Rattle.anb_term.specs.Tree.{IsFormed, Trees, node};
+ghost use Rattle.anb_close.specs.declared.entry.Origin.{Origin};
+ghost use Rattle.anb_close.specs.Listed.{AreListed, HasParts};
 ghost use Rattle.anb_term.specs.Tree.{tree_size, nodes};
 ghost use Rattle.anb_close.specs.declared.entry.Entry.{Entry};
 ghost use Rattle.anb_term.specs.Operator.{keys as keys_of};
@@ -18,13 +21,15 @@ use crate::step::{Openings, Step};
 use anb_term::{NoMemory, Op, Term};
 use std::alloc::Global;
 
-/// The entries, which of them are doubles, where each was opened, or 0, and where terms stand.
+/// The entries, which of them are doubles, where each was opened, or 0, where terms stand, and the
+/// places of the entries that have parts.
 #[derive(Drop)]
 pub struct Growth {
     pub entries: Vec<Entry>,
     pub doubles: Vec<bool>,
     pub firsts: Vec<u32>,
     pub index: Index,
+    pub kept: Vec<u32>,
 }
 
 impl Growth {
@@ -75,9 +80,13 @@ impl Growth {
     fn push(&mut self, alloc: Global, origin: Origin, term: Term) -> Result<(), NoMemory>
         requires doubles { self.old.doubles.items ≡ map is_double (rows self.old.entries.items) }
         requires indexed { self.old.index.0 ≡ terms_of self.old.entries.items }
+        requires listed { AreListed HasParts (terms_of self.old.entries.items) self.old.kept.items
+            (length self.old.entries.items) }
         requires few { length self.old.entries.items < 2 ^ 32 }
         ensures doubles { self.new.doubles.items ≡ map is_double (rows self.new.entries.items) }
         ensures indexed { self.new.index.0 ≡ terms_of self.new.entries.items }
+        ensures listed { AreListed HasParts (terms_of self.new.entries.items) self.new.kept.items
+            (length self.new.entries.items) }
         ensures ok { OnOk result
             (Extends self.old.entries.items self.old.firsts.items self.new.entries.items
             self.new.firsts.items (record { origin = origin; term = term } ∷ [])) }
@@ -86,44 +95,46 @@ impl Growth {
             self.new.firsts.items []) }
     {
         let at = self.entries.len();
+        let firsts = self.firsts.len();
+        let kept = self.kept.len();
         let double = self.index.push(alloc, &term)?;
         match self.push_row(double, origin, term) {
             Ok(()) => return Ok(()),
             Err(_) => {}
         }
         self.index.cut(at);
+        self.doubles.truncate(at);
+        self.firsts.truncate(firsts);
+        self.kept.truncate(kept);
         Err(NoMemory)
     }
 
-    /// Adds an entry whose term stands in the index. After an error nothing has changed.
+    /// Adds an entry whose term stands in the index. After an error there may be more than before
+    /// beside the entries.
     fn push_row(&mut self, double: bool, origin: Origin, term: Term) -> Result<(), NoMemory>
+        requires few { length self.old.entries.items < 2 ^ 32 }
         ensures index { self.new.index ≡ self.old.index }
         ensures ok { OnOk result
             (Extends self.old.entries.items self.old.firsts.items self.new.entries.items
             self.new.firsts.items (record { origin = origin; term = term } ∷ [])) }
         ensures double { OnOk result (self.new.doubles.items
             ≡ self.old.doubles.items ++ double ∷ []) }
-        ensures err { OnErr result
-            (Extends self.old.entries.items self.old.firsts.items self.new.entries.items
-            self.new.firsts.items []) }
-        ensures same { OnErr result (self.new.doubles.items ≡ self.old.doubles.items) }
+        ensures listed { OnOk result (AreListed HasParts (terms_of self.old.entries.items)
+            self.old.kept.items (length self.old.entries.items)
+            → AreListed HasParts (terms_of self.new.entries.items) self.new.kept.items
+            (length self.new.entries.items)) }
+        ensures err { OnErr result (self.new.entries.items ≡ self.old.entries.items) }
+        ensures doubles { take (length self.old.doubles.items) self.new.doubles.items
+            ≡ self.old.doubles.items }
+        ensures firsts { take (length self.old.firsts.items) self.new.firsts.items
+            ≡ self.old.firsts.items }
+        ensures kept { take (length self.old.kept.items) self.new.kept.items
+            ≡ self.old.kept.items }
     {
+        keep(&mut self.kept, self.entries.len() as u32, &term)?;
         self.doubles.push(double)?;
-        match self.firsts.push(0) {
-            Ok(()) => {}
-            Err(_) => {
-                self.doubles.pop();
-                return Err(NoMemory);
-            }
-        }
-        match self.entries.push(Entry { origin, term }) {
-            Ok(()) => {}
-            Err(_) => {
-                self.doubles.pop();
-                self.firsts.pop();
-                return Err(NoMemory);
-            }
-        }
+        self.firsts.push(0)?;
+        self.entries.push(Entry { origin, term })?;
         Ok(())
     }
 
@@ -138,10 +149,14 @@ impl Growth {
     ) -> Result<(), NoMemory>
         requires doubles { self.old.doubles.items ≡ map is_double (rows self.old.entries.items) }
         requires indexed { self.old.index.0 ≡ terms_of self.old.entries.items }
+        requires listed { AreListed HasParts (terms_of self.old.entries.items) self.old.kept.items
+            (length self.old.entries.items) }
         requires few { length self.old.entries.items + length operands.now < 2 ^ 32 }
         requires arity { length operands.now < 2 ^ 16 }
         ensures doubles { self.new.doubles.items ≡ map is_double (rows self.new.entries.items) }
         ensures indexed { self.new.index.0 ≡ terms_of self.new.entries.items }
+        ensures listed { AreListed HasParts (terms_of self.new.entries.items) self.new.kept.items
+            (length self.new.entries.items) }
         ensures ok { OnOk result
             (Extends self.old.entries.items self.old.firsts.items self.new.entries.items
             self.new.firsts.items
@@ -167,13 +182,14 @@ impl Growth {
     fn opens(&self, alloc: Global, i: usize) -> Result<Option<Compositions>, NoMemory>
         requires doubles { self.now.doubles.items ≡ map is_double (rows self.now.entries.items) }
         requires indexed { self.now.index.0 ≡ terms_of self.now.entries.items }
-        requires few { length self.now.entries.items < 2 ^ 32 }
         requires long { length self.now.firsts.items ≡ length self.now.entries.items }
-        requires within { i < length self.now.entries.items }
         ensures { IfOk result (λ r.
             MatchOption r (NoKeys self.now.entries.items self.now.firsts.items i) (λ ks.
             Opens self.now.entries.items self.now.firsts.items i ks)) }
     {
+        if i >= self.entries.len() {
+            return Ok(None);
+        }
         if self.doubles[i] {
             return Ok(None);
         }
@@ -201,21 +217,26 @@ impl Growth {
         }
     }
 
-    /// The first entry from a place on that can be opened, and its keys.
-    fn next(&self, alloc: Global, from: usize) -> Result<Option<(u32, Compositions)>, NoMemory>
+    /// The first entry that can be opened, of those listed from a place of the list on: the place
+    /// after it, the entry and its keys.
+    fn next(
+        &self,
+        alloc: Global,
+        from: usize,
+    ) -> Result<Option<(usize, u32, Compositions)>, NoMemory>
         requires doubles { self.now.doubles.items ≡ map is_double (rows self.now.entries.items) }
         requires indexed { self.now.index.0 ≡ terms_of self.now.entries.items }
-        requires few { length self.now.entries.items < 2 ^ 32 }
         requires long { length self.now.firsts.items ≡ length self.now.entries.items }
         ensures { IfOk result (λ r.
-            MatchOption r ((i : ℕ) → from ≤ i
+            MatchOption r ((k : ℕ) (i : ℕ) → from ≤ k → slice_get self.now.kept.items k ≡ Some i
             → NoKeys self.now.entries.items self.now.firsts.items i) (λ f.
-            Opens self.now.entries.items self.now.firsts.items f.0 f.1)) }
+            Opens self.now.entries.items self.now.firsts.items f.1 f.2)) }
     {
-        for i in from..self.entries.len() {
-            match self.opens(alloc, i)? {
+        for k in from..self.kept.len() {
+            let i = self.kept[k];
+            match self.opens(alloc, i as usize)? {
                 None => {}
-                Some(keys) => return Ok(Some((i as u32, keys))),
+                Some(keys) => return Ok(Some((k + 1, i, keys))),
             }
         }
         Ok(None)
@@ -225,11 +246,15 @@ impl Growth {
     fn open(&mut self, alloc: Global, of: u32, keys: &Compositions) -> Result<(), NoMemory>
         requires doubles { self.old.doubles.items ≡ map is_double (rows self.old.entries.items) }
         requires indexed { self.old.index.0 ≡ terms_of self.old.entries.items }
+        requires listed { AreListed HasParts (terms_of self.old.entries.items) self.old.kept.items
+            (length self.old.entries.items) }
         requires grown { IsGrown self.old.entries.items self.old.firsts.items }
         requires opens { Opens self.old.entries.items self.old.firsts.items of keys.now }
         requires few { nodes (labels_of self.old.entries.items) < 2 ^ 32 }
         ensures doubles { self.new.doubles.items ≡ map is_double (rows self.new.entries.items) }
         ensures indexed { self.new.index.0 ≡ terms_of self.new.entries.items }
+        ensures listed { AreListed HasParts (terms_of self.new.entries.items) self.new.kept.items
+            (length self.new.entries.items) }
         ensures back { Keeps self.old.entries.items self.old.firsts.items self.new.entries.items
             self.new.firsts.items }
         ensures grown { OnOk result (IsGrown self.new.entries.items self.new.firsts.items) }
@@ -269,12 +294,16 @@ impl Growth {
     pub fn grow(&mut self, alloc: Global, t: &Term) -> Result<(), NoMemory>
         requires doubles { self.old.doubles.items ≡ map is_double (rows self.old.entries.items) }
         requires indexed { self.old.index.0 ≡ terms_of self.old.entries.items }
+        requires listed { AreListed HasParts (terms_of self.old.entries.items) self.old.kept.items
+            (length self.old.entries.items) }
         requires grown { IsGrown self.old.entries.items self.old.firsts.items }
         requires formed { IsFormed (λ o. true) (tree_of t.now) }
         requires few { nodes (labels_of self.old.entries.items) + tree_size (tree_of t.now)
             < 2 ^ 32 }
         ensures doubles { self.new.doubles.items ≡ map is_double (rows self.new.entries.items) }
         ensures indexed { self.new.index.0 ≡ terms_of self.new.entries.items }
+        ensures listed { AreListed HasParts (terms_of self.new.entries.items) self.new.kept.items
+            (length self.new.entries.items) }
         ensures back { GoesBack self.old.entries.items self.old.firsts.items self.new.entries.items
             self.new.firsts.items }
         ensures ok { OnOk result
@@ -291,9 +320,9 @@ impl Growth {
                     }
                     from = 0;
                 }
-                Some((of, keys)) => {
+                Some((after, of, keys)) => {
                     self.open(alloc, of, &keys)?;
-                    from = of as usize + 1;
+                    from = after;
                 }
             }
         }
@@ -329,12 +358,16 @@ impl Growth {
     pub fn step(&mut self, alloc: Global, t: &Term) -> Result<Step, NoMemory>
         requires doubles { self.old.doubles.items ≡ map is_double (rows self.old.entries.items) }
         requires indexed { self.old.index.0 ≡ terms_of self.old.entries.items }
+        requires listed { AreListed HasParts (terms_of self.old.entries.items) self.old.kept.items
+            (length self.old.entries.items) }
         requires grown { IsGrown self.old.entries.items self.old.firsts.items }
         requires formed { IsFormed (λ o. true) (tree_of t.now) }
         requires few { nodes (labels_of self.old.entries.items) + tree_size (tree_of t.now)
             < 2 ^ 32 }
         ensures doubles { self.new.doubles.items ≡ map is_double (rows self.new.entries.items) }
         ensures indexed { self.new.index.0 ≡ terms_of self.new.entries.items }
+        ensures listed { AreListed HasParts (terms_of self.new.entries.items) self.new.kept.items
+            (length self.new.entries.items) }
         ensures back { GoesBack self.old.entries.items self.old.firsts.items self.new.entries.items
             self.new.firsts.items }
         ensures ok { OnOk result
@@ -372,9 +405,13 @@ impl Growth {
     pub fn cut(&mut self, at: usize)
         requires doubles { self.old.doubles.items ≡ map is_double (rows self.old.entries.items) }
         requires indexed { self.old.index.0 ≡ terms_of self.old.entries.items }
+        requires listed { AreListed HasParts (terms_of self.old.entries.items) self.old.kept.items
+            (length self.old.entries.items) }
         requires within { at ≤ length self.old.entries.items }
         ensures doubles { self.new.doubles.items ≡ map is_double (rows self.new.entries.items) }
         ensures indexed { self.new.index.0 ≡ terms_of self.new.entries.items }
+        ensures listed { AreListed HasParts (terms_of self.new.entries.items) self.new.kept.items
+            (length self.new.entries.items) }
         ensures entries { self.new.entries.items ≡ take at self.old.entries.items }
         ensures firsts { self.new.firsts.items ≡ cut at self.old.firsts.items }
     {
@@ -382,8 +419,50 @@ impl Growth {
         self.doubles.truncate(at);
         self.firsts.truncate(at);
         self.index.cut(at);
+        drop_from(&mut self.kept, at);
         clear_from(&mut self.firsts, at);
     }
+}
+
+/// Whether a term can be undone and has parts.
+fn has_parts(term: &Term) -> bool
+    ensures { (o : Op) (us : Trees) → tree_of term.now ≡ node o us → HasParts o us
+        → IsTrue result }
+{
+    match term {
+        Term::Atom(_) => false,
+        Term::Node(op, operands) => op.undoes() && operands.len() > op.keys() as usize,
+    }
+}
+
+/// Lists an entry's place where its term has parts.
+fn keep(kept: &mut Vec<u32>, at: u32, term: &Term) -> Result<(), NoMemory>
+    ensures ok { OnOk result ((es : List Entry) (origin : Origin) → at ≡ length es
+        → AreListed HasParts (terms_of es) kept.old.items (length es)
+        → AreListed HasParts (terms_of (es ++ record { origin = origin; term = term.now } ∷ []))
+        kept.new.items (length (es ++ record { origin = origin; term = term.now } ∷ []))) }
+    ensures more { take (length kept.old.items) kept.new.items ≡ kept.old.items }
+{
+    if !has_parts(term) {
+        return Ok(());
+    }
+    kept.push(at)?;
+    Ok(())
+}
+
+/// Drops the places from one on that stand last.
+fn drop_from(kept: &mut Vec<u32>, at: usize)
+    ensures { (k : ℕ) (i : ℕ) → slice_get kept.old.items k ≡ Some i → i < at
+        → slice_get kept.new.items k ≡ Some i }
+{
+    let mut n = kept.len();
+    while n > 0 {
+        if (kept[n - 1] as usize) < at {
+            break;
+        }
+        n -= 1;
+    }
+    kept.truncate(n);
 }
 
 /// Clears the places from one on.

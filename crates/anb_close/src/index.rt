@@ -101,6 +101,18 @@ impl Index {
         }
     }
 
+    /// Whether all operands of an entry's term compose.
+    pub fn all_compose(&self, i: usize) -> bool
+        requires within { i < length self.now.0 }
+        ensures { (o : Op) (us : Trees) → slice_get self.now.0 i ≡ Some (node o us)
+            → result ≡ is_some (mades_for (rows_of self.now.0) us) }
+    {
+        match self.pool.get(self.numbers[i]) {
+            Node::Atom(_) => false,
+            Node::Apply(_, ids) => all_stand(ids, &self.standings),
+        }
+    }
+
     /// The number of a term, which is put in where it isn't there yet.
     fn number(&mut self, alloc: Global, t: &Term) -> Result<NodeId, NoMemory>
         ensures same { self.new.0 ≡ self.old.0 }

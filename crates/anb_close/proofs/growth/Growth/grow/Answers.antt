@@ -1,5 +1,6 @@
 use Rattle.std.proofs.Common.{◌++◌, [], arith}
 use Rattle.anb_close.proofs.Growing.{grown_few, cut_grown, back_none, back_extends, labelled, nodes_grown, more_parts, fewer_left}
+use Rattle.anb_close.proofs.Listing.{all_shut}
 use Rattle.anb_close.proofs.growth.Growth.grow.Goals as goal
 
 pub labels-label-requires-clause-few : goal.labels-label-requires-clause-few
@@ -20,17 +21,13 @@ worklist-init c =
     record {
       doubles = c.in_ok-push.ensures.doubles;
       indexed = c.in_ok-push.ensures.indexed;
+      listed = c.in_ok-push.ensures.listed;
       back = back_extends _ _ _ _ _ c.in_ok-push.ensures.ok _ _ (back_none _ _ (cut_grown _ _ c.requires.grown) c.requires.grown.long);
       grown = l.0;
       parts = [];
       are = tt;
       is = l.1;
     }
-
-pub next-requires-clause-few : goal.next-requires-clause-few
-next-requires-clause-few c =
-    let i = c.worklist.invariant in
-    omega (arith, grown_few _ _ i.grown, nodes_grown _ _ _ _ i.parts i.is i.are)
 
 pub open-requires-clause-few : goal.open-requires-clause-few
 open-requires-clause-few c =
@@ -53,9 +50,24 @@ worklist-preserved c =
     record {
       doubles = e.doubles;
       indexed = e.indexed;
+      listed = e.listed;
       back = e.back _ _ i.back;
       grown = e.grown;
       parts = i.parts ++ e.opened.parts;
       are = m.0;
       is = m.1;
+    }
+
+pub returns-then-from-eq0-clause-ok : goal.returns-then-from-eq0-clause-ok
+returns-then-from-eq0-clause-ok c =
+    let i = c.worklist.invariant in
+    let shut = rw c.in-None.is at c.in_ok-next.ensures in
+    record {
+      parts = i.parts;
+      are = i.are;
+      is = i.is;
+      rest = record {
+        grown = i.grown;
+        shut = all_shut c.worklist.self.entries.items c.worklist.self.firsts.items c.worklist.self.kept.items i.listed (λ k x at. shut k x (omega (arith, c.if-from-eq0.true)) at);
+      };
     }

@@ -4,6 +4,7 @@ use Rattle.anb_close.specs.declared.entry.Entry.{Entry}
 use Rattle.anb_close.specs.declared.entry.Origin.TheVariants.{Label}
 use Rattle.anb_close.specs.Entries.{rows, terms_of, is_double, labels_of, IsGrown, GoesBack, IsPart}
 use Rattle.anb_term.specs.Tree.{nodes}
+use Rattle.anb_close.specs.Listed.{AreListed, HasParts}
 use Rattle.anb_close.proofs.growth.Growth.grow.Given as goal
 
 abbrev pub invariant-worklist : goal.invariant-worklist
@@ -12,6 +13,7 @@ invariant-worklist l =
     record {
       doubles : l.self.doubles.items ≡ map is_double (rows l.self.entries.items);
       indexed : l.self.index.0 ≡ terms_of l.self.entries.items;
+      listed : AreListed HasParts (terms_of l.self.entries.items) l.self.kept.items (length l.self.entries.items);
       back : GoesBack es l.fn.self.firsts.items l.self.entries.items l.self.firsts.items;
       grown : IsGrown l.self.entries.items l.self.firsts.items;
       parts : List Entry;
