@@ -11,3 +11,4 @@ mod Ordering
 mod Frames
 pub mod Exact
 mod Counting
+mod Listing

@@ -59,6 +59,9 @@ pub one_more_equal : (cs ds ds' : List Check) (i : ℕ) (w : Made) → AfterEqua
 one_more_equal cs ds ds' i w a is =
     (a.0 ++ Equal i w ∷ [], all_append IsEqual a.0 (Equal i w ∷ []) a.1 (tt, tt), is ∙ ap (λ l. l ++ Equal i w ∷ []) a.2 ∙ append_assoc cs a.0 (Equal i w ∷ []))
 
+pub more_equals : (cs ds ds' : List Check) → AfterEquals cs ds → AfterEquals ds ds' → AfterEquals cs ds'
+more_equals cs ds ds' a b = (a.0 ++ b.0, all_append IsEqual a.0 b.0 a.1 b.1, b.2 ∙ ap (λ l. l ++ b.0) a.2 ∙ append_assoc cs a.0 b.0)
+
 pub in_order : (n m : ℕ) (es es' : List Entry) (cs ds cs' : List Check) → n ≡ m → es ≡ es' → ds ≡ cs ++ map Open (openings_from n (drop n es)) → AfterEquals ds cs' → InOrder m es' cs cs'
 in_order n m es es' cs ds cs' en ee listed a =
     let same : openings_from n (drop n es) ≡ openings_from m (drop m es') = ap (λ k. openings_from k (drop k es)) en ∙ ap (λ l. openings_from m (drop m l)) ee in

@@ -4,7 +4,6 @@ ghost use Rattle.std.specs.Prelude.{◌⊎◌, drop, ◌≡◌, ◌+◌, ◌++�
 ghost use Rattle.std.specs.Prelude.{length, map, Bool, true, false, IsTrue, Option, IfOk};
 ghost use Rattle.std.specs.Prelude.{MatchOption, OnOk, OnErr, Some, slice_get, replicate, ◌-◌};
 ghost use Rattle.anb_term.specs.declared.term.Op.{Op};
-ghost use Rattle.anb_term.specs.Operator.{undoable};
 ghost use Rattle.anb_term.specs.Tree.{Tree, Trees, node};
 ghost use Rattle.anb_close.specs.MadeView.{made_tree};
 ghost use Rattle.anb_close.specs.Entries.{terms_of, openings_from, IsKnown};
@@ -12,7 +11,7 @@ ghost use Rattle.anb_term.specs.View.{tree_of};
 ghost use Rattle.anb_basis.specs.declared.check.Check.TheVariants.{Open};
 ghost use Rattle.anb_basis.specs.Checks.{IsComparedWith, Fits, entry_of, IsGiven, OpensMarked};
 ghost use Rattle.anb_basis.specs.Checks.{OpensUnmarked, EqualsMarked, MarksStay, After};
-ghost use Rattle.anb_basis.specs.Checks.{AfterEquals, InOrder, IsBasis, DoublesMarked};
+ghost use Rattle.anb_basis.specs.Checks.{AfterEquals, InOrder, IsBasis, DoublesMarked, IsRebuilt, ListsRebuilt};
 
 use crate::check::Check;
 use anb_close::{Closure, Entry, Made, Opening, Origin};
@@ -122,12 +121,39 @@ fn compared_with(
 /// Whether an entry with this term may come to be compared by its operands: its operator can't be
 /// undone.
 fn is_rebuilt(term: &Term) -> bool
-    ensures { (o : Op) (us : Trees) → tree_of term.now ≡ node o us → undoable o ≡ false
+    ensures { (o : Op) (us : Trees) → tree_of term.now ≡ node o us → IsRebuilt o us
         → IsTrue result }
 {
     match term {
         Term::Atom(_) => false,
         Term::Node(op, _) => !op.undoes(),
+    }
+}
+
+/// Gives the check of comparing an entry, where it has none yet and one is due.
+fn add_equal(
+    alloc: Global,
+    closure: &Closure,
+    i: u32,
+    given: &mut Vec<Check>,
+    marks: &mut Vec<bool>,
+) -> Result<(), NoMemory>
+    requires given { IsGiven closure.now given.old.items marks.old.items }
+    requires within { i < length closure.now }
+    ensures more { After given.old.items given.new.items }
+    ensures stay { MarksStay marks.old.items marks.new.items }
+    ensures ok { OnOk result (IsGiven closure.now given.new.items marks.new.items) }
+    ensures marked { OnOk result ((c : Tree) → IsComparedWith closure.now i c
+        → slice_get marks.new.items i ≡ Some true) }
+    ensures compared { OnOk result (AfterEquals given.old.items given.new.items) }
+{
+    let entries = closure.entries();
+    if marks[i as usize] {
+        return Ok(());
+    }
+    match compared_with(alloc, closure, i, &entries[i as usize].term)? {
+        None => Ok(()),
+        Some(made) => add_check(given, marks, i, Check::Equal(i, made)),
     }
 }
 
@@ -137,29 +163,46 @@ fn add_equals(
     alloc: Global,
     closure: &Closure,
     from: usize,
+    rebuilt: &[u32],
     given: &mut Vec<Check>,
     marks: &mut Vec<bool>,
 ) -> Result<(), NoMemory>
     requires given { IsGiven closure.now given.old.items marks.old.items }
     requires doubles { DoublesMarked closure.now marks.old.items from }
+    requires lists { ListsRebuilt closure.now rebuilt.now from }
+    requires within { from ≤ length closure.now }
     ensures more { After given.old.items given.new.items }
     ensures stay { MarksStay marks.old.items marks.new.items }
     ensures ok { OnOk result (IsGiven closure.now given.new.items marks.new.items) }
     ensures equals { OnOk result (EqualsMarked closure.now marks.new.items (length closure.now)) }
     ensures compared { OnOk result (AfterEquals given.old.items given.new.items) }
 {
-    let entries = closure.entries();
-    for i in 0..entries.len() {
-        if marks[i] {
+    let count = closure.entries().len();
+    for i in rebuilt {
+        if !closure.operands_compose(*i) {
             continue;
         }
-        if i < from && !is_rebuilt(&entries[i].term) {
+        add_equal(alloc, closure, *i, given, marks)?;
+    }
+    for at in from..count {
+        add_equal(alloc, closure, at as u32, given, marks)?;
+    }
+    Ok(())
+}
+
+/// Lists the entries from a place on that may come to be compared by their operands.
+fn list_rebuilt(entries: &[Entry], from: usize, rebuilt: &mut Vec<u32>) -> Result<(), NoMemory>
+    requires lists { ListsRebuilt entries.now rebuilt.old.items from }
+    requires within { from ≤ length entries.now }
+    requires few { length entries.now < 2 ^ 32 }
+    ensures more { After rebuilt.old.items rebuilt.new.items }
+    ensures ok { OnOk result (ListsRebuilt entries.now rebuilt.new.items (length entries.now)) }
+{
+    for i in from..entries.len() {
+        if !is_rebuilt(&entries[i].term) {
             continue;
         }
-        match compared_with(alloc, closure, i as u32, &entries[i].term)? {
-            None => continue,
-            Some(made) => add_check(given, marks, i as u32, Check::Equal(i as u32, made))?,
-        }
+        rebuilt.push(i as u32)?;
     }
     Ok(())
 }
@@ -183,17 +226,23 @@ pub fn add_all(
     closure: &Closure,
     given: &mut Vec<Check>,
     marks: &[bool],
+    rebuilt: &mut Vec<u32>,
 ) -> Result<Vec<bool>, NoMemory>
     requires given { (before : List Entry) × After before closure.now
-        × IsBasis before given.old.items marks.now }
+        × IsBasis before given.old.items marks.now
+        × ListsRebuilt before rebuilt.old.items (length before) }
     ensures more { After given.old.items given.new.items }
+    ensures listed_more { After rebuilt.old.items rebuilt.new.items }
     ensures ok { IfOk result (λ m. IsBasis closure.now given.new.items m.items) }
+    ensures listed { OnOk result
+        (ListsRebuilt closure.now rebuilt.new.items (length closure.now)) }
     ensures order { IfOk result (λ m. InOrder (length marks.now) closure.now
         given.old.items given.new.items) }
 {
     let entries = closure.entries();
     let mut all = extended(alloc, marks, entries.len())?;
     add_opens(alloc, entries, marks.len(), given, &mut all)?;
-    add_equals(alloc, closure, marks.len(), given, &mut all)?;
+    add_equals(alloc, closure, marks.len(), rebuilt, given, &mut all)?;
+    list_rebuilt(entries, marks.len(), rebuilt)?;
     Ok(all)
 }

@@ -13,12 +13,14 @@ use anb_term::{NoMemory, Term};
 use std::alloc::Global;
 use std::marker::Model;
 
-/// The entries of a role, and the checks that were given.
+/// The entries of a role, the checks that were given, and the entries that may come to be compared
+/// by their operands.
 #[derive(Drop)]
 pub struct Basis {
     closure: Closure,
     given: Vec<Check>,
     marks: Vec<bool>,
+    rebuilt: Vec<u32>,
 }
 
 impl Model for Basis {
@@ -35,9 +37,11 @@ impl Model for Basis {
 
     ghost view = { λ a. (a.closure, a.given.items) };
 
-    ghost use Rattle.anb_basis.specs.Checks.{IsBasis};
+    ghost use Rattle.std.specs.Prelude.{length};
+    ghost use Rattle.anb_basis.specs.Checks.{IsBasis, ListsRebuilt};
 
-    ghost invariant = { λ a. IsBasis a.closure a.given.items a.marks.items };
+    ghost invariant = { λ a. IsBasis a.closure a.given.items a.marks.items
+        × ListsRebuilt a.closure a.rebuilt.items (length a.closure) };
 }
 
 impl Basis {
@@ -48,6 +52,7 @@ impl Basis {
             closure: Closure::new(alloc),
             given: Vec::new(alloc),
             marks: Vec::new(alloc),
+            rebuilt: Vec::new(alloc),
         }
     }
 
@@ -83,14 +88,23 @@ impl Basis {
         ensures err { OnErr result (self.new ≡ self.old) }
     {
         let first = self.given.len();
+        let listed = self.rebuilt.len();
         let _ = self.closure.add(alloc, t)?;
-        match add_all(alloc, &self.closure, &mut self.given, &self.marks) {
+        let given = add_all(
+            alloc,
+            &self.closure,
+            &mut self.given,
+            &self.marks,
+            &mut self.rebuilt,
+        );
+        match given {
             Ok(marks) => {
                 self.marks = marks;
                 Ok(first as u64)
             }
             Err(e) => {
                 self.given.truncate(first);
+                self.rebuilt.truncate(listed);
                 self.closure.take_back();
                 Err(e)
             }

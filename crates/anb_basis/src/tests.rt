@@ -169,3 +169,17 @@ fn a_hash_is_compared_when_its_operand_comes(rt: HostRuntime) -> Result<(), NoMe
     assert!(rt; matches!(basis.given(), [Check::Equal(0, Made::Build(Op::Hash, _))]));
     Ok(())
 }
+
+#[test]
+fn a_late_key_opens_a_hundred_kept_bodies(rt: HostRuntime) -> Result<(), NoMemory> {
+    let alloc = rt.alloc();
+    let mut frame = Vec::new(alloc);
+    for body in 1..101 {
+        frame.push(two(alloc, Op::Seal, Term::Atom(0), Term::Atom(body))?)?;
+    }
+    frame.push(Term::Atom(0))?;
+    let basis = basis_of(alloc, &frame)?;
+    assert_eq!(rt; basis.closure().entries().len(), 201);
+    assert_eq!(rt; basis.given().len(), 100);
+    Ok(())
+}

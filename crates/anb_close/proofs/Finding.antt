@@ -1,5 +1,5 @@
 -- Looking a term up, and composing it.
-use Rattle.std.proofs.Common.{◌≡◌, ℕ, zero, suc, ◌+◌, ◌<◌, ◌≤◌, List, [], ◌∷◌, ◌++◌, length, map, drop, get_or, Bool, true, false, Option, Some, None, refl, sym, ap, ◌∙◌, arith, option_map}
+use Rattle.std.proofs.Common.{◌≡◌, ℕ, zero, suc, ◌+◌, ◌<◌, ◌≤◌, List, [], ◌∷◌, ◌++◌, length, map, take, drop, get_or, Bool, true, false, Option, Some, None, refl, sym, ap, ◌∙◌, arith, option_map}
 use Rattle.std.specs.Prelude.{slice_get, ◌==◌}
 use Rattle.std.proofs.lemmas.List.{drop_more, drop_all, length-map}
 use Rattle.std.proofs.lemmas.Option.{slice_get-get_or}
@@ -153,3 +153,9 @@ pub doubles_last : (es es' : List Entry) (ds ds' : List Bool) (b : Bool) (e : En
 doubles_last es es' ds ds' b e is is_b more_d more_e =
     more_d ∙ ap (λ l. l ++ b ∷ []) is ∙ ap (λ x. map is_double (rows es) ++ x ∷ []) is_b
     ∙ sym (ap (λ l. map is_double (rows l)) more_e ∙ ap (map is_double) (rows_last es e) ∙ map-append is_double (rows es) (row_unless (made_for (rows es) (tree_of e.term)) (tree_of e.term) ∷ []))
+
+-- and of none, after all
+pub doubles_back : (es es' : List Entry) (ds ds' ds'' : List Bool) (n : ℕ) → ds ≡ map is_double (rows es) → n ≡ length es → ds'' ≡ take n ds' → take (length ds) ds' ≡ ds → es' ≡ es → ds'' ≡ map is_double (rows es')
+doubles_back es es' ds ds' ds'' n is long back same is_es =
+    let m : n ≡ length ds = omega (arith, long, ap length is, length-map (rows es) is_double, rows_length es) in
+    back ∙ ap (λ k. take k ds') m ∙ same ∙ is ∙ ap (λ l. map is_double (rows l)) (sym is_es)

@@ -6,7 +6,7 @@ use Rattle.std.proofs.Math.ListN.{set, length-set}
 use Rattle.std.proofs.Math.Dec.{ltb}
 use Rattle.std.proofs.Math.Seq.{take-append_seam}
 use Rattle.std.proofs.lemmas.Bool.{le-ltb, lt-ltb}
-use Rattle.std.proofs.lemmas.List.{length-map, append-nil, take_all}
+use Rattle.std.proofs.lemmas.List.{length-map, append-nil, take_all, drop_more}
 use Rattle.anb_term.specs.declared.term.Op.{Op}
 use Rattle.anb_term.specs.declared.term.Term.{Term}
 use Rattle.anb_term.specs.Tree.{Tree, leaf, node, Trees, none, more, trees_of, list_of, tree_size, trees_size, IsFormed, AreFormed, nodes}
@@ -17,9 +17,9 @@ use Rattle.anb_close.specs.Rows.{made_for, mades_for, rows_from, row_unless}
 use Rattle.anb_close.proofs.Rows.{mades_later, row_term}
 use Rattle.anb_close.specs.declared.entry.Entry.{Entry}
 use Rattle.anb_close.specs.declared.entry.Origin.TheVariants.{Label, Part}
-use Rattle.anb_close.specs.Entries.{rows, terms_of, labels_of, is_label, is_double, Follow, part_entries, IsOpened, IsPartOf, IsPart, weight, load, IsGrown, CanOpen, keys_for, Opens, unopened, Extends, cut_first, cut, GoesBack, Keeps, HasOpened, HasAdded}
+use Rattle.anb_close.specs.Entries.{rows, terms_of, labels_of, is_label, is_double, OriginFits, Follow, part_entries, IsOpened, IsPartOf, IsPart, weight, load, IsGrown, CanOpen, keys_for, Opens, unopened, Extends, cut_first, cut, GoesBack, Keeps, HasOpened, HasAdded}
 use Rattle.anb_term.specs.declared.term.Term.TheVariants.{Node}
-use Rattle.anb_term.proofs.Lists.{map-append, all_append, map-take, set-at, set-other, set-same, slice_get-append, slice_get-last, slice_get-within, take-front}
+use Rattle.anb_term.proofs.Lists.{map-append, all_append, slice_get-at, map-take, set-at, set-other, set-same, slice_get-append, slice_get-last, slice_get-within, take-front}
 use Rattle.anb_close.proofs.Finding.{rows_append, rows_length}
 use Rattle.anb_close.proofs.Openable.{own_node}
 
@@ -439,7 +439,37 @@ pub fewer_left : (es es' : List Entry) (fs' : List ℕ) → IsGrown es' fs' → 
 fewer_left es es' fs' g o =
     omega (arith, grown_few es' fs' g, ap length o.is, length-append es o.parts, o.some, ap (λ l. nodes (labels_of l)) o.is, ap nodes (labels_append es o.parts), nodes_append (labels_of es) (labels_of o.parts), ap nodes (no_labels o.parts o.are))
 
-prefix : (rs : List (Option Tree)) (ts : List Tree) → (xs : List (Option Tree)) × (rows_from rs ts ≡ rs ++ xs)
+-- the last label's number
+label_number : (before es : List Entry) (k : ℕ) (e : Entry) (n : ℕ) → Follow before es → slice_get es k ≡ Some e → e.origin ≡ Label n → n ≡ length (labels_of (before ++ take k es))
+label_number before [] k e n f at is = cc
+label_number before (x ∷ es) zero e n f at is =
+    let s : x ≡ e = cc in
+    let o : x.origin ≡ Label n = ap (λ (y : Entry). y.origin) s ∙ is in
+    subst (λ y. OriginFits (terms_of before) (length (labels_of before)) y (tree_of x.term)) o f.0 ∙ ap (λ l. length (labels_of l)) (sym (append-nil before))
+label_number before (x ∷ es) (suc k) e n f at is = label_number (before ++ x ∷ []) es k e n f.1 at is ∙ ap (λ l. length (labels_of l)) (append_assoc before (x ∷ []) (take k es))
+
+labels_few : (es : List Entry) → length (labels_of es) ≤ length es
+labels_few [] = omega arith
+labels_few (e ∷ es) = counted (is_label e.origin) (tree_of e.term) (labels_of es) (length es) (labels_few es)
+  where
+    counted : (b : Bool) (t : Tree) (l : List Tree) (n : ℕ) → length l ≤ n → length (cond b (t ∷ l) l) ≤ suc n
+    counted true t l n h = omega (arith, h)
+    counted false t l n h = omega (arith, h)
+
+module _ (es : List Entry) (at : ℕ) (e : Entry) (n : ℕ) (follow : Follow [] es) (h : at < length es) (own : e ≡ get_or es at e) (is : e.origin ≡ Label n) where
+  number_is : n ≡ length (labels_of (take at es))
+  number_is = label_number [] es at e n follow (slice_get-at es at e h own) is
+
+  pub number_few : n < length es
+  number_few = omega (arith, number_is, labels_few (take at es), length-take-le at es, h)
+
+  pub labels_are : AllByRecursion IsPart (drop (at + 1) es) → n + 1 ≡ length (labels_of es)
+  labels_are parts =
+      let all : es ≡ take at es ++ e ∷ drop (at + 1) es = sym (take-append-drop at es) ∙ ap (λ l. take at es ++ l) (drop_more es at e h ∙ ap (λ x. x ∷ drop (at + 1) es) (sym own)) in
+      let one : labels_of (e ∷ drop (at + 1) es) ≡ tree_of e.term ∷ [] = rw is (ap (λ l. tree_of e.term ∷ l) (no_labels (drop (at + 1) es) parts)) in
+      omega (arith, number_is, ap (λ l. length (labels_of l)) all, ap length (labels_append (take at es) (e ∷ drop (at + 1) es)), length-append (labels_of (take at es)) (labels_of (e ∷ drop (at + 1) es)), ap length one)
+
+pub prefix : (rs : List (Option Tree)) (ts : List Tree) → (xs : List (Option Tree)) × (rows_from rs ts ≡ rs ++ xs)
 prefix rs [] = ([], sym (append-nil rs))
 prefix rs (t ∷ ts) =
     let r = row_unless (made_for rs t) t in

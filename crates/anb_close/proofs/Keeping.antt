@@ -14,12 +14,12 @@ use Rattle.anb_term.specs.Tree.{nodes}
 use Rattle.anb_close.proofs.Growing.{cut_past, cut_zero, nodes_less}
 use Rattle.anb_term.proofs.Lists.{slice_get-within, take-take}
 
-set_suc : (g : ℕ → ℕ) (xs : List ℕ) (i v d : ℕ) → i < length xs → v ≡ g (get_or (map g (take i xs) ++ drop i xs) i d) → set (map g (take i xs) ++ drop i xs) i v ≡ map g (take (suc i) xs) ++ drop (suc i) xs
+set_suc : {A : Type 0} (g : A → A) (xs : List A) (i : ℕ) (v d : A) → i < length xs → v ≡ g (get_or (map g (take i xs) ++ drop i xs) i d) → set (map g (take i xs) ++ drop i xs) i v ≡ map g (take (suc i) xs) ++ drop (suc i) xs
 set_suc g [] i v d h e = absurd (omega arith)
 set_suc g (x ∷ xs) zero v d h e = ap (λ y. y ∷ xs) e
 set_suc g (x ∷ xs) (suc i) v d h e = ap (λ l. g x ∷ l) (set_suc g xs i v d (omega arith) e)
 
-pub set_next : (g : ℕ → ℕ) (xs ys : List ℕ) (i v d : ℕ) → i < length xs → ys ≡ map g (take i xs) ++ drop i xs → v ≡ g (get_or ys i d) → set ys i v ≡ map g (take (i + 1) xs) ++ drop (i + 1) xs
+pub set_next : {A : Type 0} (g : A → A) (xs ys : List A) (i : ℕ) (v d : A) → i < length xs → ys ≡ map g (take i xs) ++ drop i xs → v ≡ g (get_or ys i d) → set ys i v ≡ map g (take (i + 1) xs) ++ drop (i + 1) xs
 set_next g xs ys i v d h is e =
     let n : i + 1 ≡ suc i = omega arith in
     rw (n, is) (set_suc g xs i v d h (rw is at e))

@@ -9,3 +9,5 @@ pub mod Keeping
 pub mod Closing
 pub mod Origins
 pub mod Sound
+pub mod Indexing
+pub mod Listing

@@ -1,5 +1,6 @@
 -- Whether an entry can be opened.
-use Rattle.std.proofs.Common.{◌≡◌, ℕ, ◌<◌, ◌≤◌, List, length, map, take, get_or, Bool, true, false, Option, Some, None, IsTrue, sym, ap, ◌∙◌, subst, arith}
+use Rattle.std.proofs.Common.{◌≡◌, ℕ, ◌<◌, ◌≤◌, List, length, map, take, get_or, Bool, true, false, Option, Some, None, is_some, IsTrue, refl, sym, ap, ◌∙◌, subst, arith}
+use Rattle.std.specs.Prelude.{slice_get}
 use Rattle.anb_term.specs.declared.term.Op.{Op}
 use Rattle.anb_term.specs.declared.term.Term.{Term}
 use Rattle.anb_term.specs.declared.term.Term.TheVariants.{Atom, Node}
@@ -7,8 +8,8 @@ use Rattle.anb_term.specs.Tree.{Tree, node, Trees, trees_of, list_of}
 use Rattle.anb_term.specs.TreeSame.{list_of-trees_of}
 use Rattle.anb_term.specs.Operator.{keys, undoable}
 use Rattle.anb_term.specs.View.{tree_of}
-use Rattle.anb_term.proofs.Lists.{map-take, slice_get-map, slice_get-at}
-use Rattle.anb_close.specs.Rows.{mades_for}
+use Rattle.anb_term.proofs.Lists.{map-take, slice_get-map, slice_get-at, slice_get-within}
+use Rattle.anb_close.specs.Rows.{mades_for, rows_of}
 use Rattle.anb_close.proofs.Rows.{row_term}
 use Rattle.anb_close.specs.declared.entry.Entry.{Entry}
 use Rattle.anb_close.specs.Entries.{rows, terms_of, is_double, CanOpen, Opens, NoKeys}
@@ -75,3 +76,18 @@ module _ (es : List Entry) (fs : List ℕ) (i : ℕ) where
 
 pub keys_are : (rs : List (Option Tree)) (s : List Term) (ts : List Tree) (k n : ℕ) (o : Option Trees) → o ≡ mades_for rs (trees_of (map tree_of (take k s))) → map tree_of s ≡ ts → k ≡ n → o ≡ mades_for rs (trees_of (take n ts))
 keys_are rs s ts k n o e is same = e ∙ ap (λ l. mades_for rs (trees_of l)) (map-take tree_of k s ∙ ap (take k) is ∙ ap (λ m. take m ts) same)
+
+-- whether the index says that the keys compose
+pub index_says : (es : List Entry) (ix : List Tree) (i : ℕ) (x : Entry) (p : Op) (ts : List Tree) (n : ℕ) (b : Bool) → ix ≡ terms_of es → i < length es → x ≡ get_or es i x → x.term ≡ Node p ts → n ≡ keys p
+    → ((o : Op) (us : Trees) → slice_get ix i ≡ Some (node o us) → b ≡ is_some (mades_for (rows_of ix) (trees_of (take n (list_of us))))) → b ≡ is_some (mades_for (rows es) (trees_of (take (keys p) ts)))
+index_says es ix i x p ts n b is h own is_node is_keys says =
+    let here : slice_get ix i ≡ Some (node p (trees_of ts)) = ap (λ l. slice_get l i) is ∙ slice_get-map (λ (y : Entry). tree_of y.term) es i x (slice_get-at es i x h own) ∙ ap (λ y. Some (tree_of y)) is_node in
+    says p (trees_of ts) here ∙ ap (λ l. is_some (mades_for (rows_of l) (trees_of (take n (list_of (trees_of ts)))))) is ∙ ap (λ l. is_some (mades_for (rows es) (trees_of (take n l)))) (list_of-trees_of ts) ∙ ap (λ m. is_some (mades_for (rows es) (trees_of (take m ts)))) is_keys
+
+pub not_some : {A : Type 0} (o : Option A) (b : Bool) → b ≡ is_some o → b ≡ false → o ≡ None
+not_some None b e f = refl
+not_some (Some x) b e f = cc
+
+-- from a place past the entries nothing is left to open
+pub none_beyond : (es : List Entry) (fs : List ℕ) (from n : ℕ) → ((k : ℕ) → from ≤ k → k < n → NoKeys es fs k) → length fs ≤ n → (k : ℕ) → from ≤ k → NoKeys es fs k
+none_beyond es fs from n all h k l o us can = all k l (omega (arith, h, slice_get-within fs k 0 can.closed)) o us can

@@ -114,7 +114,7 @@ append_step : (b : Bool) (r : Option Tree) (p : Option ℕ) (q : Option ℕ) (i 
 append_step true r p q i h e = e
 append_step false r p q i h e = let m = mapped suc p i e in ap (option_map suc) (h m.0 m.1) ∙ ap Some m.2
 
-place_more : (rs : List (Option Tree)) (r : Option Tree) (t : Tree) (i : ℕ) → place rs t ≡ Some i → place (rs ++ r ∷ []) t ≡ Some i
+pub place_more : (rs : List (Option Tree)) (r : Option Tree) (t : Tree) (i : ℕ) → place rs t ≡ Some i → place (rs ++ r ∷ []) t ≡ Some i
 place_more [] r t i e = cc
 place_more (x ∷ rs) r t i e = append_step (is_at x t) x (place rs t) (place (rs ++ r ∷ []) t) i (place_more rs r t) e
 
@@ -127,7 +127,7 @@ place_none : (rs : List (Option Tree)) (r : Option Tree) (t : Tree) → is_at r 
 place_none [] r t f e = rw f
 place_none (x ∷ rs) r t f e = let h = none_step (is_at x t) (place rs t) e in rw (h.0, place_none rs r t f h.1)
 
-place_last : (rs : List (Option Tree)) (t : Tree) → place rs t ≡ None → place (rs ++ Some t ∷ []) t ≡ Some (length rs)
+pub place_last : (rs : List (Option Tree)) (t : Tree) → place rs t ≡ None → place (rs ++ Some t ∷ []) t ≡ Some (length rs)
 place_last [] t e = rw (at_itself t)
 place_last (x ∷ rs) t e = let h = none_step (is_at x t) (place rs t) e in rw (h.0, place_last rs t h.1)
 
@@ -187,9 +187,13 @@ unplaced_step : (rs : List (Option Tree)) (t : Tree) → made_for rs t ≡ None 
 unplaced_step rs t e (inl h) = let s = made_leaf rs t h.0 h.1 in cc
 unplaced_step rs t e (inr h) = h
 
+-- what does not compose stands nowhere
+pub unplaced : (rs : List (Option Tree)) (t : Tree) → made_for rs t ≡ None → place rs t ≡ None
+unplaced rs t e = unplaced_step rs t e (optional (place rs t))
+
 last_row : (o : Option Tree) (rs : List (Option Tree)) (t : Tree) → made_for rs t ≡ o → (m : Tree) × (made_for (rs ++ row_unless o t ∷ []) t ≡ Some m)
 last_row (Some m) rs t e = (m, made_stays rs None (λ u d. cc) t m e)
-last_row None rs t e = (leaf (length rs), made_leaf (rs ++ Some t ∷ []) t (length rs) (place_last rs t (unplaced_step rs t e (optional (place rs t)))))
+last_row None rs t e = (leaf (length rs), made_leaf (rs ++ Some t ∷ []) t (length rs) (place_last rs t (unplaced rs t e)))
 
 pub entry_made : (rs : List (Option Tree)) (ts : List Tree) (i : ℕ) (t : Tree) → slice_get ts i ≡ Some t → (m : Tree) × (made_for (rows_from rs ts) t ≡ Some m)
 entry_made rs [] i t e = cc
@@ -313,7 +317,7 @@ place_own_from rs (u ∷ ts) own k t e =
     (λ old. place_more rs r x j (own j x old))
     (λ (n, is).
     let new = new_row rs u x is in
-    let none = unplaced_step rs x new (optional (place rs x)) in
+    let none = unplaced rs x new in
     ap (λ y. place (rs ++ y ∷ []) x) is ∙ place_last rs x none ∙ ap Some (sym n))
     (slice_get-last rs r (Some x) j at)) k t e
 

@@ -5,3 +5,6 @@ pub mod MadeFalls
 pub mod Joined
 pub mod Entries
 pub mod Recipes
+-- for proofs alone
+pub mod Standings
+pub mod Listed

@@ -1,21 +1,22 @@
 // What a role can compose: entries that are closed under opening.
 
-ghost use Rattle.std.specs.Prelude.{◌≡◌, ◌+◌, [], ◌<◌, ◌≤◌, ℕ, List, length, map, take, drop, Bool, true, IsTrue, IfOk, IfSome, MatchOption, OnErr, Some, option_map, slice_get};
+ghost use Rattle.std.specs.Prelude.{◌≡◌, ◌+◌, [], ◌<◌, ◌≤◌, ℕ, List, length, map, take, drop, Bool, true, IsTrue, IfOk, IfSome, is_some, MatchOption, OnErr, Some, option_map, slice_get};
 ghost use Rattle.anb_term.specs.declared.term.Op.{Op};
 ghost use Rattle.anb_term.specs.declared.term.Term.{Term};
 ghost use Rattle.anb_term.specs.View.{tree_of};
-ghost use Rattle.anb_term.specs.Tree.{tree_size, trees_of, nodes, IsFormed, AreFormed};
+ghost use Rattle.anb_term.specs.Tree.{Trees, node, tree_size, trees_of, nodes, IsFormed, AreFormed};
 ghost use Rattle.anb_term.specs.Value.{value};
 ghost use Rattle.anb_term.specs.FreeAlgebra.{terms_over};
 ghost use Rattle.anb_term.specs.Agree.{HasRecipe};
 ghost use Rattle.anb_close.specs.Rows.{made_for, mades_for, made_recipe};
 ghost use Rattle.anb_close.specs.Recipes.{recipes};
 ghost use Rattle.anb_close.specs.MadeView.{made_tree};
-ghost use Rattle.anb_close.specs.Entries.{rows, labels_of, is_label, openings_from, HasAdded, IsLastLabel, IsKnown};
+ghost use Rattle.anb_close.specs.Entries.{rows, terms_of, labels_of, is_label, openings_from, HasAdded, IsLastLabel, IsKnown};
 ghost use Rattle.anb_close.specs.declared.entry.Entry.{Entry};
 
 use crate::entry::Entry;
 use crate::growth::Growth;
+use crate::index::Index;
 use crate::made::{Compositions, Made};
 use crate::step::Step;
 use anb_term::{NoMemory, Term};
@@ -40,10 +41,15 @@ impl Model for Closure {
 
     ghost view = { λ a. a.growth.entries.items };
 
-    ghost use Rattle.anb_close.specs.Entries.{IsKept};
+    ghost use Rattle.std.specs.Prelude.{◌≡◌};
+    ghost use Rattle.std.specs.Prelude.{length};
+    ghost use Rattle.anb_close.specs.Entries.{IsKept, terms_of};
+    ghost use Rattle.anb_close.specs.Listed.{AreListed, HasParts};
 
     ghost invariant = { λ a. IsKept a.growth.entries.items a.growth.doubles.items
-        a.growth.firsts.items };
+        a.growth.firsts.items × (a.growth.index.0 ≡ terms_of a.growth.entries.items)
+        × AreListed HasParts (terms_of a.growth.entries.items) a.growth.kept.items
+        (length a.growth.entries.items) };
 }
 
 impl Closure {
@@ -55,6 +61,8 @@ impl Closure {
                 entries: Vec::new(alloc),
                 doubles: Vec::new(alloc),
                 firsts: Vec::new(alloc),
+                index: Index::new(alloc),
+                kept: Vec::new(alloc),
             },
         }
     }
@@ -124,6 +132,15 @@ impl Closure {
             None => Ok(None),
             Some(m) => Ok(Some(m)),
         }
+    }
+
+    /// Whether the operands of an entry's term compose.
+    pub fn operands_compose(&self, i: u32) -> bool
+        requires within { i < length self.now }
+        ensures { (o : Op) (us : Trees) → slice_get (terms_of self.now) i ≡ Some (node o us)
+            → result ≡ is_some (mades_for (rows self.now) us) }
+    {
+        self.growth.index.all_compose(i as usize)
     }
 
     /// The compositions of all of these, where each has one, as `compose` gives them.

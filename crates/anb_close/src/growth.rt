@@ -1,57 +1,46 @@
 // Entries while they grow.
 
-ghost use Rattle.std.specs.Prelude.{◌≡◌, ◌+◌, ◌++◌, ◌∷◌, [], ◌<◌, ◌≤◌, ◌^◌, length, ℕ, List, map, take, drop, Bool, true, IfOk, MatchOption, OnOk, OnErr, Some, option_map};
+ghost use Rattle.std.specs.Prelude.{◌≡◌, ◌+◌, ◌++◌, ◌∷◌, [], ◌<◌, ◌≤◌, ◌^◌, length, ℕ, List, map, take, drop, Bool, true, IfOk, IsTrue, MatchOption, OnOk, OnErr, Some, option_map, slice_get};
 ghost use Rattle.anb_term.specs.View.{tree_of};
 ghost use Rattle.anb_term.specs.Tree.{trees_of};
 ghost use Rattle.anb_close.specs.Rows.{place, made_for, mades_for, row_unless};
 ghost use Rattle.anb_close.specs.MadeView.{made_tree};
-ghost use Rattle.anb_close.specs.Entries.{rows, terms_of, is_double, part_entries, openings_from, labels_of, cut, cut_first, Extends, NoKeys, Opens, IsGrown, Keeps, GoesBack, HasOpened, HasGrown, IsLastLabel};
-ghost use Rattle.anb_term.specs.Tree.{IsFormed};
+ghost use Rattle.anb_close.specs.Entries.{rows, terms_of, is_double, part_entries, openings_from, labels_of, cut, cut_first, Extends, Follow, NoKeys, Opens, IsGrown, Keeps, GoesBack, HasOpened, HasGrown, IsLastLabel};
+ghost use Rattle.anb_term.specs.declared.term.Op.{Op};
+ghost use Rattle.anb_term.specs.Tree.{IsFormed, Trees, node};
+ghost use Rattle.anb_close.specs.declared.entry.Origin.{Origin};
+ghost use Rattle.anb_close.specs.Listed.{AreListed, HasParts};
 ghost use Rattle.anb_term.specs.Tree.{tree_size, nodes};
 ghost use Rattle.anb_close.specs.declared.entry.Entry.{Entry};
 ghost use Rattle.anb_term.specs.Operator.{keys as keys_of};
 
 use crate::entry::{Entry, Opening, Origin};
+use crate::index::Index;
 use crate::made::{Compositions, Made};
 use crate::step::{Openings, Step};
 use anb_term::{NoMemory, Op, Term};
 use std::alloc::Global;
 
-/// The entries, which of them are doubles, and where each was opened, or 0.
+/// The entries, which of them are doubles, where each was opened, or 0, where terms stand, and the
+/// places of the entries that have parts.
 #[derive(Drop)]
 pub struct Growth {
     pub entries: Vec<Entry>,
     pub doubles: Vec<bool>,
     pub firsts: Vec<u32>,
+    pub index: Index,
+    pub kept: Vec<u32>,
 }
 
 impl Growth {
-    /// The place where the term stands.
-    fn find(&self, t: &Term) -> Option<u32>
-        requires doubles { self.now.doubles.items ≡ map is_double (rows self.now.entries.items) }
-        requires few { length self.now.entries.items < 2 ^ 32 }
-        ensures { result ≡ place (rows self.now.entries.items) (tree_of t.now) }
-    {
-        for i in 0..self.entries.len() {
-            if self.doubles[i] {
-                continue;
-            }
-            if self.entries[i].term.same(t) {
-                return Some(i as u32);
-            }
-        }
-        None
-    }
-
     /// The chosen composition of a term.
     #[cycle(made)]
     pub fn made(&self, alloc: Global, t: &Term) -> Result<Option<Made>, NoMemory>
-        requires doubles { self.now.doubles.items ≡ map is_double (rows self.now.entries.items) }
-        requires few { length self.now.entries.items < 2 ^ 32 }
+        requires indexed { self.now.index.0 ≡ terms_of self.now.entries.items }
         ensures { IfOk result (λ r.
             option_map made_tree r ≡ made_for (rows self.now.entries.items) (tree_of t.now)) }
     {
-        match self.find(t) {
+        match self.index.find(alloc, t)? {
             Some(n) => return Ok(Some(Made::Entry(n))),
             None => {}
         }
@@ -72,8 +61,7 @@ impl Growth {
     /// The chosen compositions of all of these.
     #[cycle(made)]
     pub fn mades(&self, alloc: Global, ts: &[Term]) -> Result<Option<Compositions>, NoMemory>
-        requires doubles { self.now.doubles.items ≡ map is_double (rows self.now.entries.items) }
-        requires few { length self.now.entries.items < 2 ^ 32 }
+        requires indexed { self.now.index.0 ≡ terms_of self.now.entries.items }
         ensures { IfOk result (λ r.
             option_map trees_of r
             ≡ mades_for (rows self.now.entries.items) (trees_of (map tree_of ts.now))) }
@@ -88,25 +76,17 @@ impl Growth {
         Ok(Some(all))
     }
 
-    /// Whether an entry with this term would be a double.
-    fn is_double(&self, alloc: Global, t: &Term) -> Result<bool, NoMemory>
-        requires doubles { self.now.doubles.items ≡ map is_double (rows self.now.entries.items) }
-        requires few { length self.now.entries.items < 2 ^ 32 }
-        ensures { IfOk result (λ b.
-            b ≡ is_double (row_unless (made_for (rows self.now.entries.items) (tree_of t.now))
-            (tree_of t.now))) }
-    {
-        match self.made(alloc, t)? {
-            Some(_) => Ok(true),
-            None => Ok(false),
-        }
-    }
-
     /// Adds an entry. After an error nothing has changed.
     fn push(&mut self, alloc: Global, origin: Origin, term: Term) -> Result<(), NoMemory>
         requires doubles { self.old.doubles.items ≡ map is_double (rows self.old.entries.items) }
+        requires indexed { self.old.index.0 ≡ terms_of self.old.entries.items }
+        requires listed { AreListed HasParts (terms_of self.old.entries.items) self.old.kept.items
+            (length self.old.entries.items) }
         requires few { length self.old.entries.items < 2 ^ 32 }
         ensures doubles { self.new.doubles.items ≡ map is_double (rows self.new.entries.items) }
+        ensures indexed { self.new.index.0 ≡ terms_of self.new.entries.items }
+        ensures listed { AreListed HasParts (terms_of self.new.entries.items) self.new.kept.items
+            (length self.new.entries.items) }
         ensures ok { OnOk result
             (Extends self.old.entries.items self.old.firsts.items self.new.entries.items
             self.new.firsts.items (record { origin = origin; term = term } ∷ [])) }
@@ -114,23 +94,47 @@ impl Growth {
             (Extends self.old.entries.items self.old.firsts.items self.new.entries.items
             self.new.firsts.items []) }
     {
-        let double = self.is_double(alloc, &term)?;
+        let at = self.entries.len();
+        let firsts = self.firsts.len();
+        let kept = self.kept.len();
+        let double = self.index.push(alloc, &term)?;
+        match self.push_row(double, origin, term) {
+            Ok(()) => return Ok(()),
+            Err(_) => {}
+        }
+        self.index.cut(at);
+        self.doubles.truncate(at);
+        self.firsts.truncate(firsts);
+        self.kept.truncate(kept);
+        Err(NoMemory)
+    }
+
+    /// Adds an entry whose term stands in the index. After an error there may be more than before
+    /// beside the entries.
+    fn push_row(&mut self, double: bool, origin: Origin, term: Term) -> Result<(), NoMemory>
+        requires few { length self.old.entries.items < 2 ^ 32 }
+        ensures index { self.new.index ≡ self.old.index }
+        ensures ok { OnOk result
+            (Extends self.old.entries.items self.old.firsts.items self.new.entries.items
+            self.new.firsts.items (record { origin = origin; term = term } ∷ [])) }
+        ensures double { OnOk result (self.new.doubles.items
+            ≡ self.old.doubles.items ++ double ∷ []) }
+        ensures listed { OnOk result (AreListed HasParts (terms_of self.old.entries.items)
+            self.old.kept.items (length self.old.entries.items)
+            → AreListed HasParts (terms_of self.new.entries.items) self.new.kept.items
+            (length self.new.entries.items)) }
+        ensures err { OnErr result (self.new.entries.items ≡ self.old.entries.items) }
+        ensures doubles { take (length self.old.doubles.items) self.new.doubles.items
+            ≡ self.old.doubles.items }
+        ensures firsts { take (length self.old.firsts.items) self.new.firsts.items
+            ≡ self.old.firsts.items }
+        ensures kept { take (length self.old.kept.items) self.new.kept.items
+            ≡ self.old.kept.items }
+    {
+        keep(&mut self.kept, self.entries.len() as u32, &term)?;
         self.doubles.push(double)?;
-        match self.firsts.push(0) {
-            Ok(()) => {}
-            Err(_) => {
-                self.doubles.pop();
-                return Err(NoMemory);
-            }
-        }
-        match self.entries.push(Entry { origin, term }) {
-            Ok(()) => {}
-            Err(_) => {
-                self.doubles.pop();
-                self.firsts.pop();
-                return Err(NoMemory);
-            }
-        }
+        self.firsts.push(0)?;
+        self.entries.push(Entry { origin, term })?;
         Ok(())
     }
 
@@ -144,9 +148,15 @@ impl Growth {
         operands: &[Term],
     ) -> Result<(), NoMemory>
         requires doubles { self.old.doubles.items ≡ map is_double (rows self.old.entries.items) }
+        requires indexed { self.old.index.0 ≡ terms_of self.old.entries.items }
+        requires listed { AreListed HasParts (terms_of self.old.entries.items) self.old.kept.items
+            (length self.old.entries.items) }
         requires few { length self.old.entries.items + length operands.now < 2 ^ 32 }
         requires arity { length operands.now < 2 ^ 16 }
         ensures doubles { self.new.doubles.items ≡ map is_double (rows self.new.entries.items) }
+        ensures indexed { self.new.index.0 ≡ terms_of self.new.entries.items }
+        ensures listed { AreListed HasParts (terms_of self.new.entries.items) self.new.kept.items
+            (length self.new.entries.items) }
         ensures ok { OnOk result
             (Extends self.old.entries.items self.old.firsts.items self.new.entries.items
             self.new.firsts.items
@@ -171,13 +181,15 @@ impl Growth {
     /// The compositions of the keys with which an entry can be opened.
     fn opens(&self, alloc: Global, i: usize) -> Result<Option<Compositions>, NoMemory>
         requires doubles { self.now.doubles.items ≡ map is_double (rows self.now.entries.items) }
-        requires few { length self.now.entries.items < 2 ^ 32 }
+        requires indexed { self.now.index.0 ≡ terms_of self.now.entries.items }
         requires long { length self.now.firsts.items ≡ length self.now.entries.items }
-        requires within { i < length self.now.entries.items }
         ensures { IfOk result (λ r.
             MatchOption r (NoKeys self.now.entries.items self.now.firsts.items i) (λ ks.
             Opens self.now.entries.items self.now.firsts.items i ks)) }
     {
+        if i >= self.entries.len() {
+            return Ok(None);
+        }
         if self.doubles[i] {
             return Ok(None);
         }
@@ -194,6 +206,9 @@ impl Growth {
                 if operands.len() <= keys {
                     return Ok(None);
                 }
+                if !self.index.composes(i, keys) {
+                    return Ok(None);
+                }
                 match self.mades(alloc, &operands.as_slice()[..keys])? {
                     None => Ok(None),
                     Some(made) => Ok(Some(made)),
@@ -202,20 +217,26 @@ impl Growth {
         }
     }
 
-    /// The first entry that can be opened, and its keys.
-    fn next(&self, alloc: Global) -> Result<Option<(u32, Compositions)>, NoMemory>
+    /// The first entry that can be opened, of those listed from a place of the list on: the place
+    /// after it, the entry and its keys.
+    fn next(
+        &self,
+        alloc: Global,
+        from: usize,
+    ) -> Result<Option<(usize, u32, Compositions)>, NoMemory>
         requires doubles { self.now.doubles.items ≡ map is_double (rows self.now.entries.items) }
-        requires few { length self.now.entries.items < 2 ^ 32 }
+        requires indexed { self.now.index.0 ≡ terms_of self.now.entries.items }
         requires long { length self.now.firsts.items ≡ length self.now.entries.items }
         ensures { IfOk result (λ r.
-            MatchOption r ((i : ℕ)
+            MatchOption r ((k : ℕ) (i : ℕ) → from ≤ k → slice_get self.now.kept.items k ≡ Some i
             → NoKeys self.now.entries.items self.now.firsts.items i) (λ f.
-            Opens self.now.entries.items self.now.firsts.items f.0 f.1)) }
+            Opens self.now.entries.items self.now.firsts.items f.1 f.2)) }
     {
-        for i in 0..self.entries.len() {
-            match self.opens(alloc, i)? {
+        for k in from..self.kept.len() {
+            let i = self.kept[k];
+            match self.opens(alloc, i as usize)? {
                 None => {}
-                Some(keys) => return Ok(Some((i as u32, keys))),
+                Some(keys) => return Ok(Some((k + 1, i, keys))),
             }
         }
         Ok(None)
@@ -224,10 +245,16 @@ impl Growth {
     /// Opens an entry.
     fn open(&mut self, alloc: Global, of: u32, keys: &Compositions) -> Result<(), NoMemory>
         requires doubles { self.old.doubles.items ≡ map is_double (rows self.old.entries.items) }
+        requires indexed { self.old.index.0 ≡ terms_of self.old.entries.items }
+        requires listed { AreListed HasParts (terms_of self.old.entries.items) self.old.kept.items
+            (length self.old.entries.items) }
         requires grown { IsGrown self.old.entries.items self.old.firsts.items }
         requires opens { Opens self.old.entries.items self.old.firsts.items of keys.now }
         requires few { nodes (labels_of self.old.entries.items) < 2 ^ 32 }
         ensures doubles { self.new.doubles.items ≡ map is_double (rows self.new.entries.items) }
+        ensures indexed { self.new.index.0 ≡ terms_of self.new.entries.items }
+        ensures listed { AreListed HasParts (terms_of self.new.entries.items) self.new.kept.items
+            (length self.new.entries.items) }
         ensures back { Keeps self.old.entries.items self.old.firsts.items self.new.entries.items
             self.new.firsts.items }
         ensures grown { OnOk result (IsGrown self.new.entries.items self.new.firsts.items) }
@@ -246,29 +273,37 @@ impl Growth {
         }
     }
 
-    /// How many labels there are.
+    /// How many labels there are. It looks at the last label's entry and those after it.
     fn labels(&self) -> u32
+        requires follow { Follow [] self.now.entries.items }
         requires few { length self.now.entries.items < 2 ^ 32 }
         ensures { result ≡ length (labels_of self.now.entries.items) }
     {
-        let mut n = 0;
-        for e in &self.entries {
-            match &e.origin {
-                Origin::Label(_) => n += 1,
+        let mut at = self.entries.len();
+        while at > 0 {
+            at -= 1;
+            match &self.entries[at].origin {
+                Origin::Label(n) => return *n + 1,
                 Origin::Part { .. } => {}
             }
         }
-        n
+        0
     }
 
     /// Takes the next label's term, and opens what can be opened.
     pub fn grow(&mut self, alloc: Global, t: &Term) -> Result<(), NoMemory>
         requires doubles { self.old.doubles.items ≡ map is_double (rows self.old.entries.items) }
+        requires indexed { self.old.index.0 ≡ terms_of self.old.entries.items }
+        requires listed { AreListed HasParts (terms_of self.old.entries.items) self.old.kept.items
+            (length self.old.entries.items) }
         requires grown { IsGrown self.old.entries.items self.old.firsts.items }
         requires formed { IsFormed (λ o. true) (tree_of t.now) }
         requires few { nodes (labels_of self.old.entries.items) + tree_size (tree_of t.now)
             < 2 ^ 32 }
         ensures doubles { self.new.doubles.items ≡ map is_double (rows self.new.entries.items) }
+        ensures indexed { self.new.index.0 ≡ terms_of self.new.entries.items }
+        ensures listed { AreListed HasParts (terms_of self.new.entries.items) self.new.kept.items
+            (length self.new.entries.items) }
         ensures back { GoesBack self.old.entries.items self.old.firsts.items self.new.entries.items
             self.new.firsts.items }
         ensures ok { OnOk result
@@ -276,10 +311,19 @@ impl Growth {
     {
         let label = self.labels();
         self.push(alloc, Origin::Label(label), t.copy(alloc)?)?;
+        let mut from = 0;
         'worklist: loop {
-            match self.next(alloc)? {
-                None => return Ok(()),
-                Some((of, keys)) => self.open(alloc, of, &keys)?,
+            match self.next(alloc, from)? {
+                None => {
+                    if from == 0 {
+                        return Ok(());
+                    }
+                    from = 0;
+                }
+                Some((after, of, keys)) => {
+                    self.open(alloc, of, &keys)?;
+                    from = after;
+                }
             }
         }
     }
@@ -313,11 +357,17 @@ impl Growth {
     /// Takes the next label's term, and says what was opened.
     pub fn step(&mut self, alloc: Global, t: &Term) -> Result<Step, NoMemory>
         requires doubles { self.old.doubles.items ≡ map is_double (rows self.old.entries.items) }
+        requires indexed { self.old.index.0 ≡ terms_of self.old.entries.items }
+        requires listed { AreListed HasParts (terms_of self.old.entries.items) self.old.kept.items
+            (length self.old.entries.items) }
         requires grown { IsGrown self.old.entries.items self.old.firsts.items }
         requires formed { IsFormed (λ o. true) (tree_of t.now) }
         requires few { nodes (labels_of self.old.entries.items) + tree_size (tree_of t.now)
             < 2 ^ 32 }
         ensures doubles { self.new.doubles.items ≡ map is_double (rows self.new.entries.items) }
+        ensures indexed { self.new.index.0 ≡ terms_of self.new.entries.items }
+        ensures listed { AreListed HasParts (terms_of self.new.entries.items) self.new.kept.items
+            (length self.new.entries.items) }
         ensures back { GoesBack self.old.entries.items self.old.firsts.items self.new.entries.items
             self.new.firsts.items }
         ensures ok { OnOk result
@@ -354,16 +404,65 @@ impl Growth {
     /// Goes back to the first entries.
     pub fn cut(&mut self, at: usize)
         requires doubles { self.old.doubles.items ≡ map is_double (rows self.old.entries.items) }
+        requires indexed { self.old.index.0 ≡ terms_of self.old.entries.items }
+        requires listed { AreListed HasParts (terms_of self.old.entries.items) self.old.kept.items
+            (length self.old.entries.items) }
         requires within { at ≤ length self.old.entries.items }
         ensures doubles { self.new.doubles.items ≡ map is_double (rows self.new.entries.items) }
+        ensures indexed { self.new.index.0 ≡ terms_of self.new.entries.items }
+        ensures listed { AreListed HasParts (terms_of self.new.entries.items) self.new.kept.items
+            (length self.new.entries.items) }
         ensures entries { self.new.entries.items ≡ take at self.old.entries.items }
         ensures firsts { self.new.firsts.items ≡ cut at self.old.firsts.items }
     {
         self.entries.truncate(at);
         self.doubles.truncate(at);
         self.firsts.truncate(at);
+        self.index.cut(at);
+        drop_from(&mut self.kept, at);
         clear_from(&mut self.firsts, at);
     }
+}
+
+/// Whether a term can be undone and has parts.
+fn has_parts(term: &Term) -> bool
+    ensures { (o : Op) (us : Trees) → tree_of term.now ≡ node o us → HasParts o us
+        → IsTrue result }
+{
+    match term {
+        Term::Atom(_) => false,
+        Term::Node(op, operands) => op.undoes() && operands.len() > op.keys() as usize,
+    }
+}
+
+/// Lists an entry's place where its term has parts.
+fn keep(kept: &mut Vec<u32>, at: u32, term: &Term) -> Result<(), NoMemory>
+    ensures ok { OnOk result ((es : List Entry) (origin : Origin) → at ≡ length es
+        → AreListed HasParts (terms_of es) kept.old.items (length es)
+        → AreListed HasParts (terms_of (es ++ record { origin = origin; term = term.now } ∷ []))
+        kept.new.items (length (es ++ record { origin = origin; term = term.now } ∷ []))) }
+    ensures more { take (length kept.old.items) kept.new.items ≡ kept.old.items }
+{
+    if !has_parts(term) {
+        return Ok(());
+    }
+    kept.push(at)?;
+    Ok(())
+}
+
+/// Drops the places from one on that stand last.
+fn drop_from(kept: &mut Vec<u32>, at: usize)
+    ensures { (k : ℕ) (i : ℕ) → slice_get kept.old.items k ≡ Some i → i < at
+        → slice_get kept.new.items k ≡ Some i }
+{
+    let mut n = kept.len();
+    while n > 0 {
+        if (kept[n - 1] as usize) < at {
+            break;
+        }
+        n -= 1;
+    }
+    kept.truncate(n);
 }
 
 /// Clears the places from one on.

@@ -9,6 +9,7 @@
 pub mod closure;
 pub mod entry;
 mod growth;
+mod index;
 pub mod laws;
 pub mod made;
 pub mod step;

@@ -22,7 +22,7 @@ under_at n [] i d u h = absurd (omega arith)
 under_at n (j ∷ is) zero d u h = u.0
 under_at n (j ∷ is) (suc i) d u h = under_at n is i d u.1 (omega arith)
 
-operands_last : (ts : List Tree) (is : List NodeId) (i : NodeId) → operands_at ts (is ++ i ∷ []) ≡ operands_at ts is ++ unwrap_or (slice_get ts i.0) (leaf 0) ∷ []
+pub operands_last : (ts : List Tree) (is : List NodeId) (i : NodeId) → operands_at ts (is ++ i ∷ []) ≡ operands_at ts is ++ unwrap_or (slice_get ts i.0) (leaf 0) ∷ []
 operands_last ts [] i = refl
 operands_last ts (j ∷ is) i = ap (λ l. unwrap_or (slice_get ts j.0) (leaf 0) ∷ l) (operands_last ts is i)
 

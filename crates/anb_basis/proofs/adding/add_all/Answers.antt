@@ -1,7 +1,9 @@
-use Rattle.std.proofs.Common.{◌≡◌, Some, None, ◌∙◌, sym, subst, refl}
+use Rattle.std.proofs.Common.{◌≡◌, length, Some, None, ◌∙◌, sym, subst, refl}
 use Rattle.std.specs.Prelude.{slice_get}
 use Rattle.anb_close.specs.Entries.{IsKnown, rows}
 use Rattle.anb_basis.proofs.All.{given_later, marked_there, unmarked_there, doubles_there}
+use Rattle.anb_basis.specs.Checks.{ListsRebuilt}
+use Rattle.anb_basis.proofs.Listing.{rebuilt_later}
 use Rattle.anb_basis.proofs.Ordering.{in_order}
 use Rattle.anb_basis.proofs.adding.add_all.Goals as goal
 
@@ -31,3 +33,13 @@ add_equals-requires-clause-doubles c i h row =
 
 pub returns-clause-order : goal.returns-clause-order
 returns-clause-order c = in_order _ _ _ _ _ _ _ refl c.entries-entries.ensures.same c.in_ok-add_opens.ensures.listed c.in_ok-add_equals.ensures.compared
+
+pub add_equals-requires-clause-lists : goal.add_equals-requires-clause-lists
+add_equals-requires-clause-lists c =
+    let b = c.requires.given in
+    subst (λ l. ListsRebuilt c.args.closure.now l (length c.args.marks.now)) (sym c.deref.ensures.value) (rebuilt_later b.0 c.args.closure.now b.1.0 c.args.rebuilt.now.items (length c.args.marks.now) b.3 b.1.1 b.2.given.long)
+
+pub list_rebuilt-requires-clause-lists : goal.list_rebuilt-requires-clause-lists
+list_rebuilt-requires-clause-lists c =
+    let b = c.requires.given in
+    rebuilt_later b.0 c.entries-entries.result.now b.1.0 c.args.rebuilt.now.items (length c.args.marks.now) b.3 (c.entries-entries.ensures.same ∙ b.1.1) b.2.given.long

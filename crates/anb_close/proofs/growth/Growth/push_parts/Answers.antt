@@ -13,6 +13,8 @@ loop-j-preserved c =
     let e : Entry = record { origin = Part c.args.op (c.loop-j.j - c.keys-start.result) c.in_ok-copy.field-0 c.args.of; term = c.in_ok-copy-2.field-0 } in
     record {
       doubles = c.in_ok-push.ensures.doubles;
+      indexed = c.in_ok-push.ensures.indexed;
+      listed = c.in_ok-push.ensures.listed;
       more = i.more ++ e ∷ [];
       count = omega (arith, i.count, length-append i.more (e ∷ []));
       so_far = next_part c.args.op c.args.keys.now c.in_ok-copy.field-0 c.args.of c.loop-j.j _ c.keys-start.result c.args.operands.now c.index-operands-j.result c.in_ok-copy-2.field-0 i.more _ (omega arith) (omega arith) c.index-operands-j.is c.keys-start.ensures c.in_ok-copy.ensures c.in_ok-copy-2.ensures i.so_far;
