@@ -4,7 +4,7 @@ _anb_words() {
     case $1 in
         fmt) echo narration ;;
         compile | explain) echo narration role ;;
-        play) echo narration role values place ;;
+        play | host) echo narration role values place ;;
         enact) echo file values place ;;
     esac
 }
@@ -23,7 +23,7 @@ _anb() {
     local word=${COMP_WORDS[COMP_CWORD]} before=${COMP_WORDS[COMP_CWORD-1]} kinds kind
     COMPREPLY=()
     if ((COMP_CWORD == 1)); then
-        mapfile -t COMPREPLY < <(compgen -W 'fmt compile explain play enact help' -- "$word")
+        mapfile -t COMPREPLY < <(compgen -W 'fmt compile explain play enact host help' -- "$word")
         return
     fi
     read -ra kinds < <(_anb_words "${COMP_WORDS[1]}")

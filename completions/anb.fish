@@ -15,7 +15,7 @@ end
 # Whether a place can stand here: behind all other words of these commands.
 function __anb_place
     set -l words (commandline -opc)
-    test (count $words) -ge 5; and test "$words[2]" = play
+    test (count $words) -ge 5; and contains -- $words[2] play host
     or begin
         test (count $words) -ge 4; and test "$words[2]" = enact
     end
@@ -27,11 +27,12 @@ complete -c anb -n __fish_use_subcommand -a compile -d 'Write the code of a role
 complete -c anb -n __fish_use_subcommand -a explain -d 'Write what a role does'
 complete -c anb -n __fish_use_subcommand -a play -d 'Play a role'
 complete -c anb -n __fish_use_subcommand -a enact -d 'Run the code of a role file'
+complete -c anb -n __fish_use_subcommand -a host -d 'Serve many sessions of a role'
 complete -c anb -n __fish_use_subcommand -a help -d 'List the commands'
 
-complete -c anb -n '__anb_at 1 fmt compile explain play' -k -a '(__fish_complete_suffix .anb)'
-complete -c anb -n '__anb_at 2 compile explain play' -a '(__anb_roles)' -d Role
-complete -c anb -n '__anb_at 3 play' -k -a '(__fish_complete_suffix .values)'
+complete -c anb -n '__anb_at 1 fmt compile explain play host' -k -a '(__fish_complete_suffix .anb)'
+complete -c anb -n '__anb_at 2 compile explain play host' -a '(__anb_roles)' -d Role
+complete -c anb -n '__anb_at 3 play host' -k -a '(__fish_complete_suffix .values)'
 complete -c anb -n '__anb_at 1 enact' -F
 complete -c anb -n '__anb_at 2 enact' -k -a '(__fish_complete_suffix .values)'
 complete -c anb -n __anb_place -x -l dial -d 'Connect to host:port'
