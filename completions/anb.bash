@@ -5,6 +5,7 @@ _anb_words() {
         fmt) echo narration ;;
         compile | explain) echo narration role ;;
         play | host) echo narration role values place ;;
+        replay) echo narration role values file ;;
         enact) echo file values place ;;
     esac
 }
@@ -23,7 +24,7 @@ _anb() {
     local word=${COMP_WORDS[COMP_CWORD]} before=${COMP_WORDS[COMP_CWORD-1]} kinds kind
     COMPREPLY=()
     if ((COMP_CWORD == 1)); then
-        mapfile -t COMPREPLY < <(compgen -W 'fmt compile explain play enact host help' -- "$word")
+        mapfile -t COMPREPLY < <(compgen -W 'fmt compile explain play enact host replay help' -- "$word")
         return
     fi
     read -ra kinds < <(_anb_words "${COMP_WORDS[1]}")

@@ -28,11 +28,13 @@ complete -c anb -n __fish_use_subcommand -a explain -d 'Write what a role does'
 complete -c anb -n __fish_use_subcommand -a play -d 'Play a role'
 complete -c anb -n __fish_use_subcommand -a enact -d 'Run the code of a role file'
 complete -c anb -n __fish_use_subcommand -a host -d 'Serve many sessions of a role'
+complete -c anb -n __fish_use_subcommand -a replay -d 'Compare a transcript with a role'
 complete -c anb -n __fish_use_subcommand -a help -d 'List the commands'
 
-complete -c anb -n '__anb_at 1 fmt compile explain play host' -k -a '(__fish_complete_suffix .anb)'
-complete -c anb -n '__anb_at 2 compile explain play host' -a '(__anb_roles)' -d Role
-complete -c anb -n '__anb_at 3 play host' -k -a '(__fish_complete_suffix .values)'
+complete -c anb -n '__anb_at 1 fmt compile explain play host replay' -k -a '(__fish_complete_suffix .anb)'
+complete -c anb -n '__anb_at 2 compile explain play host replay' -a '(__anb_roles)' -d Role
+complete -c anb -n '__anb_at 3 play host replay' -k -a '(__fish_complete_suffix .values)'
+complete -c anb -n '__anb_at 4 replay' -F
 complete -c anb -n '__anb_at 1 enact' -F
 complete -c anb -n '__anb_at 2 enact' -k -a '(__fish_complete_suffix .values)'
 complete -c anb -n __anb_place -x -l dial -d 'Connect to host:port'
