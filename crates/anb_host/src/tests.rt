@@ -146,7 +146,8 @@ fn an_arrival_that_is_too_long_is_refused(rt: HostRuntime) -> Result<(), Fail> {
         have: 262_153,
         need: 262_154,
     };
-    serves(&rt, alloc, &code, &input[..262_158], short, b"")
+    input.pop();
+    serves(&rt, alloc, &code, &input, short, b"")
 }
 
 #[test]
