@@ -131,6 +131,9 @@ module _ (place : Place) (S T : WireState) (at_place : HasReached place S T) whe
       touches = written_touches after_reach (λ is. absurd (cc)) (λ is. absurd (cc));
     }
 
+    pub text_wanting : OverWire place false NoMemory S U
+    text_wanting = record { cause = tt; reached = inr told; touches = written_touches at_any_time (λ is. absurd (cc)) (λ is. absurd (cc)) }
+
     pub text_put : (text : List ℕ) → Put T.written U.written text → Put S.written U.written text
     text_put text put = subst (λ (w : Option (List ℕ)). Put w U.written text) same_written put
 

@@ -21,7 +21,7 @@ pub use playable::{Playable, playable_in_file};
 pub use prepare::{Prepared, prepare_code};
 pub use reaching::reach;
 pub use status::{Halt, NarrationNo, Status};
-pub use text::write_text;
+pub use text::{reach_streams, write_text};
 pub use words::{Command, EnactWords, Endpoint, PlayWords, RoleText};
 
 #[cfg(test)]

@@ -1,12 +1,20 @@
 //! Writing one text.
-ghost use Rattle.std.specs.Prelude.{false};
+ghost use Rattle.std.specs.Prelude.{false, OnOk, OnErr};
 ghost use Rattle.anb_base.specs.declared.place.Place.TheVariants as place;
-ghost use Rattle.anb_command.specs.OverWire.{OverWire};
+ghost use Rattle.anb_command.specs.OverWire.{DidNotReach, HasReached, OverWire};
 ghost use Rattle.anb_command.specs.Writing.{IsWritten};
 
 use crate::Status;
 use crate::reaching::{reach, write_now};
 use anb_base::{Failed, Place, Wire};
+
+/// Reaches the standard streams.
+pub fn reach_streams<W: Wire>(wire: &mut W) -> Result<(), Failed>
+    ensures reached { OnOk result (HasReached place.Stdio (W.state wire.old) (W.state wire.new)) }
+    ensures failed { OnErr result (DidNotReach (W.state wire.old) (W.state wire.new)) }
+{
+    reach(wire, &Place::Stdio, None)
+}
 
 /// Writes the text to the standard streams.
 pub fn write_text<W: Wire>(wire: &mut W, text: &[u8]) -> Status
@@ -14,7 +22,7 @@ pub fn write_text<W: Wire>(wire: &mut W, text: &[u8]) -> Status
         (W.state wire.old).written (W.state wire.new).written }
     ensures wire { OverWire place.Stdio false result (W.state wire.old) (W.state wire.new) }
 {
-    match reach(wire, &Place::Stdio, None) {
+    match reach_streams(wire) {
         Ok(()) => {}
         Err(Failed) => return Status::Unreached(Place::Stdio),
     }

@@ -1,5 +1,5 @@
 -- What is written by `help`, `fmt`, `compile` and `explain`.
-use Rattle.std.proofs.Common.{◌≡◌, ℕ, true, List, Option, refl, sym, ◌∙◌}
+use Rattle.std.proofs.Common.{◌≡◌, ℕ, true, List, Option, take, refl, sym, inr, ◌∙◌}
 use Rattle.anb_read.specs.Laws.{NarrationsAreUnique, RefusalsAreUnique, NoneIsBoth}
 use Rattle.anb_command.specs.declared.status.Status.{Status}
 use Rattle.anb_command.specs.Fetches.{Files, IfTold}
@@ -8,12 +8,12 @@ use Rattle.anb_command.specs.Roles.{Part, PartInFile}
 use Rattle.anb_command.specs.Statuses.{is_fault}
 use Rattle.anb_command.specs.Steps.{refused, given, HasOneAnswer, IsFailure}
 use Rattle.anb_command.specs.Writing.{IsWriting, IsWritingOne, IsWritten}
-use Rattle.anb_command.specs.declared.status.Status.TheVariants.{NoMemory}
+use Rattle.anb_command.specs.declared.status.Status.TheVariants.{Done, NoMemory, Unreached, WriteFault}
 use Rattle.anb_command.specs.declared.words.RoleText.{RoleText}
 use Rattle.anb_command.proofs.Chains.{told_map}
 use Rattle.anb_command.proofs.Ones.{IsSettled, RefusesQuietly, one_settled, then_one, then_settled, then_quiet, is_quiet, narration_in_file_one, narration_in_file_quiet, part_one, part_quiet}
-use Rattle.anb_command.proofs.Written.{completes_text, the_one, written, told_written, told_refusal}
-use Rattle.anb_text_commands.specs.TextCommands.{CanonicalOf, CompletesDescribe, CompletesFmt, FmtText, Describes, DescribedText, HelpText, help_text}
+use Rattle.anb_command.proofs.Written.{completes_text, faulty, the_one, written, told_written, told_refusal}
+use Rattle.anb_text_commands.specs.TextCommands.{CanonicalOf, CompletesDescribe, CompletesFmt, FmtText, Describes, DescribedText, HelpText, IsWrittenByLines, help_text}
 
 -- ---- `help`
 
@@ -67,6 +67,15 @@ module _ (narrations : NarrationsAreUnique) (refusals : RefusalsAreUnique) (none
         → IfTold told (λ files. IsWriting (DescribedText kind files narration name) s w now)
     writes_described w now text s due is =
         told_written (λ files. DescribedText kind files narration name) settled (λ files. described_quiet files kind narration name) told w now text s due is
+
+    pub writes_by_lines : (w now : Option (List ℕ)) (text : List ℕ) (s : Status) → IfTold told (λ files. DescribedText kind files narration name (given text)) → IsWrittenByLines text s w now
+        → IfTold told (λ files. IsWriting (DescribedText kind files narration name) s w now)
+    writes_by_lines w now text NoMemory due (n, within, put) =
+        told_map told (λ files d. record { is = faulty; only = faulty; cut_short = λ _. (take n text, inr (text, d, (n, refl)), put) }) due
+    writes_by_lines w now text Done due is = writes_described w now text Done due is
+    writes_by_lines w now text WriteFault due is = writes_described w now text WriteFault due is
+    writes_by_lines w now text (Unreached at) due is = writes_described w now text (Unreached at) due is
+    writes_by_lines w now text _ due never = absurd never
 
     pub refuses_described : (w : Option (List ℕ)) (s : Status) (P : List ℕ → Type 0) → IsFailure s P (IfTold told (λ files. DescribedText kind files narration name (refused s)))
         → IfTold told (λ files. IsWriting (DescribedText kind files narration name) s w w)

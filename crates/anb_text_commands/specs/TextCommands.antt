@@ -1,5 +1,6 @@
 -- Commands that write one text and read nothing from the wire.
-use Rattle.std.specs.Prelude.{◌≡◌, ℕ, List, ◌++◌, codes, Option}
+use Rattle.std.specs.Prelude.{◌≡◌, ℕ, List, ◌++◌, codes, Option, Some, None}
+use Rattle.anb_base.specs.Moves.{PutPrefix}
 use Rattle.anb_base.specs.Wires.{WireState}
 use Rattle.anb_base.specs.declared.TheConstants.{ARRIVAL, WIDE}
 use Rattle.anb_syntax.specs.Canon.{canon}
@@ -8,13 +9,16 @@ use Rattle.anb_code.specs.CodeValue.{CodeValue}
 use Rattle.anb_code.specs.Verified.{IsVerifiedCode}
 use Rattle.anb_compile.specs.Fitting.{FitsRole}
 use Rattle.anb_text.specs.RoleFiles.{role_text}
-use Rattle.anb_explain.specs.Explained.{IsExplained}
+use Rattle.anb_resolve.specs.Protocols.{ProtocolValue}
+use Rattle.anb_explain.specs.Explained.{IsExplained, explained_by}
+use Rattle.anb_explain.specs.Explanations.{AreOurs, ExplanationValue}
 use Rattle.anb_command.specs.declared.status.Status.{Status}
+use Rattle.anb_command.specs.declared.status.Status.TheVariants.{NoMemory}
 use Rattle.anb_command.specs.Fetches.{Files, IfTold}
 use Rattle.anb_command.specs.Files.{NarrationInFile}
 use Rattle.anb_command.specs.Roles.{Part, PartInFile}
 use Rattle.anb_command.specs.Steps.{Answer, refused, given, InTurn}
-use Rattle.anb_command.specs.Writing.{CompletesText, IsWriting, IsWritingOne}
+use Rattle.anb_command.specs.Writing.{CompletesText, IsWriting, IsWritingOne, IsWritten}
 use Rattle.anb_command.specs.declared.words.RoleText.{RoleText}
 use Rattle.anb_command.specs.declared.words.RoleText.TheVariants.{RoleFile, Explanation}
 
@@ -37,6 +41,20 @@ module _ (narration : List ℕ) (told : Option Files) where
 abbrev pub IsTextOf : RoleText → Part → CodeValue → List ℕ → Type 0
 IsTextOf RoleFile part code text = text ≡ role_text code
 IsTextOf Explanation part code text = IsExplained part.protocol part.role code text
+
+-- what is told of a role beside its code, where that is asked for, and the text that is so
+abbrev pub text_by : ProtocolValue → CodeValue → Option ExplanationValue → List ℕ
+text_by p code None = role_text code
+text_by p code (Some e) = explained_by p e.plan code e.terms
+
+abbrev pub CanBeTold : ProtocolValue → CodeValue → Option ExplanationValue → Type 0
+CanBeTold p code None = Unit {0}
+CanBeTold p code (Some e) = AreOurs p code e
+
+-- what writing a text line by line leaves: with want of memory a prefix
+abbrev pub IsWrittenByLines : List ℕ → Status → (written written_now : Option (List ℕ)) → Type 0
+IsWrittenByLines text NoMemory written written_now = PutPrefix written written_now text
+IsWrittenByLines text status written written_now = IsWritten text status written written_now
 
 -- such a text, of a code that fits the role and is accepted
 pub record IsDescribed (kind : RoleText) (part : Part) (text : List ℕ) : Type 0 where

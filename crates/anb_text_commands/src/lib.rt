@@ -9,7 +9,7 @@ ghost use Rattle.anb_code.specs.Verified.{IsVerifiedCode};
 ghost use Rattle.anb_compile.specs.Fitting.{FitsRole};
 ghost use Rattle.anb_command.specs.Causes.{HasCause, NoneRose};
 ghost use Rattle.anb_command.specs.Fetches.{Fetches, IfTold};
-ghost use Rattle.anb_command.specs.OverWire.{OverWire};
+ghost use Rattle.anb_command.specs.OverWire.{OnlyWrites, OverWire};
 ghost use Rattle.anb_command.specs.Reaches.{Reaches};
 ghost use Rattle.anb_command.specs.Statuses.{IsEarly, is_fault, phase_of};
 ghost use Rattle.anb_command.specs.Steps.{IsFailure, refused, given};
@@ -17,14 +17,17 @@ ghost use Rattle.anb_command.specs.Touches.{Touches};
 ghost use Rattle.anb_command.specs.declared.status.Status.TheVariants as status;
 ghost use Rattle.anb_text_commands.specs.TextCommands.{CompletesDescribe, CompletesFmt, CompletesHelp};
 ghost use Rattle.anb_text_commands.specs.TextCommands.{DoesDescribe, DoesFmt, DoesHelp};
-ghost use Rattle.anb_text_commands.specs.TextCommands.{DescribedText, FmtText, IsTextOf};
+ghost use Rattle.anb_text_commands.specs.TextCommands.{CanBeTold, DescribedText, FmtText, IsTextOf, IsWrittenByLines, text_by};
+ghost use Rattle.anb_text.specs.Writing.{IsWritten};
 
-use anb_base::{Bytes, NoMemory, Shelf, Text, Wire};
-use anb_command::{Playable, RoleText, Status, narration_in_file, playable_in_file, write_text};
-use anb_explain::explain;
+use anb_base::{Bytes, Failed, NoMemory, Place, Shelf, Text, Wire};
+use anb_command::{
+    Playable, RoleText, Status, narration_in_file, playable_in_file, reach_streams, write_text,
+};
+use anb_explain::{Explanation, explanation_of, write_explanation};
 use anb_read::{narrations_are_unique, none_is_both, refusals_are_unique};
 use anb_syntax::text_of;
-use anb_text::print;
+use anb_text::{WriteNo, write_role_file};
 use std::alloc::Global;
 
 /// A line for each command that is built.
@@ -59,16 +62,25 @@ fn canonical_text<F: Shelf>(alloc: Global, shelf: &mut F, narration: &Text) -> R
     }
 }
 
-/// The text of the role with this name in a narration's file.
-fn described_text<F: Shelf>(
+/// A role that is ready to be told of: by its code alone, or with what explains it.
+#[derive(Drop)]
+struct Described {
+    playable: Playable,
+    explanation: Option<Explanation>,
+}
+
+/// The role with this name in a narration's file, and what is told of it.
+fn role_described<F: Shelf>(
     alloc: Global,
     shelf: &mut F,
     kind: RoleText,
     narration: &Text,
     role: &Text,
-) -> Result<Bytes, Status>
-    ensures given { IfOk result (λ described. IfTold (F.files shelf.old) (λ files.
-        DescribedText kind files narration.now role.now (given described))) }
+) -> Result<Described, Status>
+    ensures given { IfOk result (λ d. IfTold (F.files shelf.old) (λ files.
+        DescribedText kind files narration.now role.now
+        (given (text_by d.playable.protocol d.playable.code d.explanation)))) }
+    ensures ready { IfOk result (λ d. CanBeTold d.playable.protocol d.playable.code d.explanation) }
     ensures refused { IfErr result (λ status. IsFailure status
         (λ file. (file ≡ narration.now) × Rose (F.faults shelf.old file) (F.faults shelf.new file))
         (IfTold (F.files shelf.old) (λ files.
@@ -81,19 +93,27 @@ fn described_text<F: Shelf>(
         Ok(playable) => playable,
         Err(status) => return Err(status),
     };
-    match text_of_role(alloc, kind, &playable) {
-        Ok(described) => Ok(described),
+    match explanation_for(alloc, kind, &playable) {
+        Ok(explanation) => Ok(Described {
+            playable,
+            explanation,
+        }),
         Err(NoMemory) => Err(Status::NoMemory),
     }
 }
 
-/// The text of a role.
-fn text_of_role(alloc: Global, kind: RoleText, playable: &Playable) -> Result<Bytes, NoMemory>
+/// What is told of a role beside its code, where that is asked for.
+fn explanation_for(
+    alloc: Global,
+    kind: RoleText,
+    playable: &Playable,
+) -> Result<Option<Explanation>, NoMemory>
     requires role { playable.now.role < length playable.now.protocol.roles }
     requires fits { FitsRole playable.now.protocol playable.now.role playable.now.code }
-    ensures text { IfOk result (λ described.
+    ensures text { IfOk result (λ explanation.
         IsTextOf kind (record { protocol = playable.now.protocol; role = playable.now.role })
-        playable.now.code described) }
+        playable.now.code (text_by playable.now.protocol playable.now.code explanation)) }
+    ensures ready { IfOk result (CanBeTold playable.now.protocol playable.now.code) }
     ensures accepted { IsVerifiedCode ARRIVAL WIDE playable.now.code }
 {
     let Playable {
@@ -103,8 +123,48 @@ fn text_of_role(alloc: Global, kind: RoleText, playable: &Playable) -> Result<By
     } = playable;
     let _verified = code.instrs();
     match kind {
-        RoleText::RoleFile => print(alloc, code),
-        RoleText::Explanation => explain(alloc, protocol, *role, code),
+        RoleText::RoleFile => Ok(None),
+        RoleText::Explanation => match explanation_of(alloc, protocol, *role, code) {
+            Ok(explanation) => Ok(Some(explanation)),
+            Err(NoMemory) => Err(NoMemory),
+        },
+    }
+}
+
+/// Writes what is told of a role to the standard streams, a line at a time.
+fn write_described<W: Wire>(alloc: Global, wire: &mut W, described: &Described) -> Status
+    requires { let playable = described.now.playable in
+        CanBeTold playable.protocol playable.code described.now.explanation }
+    ensures writes { let playable = described.now.playable in
+        IsWrittenByLines (text_by playable.protocol playable.code described.now.explanation) result
+        (W.state wire.old).written (W.state wire.new).written }
+    ensures wire { OverWire place.Stdio false result (W.state wire.old) (W.state wire.new) }
+{
+    match reach_streams(wire) {
+        Ok(()) => {}
+        Err(Failed) => return Status::Unreached(Place::Stdio),
+    }
+    match write_lines(alloc, wire, described) {
+        Ok(()) => Status::Done,
+        Err(WriteNo::Failed) => Status::WriteFault,
+        Err(WriteNo::NoMemory) => Status::NoMemory,
+    }
+}
+
+/// Writes it to a wire that was reached.
+fn write_lines<W: Wire>(alloc: Global, wire: &mut W, described: &Described) -> Result<(), WriteNo>
+    requires { let playable = described.now.playable in
+        CanBeTold playable.protocol playable.code described.now.explanation }
+    ensures writes { let playable = described.now.playable in
+        IsWritten (text_by playable.protocol playable.code described.now.explanation) result
+        (W.state wire.old).written (W.state wire.new).written
+        (W.state wire.old).write_faults (W.state wire.new).write_faults }
+    ensures only { OnlyWrites (W.state wire.old) (W.state wire.new) }
+{
+    let Playable { protocol, code, .. } = &described.playable;
+    match &described.explanation {
+        None => write_role_file(alloc, wire, code),
+        Some(explanation) => write_explanation(alloc, wire, protocol, code, explanation),
     }
 }
 
@@ -162,8 +222,8 @@ pub fn describe<F: Shelf, W: Wire>(
     narrations_are_unique();
     refusals_are_unique();
     none_is_both();
-    match described_text(alloc, shelf, kind, narration, role) {
-        Ok(described) => write_text(wire, described.as_slice()),
+    match role_described(alloc, shelf, kind, narration, role) {
+        Ok(described) => write_described(alloc, wire, &described),
         Err(status) => status,
     }
 }
