@@ -12,4 +12,5 @@ pub mod Runs
 pub mod Senders
 pub mod States
 pub mod Taking
+pub mod Transcripts
 pub mod Written

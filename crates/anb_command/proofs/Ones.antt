@@ -94,7 +94,7 @@ then_settled {A} {B} first next one each = record { refuses = refuses; apart = a
 pub is_one : {A : Type 0} (a : A) → HasOneAnswer (AnswersWith a)
 is_one a x y is js = is ∙ sym js
 
-file_one : (files : List ℕ → Option (List ℕ)) (name : List ℕ) (limit : ℕ) → HasOneAnswer (FileIs files name limit)
+pub file_one : (files : List ℕ → Option (List ℕ)) (name : List ℕ) (limit : ℕ) → HasOneAnswer (FileIs files name limit)
 file_one files name limit (refused s) (refused t) x y = ap refused (x.0 ∙ sym y.0)
 file_one files name limit (refused s) (given text) x y =
     let same : Some x.1.text ≡ Some text = sym x.1.holds ∙ y.holds in
@@ -300,7 +300,7 @@ then_quiet {A} {B} {first} {next} quiet each = record { each = by } where
 pub is_quiet : {A : Type 0} (a : A) → RefusesQuietly (AnswersWith a)
 is_quiet a = record { each = λ s is. not_both s a is }
 
-file_quiet : (files : List ℕ → Option (List ℕ)) (name : List ℕ) (limit : ℕ) → RefusesQuietly (FileIs files name limit)
+pub file_quiet : (files : List ℕ → Option (List ℕ)) (name : List ℕ) (limit : ℕ) → RefusesQuietly (FileIs files name limit)
 file_quiet files name limit = record { each = λ s is. quiet_as s _ is.0 (refl, refl) }
 
 narration_quiet : (text : List ℕ) → RefusesQuietly (NarrationIs text)

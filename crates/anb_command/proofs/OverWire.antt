@@ -179,6 +179,27 @@ module _ (place : Place) (S T : WireState) (at_place : HasReached place S T) whe
     pub ran : HasWireCause (Some place) T U s → OverWire place true s S U
     ran cause = record { cause = cause_from S T U place s not_at same_read_faults same_write_faults cause; reached = run_reaches; touches = run_touches }
 
+  -- nothing goes on there
+
+  stays_there : StaysReached T T
+  stays_there = record { reached = refl; reach_faults = refl; reads = omega arith; writes = omega arith }
+
+  pub only_reached : (s : Status) → (phase_of s ≡ after_reach) ⊎ (s ≡ NoMemory) → HasWireCause (Some place) T T s → OverWire place false s S T
+  only_reached s after cause = record {
+    cause = cause_from S T T place s (not_at T stays_there s after) same_read_faults same_write_faults cause;
+    reached = run_reaches T stays_there s after;
+    touches = record {
+      before = λ is. absurd (not_before T stays_there s after is);
+      unreached = λ is. absurd (not_at T stays_there s after is);
+      unread = λ _. same_left;
+      untaken = λ _. same_taken;
+      unread_faults = λ _. same_read_faults;
+      reads = omega (arith, same_read_faults);
+      writes = omega (arith, same_write_faults);
+      reaches = at_place.never_falls;
+    };
+  }
+
   pub runs_after : (R R' : List (List ℕ) → Played (List ℕ)) → ((arrivals : List (List ℕ)) → R arrivals ≡ R' arrivals) → (U : WireState) (s : Status) → RunsOn R T U s → RunsOn R' S U s
   runs_after R R' same U s runs arrivals tail cut =
       let there : RunsTo R arrivals tail T.left U.left T.written U.written s = runs arrivals tail (subst (λ (l : Option (List ℕ)). CutLeft ARRIVAL l arrivals tail) (sym same_left) cut) in

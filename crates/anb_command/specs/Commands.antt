@@ -6,7 +6,7 @@ use Rattle.anb_command.specs.declared.words.Command.{Command}
 use Rattle.anb_command.specs.declared.words.Command.TheVariants as command
 use Rattle.anb_command.specs.declared.words.Endpoint.{Endpoint}
 use Rattle.anb_command.specs.declared.words.Endpoint.TheVariants as endpoint
-use Rattle.anb_command.specs.Words.{Asked, fmt, describe, play, enact, host, help}
+use Rattle.anb_command.specs.Words.{Asked, fmt, describe, play, enact, replay, host, help}
 
 abbrev pub place_by : Endpoint → Place
 place_by endpoint.Stdio = place.Stdio
@@ -19,5 +19,7 @@ asked_by (Some (command.Fmt narration)) = Some (fmt narration.now)
 asked_by (Some (command.Describe text narration role)) = Some (describe text narration.now role.now)
 asked_by (Some (command.Play role)) = Some (play role.narration.now role.name.now role.values.now (place_by role.endpoint))
 asked_by (Some (command.Enact file)) = Some (enact file.code.now file.values.now (place_by file.endpoint))
+asked_by (Some (command.Replay words)) =
+    Some (replay words.narration.now words.name.now words.values.now words.transcript.now)
 asked_by (Some (command.Host role)) = Some (host role.narration.now role.name.now role.values.now (place_by role.endpoint))
 asked_by (Some command.Help) = Some help

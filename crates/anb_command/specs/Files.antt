@@ -14,12 +14,15 @@ use Rattle.anb_text.specs.Refusals.{IsRefusal as IsLoadRefusal}
 use Rattle.anb_text.specs.RoleFiles.{IsTextOf}
 use Rattle.anb_text.specs.declared.refusal.LoadNo.{LoadNo}
 use Rattle.anb_text.specs.declared.refusal.LoadNo.TheVariants as loading
+use Rattle.anb_transcript.specs.Texts.{Reads}
+use Rattle.anb_transcript.specs.declared.transcript.TranscriptLine.{TranscriptLine}
+use Rattle.anb_transcript.specs.declared.transcript.TranscriptNo.TheVariants.{Line}
 use Rattle.anb_values.specs.Fit.{Fit}
 use Rattle.anb_values.specs.declared.fitted.Fitted.{Fitted}
 use Rattle.anb_values.specs.declared.refusal.ValuesNo.{ValuesNo}
-use Rattle.anb_command.specs.declared.limits.TheConstants.{NARRATION_LIMIT, ROLE_FILE_LIMIT, VALUES_LIMIT}
+use Rattle.anb_command.specs.declared.limits.TheConstants.{NARRATION_LIMIT, ROLE_FILE_LIMIT, TRANSCRIPT_LIMIT, VALUES_LIMIT}
 use Rattle.anb_command.specs.declared.status.NarrationNo.TheVariants.{Read, Resolve}
-use Rattle.anb_command.specs.declared.status.Status.TheVariants.{FileLong, BadNarration, BadValues, BadRoleFile}
+use Rattle.anb_command.specs.declared.status.Status.TheVariants.{FileLong, BadNarration, BadValues, BadRoleFile, BadTranscript}
 use Rattle.anb_command.specs.Steps.{Answer, refused, given, InTurn}
 
 -- a file of at most so many bytes
@@ -53,6 +56,11 @@ abbrev pub CodeIs : List ℕ → Answer CodeValue → Type 0
 CodeIs text (refused status) = (why : LoadNo) × (status ≡ BadRoleFile why) × (why ≢ loading.NoMemory) × IsLoadRefusal text why
 CodeIs text (given code) = IsVerifiedCode ARRIVAL WIDE code × IsTextOf text code
 
+-- the lines of a transcript, or the first that isn't of its grammar
+abbrev pub TranscriptIs : List ℕ → Answer (List TranscriptLine) → Type 0
+TranscriptIs text (refused status) = (n : ℕ) × (status ≡ BadTranscript n) × Reads text (Err (Line n))
+TranscriptIs text (given lines) = Reads text (Ok lines)
+
 -- the values that a text gives to some names, and the seed where it has one
 abbrev pub ValuesAre : List (List ℕ) → List ℕ → Answer Fitted → Type 0
 ValuesAre names text (refused status) = (why : ValuesNo) × (status ≡ BadValues why) × Fit text names (Err why)
@@ -67,6 +75,9 @@ module _ (files : List ℕ → Option (List ℕ)) (name : List ℕ) where
 
   abbrev pub CodeInFile : Answer CodeValue → Type 0
   CodeInFile = InTurn (FileIs files name ROLE_FILE_LIMIT) CodeIs
+
+  abbrev pub TranscriptInFile : Answer (List TranscriptLine) → Type 0
+  TranscriptInFile = InTurn (FileIs files name TRANSCRIPT_LIMIT) TranscriptIs
 
   abbrev pub ValuesInFile : List (List ℕ) → Answer Fitted → Type 0
   ValuesInFile names = InTurn (FileIs files name VALUES_LIMIT) (ValuesAre names)

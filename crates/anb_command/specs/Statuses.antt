@@ -22,7 +22,7 @@ use Rattle.anb_values.specs.declared.refusal.ValuesNo.TheVariants as fitting
 use Rattle.anb_command.specs.declared.status.NarrationNo.{NarrationNo}
 use Rattle.anb_command.specs.declared.status.NarrationNo.TheVariants.{Read, Resolve}
 use Rattle.anb_command.specs.declared.status.Status.{Status}
-use Rattle.anb_command.specs.declared.status.Status.TheVariants.{Done, Usage, FileFault, FileLong, BadNarration, NoRole, CannotSend, BadValues, NoSeed, Unreached, Stopped, Waiting, Truncated, TooLarge, ReadFault, WriteFault, BadRoleFile, BadKind, Spent, NoMemory}
+use Rattle.anb_command.specs.declared.status.Status.TheVariants.{Done, Usage, FileFault, FileLong, BadNarration, NoRole, CannotSend, BadValues, NoSeed, Unreached, Stopped, Waiting, Truncated, TooLarge, ReadFault, WriteFault, BadRoleFile, BadTranscript, Differs, Short, BadKind, Spent, NoMemory}
 
 abbrev pub number_of : Status → ℕ
 number_of Done = 0
@@ -42,6 +42,9 @@ number_of (TooLarge len) = 13
 number_of ReadFault = 14
 number_of WriteFault = 15
 number_of (BadRoleFile why) = 16
+number_of (BadTranscript line) = 17
+number_of (Differs line due) = 18
+number_of (Short event) = 19
 number_of (BadKind kind) = 20
 number_of (Spent frames) = 21
 number_of NoMemory = 99
@@ -145,6 +148,9 @@ text_of (TooLarge len) = codes "a frame of " ++ (decimal len ++ codes " bytes")
 text_of ReadFault = codes "read failed"
 text_of WriteFault = codes "write failed"
 text_of (BadRoleFile why) = codes "role file: " ++ why_unloaded why
+text_of (BadTranscript line) = codes "transcript line " ++ (decimal line ++ codes " can't be read")
+text_of (Differs line due) = codes "transcript line " ++ (decimal line ++ codes " differs")
+text_of (Short event) = codes "transcript ends before event " ++ decimal event
 text_of (BadKind kind) = codes "no frame kind " ++ decimal kind
 text_of (Spent frames) = decimal frames ++ codes " frames handled"
 text_of NoMemory = codes "no memory"
@@ -190,6 +196,7 @@ phase_of (CannotSend action role) = before_reach
 phase_of (BadValues why) = before_reach
 phase_of NoSeed = before_reach
 phase_of (BadRoleFile why) = before_reach
+phase_of (BadTranscript line) = before_reach
 phase_of (Unreached place) = at_reach
 phase_of NoMemory = at_any_time
 phase_of status = after_reach

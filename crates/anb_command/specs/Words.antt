@@ -13,6 +13,7 @@ pub data Asked : Type 0 where
   describe : RoleText → (narration role : List ℕ) → Asked
   play : (narration role values : List ℕ) → Place → Asked
   enact : (code values : List ℕ) → Place → Asked
+  replay : (narration role values transcript : List ℕ) → Asked
   host : (narration role values : List ℕ) → Place → Asked
   help : Asked
 
@@ -60,6 +61,12 @@ enact_in (code ∷ values ∷ place) =
     if is_operand code && is_operand values then option_map (enact code values) (place_in place) else None
 enact_in words = None
 
+abbrev pub replay_in : List (List ℕ) → Option Asked
+replay_in (narration ∷ role ∷ values ∷ transcript ∷ []) =
+    if is_operand narration && is_operand role && is_operand values && is_operand transcript
+    then Some (replay narration role values transcript) else None
+replay_in words = None
+
 abbrev pub host_in : List (List ℕ) → Option Asked
 host_in (narration ∷ role ∷ values ∷ place) =
     if is_operand narration && is_operand role && is_operand values then option_map (host narration role values) (place_in place) else None
@@ -69,17 +76,21 @@ abbrev pub help_in : List (List ℕ) → Option Asked
 help_in [] = Some help
 help_in words = None
 
-abbrev pub asked_of : List (List ℕ) → Option Asked
-asked_of [] = None
-asked_of (command ∷ words) =
+abbrev pub command_in : (command : List ℕ) → List (List ℕ) → Option Asked
+command_in command words =
     if bytes_eq command (codes "fmt") then fmt_in words
     else if bytes_eq command (codes "compile") then describe_in RoleFile words
     else if bytes_eq command (codes "explain") then describe_in Explanation words
     else if bytes_eq command (codes "play") then play_in words
     else if bytes_eq command (codes "enact") then enact_in words
+    else if bytes_eq command (codes "replay") then replay_in words
     else if bytes_eq command (codes "host") then host_in words
     else if bytes_eq command (codes "help") then help_in words
     else None
+
+abbrev pub asked_of : List (List ℕ) → Option Asked
+asked_of [] = None
+asked_of (command ∷ words) = command_in command words
 
 -- the files that are asked for, in the order in which they are fetched
 abbrev pub files_of : Option Asked → List (List ℕ)
@@ -88,6 +99,7 @@ files_of (Some (fmt narration)) = narration ∷ []
 files_of (Some (describe text narration role)) = narration ∷ []
 files_of (Some (play narration role values place)) = narration ∷ values ∷ []
 files_of (Some (enact code values place)) = code ∷ values ∷ []
+files_of (Some (replay narration role values transcript)) = narration ∷ values ∷ transcript ∷ []
 files_of (Some (host narration role values place)) = narration ∷ values ∷ []
 files_of (Some help) = []
 
@@ -98,6 +110,7 @@ place_of (Some (fmt narration)) = Some Stdio
 place_of (Some (describe text narration role)) = Some Stdio
 place_of (Some (play narration role values place)) = Some place
 place_of (Some (enact code values place)) = Some place
+place_of (Some (replay narration role values transcript)) = Some Stdio
 place_of (Some (host narration role values place)) = Some place
 place_of (Some help) = Some Stdio
 

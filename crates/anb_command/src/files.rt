@@ -7,19 +7,23 @@ ghost use Rattle.anb_base.specs.Moves.{Rose};
 ghost use Rattle.anb_syntax.specs.Grammar.{IsSpellable};
 ghost use Rattle.anb_syntax.specs.Sizes.{size};
 ghost use Rattle.anb_syntax.specs.Views.{narration_of};
+ghost use Rattle.anb_transcript.specs.Replays.{arrivals_of};
 ghost use Rattle.anb_command.specs.Fetches.{Fetches, IfTold};
-ghost use Rattle.anb_command.specs.Files.{CodeInFile, CodeIs, HasFile, HasLonger, NarrationIs, NarrationInFile, ProtocolIs, ProtocolInFile, ValuesAre, ValuesInFile};
+ghost use Rattle.anb_command.specs.Files.{CodeInFile, CodeIs, HasFile, HasLonger, NarrationIs, NarrationInFile, ProtocolIs, ProtocolInFile, TranscriptIs, TranscriptInFile, ValuesAre, ValuesInFile};
 ghost use Rattle.anb_command.specs.Statuses.{IsEarly};
 ghost use Rattle.anb_command.specs.Steps.{IsFailure, refused, given};
 ghost use Rattle.anb_command.specs.declared.status.Status.TheVariants as status;
 
-use crate::{NARRATION_LIMIT, NarrationNo, ROLE_FILE_LIMIT, Status, VALUES_LIMIT};
+use crate::{
+    NARRATION_LIMIT, NarrationNo, ROLE_FILE_LIMIT, Status, TRANSCRIPT_LIMIT, VALUES_LIMIT,
+};
 use anb_base::{Bytes, NoMemory, Shelf, ShelfNo, Text};
 use anb_code::RoleCode;
 use anb_read::{ReadNo, read};
 use anb_resolve::{Protocol, ResolveNo, resolve, small_is_countable};
 use anb_syntax::Narration;
 use anb_text::{LoadNo, load};
+use anb_transcript::{Transcript, TranscriptNo, read_transcript};
 use anb_values::{Fitted, ValuesNo, values};
 use std::alloc::Global;
 
@@ -178,6 +182,50 @@ fn code_of_text(alloc: Global, text: &[u8]) -> Result<RoleCode, Status>
         }
         Err(LoadNo::NoMemory) => Err(Status::NoMemory),
         Err(why) => Err(Status::BadRoleFile(why)),
+    }
+}
+
+/// The transcript in the file.
+pub fn transcript_in_file<F: Shelf>(
+    alloc: Global,
+    shelf: &mut F,
+    name: &Text,
+) -> Result<Transcript, Status>
+    ensures given { IfOk result (λ lines. IfTold (F.files shelf.old) (λ files.
+        TranscriptInFile files name.now (given lines))) }
+    ensures few { IfOk result (λ lines. length lines ≤ TRANSCRIPT_LIMIT) }
+    ensures arrivals { IfOk result (λ lines.
+        All (λ arrival. length arrival ≤ ARRIVAL) (arrivals_of lines)) }
+    ensures bytes { IfOk result (λ lines. AllByRecursion IsBytes (arrivals_of lines)) }
+    ensures refused { IfErr result (λ status. IsFailure status
+        (λ file. (file ≡ name.now) × Rose (F.faults shelf.old file) (F.faults shelf.new file))
+        (IfTold (F.files shelf.old) (λ files. TranscriptInFile files name.now (refused status)))) }
+    ensures early { IfErr result IsEarly }
+    ensures fetches { Fetches (name.now ∷ [])
+        (F.files shelf.old) (F.files shelf.new) (F.faults shelf.old) (F.faults shelf.new) }
+{
+    match fetch_file(alloc, shelf, name, TRANSCRIPT_LIMIT) {
+        Ok(text) => transcript_of_text(alloc, text.as_slice()),
+        Err(status) => Err(status),
+    }
+}
+
+/// The transcript that the text is.
+fn transcript_of_text(alloc: Global, text: &[u8]) -> Result<Transcript, Status>
+    requires { length text.now ≤ TRANSCRIPT_LIMIT }
+    ensures given { IfOk result (λ lines. TranscriptIs text.now (given lines)) }
+    ensures few { IfOk result (λ lines. length lines ≤ TRANSCRIPT_LIMIT) }
+    ensures arrivals { IfOk result (λ lines.
+        All (λ arrival. length arrival ≤ ARRIVAL) (arrivals_of lines)) }
+    ensures bytes { IfOk result (λ lines. AllByRecursion IsBytes (arrivals_of lines)) }
+    ensures refused { IfErr result (λ status. IsFailure status (λ file. ⊥)
+        (TranscriptIs text.now (refused status))) }
+    ensures early { IfErr result IsEarly }
+{
+    match read_transcript(alloc, text) {
+        Ok(transcript) => Ok(transcript),
+        Err(TranscriptNo::NoMemory) => Err(Status::NoMemory),
+        Err(TranscriptNo::Line(line)) => Err(Status::BadTranscript(line)),
     }
 }
 

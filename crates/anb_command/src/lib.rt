@@ -13,16 +13,16 @@ mod status;
 mod text;
 mod words;
 
-pub use files::{code_in_file, narration_in_file};
-pub use limits::{NARRATION_LIMIT, ROLE_FILE_LIMIT, VALUES_LIMIT};
+pub use files::{code_in_file, narration_in_file, transcript_in_file};
+pub use limits::{NARRATION_LIMIT, ROLE_FILE_LIMIT, TRANSCRIPT_LIMIT, VALUES_LIMIT};
 pub use line::tell;
 pub use over::run_over;
 pub use playable::{Playable, playable_in_file};
 pub use prepare::{Prepared, prepare_code};
-pub use reaching::reach;
-pub use status::{Halt, NarrationNo, Status};
+pub use reaching::{reach, reach_stdio};
+pub use status::{Due, Halt, NarrationNo, Status};
 pub use text::{reach_streams, write_text};
-pub use words::{Command, EnactWords, Endpoint, PlayWords, RoleText};
+pub use words::{Command, EnactWords, Endpoint, PlayWords, ReplayWords, RoleText};
 
 #[cfg(test)]
 mod tests;

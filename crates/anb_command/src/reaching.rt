@@ -1,8 +1,11 @@
 //! Reaching the place of the words, and writing there.
-ghost use Rattle.std.specs.Prelude.{OnOk, OnErr};
+ghost use Rattle.std.specs.Prelude.{◌≡◌, OnOk, OnErr, IfErr};
 ghost use Rattle.anb_base.specs.Moves.{Rose, Put, PutPrefix};
+ghost use Rattle.anb_base.specs.declared.place.Place.TheVariants as place;
 ghost use Rattle.anb_command.specs.OverWire.{DidNotReach, HasReached, OnlyWrites};
+ghost use Rattle.anb_command.specs.declared.status.Status.TheVariants.{Unreached};
 
+use crate::Status;
 use anb_base::{Failed, Place, Wire, write_whole};
 
 /// Reaches the place. Reaching it, and each wait from then on, may take so many seconds.
@@ -14,6 +17,18 @@ pub fn reach<W: Wire>(wire: &mut W, place: &Place, timeout: Option<u32>) -> Resu
         wire.wait_at_most(seconds);
     }
     reach_now(wire, place)
+}
+
+/// Reaches the standard streams.
+pub fn reach_stdio<W: Wire>(wire: &mut W) -> Result<(), Status>
+    ensures reached { OnOk result (HasReached place.Stdio (W.state wire.old) (W.state wire.new)) }
+    ensures failed { IfErr result (λ status. (status ≡ Unreached place.Stdio)
+        × DidNotReach (W.state wire.old) (W.state wire.new)) }
+{
+    match reach(wire, &Place::Stdio, None) {
+        Ok(()) => Ok(()),
+        Err(Failed) => Err(Status::Unreached(Place::Stdio)),
+    }
 }
 
 fn reach_now<W: Wire>(wire: &mut W, place: &Place) -> Result<(), Failed>

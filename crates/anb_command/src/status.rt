@@ -9,6 +9,7 @@ pub use anb_machine::Halt;
 use anb_read::ReadNo;
 use anb_resolve::{Item, Kind, ResolveNo};
 use anb_text::LoadNo;
+pub use anb_transcript::Due;
 use anb_values::ValuesNo;
 use itoa::Buffer;
 
@@ -60,6 +61,12 @@ pub enum Status {
     WriteFault,
     /// The role file gives no code.
     BadRoleFile(LoadNo),
+    /// This line of the transcript can't be read, the first such, numbered from 1.
+    BadTranscript(u32),
+    /// This line of the transcript isn't what is due there.
+    Differs { line: u32, due: Due },
+    /// The transcript ends while this event is due.
+    Short(u32),
     /// A frame of a host begins with this byte, which is no kind of frame.
     BadKind(u8),
     /// As many frames of a host were handled as may be.
@@ -124,6 +131,9 @@ impl Status {
             Status::ReadFault => 14,
             Status::WriteFault => 15,
             Status::BadRoleFile(_) => 16,
+            Status::BadTranscript(_) => 17,
+            Status::Differs { .. } => 18,
+            Status::Short(_) => 19,
             Status::BadKind(_) => 20,
             Status::Spent(_) => 21,
             Status::NoMemory => 99,
@@ -184,6 +194,23 @@ impl Status {
                 let (what, which, is) = unloaded(*why, first);
                 ("role file: ", what, which, is, "")
             }
+            Status::BadTranscript(line) => (
+                "transcript line ",
+                first.format(*line),
+                " can't be read",
+                "",
+                "",
+            ),
+            Status::Differs { line, .. } => {
+                ("transcript line ", first.format(*line), " differs", "", "")
+            }
+            Status::Short(event) => (
+                "transcript ends before event ",
+                first.format(*event),
+                "",
+                "",
+                "",
+            ),
             Status::BadKind(kind) => ("no frame kind ", first.format(*kind), "", "", ""),
             Status::Spent(frames) => (first.format(*frames), " frames handled", "", "", ""),
             Status::NoMemory => ("no memory", "", "", "", ""),

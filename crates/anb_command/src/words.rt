@@ -19,6 +19,7 @@ pub enum Command<'w> {
     },
     Play(PlayWords<'w>),
     Enact(EnactWords<'w>),
+    Replay(ReplayWords<'w>),
     Host(PlayWords<'w>),
     Help,
 }
@@ -49,6 +50,15 @@ pub struct EnactWords<'w> {
     pub endpoint: Endpoint<'w>,
 }
 
+/// What is asked of `replay`: the names of the files and of the role.
+#[derive(Clone, Copy)]
+pub struct ReplayWords<'w> {
+    pub narration: &'w Text,
+    pub name: &'w Text,
+    pub values: &'w Text,
+    pub transcript: &'w Text,
+}
+
 /// The place that the words name, and the most seconds that reaching it or a single wait may take.
 #[derive(Clone, Copy)]
 pub enum Endpoint<'w> {
@@ -60,7 +70,7 @@ pub enum Endpoint<'w> {
 impl<'w> Command<'w> {
     ghost use Rattle.std.specs.Prelude.{◌≡◌};
     ghost use Rattle.anb_command.specs.Commands.{asked_by};
-    ghost use Rattle.anb_command.specs.Words.{asked_of, enact_in, fmt_in, help_in, host_in, play_in, describe_in};
+    ghost use Rattle.anb_command.specs.Words.{asked_of, command_in, enact_in, fmt_in, help_in, host_in, play_in, describe_in, replay_in};
 
     /// Reads a whole word list.
     pub fn read(words: &'w [Text]) -> Option<Self>
@@ -69,12 +79,19 @@ impl<'w> Command<'w> {
         let [command, words @ ..] = words else {
             return None;
         };
+        Self::read_command(command, words)
+    }
+
+    fn read_command(command: &Text, words: &'w [Text]) -> Option<Self>
+        ensures { asked_by result ≡ command_in command.now words.now }
+    {
         match command.as_str() {
             "fmt" => Self::read_fmt(words),
             "compile" => Self::read_describe(RoleText::RoleFile, words),
             "explain" => Self::read_describe(RoleText::Explanation, words),
             "play" => Self::read_play(words),
             "enact" => Self::read_enact(words),
+            "replay" => Self::read_replay(words),
             "host" => Self::read_host(words),
             "help" => Self::read_help(words),
             _ => None,
@@ -137,6 +154,26 @@ impl<'w> Command<'w> {
             code,
             values,
             endpoint,
+        }))
+    }
+
+    fn read_replay(words: &'w [Text]) -> Option<Self>
+        ensures { asked_by result ≡ replay_in words.now }
+    {
+        let [narration, name, values, transcript] = words else {
+            return None;
+        };
+        if !(is_operand(narration) && is_operand(name) && is_operand(values)) {
+            return None;
+        }
+        if !is_operand(transcript) {
+            return None;
+        }
+        Some(Command::Replay(ReplayWords {
+            narration,
+            name,
+            values,
+            transcript,
         }))
     }
 
