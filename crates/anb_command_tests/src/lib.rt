@@ -9,6 +9,8 @@ mod host;
 #[cfg(test)]
 mod play;
 #[cfg(test)]
+mod replay;
+#[cfg(test)]
 mod role_texts;
 #[cfg(test)]
 mod running;

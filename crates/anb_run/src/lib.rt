@@ -18,9 +18,9 @@ ghost use Rattle.anb_run.specs.Commands.{Completes, Does};
 
 use anb_base::{Shelf, Sink, Text, Wire};
 use anb_command::{Command, tell};
-pub use anb_command::{Halt, NarrationNo, Status};
+pub use anb_command::{Due, Halt, NarrationNo, Status};
 use anb_many_commands::host;
-use anb_role_commands::{enact, play};
+use anb_role_commands::{enact, play, replay};
 use anb_text_commands::{describe, fmt, help};
 use std::alloc::Global;
 
@@ -69,6 +69,7 @@ pub fn run<F: Shelf, W: Wire, E: Sink>(
         ) => describe(alloc, shelf, wire, kind, narration, role),
         Some(Command::Play(words)) => play(alloc, shelf, wire, words, seed),
         Some(Command::Enact(words)) => enact(alloc, shelf, wire, words, seed),
+        Some(Command::Replay(words)) => replay(alloc, shelf, wire, words, seed),
         Some(Command::Host(words)) => host(alloc, shelf, wire, words, seed),
         Some(Command::Help) => help(wire),
     };

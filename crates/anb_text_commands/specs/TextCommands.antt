@@ -86,6 +86,7 @@ help_text =
     codes "anb fmt <narration>\n" ++ codes "anb compile <narration> <role>\n"
     ++ codes "anb explain <narration> <role>\n" ++ codes "anb play <narration> <role> <values> [place]\n"
     ++ codes "anb enact <rolefile> <values> [place]\n"
+    ++ codes "anb replay <narration> <role> <values> <transcript>\n"
     ++ codes "anb host <narration> <role> <values> [place]\n" ++ codes "anb help\n"
 
 abbrev pub HelpText : Answer (List ℕ) → Type 0

@@ -37,6 +37,7 @@ const HELP: &str = concat!(
     "anb explain <narration> <role>\n",
     "anb play <narration> <role> <values> [place]\n",
     "anb enact <rolefile> <values> [place]\n",
+    "anb replay <narration> <role> <values> <transcript>\n",
     "anb host <narration> <role> <values> [place]\n",
     "anb help\n",
 );
