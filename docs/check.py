@@ -6,7 +6,8 @@
 
 Examples: `fmt` gives the narration's text, each role compiles, all roles play to their ends over pipes, and each message
 has the bytes that docs/narration.py computes apart. What came of it is compared with examples/expected, and the index
-of the examples with what docs/charts.py writes. Where the program has `rehearse`, all roles are rehearsed too.
+of the examples with what docs/charts.py writes. Where the program has `rehearse`, all roles are rehearsed too. A role's transcript
+stands beside its values, and examples/commands lists what the gate runs of each example (crates/anb_examples).
 
 Pages: in a fenced block that begins with a line `$ ...` each such line is a command for sh, and what follows is what
 it writes, errors too. The commands run in a folder of their own with a copy of examples/, block by block, with `anb` on
@@ -31,6 +32,9 @@ ROOT = pathlib.Path(__file__).resolve().parent.parent
 EXAMPLES = ROOT / "examples"
 EXPECTED = EXAMPLES / "expected"
 PAGES = ["README.md", "docs/TUTORIAL.md", "docs/REFERENCE.md"]
+# What the gate runs of the examples, and what it prints then.
+COMMANDS = EXAMPLES / "commands"
+PRINTED = ROOT / "crates" / "anb_examples" / "stdout"
 # What names each command of the program.
 LISTS = ["README.md", "docs/REFERENCE.md", "anb.1", "completions/anb.bash", "completions/_anb", "completions/anb.fish"]
 MARK = "\x1e"
@@ -121,7 +125,51 @@ def check_schedule(program, story, folder, commands):
             raise ValueError(f"rehearse: {report.splitlines()[-1]}")
 
 
-def check_example(program, folder, commands):
+def transcript(story, role, messages):
+    """What a role sends and receives, a line each."""
+    turns = [(sender == role, message) for (sender, receiver, _), message in zip(story.actions, messages)
+             if role in (sender, receiver)]
+    return "".join(f"{'>' if sends else '<'} {message.hex()}\n" for sends, message in turns)
+
+
+def check_transcripts(story, folder, messages, write):
+    for role in story.roles:
+        path = values_file(folder, role).with_suffix(".transcript")
+        found = transcript(story, role, messages)
+        if write:
+            path.write_text(found)
+        if path.read_text() != found:
+            raise ValueError(f"{path.name} isn't what {role} sends and receives")
+
+
+def gate_commands(folder, roles):
+    """What the gate runs of an example, with the names of files from the examples' folder."""
+    whole = f"{folder.name}/{folder.name}.anb"
+    yield from (f"fmt {folder.name}/{path.name}" for path in sorted(folder.glob("*.anb")))
+    yield from (f"compile {whole} {role}" for role in roles)
+    for role in roles:
+        values = values_file(folder, role)
+        yield f"replay {whole} {role} {folder.name}/{values.name} {folder.name}/{values.stem}.transcript"
+
+
+def check_gate(write):
+    """The commands that the gate runs are those of all examples."""
+    listed = []
+    for folder in charts.folders():
+        roles = narration.Narration((folder / f"{folder.name}.anb").read_text()).roles
+        listed += gate_commands(folder, roles)
+    faults = 0
+    for path, lines in ((COMMANDS, listed), (PRINTED, [f"0 {line}" for line in listed])):
+        found = "".join(line + "\n" for line in lines)
+        if write:
+            path.write_text(found)
+        if path.read_text() != found:
+            print(f"{path.name}: not what the gate runs of the examples")
+            faults += 1
+    return faults
+
+
+def check_example(program, folder, commands, write):
     text = (folder / f"{folder.name}.anb").read_text()
     story = narration.Narration(text)
     for path in folder.glob("*.anb"):
@@ -137,6 +185,7 @@ def check_example(program, folder, commands):
     carried = relay(program, story, folder)
     if carried != [story.bytes_of(message, names) for _, _, message in story.actions]:
         raise ValueError("a message has other bytes than those computed apart")
+    check_transcripts(story, folder, carried, write)
     size = sum(map(len, carried))
     sums = hashlib.sha256(b"".join(struct.pack(">I", len(message)) + message for message in carried)).hexdigest()
     return f"{folder.name}: {len(story.roles)} roles, {len(carried)} messages, {size} bytes, frames {sums}"
@@ -150,7 +199,7 @@ def check_examples(program, write):
     for folder in charts.folders():
         signal.alarm(300)
         try:
-            lines.append(check_example(program, folder, commands))
+            lines.append(check_example(program, folder, commands, write))
         except (ValueError, KeyError, OSError, narration.anbwire.Refused) as fault:
             print(f"{folder.name}: {fault}")
             faults += 1
@@ -260,7 +309,7 @@ def main():
         sys.exit(__doc__)
     program, write = pathlib.Path(words[0]).resolve(), "--write" in sys.argv
     examples, faults = check_examples(program, write)
-    faults += check_lists(program) + check_index(program, write)
+    faults += check_lists(program) + check_index(program, write) + check_gate(write)
     commands = 0
     for name in PAGES:
         if (ROOT / name).exists():
