@@ -4,7 +4,7 @@
 
 The role gets a message and answers with its content in another format, so many times. The program
 is crates/anb/out/anb unless another is named. Seconds are the least of five runs, less those of a
-run without input. The rate of `play` is that of one session with as many exchanges, over the mean of
+run without input. The rates of a single session and of `play` come from the means of
 many runs. With --write the narration, the values and the inputs are written, and nothing is run.
 Memory is read from /proc.
 """
@@ -17,6 +17,9 @@ import tempfile
 import time
 
 PROGRAM = os.path.join(os.path.dirname(os.path.abspath(__file__)), "..", "crates", "anb", "out", "anb")
+
+# the status of a play whose input ends before an arrival
+WAITING = 11
 
 
 def narration(exchanges):
@@ -59,17 +62,21 @@ def one_by_one(sessions, exchanges, message):
     return b"".join(start(s) + arrival(s, message) * exchanges for s in sessions)
 
 
-def seconds(words, path, runs):
-    """The seconds of some runs with the file as input."""
+def seconds(words, path, runs, status=0):
+    """The seconds of some runs with the file as input, which end with this status."""
     found = []
     for _ in range(runs):
         with open(path, "rb") as source, open(os.devnull, "w") as nothing:
             begun = time.monotonic()
             child = subprocess.run(words, stdin=source, stdout=nothing, stderr=subprocess.PIPE)
             found.append(time.monotonic() - begun)
-        if child.returncode != 0:
+        if child.returncode != status:
             sys.exit(f"{' '.join(words)}: {child.stderr.decode()}")
     return found
+
+
+def mean(numbers):
+    return sum(numbers) / len(numbers)
 
 
 def kilobytes(words, source):
@@ -126,25 +133,14 @@ def main():
             spent = min(seconds(host, paths[row], 5)) - idle
             print(f"{row:<18}{events:>9}{spent:>10.3f}{events / spent:>17,.0f}", flush=True)
         for row in ["the first alone", "the last alone"]:
-            mean = sum(seconds(host, paths[row], 100)) / 100
-            none = sum(seconds(host, paths["none"], 100)) / 100
-            spent = mean - none
+            spent = mean(seconds(host, paths[row], 200)) - mean(seconds(host, paths["none"], 200))
             print(f"{row:<18}{asked.exchanges + 1:>9}{spent:>10.6f}{(asked.exchanges + 1) / spent:>17,.0f}", flush=True)
         play = [asked.program, "play"] + files
-        spent = sum(seconds(play, played, 200)) / 200 - start_up(play, 200)
+        spent = mean(seconds(play, played, 200)) - mean(seconds(play, paths["none"], 200, WAITING))
         print(f"{'play':<18}{asked.exchanges:>9}{spent:>10.6f}{asked.exchanges / spent:>17,.0f}", flush=True)
         most = kilobytes(host, in_turn(every, asked.exchanges - 1, message))
         least = kilobytes(host, in_turn([0], asked.exchanges - 1, message))
         print(f"{most} kB, with one session {least} kB: {(most - least) / max(asked.sessions - 1, 1):.2f} kB a session")
-
-
-def start_up(play, runs):
-    """The mean seconds of a play whose input is over at once."""
-    with open(os.devnull, "rb") as none, open(os.devnull, "w") as nothing:
-        begun = time.monotonic()
-        for _ in range(runs):
-            subprocess.run(play, stdin=none, stdout=nothing, stderr=nothing)
-        return (time.monotonic() - begun) / runs
 
 
 if __name__ == "__main__":
