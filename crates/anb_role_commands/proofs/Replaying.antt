@@ -44,11 +44,11 @@ use Rattle.anb_role_commands.proofs.Tasks.{job_one, job_quiet}
 
 -- ---- over runs that differ in how they tell a stop
 
-moved : (Halt → Halt) → Result Due Halt → Result Due Halt
+abbrev pub moved : (Halt → Halt) → Result Due Halt → Result Due Halt
 moved f (Ok due) = Ok due
 moved f (Err halt) = Err (f halt)
 
-moved_end : (Halt → Halt) → ReplayEnd → ReplayEnd
+abbrev pub moved_end : (Halt → Halt) → ReplayEnd → ReplayEnd
 moved_end f (replayed.Stopped halt line) = replayed.Stopped (f halt) line
 moved_end f end = end
 
@@ -77,7 +77,7 @@ module _ (f : Halt → Halt) (R S : List (List ℕ) → Played (List ℕ)) (line
   replays_as replayed.NoMemory is = tt
 
 -- a stop without its instruction
-untold : Halt → Halt
+abbrev pub untold : Halt → Halt
 untold halt = record { event = halt.event; at = 0 }
 
 due_untold : (messages : List (List ℕ)) (end : plays.End) → due_of messages (no_place end) ≡ moved untold (due_of messages end)
@@ -102,7 +102,7 @@ replayed_untold R lines end replays =
 
 -- ---- over runs that are the same over bytes
 
-kept : Halt → Halt
+abbrev pub kept : Halt → Halt
 kept halt = halt
 
 moved_kept : (due : Result Due Halt) → moved kept due ≡ due
@@ -341,7 +341,7 @@ module _ (narration name values transcript : List ℕ) (host_seed : Option (List
 
   only_refusal : (files : Files) (s due : Status) → Asks files (refused s) → Outcome files due → s ≡ due
   only_refusal files s due asks (inl other) = same_refusal s due (one files (refused s) (refused due) asks other)
-  only_refusal files s due asks (inr (asked, others, compares)) = not_both s asked (one files (refused s) (given asked) asks others)
+  only_refusal files s due asks (inr (asked, others, is)) = not_both s asked (one files (refused s) (given asked) asks others)
 
   pub does_refused : (told : Option Files) (S : WireState) (s : Status) → IsEarly s
       → IsFailure s (λ file. IfTold told (λ files. IsReadToCompare narration name values transcript host_seed files file)) (IfTold told (λ files. Asks files (refused s)))
