@@ -30,7 +30,7 @@ some_of None P f = tt
 some_of (Some x) P f = f x
 
 -- a frame has the size of its event
-size_is : (z : List ℕ) (e : HostEvent) → IsFrame z e → length z ≡ size_of e
+pub size_is : (z : List ℕ) (e : HostEvent) → IsFrame z e → length z ≡ size_of e
 size_is z (Start s) (small, is) = ap length is ∙ omega (arith, length-length_bytes s)
 size_is z (Arrive s b) (small, fits, is) = ap length is ∙ omega (arith, length-append (length_bytes s) (length_bytes (length b) ++ b), length-append (length_bytes (length b)) b, length-length_bytes s, length-length_bytes (length b))
 size_is z (Oversize s len) (body, small, above, fits, long, is) = ap length is ∙ omega (arith, header_long s len body, long)

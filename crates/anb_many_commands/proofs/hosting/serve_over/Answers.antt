@@ -14,7 +14,7 @@ returns-in-Ok-reach-clause-serves g c =
     let host = c.in-Ok-new.host in
     let made = c.in-Ok-new.ensures in
     serves_after c.in-Ok.place (g.W.Wire.state c.args.wire.now) (g.W.Wire.state c.reach.new.wire) (g.W.Wire.state c.serve_now.new.wire) c.in-Ok-reach.ensures.reached
-    (plays_of host) (runs_by p.code p.initial p.seed) c.serve_now.result (plays_are host p.code p.initial p.seed made.code (made.init ∙ c.into_vec.ensures) made.seed)
+    (plays_of host) (runs_by p.code p.initial p.seed) c.serve_now.result (plays_are host p.code p.initial p.seed made.code (made.init ∙ c.into_vec-initial.ensures) made.seed)
     (λ events tail left. c.serve_now.ensures.serves [] events tail made.empty left)
 
 pub returns-in-Ok-reach-clause-late : goal.returns-in-Ok-reach-clause-late
@@ -26,14 +26,6 @@ returns-in-Ok-reach-clause-wire g c =
     subst (λ (place : Place). OverWire place true c.serve_now.result (g.W.Wire.state c.args.wire.now) (g.W.Wire.state c.serve_now.new.wire)) c.in-Ok.ensures
     (ran c.in-Ok.place (g.W.Wire.state c.args.wire.now) (g.W.Wire.state c.reach.new.wire) c.in-Ok-reach.ensures.reached (g.W.Wire.state c.serve_now.new.wire) c.serve_now.ensures.reached
     c.serve_now.result c.serve_now.ensures.after (c.serve_now.ensures.cause c.in-Ok.place))
-
-pub returns-in-Err-reach-clause-serves : goal.returns-in-Err-reach-clause-serves
-returns-in-Err-reach-clause-serves g c = inl (idle_unreached c.in-Ok.place (g.W.Wire.state c.args.wire.now) (g.W.Wire.state c.reach.new.wire) c.in-Err-reach.ensures.failed)
-
-pub returns-in-Err-reach-clause-wire : goal.returns-in-Err-reach-clause-wire
-returns-in-Err-reach-clause-wire g c =
-    subst (λ (place : Place). OverWire place true (Unreached c.in-Ok.place) (g.W.Wire.state c.args.wire.now) (g.W.Wire.state c.reach.new.wire)) c.in-Ok.ensures
-    (not_reached c.in-Ok.place (g.W.Wire.state c.args.wire.now) (g.W.Wire.state c.reach.new.wire) c.in-Err-reach.ensures.failed true)
 
 pub returns-in-Err-clause-serves : goal.returns-in-Err-clause-serves
 returns-in-Err-clause-serves g c = inl (idle_no_memory (g.W.Wire.state c.args.wire.now))
