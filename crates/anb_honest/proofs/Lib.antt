@@ -1,0 +1,12 @@
+pub mod Ordering
+pub mod Parts
+pub mod Moving
+pub mod Standing
+pub mod Turning
+pub mod Placing
+pub mod Beginning
+pub mod Scheduling
+pub mod Playing
+pub mod Rehearsing
+pub mod Ending
+pub mod Wording

@@ -1,0 +1,217 @@
+//! A rehearsal before its first turn.
+ghost use Rattle.std.specs.Prelude.{◌≡◌, ◌≤◌, ◌++◌, ℕ, List, length, map, flat_map, filter_map, All, IfOk, OnOk};
+ghost use Rattle.std.specs.List.{AllByRecursion, range_with_len};
+ghost use Rattle.anb_base.specs.declared.TheConstants.{ARRIVAL};
+ghost use Rattle.anb_term.specs.Tree.{IsFormed};
+ghost use Rattle.anb_plays.specs.Honest.{honest};
+ghost use Rattle.anb_algebra.specs.ByteMeaning.{byte_meaning, has_operator};
+ghost use Rattle.anb_code.specs.CodeValue.{CodeValue};
+ghost use Rattle.anb_compile.specs.Emitting.{known_in};
+ghost use Rattle.anb_resolve.specs.Choices.{first};
+ghost use Rattle.anb_resolve.specs.Laws.{HoldsOf};
+ghost use Rattle.anb_resolve.specs.Texts.{atoms_in_each};
+ghost use Rattle.anb_resolve.specs.Plans.{plan_of};
+ghost use Rattle.anb_resolve.specs.Views.{plan_event};
+ghost use Rattle.anb_honest.specs.Given.{Gives, items_of};
+ghost use Rattle.anb_honest.specs.Order.{FollowRoles};
+ghost use Rattle.anb_honest.specs.Joint.{cast, initial, long_end, outset};
+ghost use Rattle.anb_honest.specs.Inside.{IsPlayer, Stands, part_of, turn_value};
+
+use crate::RehearseEnd;
+use crate::given::{Given, honest_bytes, put_atoms};
+use crate::player::{Part, Player};
+use crate::stage::Stage;
+use anb_algebra::ByteAlgebra;
+use anb_base::{ARRIVAL, Bytes, NoMemory};
+use anb_code::RoleCode;
+use anb_machine::Machine;
+use anb_resolve::{Event, Plan, Protocol};
+use std::alloc::Global;
+
+/// The plans of all roles, in order.
+pub(crate) fn plans(alloc: Global, p: &Protocol) -> Result<Vec<Plan>, NoMemory>
+    requires { length p.now.roles ≤ 32 }
+    ensures { IfOk result (λ plans.
+        plans.items ≡ map (plan_of p.now) (range_with_len 0 (length p.now.roles))) }
+{
+    let mut plans = Vec::new(alloc);
+    for role in 0..p.roles().len() as u32 {
+        plans.push(p.plan(alloc, role)?)?;
+    }
+    Ok(plans)
+}
+
+/// The initial values of all roles, in order.
+pub(crate) fn initial_values(
+    alloc: Global,
+    p: &Protocol,
+    plans: &[Plan],
+    values: &[Bytes],
+) -> Result<Vec<Vec<Bytes>>, NoMemory>
+    requires holds { HoldsOf p.now }
+    requires plans { plans.now ≡ map (plan_of p.now) (range_with_len 0 (length p.now.roles)) }
+    ensures { (codes : List CodeValue) (seed : List ℕ) → IfOk result (λ all.
+        map items_of all.items ≡ map (initial (cast p.now codes values.now seed))
+        (range_with_len 0 (length p.now.roles))) }
+{
+    let known = known_atoms(alloc, plans)?;
+    let given = Given::new(alloc, &known, values)?;
+    let algebra = ByteAlgebra::new(p.formats(), p.suite());
+    let mut all = Vec::new(alloc);
+    for plan in plans {
+        all.push(values_of(alloc, &algebra, &given, plan)?)?;
+    }
+    Ok(all)
+}
+
+/// The atoms in what roles know, in order.
+fn known_atoms(alloc: Global, plans: &[Plan]) -> Result<Vec<u32>, NoMemory>
+    ensures { IfOk result (λ atoms.
+        atoms.items ≡ atoms_in_each (flat_map known_in plans.now)) }
+{
+    let mut atoms = Vec::new(alloc);
+    for plan in plans {
+        put_known_atoms(&mut atoms, plan)?;
+    }
+    Ok(atoms)
+}
+
+/// Appends the atoms in what a role knows.
+fn put_known_atoms(atoms: &mut Vec<u32>, plan: &Plan) -> Result<(), NoMemory>
+    ensures { OnOk result (atoms.new.items
+        ≡ atoms.old.items ++ atoms_in_each (known_in plan.now)) }
+{
+    for event in plan.events() {
+        if let Event::Know(term) = event {
+            put_atoms(atoms, term)?;
+        }
+    }
+    Ok(())
+}
+
+/// The honest bytes of what a role knows.
+fn values_of(
+    alloc: Global,
+    algebra: &ByteAlgebra<'_>,
+    given: &Given<'_>,
+    plan: &Plan,
+) -> Result<Vec<Bytes>, NoMemory>
+    requires { AllByRecursion (IsFormed (has_operator algebra.now.formats)) (known_in plan.now) }
+    ensures { (atoms : ℕ → List ℕ) → Gives given.now atoms → IfOk result (λ values. values.items
+        ≡ map (honest (byte_meaning algebra.now.formats algebra.now.suite) atoms)
+        (known_in plan.now)) }
+{
+    let mut values = Vec::new(alloc);
+    for event in plan.events() {
+        if let Event::Know(term) = event {
+            values.push(honest_bytes(alloc, algebra, given, term)?)?;
+        }
+    }
+    Ok(values)
+}
+
+/// The end that the first value makes that is longer than an arrival may be.
+pub(crate) fn first_long(initial: &[Vec<Bytes>]) -> Option<RehearseEnd>
+    ensures { result ≡ first (long_end 0) (flat_map items_of initial.now) }
+{
+    for values in initial {
+        if let Some(end) = first_long_of(values) {
+            return Some(end);
+        }
+    }
+    None
+}
+
+fn first_long_of(values: &[Bytes]) -> Option<RehearseEnd>
+    ensures { result ≡ first (long_end 0) values.now }
+{
+    for value in values {
+        let len = value.as_slice().len();
+        if len > ARRIVAL as usize {
+            return Some(RehearseEnd::LongMessage {
+                action: 0,
+                len: len as u64,
+            });
+        }
+    }
+    None
+}
+
+/// A rehearsal before its first turn.
+pub(crate) fn stage<'c>(
+    alloc: Global,
+    p: &Protocol,
+    codes: &'c [RoleCode],
+    plans: &[Plan],
+    initial: &[Vec<Bytes>],
+    seed: &[u8; 32],
+) -> Result<Stage<'c>, NoMemory>
+    requires holds { HoldsOf p.now }
+    requires codes { FollowRoles p.now codes.now }
+    requires plans { plans.now ≡ map (plan_of p.now) (range_with_len 0 (length p.now.roles)) }
+    requires initial { (values : List (List ℕ)) × (map items_of initial.now
+        ≡ map (initial (cast p.now codes.now values seed.now))
+        (range_with_len 0 (length p.now.roles))) }
+    requires short { first (long_end 0) (flat_map items_of initial.now) ≡ None }
+    ensures { (values : List (List ℕ)) → let c = cast p.now codes.now values seed.now in
+        map items_of initial.now ≡ map (initial c) (range_with_len 0 (length p.now.roles))
+        → IfOk result (Stands c outset) }
+{
+    let mut players = Vec::new(alloc);
+    for (role, code) in codes.iter().enumerate() {
+        let player = Player {
+            machine: Machine::start(alloc, code, &initial[role], seed, role as u32)?,
+            parts: parts_of(alloc, &plans[role])?,
+            done: 0,
+        };
+        players.push(player)?;
+    }
+    Ok(Stage {
+        players,
+        told: no_messages(alloc, p.actions())?,
+        taken: 0,
+        passed: 0,
+    })
+}
+
+/// So many actions, none of which has a message.
+fn no_messages(alloc: Global, actions: u32) -> Result<Vec<Option<Bytes>>, NoMemory>
+    ensures { IfOk result (λ told. told.items ≡ replicate actions None) }
+{
+    let mut told = Vec::new(alloc);
+    for _ in 0..actions {
+        told.push(None)?;
+    }
+    Ok(told)
+}
+
+/// What a role is to do, in order.
+fn parts_of(alloc: Global, plan: &Plan) -> Result<Vec<Part>, NoMemory>
+    ensures { (role : ℕ) → IfOk result (λ parts.
+        map (turn_value role) parts.items ≡ filter_map (part_of role) plan.now) }
+{
+    let mut parts = Vec::new(alloc);
+    for event in plan.events() {
+        if let Some(part) = part_of(event) {
+            parts.push(part)?;
+        }
+    }
+    Ok(parts)
+}
+
+fn part_of(event: &Event) -> Option<Part>
+    ensures { (role : ℕ) → option_map (turn_value role) result
+        ≡ part_of role (plan_event event.now) }
+{
+    match event {
+        Event::Send { action, .. } => Some(Part {
+            action: *action,
+            sends: true,
+        }),
+        Event::Recv { action, .. } => Some(Part {
+            action: *action,
+            sends: false,
+        }),
+        Event::Know(_) | Event::Fresh(_) => None,
+    }
+}

@@ -1,0 +1,9 @@
+//! Rehearsals of worked examples.
+//!
+//! The tests are the examples.
+#![tactic(auto)]
+
+#[cfg(test)]
+mod rehearsals;
+#[cfg(test)]
+mod telling;
