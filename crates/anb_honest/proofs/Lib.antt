@@ -4,9 +4,10 @@ pub mod Moving
 pub mod Standing
 pub mod Turning
 pub mod Placing
-pub mod Beginning
+pub mod Begun
 pub mod Scheduling
 pub mod Playing
-pub mod Rehearsing
-pub mod Ending
+pub mod Rehearsed
+pub mod Ended
 pub mod Wording
+pub mod Acting

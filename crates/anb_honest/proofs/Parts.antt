@@ -46,12 +46,12 @@ parts_are p role =
 
 -- a part of this role at one of so many actions
 pub record IsPartOf (role n : ℕ) (t : Turn) : Type 0 where
-  pub role : t.role ≡ role
+  pub own : t.role ≡ role
   pub least : 1 ≤ t.action
   pub most : t.action ≤ n
 
 one_of : (role n k : ℕ) (b d : Bool) → 1 ≤ k → k ≤ n → AllByRecursion (IsPartOf role n) (cond d (record { role = role; action = k; sends = b } ∷ []) [])
-one_of role n k b true least most = (record { role = refl; least = least; most = most }, tt)
+one_of role n k b true least most = (record { own = refl; least = least; most = most }, tt)
 one_of role n k b false least most = tt
 
 each_of : (role n : ℕ) (before acts : List ActionValue) → length before + length acts ≡ n → AllByRecursion (IsPartOf role n) (each_after (part_in role) before acts)

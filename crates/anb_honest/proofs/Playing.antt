@@ -26,7 +26,7 @@ use Rattle.anb_honest.specs.declared.report.RehearseEnd.{RehearseEnd}
 use Rattle.anb_honest.specs.Joint.{Cast, known_atoms, given, given_bytes, halt_behind, long_end}
 use Rattle.anb_honest.specs.Honest.{AreHonest}
 use Rattle.anb_honest.proofs.Placing.{any_distinct}
-use Rattle.anb_honest.proofs.Beginning.{all_known}
+use Rattle.anb_honest.proofs.Begun.{all_known}
 
 -- ---- it never stops
 
@@ -74,13 +74,15 @@ all_members P (x ∷ xs) each =
 
 place_there : (a i : ℕ) (xs : List ℕ) → list_any (λ y. y == a) xs ≡ true → (k : ℕ) × (position_from (λ b. b == a) i xs ≡ Some (i + k)) × (slice_get xs k ≡ Some a)
 place_there a i [] h = cc
-place_there a i (x ∷ xs) h = by (x == a) refl h where
-  by : (b : Bool) → (x == a) ≡ b → (b || list_any (λ y. y == a) xs) ≡ true → (k : ℕ) × (cond b (Some i) (position_from (λ y. y == a) (i + 1) xs) ≡ Some (i + k)) × (slice_get (x ∷ xs) k ≡ Some a)
-  by true e g = (0, (let n : i ≡ i + 0 = omega arith in ap Some n), ap Some (eqb-true x a e))
-  by false e g =
-      let ih = place_there a (i + 1) xs g in
-      let n : i + 1 + ih.0 ≡ i + suc ih.0 = omega arith in
-      (suc ih.0, ih.1 ∙ ap Some n, ih.2)
+place_there a i (x ∷ xs) h = by (x == a) refl h (place_there a (i + 1) xs) where
+  by : (b : Bool) → (x == a) ≡ b → (b || list_any (λ y. y == a) xs) ≡ true
+      → (list_any (λ y. y == a) xs ≡ true → (k : ℕ) × (position_from (λ y. y == a) (i + 1) xs ≡ Some (i + 1 + k)) × (slice_get xs k ≡ Some a))
+      → (k : ℕ) × (cond b (Some i) (position_from (λ y. y == a) (i + 1) xs) ≡ Some (i + k)) × (slice_get (x ∷ xs) k ≡ Some a)
+  by true e g ih = (0, (let n : i ≡ i + 0 = omega arith in ap Some n), ap Some (eqb-true x a e))
+  by false e g ih =
+      let there = ih g in
+      let n : i + 1 + there.0 ≡ i + suc there.0 = omega arith in
+      (suc there.0, there.1 ∙ ap Some n, there.2)
 
 module _ (c : Cast) (atoms : ℕ → List ℕ) (are : AreHonest c atoms) where
   given_is : (a : ℕ) → list_any (λ y. y == a) (atoms_in_each (known_terms c.protocol)) ≡ true → given c a ≡ atoms a

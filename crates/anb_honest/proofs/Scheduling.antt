@@ -11,6 +11,7 @@ use Rattle.anb_term.specs.Value.{Meaning}
 use Rattle.anb_lemmas.proofs.Each.{each_in_both}
 use Rattle.anb_plays.specs.Plays.{Played}
 use Rattle.anb_plays.specs.Honest.{honest, honest_from, heard}
+use Rattle.std.proofs.lemmas.Bool.Decides.{nat_tests}
 use Rattle.anb_resolve.specs.Choices.{each_after}
 use Rattle.anb_resolve.specs.Protocols.{ActionValue, ProtocolValue}
 use Rattle.anb_resolve.specs.Texts.{known_by}
@@ -63,7 +64,7 @@ more_in_order p ts role t order e q = by (t.role == q) refl where
   by : (b : Bool) → (t.role == q) ≡ b → filter (is_of q) (ts ++ t ∷ []) ≡ take (count_by (is_of q) (ts ++ t ∷ [])) (parts_of p q)
   by true h =
       let o = own in
-      let g : role ≡ q = sym o.role ∙ eqb-true t.role q h in
+      let g : role ≡ q = sym o.own ∙ eqb-true t.role q h in
       let at : slice_get (parts_of p q) (count_by (is_of q) ts) ≡ Some t = subst (λ r. slice_get (parts_of p r) (count_by (is_of r) ts) ≡ Some t) g (ready_next ts (next_of p ts role) t e) in
       filter-append (is_of q) ts (t ∷ []) ∙ ap (λ v. filter (is_of q) ts ++ cond v (t ∷ []) []) h ∙ ap (λ l. l ++ t ∷ []) (order q)
       ∙ sym (take_at (parts_of p q) (count_by (is_of q) ts) t at)
@@ -84,10 +85,11 @@ new_turns p ts (role ∷ turns) = new_with (turn_of p ts role) (new_turns p (app
 
 pub taken_is : (p : ProtocolValue) (ts : List Turn) (turns : List ℕ) → taken_after p ts turns ≡ ts ++ new_turns p ts turns
 taken_is p ts [] = sym (append-nil ts)
-taken_is p ts (role ∷ turns) = by (turn_of p ts role) where
-  by : (o : Option Turn) → taken_after p (append_if ts o) turns ≡ ts ++ new_with o (new_turns p (append_if ts o) turns)
-  by None = taken_is p ts turns
-  by (Some t) = taken_is p (ts ++ t ∷ []) turns ∙ append_assoc ts (t ∷ []) (new_turns p (ts ++ t ∷ []) turns)
+taken_is p ts (role ∷ turns) = by (turn_of p ts role) (λ us. taken_is p us turns) where
+  by : (o : Option Turn) → ((us : List Turn) → taken_after p us turns ≡ us ++ new_turns p us turns)
+      → taken_after p (append_if ts o) turns ≡ ts ++ new_with o (new_turns p (append_if ts o) turns)
+  by None ih = ih ts
+  by (Some t) ih = ih (ts ++ t ∷ []) ∙ append_assoc ts (t ∷ []) (new_turns p (ts ++ t ∷ []) turns)
 
 pub taken_in_order : (p : ProtocolValue) (ts : List Turn) (turns : List ℕ) → InOrder p ts → InOrder p (taken_after p ts turns)
 taken_in_order p ts [] order = order
@@ -97,14 +99,13 @@ taken_in_order p ts (role ∷ turns) order = taken_in_order p (append_if ts (tur
   by (Some t) e = more_in_order p ts role t order e
 
 pub filter_both : {A : Type 0} (f g : A → Bool) (xs : List A) → filter (λ x. f x && g x) xs ≡ filter g (filter f xs)
-filter_both f g [] = refl
-filter_both f g (x ∷ xs) = by (f x) where
-  by : (b : Bool) → cond (b && g x) (x ∷ filter (λ y. f y && g y) xs) (filter (λ y. f y && g y) xs) ≡ filter g (cond b (x ∷ filter f xs) (filter f xs))
-  by false = filter_both f g xs
-  by true = and (g x) where
-    and : (v : Bool) → cond v (x ∷ filter (λ y. f y && g y) xs) (filter (λ y. f y && g y) xs) ≡ cond v (x ∷ filter g (filter f xs)) (filter g (filter f xs))
-    and true = ap (λ l. x ∷ l) (filter_both f g xs)
-    and false = filter_both f g xs
+filter_both {A = A} f g [] = refl
+filter_both {A = A} f g (x ∷ xs) = by (f x) (g x) refl (filter_both f g xs) where
+  by : (b v : Bool) → g x ≡ v → filter (λ y. f y && g y) xs ≡ filter g (filter f xs)
+      → cond (b && v) (x ∷ filter (λ y. f y && g y) xs) (filter (λ y. f y && g y) xs) ≡ filter g (cond b (x ∷ filter f xs) (filter f xs))
+  by true true e ih = ap (λ l. x ∷ l) ih ∙ sym (ap (λ w. cond w (x ∷ filter g (filter f xs)) (filter g (filter f xs))) e)
+  by true false e ih = ih ∙ sym (ap (λ w. cond w (x ∷ filter g (filter f xs)) (filter g (filter f xs))) e)
+  by false v e ih = ih
 
 -- ---- the terms of actions
 
@@ -192,13 +193,13 @@ and_both false b e = absurd (cc)
 
 complete_each : (c : Cast) (ts : List Turn) (n : ℕ) → is_complete c ts n ≡ true → (role : ℕ) → role < n → next_of c.protocol ts role ≡ None
 complete_each c ts zero e role h = absurd (omega arith)
-complete_each c ts (suc n) e role h = by (role == n) refl where
-  parts : (is_complete c ts n ≡ true) × (is_none (next_of c.protocol ts n) ≡ true)
-  parts = and_both (is_complete c ts n) (is_none (next_of c.protocol ts n)) e
-
-  by : (b : Bool) → (role == n) ≡ b → next_of c.protocol ts role ≡ None
-  by true f = let g : role ≡ n = eqb-true role n f in subst (λ r. next_of c.protocol ts r ≡ None) (sym g) (none_is (next_of c.protocol ts n) parts.1)
-  by false f = let less : role < n = grind (arith, f) in complete_each c ts n parts.0 role less
+complete_each c ts (suc n) e role h =
+    let parts = and_both (is_complete c ts n) (is_none (next_of c.protocol ts n)) e in
+    by (role == n) refl parts.1 (complete_each c ts n parts.0 role)
+  where
+    by : (b : Bool) → (role == n) ≡ b → is_none (next_of c.protocol ts n) ≡ true → (role < n → next_of c.protocol ts role ≡ None) → next_of c.protocol ts role ≡ None
+    by true f last ih = let g : role ≡ n = eqb-true role n f in subst (λ r. next_of c.protocol ts r ≡ None) (sym g) (none_is (next_of c.protocol ts n) last)
+    by false f last ih = ih (grind (arith, nat_tests, f))
 
 each_complete : (c : Cast) (ts : List Turn) (n : ℕ) → ((role : ℕ) → role < n → next_of c.protocol ts role ≡ None) → is_complete c ts n ≡ true
 each_complete c ts zero all = refl

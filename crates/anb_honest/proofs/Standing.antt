@@ -10,6 +10,7 @@ use Rattle.anb_base.specs.declared.TheConstants.{ARRIVAL}
 use Rattle.anb_plays.specs.Plays.{Played, End, stopped, waiting, done, ends, says}
 use Rattle.anb_machine.specs.Machines.{gives}
 use Rattle.anb_machine.specs.declared.turn.Halt.{Halt}
+use Rattle.std.proofs.lemmas.Bool.Decides.{nat_tests}
 use Rattle.anb_resolve.specs.Schedules.{Turn, parts_of, next_of, if_ready, turn_of, was_sent}
 use Rattle.anb_honest.specs.declared.player.Player.{Player}
 use Rattle.anb_honest.specs.declared.stage.Stage.{Stage}
@@ -30,7 +31,7 @@ drop_at (y ∷ ys) (suc n) x h = let n' : suc n + 1 ≡ suc (n + 1) = omega arit
 
 module _ (c : Cast) (moves : List Move) (role : ℕ) (pl : Player) (is : IsPlayer c moves role pl) where
   now_gives : GivesBehind (run_of c moves role) (gave moves role) (gives pl.machine [])
-  now_gives = ap (run_over c role) (sym (append-nil (took moves role))) ∙ is.gives []
+  now_gives = ap (run_over c role) (sym (append-nil (took moves role))) ∙ is.comes []
 
   pub unreported_is : unreported c moves role ≡ (gives pl.machine []).sent
   unreported_is =
@@ -101,10 +102,10 @@ module _ (c : Cast) (moves : List Move) (role action : ℕ) (b : List ℕ) (pl n
         parts = ap (map (turn_value role)) parts ∙ is.parts;
         done = count ∙ ap (λ n. n + 1) is.done ∙ sym (counted true);
         within = (let room = room_next c moves role pl is (turn_at role action true) next in let long = ap length parts in omega arith);
-        gives = λ more.
+        comes = λ more.
             subst (λ l. GivesBehind (run_over c role (l ++ more)) (gave (moves ++ move true ∷ []) role) (gives new.machine more)) (sym taken)
             (subst (λ l. GivesBehind (run_over c role (took moves role ++ more)) l (gives new.machine more)) (sym given)
-            (further (run_over c role (took moves role ++ more)) (gives pl.machine more) (gives new.machine more) (gave moves role) b (is.gives more) (says_so more)));
+            (further (run_over c role (took moves role ++ more)) (gives pl.machine more) (gives new.machine more) (gave moves role) b (is.comes more) (says_so more)));
         order = subst (λ n. KeepsOrder (drop n (parts_of c.protocol role)) (gives new.machine)) (sym count)
             (elim (acts_next c moves role pl is (turn_at role action true) next) [
               | inl s ↦ (let e : says b (gives new.machine []) ≡ ends (stopped s.0.event s.0.at) [] = sym (says_so []) ∙ s.1 [] in let f = ap (λ (q : Played (List ℕ)). q.sent) e in cc)
@@ -125,11 +126,11 @@ module _ (c : Cast) (moves : List Move) (role action : ℕ) (b : List ℕ) (pl n
         parts = ap (map (turn_value role)) parts ∙ is.parts;
         done = count ∙ ap (λ n. n + 1) is.done ∙ sym (counted false);
         within = (let room = room_next c moves role pl is (turn_at role action false) next in let long = ap length parts in omega arith);
-        gives = λ more.
+        comes = λ more.
             subst (λ l. GivesBehind (run_over c role (l ++ more)) (gave (moves ++ move false ∷ []) role) (gives new.machine more)) (sym taken)
             (subst (λ l. GivesBehind (run_over c role ((took moves role ++ b ∷ []) ++ more)) l (gives new.machine more)) (sym given)
             (subst (λ l. GivesBehind (run_over c role l) (gave moves role) (gives new.machine more)) (sym (append_assoc (took moves role) (b ∷ []) more))
-            (behind (run_over c role (took moves role ++ b ∷ more)) (gives pl.machine (b ∷ more)) (gives new.machine more) (gave moves role) (is.gives (b ∷ more)) (heard more))));
+            (behind (run_over c role (took moves role ++ b ∷ more)) (gives pl.machine (b ∷ more)) (gives new.machine more) (gave moves role) (is.comes (b ∷ more)) (heard more))));
         order = subst (λ n. KeepsOrder (drop n (parts_of c.protocol role)) (gives new.machine)) (sym count)
             (elim (acts_next c moves role pl is (turn_at role action false) next) [
               | inl s ↦ (let q : ends (waiting e) [] ≡ ends (stopped s.0.event s.0.at) [] = sym waits ∙ s.1 [] in let f = ap (λ (x : Played (List ℕ)). x.end) q in cc)
@@ -149,9 +150,9 @@ other_player c moves m role pl other is =
       parts = is.parts;
       done = is.done ∙ sym count;
       within = is.within;
-      gives = λ more.
+      comes = λ more.
           subst (λ l. GivesBehind (run_over c role (l ++ more)) (gave (moves ++ m ∷ []) role) (gives pl.machine more)) (sym taken)
-          (subst (λ l. GivesBehind (run_over c role (took moves role ++ more)) l (gives pl.machine more)) (sym given) (is.gives more));
+          (subst (λ l. GivesBehind (run_over c role (took moves role ++ more)) l (gives pl.machine more)) (sym given) (is.comes more));
       order = is.order;
     }
 
@@ -195,7 +196,7 @@ slots_told moves role k b slots within all j = by (k == j) refl where
   elsewhere (Some slot) e h = h ∙ sym (told_last moves (record { turn = turn_at role (k + 1) true; bytes = b }) (j + 1) ∙ rw e refl)
 
   differ : (k == j) ≡ false → ((k + 1) == (j + 1)) ≡ false
-  differ e = grind (arith, e)
+  differ e = grind (arith, nat_tests, e)
 
   by : (v : Bool) → (k == j) ≡ v → IfSome (slice_get (slice_set slots k (Some b)) j) (λ slot. slot ≡ told (moves ++ record { turn = turn_at role (k + 1) true; bytes = b } ∷ []) (j + 1))
   by true e =

@@ -7,6 +7,7 @@ use Rattle.anb_base.specs.declared.TheConstants.{ARRIVAL}
 use Rattle.anb_plays.specs.Plays.{Played, End, stopped, waiting, done, ends, says}
 use Rattle.anb_machine.specs.Machines.{gives}
 use Rattle.anb_machine.specs.declared.turn.Halt.{Halt}
+use Rattle.std.proofs.lemmas.Bool.Decides.{nat_tests}
 use Rattle.anb_resolve.specs.Schedules.{Turn, parts_of, next_of, if_ready, turn_of, was_sent}
 use Rattle.anb_honest.specs.declared.player.Player.{Player}
 use Rattle.anb_honest.specs.declared.stage.Stage.{Stage}
@@ -76,10 +77,10 @@ no_halt b bs (waiting e) = refl
 no_halt b bs done = refl
 
 short_is : (b : List ℕ) → length b ≤ ARRIVAL → is_long b ≡ false
-short_is b h = grind (arith, h)
+short_is b h = grind (arith, nat_tests, h)
 
 long_is : (b : List ℕ) → ARRIVAL < length b → is_long b ≡ true
-long_is b h = grind (arith, h)
+long_is b h = grind (arith, nat_tests, h)
 
 more_moves : (moves : List Move) (m : Move) (passed : ℕ) → length (moves ++ m ∷ []) + passed ≡ length moves + passed + 1
 more_moves moves m passed = omega (arith, length-append moves (m ∷ []))

@@ -1,6 +1,7 @@
 -- for proofs alone: values by a table of places.
 use Rattle.std.specs.Prelude.{◌≡◌, ℕ, ◌-◌, ◌==◌, suc, if◌then◌else◌, List, [], get_or, unwrap_or, slice_get}
 use Rattle.std.specs.Prelude.{Vec}
+use Rattle.std.specs.Global.{Global}
 use Rattle.std.specs.Option.{option_map_or}
 use Rattle.std.specs.List.{position_from}
 use Rattle.anb_honest.specs.declared.given.Given.{Given}
@@ -16,5 +17,5 @@ value_in table values a = if get_or table a 0 == 0 then [] else unwrap_or (slice
 abbrev pub Gives : Given → (ℕ → List ℕ) → Type 0
 Gives given atoms = (a : ℕ) → atoms a ≡ value_in given.places.items given.values.now a
 
-abbrev pub items_of : Vec (List ℕ) → List (List ℕ)
+abbrev pub items_of : Vec (List ℕ) Global → List (List ℕ)
 items_of values = values.items

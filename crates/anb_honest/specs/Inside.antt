@@ -37,7 +37,7 @@ pub record IsPlayer (c : Cast) (moves : List Move) (role : ℕ) (player : Player
   pub parts : map (turn_value role) player.parts.items ≡ parts_of c.protocol role
   pub done : player.done ≡ count_by (λ (t : Turn). t.role == role) (turns_of moves)
   pub within : player.done ≤ length player.parts.items
-  pub gives : (more : List (List ℕ)) → GivesBehind (run_over c role (took moves role ++ more)) (gave moves role) (gives player.machine more)
+  pub comes : (more : List (List ℕ)) → GivesBehind (run_over c role (took moves role ++ more)) (gave moves role) (gives player.machine more)
   pub order : KeepsOrder (drop player.done (parts_of c.protocol role)) (gives player.machine)
 
 abbrev pub IsShort : Option (List ℕ) → Type 0

@@ -101,7 +101,18 @@ pub record Course : Type 0 where
 abbrev pub outset : Course
 outset = record { moves = []; passed = 0 }
 
+abbrev pub passes : Course → Course
+passes s = record s { passed = s.passed + 1 }
+
+abbrev pub moves_on : Course → Turn → List ℕ → Course
+moves_on s t bytes = record s { moves = s.moves ++ record { turn = t; bytes = bytes } ∷ [] }
+
 -- ---- where the roles stand
+
+-- how a run stopped, where it did and none of these messages is left
+abbrev pub halt_behind : List (List ℕ) → End → Option Halt
+halt_behind [] (stopped e at) = Some (record { event = e; at = at })
+halt_behind messages end = None
 
 module _ (c : Cast) where
   -- the run of a role's code, over some arrivals and over what the role took
@@ -117,10 +128,6 @@ module _ (c : Cast) where
   -- its messages that the role did not report yet
   abbrev pub unreported : List Move → ℕ → List (List ℕ)
   unreported moves role = drop (length (gave moves role)) (run_of moves role).sent
-
-  abbrev pub halt_behind : List (List ℕ) → End → Option Halt
-  halt_behind [] (stopped e at) = Some (record { event = e; at = at })
-  halt_behind messages end = None
 
   -- how a role's run stopped; a role is stuck where it did and each message of it was reported
   abbrev pub stuck : List Move → ℕ → Option Halt
@@ -138,12 +145,6 @@ module _ (c : Cast) where
   end_at moves t =
       option_or (option_map (Stopped t.role) (stuck moves t.role))
       (if t.sends then option_and_then (long_end t.action) (message_of moves t) else None)
-
-  abbrev pub passes : Course → Course
-  passes s = record s { passed = s.passed + 1 }
-
-  abbrev pub moves_on : Course → Turn → List ℕ → Course
-  moves_on s t bytes = record s { moves = s.moves ++ record { turn = t; bytes = bytes } ∷ [] }
 
   -- what it leaves
   abbrev pub after : Course → Turn → Course

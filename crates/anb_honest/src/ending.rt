@@ -16,7 +16,7 @@ pub(crate) fn end_of(alloc: Global, stage: Stage<'_>) -> Result<RehearseEnd, NoM
     requires few { stage.taken + stage.passed < 2 ^ 32 }
     requires players { length stage.players.items ≤ 32 }
     requires told { length stage.told.items ≤ 256 }
-    ensures { IfOk result (λ end. (c : Cast) (s : Course) → Stands c s stage
+    ensures { IfOk result (λ end. (c : Cast) (s : Course) → Stands c s stage.entry
         → end ≡ end_behind c s) }
 {
     let Stage {
@@ -52,7 +52,7 @@ fn are_done(players: &[Player<'_>]) -> bool
 /// The end that the first role makes that is stuck.
 fn first_stuck(alloc: Global, players: Vec<Player<'_>>) -> Result<Option<RehearseEnd>, NoMemory>
     requires { length players.items ≤ 32 }
-    ensures { IfOk result (λ end. end ≡ first_stopped 0 players.items) }
+    ensures { IfOk result (λ end. end ≡ first_stopped 0 players.entry.items) }
 {
     let mut role = 0;
     for player in players {

@@ -11,11 +11,11 @@ mod order;
 mod player;
 mod rehearsing;
 mod report;
-mod schedule;
 mod stage;
+mod words;
 
 pub use laws::{complete_is_tested, fitting_codes_follow, plays_are_honest, rehearsals_are_honest};
 pub use order::follows;
 pub use rehearsing::rehearse;
 pub use report::{Messages, RehearseEnd, Report};
-pub use schedule::{ScheduleNo, schedule};
+pub use words::{ScheduleNo, schedule};

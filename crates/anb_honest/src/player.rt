@@ -94,7 +94,7 @@ impl<'c> Player<'c> {
 
     /// How the role's run stopped, where it did and all its messages were reported.
     pub(crate) fn stuck(mut self, alloc: Global) -> Result<Option<Halt>, NoMemory>
-        ensures { IfOk result (λ halt. halt ≡ halt_of self) }
+        ensures { IfOk result (λ halt. halt ≡ halt_of self.entry) }
     {
         match self.machine.advance(alloc) {
             Turn::Stopped(halt) => Ok(Some(halt)),

@@ -5,6 +5,7 @@ use Rattle.std.specs.Option.{option_or}
 use Rattle.std.specs.List.{list_all, range_with_len, cons_option}
 use Rattle.std.proofs.lemmas.List.{length-map, take_all}
 use Rattle.std.proofs.lemmas.Option.{slice_get-map, slice_get_past}
+use Rattle.std.proofs.lemmas.Bool.Decides.{nat_tests}
 use Rattle.anb_base.specs.declared.content.Sent.{Sent}
 use Rattle.anb_term.proofs.Lists.{slice_get-there}
 use Rattle.anb_resolve.specs.Choices.{first}
@@ -35,10 +36,16 @@ stopped_first c moves (pl ∷ players) k all =
     ∙ ap (option_or (option_map (Stopped k) (stuck c moves k))) (stopped_first c moves players (k + 1) (shifted c moves pl players k all))
 
 -- whether a role is done
+zero_apart : (n : ℕ) → false ≡ (0 == suc n)
+zero_apart n = grind (arith, nat_tests)
+
+suc_same : (m n : ℕ) → (m == n) ≡ (suc m == suc n)
+suc_same m n = grind (arith, nat_tests)
+
 none_at : {A : Type 0} (xs : List A) (n : ℕ) → n ≤ length xs → is_none (slice_get xs n) ≡ (n == length xs)
 none_at [] n h = let e : n ≡ 0 = omega arith in rw e refl
-none_at (x ∷ xs) zero h = refl
-none_at (x ∷ xs) (suc n) h = none_at xs n (omega arith)
+none_at (x ∷ xs) zero h = zero_apart (length xs)
+none_at (x ∷ xs) (suc n) h = none_at xs n (omega arith) ∙ suc_same n (length xs)
 
 is_mapped : {A B : Type 0} (f : A → B) (o : Option A) → is_none (option_map f o) ≡ is_none o
 is_mapped f None = refl
@@ -53,10 +60,10 @@ all_last f [] x = by (f x) where
   by : (b : Bool) → (b && true) ≡ b
   by true = refl
   by false = refl
-all_last f (y ∷ xs) x = by (f y) where
-  by : (b : Bool) → (b && list_all f (xs ++ x ∷ [])) ≡ ((b && list_all f xs) && f x)
-  by true = all_last f xs x
-  by false = refl
+all_last f (y ∷ xs) x = by (f y) (all_last f xs x) where
+  by : (b : Bool) → list_all f (xs ++ x ∷ []) ≡ (list_all f xs && f x) → (b && list_all f (xs ++ x ∷ [])) ≡ ((b && list_all f xs) && f x)
+  by true ih = ih
+  by false ih = refl
 
 take_next : {A : Type 0} (xs : List A) (n : ℕ) (x : A) → slice_get xs n ≡ Some x → take (suc n) xs ≡ take n xs ++ x ∷ []
 take_next [] n x h = cc
@@ -93,6 +100,10 @@ sent_is c moves (slot ∷ slots) k all =
     sent_one c moves k slot slots (filter_map (reported c (told moves)) (range_with_len (k + 1) (length slots))) (let n : 0 + k ≡ k = omega arith in all 0 ∙ ap (told moves) n)
     (sent_is c moves slots (k + 1) (λ j. let n : suc j + k ≡ j + (k + 1) = omega arith in subst (λ q. IfSome (slice_get slots j) (λ x. x ≡ told moves q)) n (all (suc j))))
 
+pub same_report : (a a' b b' d d' : ℕ) (l l' : List Sent) → a ≡ a' → b ≡ b' → d ≡ d' → l ≡ l'
+    → ◌≡◌ {A = Report} (record { turns = a; taken = b; passed = d; sent = l }) (record { turns = a'; taken = b'; passed = d'; sent = l' })
+same_report a a' b b' d d' l l' p q r t = cc
+
 module _ (c : Cast) (s : Course) (stage : Stage) (st : Stands c s stage) where
   firsts : first_stopped 0 stage.players.items ≡ first (λ role. option_map (Stopped role) (stuck c s.moves role)) (range_with_len 0 (length c.protocol.roles))
   firsts =
@@ -113,10 +124,8 @@ module _ (c : Cast) (s : Course) (stage : Stage) (st : Stands c s stage) where
       let t1 : r.turns ≡ length s.moves + s.passed = turns ∙ ap (λ n. n + stage.passed) st.taken ∙ ap (λ n. length s.moves + n) st.passed in
       let t2 : r.taken ≡ length s.moves = taken ∙ st.taken in
       let t3 : r.passed ≡ s.passed = passed ∙ st.passed in
-      let same : r ≡ report c s = ap (λ (x : ℕ × ℕ × ℕ × List Sent). record { turns = x.0; taken = x.1; passed = x.2; sent = x.3 }) (four r.turns (length s.moves + s.passed) r.taken (length s.moves) r.passed s.passed r.sent (all_reported c (told s.moves)) t1 t2 t3 messages) in
+      let same : r ≡ report c s =
+      same_report r.turns (length s.moves + s.passed) r.taken (length s.moves) r.passed s.passed r.sent (all_reported c (told s.moves)) t1 t2 t3 messages in
       ap (λ v. cond v (AllDone r) (Partly r)) complete
       ∙ ap (λ x. cond (is_complete c (turns_of s.moves) (length c.protocol.roles)) (AllDone x) (Partly x)) same
       ∙ ap (λ o. unwrap_or o (cond (is_complete c (turns_of s.moves) (length c.protocol.roles)) (AllDone (report c s)) (Partly (report c s)))) (none ∙ firsts)
-    where
-      four : (a a' b b' d d' : ℕ) (l l' : List Sent) → a ≡ a' → b ≡ b' → d ≡ d' → l ≡ l' → (a, b, d, l) ≡ (a', b', d', l')
-      four a a' b b' d d' l l' p q r t = cc

@@ -39,7 +39,8 @@ use Rattle.anb_honest.specs.Inside.{part_of}
 use Rattle.anb_honest.proofs.Parts.{IsPartOf, parts_are}
 use Rattle.anb_honest.proofs.Moving.{told_sent}
 use Rattle.anb_honest.proofs.Turning.{ready_next, ready_sent}
-use Rattle.anb_honest.proofs.Beginning.{mapped_twice}
+use Rattle.anb_honest.proofs.Begun.{mapped_twice}
+use Rattle.anb_honest.proofs.Ended.{same_report}
 use Rattle.anb_honest.proofs.Scheduling.{is_of, hears, tells, InOrder, none_in_order, more_in_order, part_taken, new_with, new_turns, taken_is, taken_in_order, filter_both, plan_has, heard_first, told_next}
 use Rattle.anb_honest.proofs.Playing.{never_stops, initial_honest, first_honest, events_formed, heard_all_formed, known_formed, atoms_good}
 
@@ -91,16 +92,14 @@ module _ (p : ProtocolValue) (ts : List Turn) (order : InOrder p ts) (role : ℕ
 -- ---- the joint run
 
 module _ (c : Cast) (atoms : ℕ → List ℕ) where
-  move_of : Turn → Move
+  abbrev pub move_of : Turn → Move
   move_of t = record { turn = t; bytes = honest_message c atoms t.action }
 
   turns_back : (ts : List Turn) → turns_of (map move_of ts) ≡ ts
-  unfolding move_of
   turns_back [] = refl
   turns_back (t ∷ ts) = ap (λ l. t ∷ l) (turns_back ts)
 
   took_honest : (role : ℕ) (ts : List Turn) → took (map move_of ts) role ≡ map (λ (t : Turn). honest_message c atoms t.action) (filter (is_heard role) ts)
-  unfolding move_of
   took_honest role [] = refl
   took_honest role (t ∷ ts) = by (is_heard role t) (took_honest role ts) where
     by : (b : Bool) → took (map move_of ts) role ≡ map (λ (x : Turn). honest_message c atoms x.action) (filter (is_heard role) ts)
@@ -110,7 +109,6 @@ module _ (c : Cast) (atoms : ℕ → List ℕ) where
     by false ih = ih
 
   gave_count : (role : ℕ) (ts : List Turn) → length (gave (map move_of ts) role) ≡ length (filter (λ (t : Turn). (t.role == role) && t.sends) ts)
-  unfolding move_of
   gave_count role [] = refl
   gave_count role (t ∷ ts) = by ((t.role == role) && t.sends) (gave_count role ts) where
     by : (b : Bool) → length (gave (map move_of ts) role) ≡ length (filter (λ (x : Turn). (x.role == role) && x.sends) ts)
@@ -120,7 +118,6 @@ module _ (c : Cast) (atoms : ℕ → List ℕ) where
     by false ih = ih
 
   told_honest : (ts : List Turn) (action : ℕ) → told (map move_of ts) action ≡ honest_sent c atoms ts action
-  unfolding move_of
   told_honest [] action = refl
   told_honest (t ∷ ts) action =
       ap (λ o. option_or o (told_by (record { turn = t; bytes = honest_message c atoms t.action }) action)) (told_honest ts action)
@@ -139,16 +136,16 @@ module _ (c : Cast) (atoms : ℕ → List ℕ) where
       ap (λ o. cons_option (option_map (λ bytes. record { action = k; bytes = bytes }) o) (filter_map (reported c f) ks)) (e k)
       ∙ ap (cons_option (reported c g k)) (same_reported f g ks e)
 
-  rep : ℕ → List Turn → Report
+  abbrev rep : ℕ → List Turn → Report
   rep n ts = record { turns = n; taken = length ts; passed = n - length ts; sent = all_reported c (honest_sent c atoms ts) }
 
-  closing : ℕ → List Turn → RehearseEnd
+  abbrev closing : ℕ → List Turn → RehearseEnd
   closing n ts = cond (is_complete c ts (length c.protocol.roles)) (AllDone (rep n ts)) (Part (rep n ts))
 
   -- where the joint run stands after these turns
-  record Good (s : Course) (ts : List Turn) : Type 0 where
-    moves : s.moves ≡ map move_of ts
-    order : InOrder c.protocol ts
+  pub record Good (s : Course) (ts : List Turn) : Type 0 where
+    pub moves : s.moves ≡ map move_of ts
+    pub order : InOrder c.protocol ts
 
   module _ (are : AreHonest c atoms) (fit : IsFitting c) (sendable : IsSendable c.protocol) (holds : HoldsOf c.protocol)
       (plays : HonestPlays (meaning_of c.protocol)) (agrees : HonestAgrees c.protocol) (fitting : FittingCodesPlay c.protocol) where
@@ -215,7 +212,6 @@ module _ (c : Cast) (atoms : ℕ → List ℕ) where
         turn_is s t (honest_message c atoms t.action) others (none_stuck s ts good t.role within) (message_is s ts good t e within t.sends refl)
 
     moved : (s : Course) (ts : List Turn) (role : ℕ) (t : Turn) → Good s ts → turn_of c.protocol ts role ≡ Some t → Good (moves_on s t (honest_message c atoms t.action)) (ts ++ t ∷ [])
-    unfolding move_of
     moved s ts role t good e = record {
       moves = ap (λ l. l ++ record { turn = t; bytes = honest_message c atoms t.action } ∷ []) good.moves ∙ sym (map-append move_of ts (t ∷ []));
       order = more_in_order c.protocol ts role t good.order e;
@@ -233,22 +229,16 @@ module _ (c : Cast) (atoms : ℕ → List ℕ) where
     below k (suc n) m h = (omega arith, below (k + 1) n m (omega arith))
 
     ended : (s : Course) (ts : List Turn) (total : ℕ) → Good s ts → length s.moves + s.passed ≡ total → end_behind c s ≡ closing total ts
-    unfolding closing rep
     ended s ts total good count =
         let turns : turns_of s.moves ≡ ts = ap turns_of good.moves ∙ turns_back ts in
         let long : length s.moves ≡ length ts = ap length good.moves ∙ length-map ts move_of in
         let same : report c s ≡ rep total ts =
-        ap (λ (x : ℕ × ℕ × ℕ × List Sent). record { turns = x.0; taken = x.1; passed = x.2; sent = x.3 })
-        (four (length s.moves + s.passed) total (length s.moves) (length ts) s.passed (total - length ts) (all_reported c (told s.moves)) (all_reported c (honest_sent c atoms ts))
-        count long (omega arith) (same_reported (told s.moves) (honest_sent c atoms ts) (range_with_len 1 (length c.protocol.actions)) (λ k. ap (λ l. told l k) good.moves ∙ told_honest ts k))) in
+        same_report (length s.moves + s.passed) total (length s.moves) (length ts) s.passed (total - length ts) (all_reported c (told s.moves)) (all_reported c (honest_sent c atoms ts))
+        count long (omega arith) (same_reported (told s.moves) (honest_sent c atoms ts) (range_with_len 1 (length c.protocol.actions)) (λ k. ap (λ l. told l k) good.moves ∙ told_honest ts k)) in
         ap (λ o. unwrap_or o (cond (is_complete c (turns_of s.moves) (length c.protocol.roles)) (AllDone (report c s)) (Part (report c s))))
         (all_free s ts good (range_with_len 0 (length c.protocol.roles)) (below 0 (length c.protocol.roles) (length c.protocol.roles) (omega arith)))
         ∙ ap (λ l. cond (is_complete c l (length c.protocol.roles)) (AllDone (report c s)) (Part (report c s))) turns
         ∙ ap (λ r. cond (is_complete c ts (length c.protocol.roles)) (AllDone r) (Part r)) same
-      where
-        four : (a a' b b' d d' : ℕ) (l l' : List Sent) → a ≡ a' → b ≡ b' → d ≡ d' → l ≡ l' → (a, b, d, l) ≡ (a', b', d', l')
-        four a a' b b' d d' l l' p q r t = cc
-
     or_first : (o : Option RehearseEnd) (rest : Option RehearseEnd) (x y : RehearseEnd) → x ≡ unwrap_or rest y → unwrap_or o x ≡ unwrap_or (option_or o rest) y
     or_first None rest x y e = e
     or_first (Some z) rest x y e = refl
@@ -269,8 +259,8 @@ module _ (c : Cast) (atoms : ℕ → List ℕ) where
         by None e ih = ih (passes s) ts (record { moves = good.moves; order = good.order }) (omega (arith, count)) all.1
         by (Some t) e ih =
             let part = part_taken c.protocol ts role t e in
-            let here : turn_of c.protocol ts t.role ≡ Some t = subst (λ r. turn_of c.protocol ts r ≡ Some t) (sym part.role) e in
-            let within : t.role < length c.protocol.roles = subst (λ r. r < length c.protocol.roles) (sym part.role) all.0 in
+            let here : turn_of c.protocol ts t.role ≡ Some t = subst (λ r. turn_of c.protocol ts r ≡ Some t) (sym part.own) e in
+            let within : t.role < length c.protocol.roles = subst (λ r. r < length c.protocol.roles) (sym part.own) all.0 in
             let b = honest_message c atoms t.action in
             let rest = new_turns c.protocol (ts ++ t ∷ []) turns in
             let on = ih (moves_on s t b) (ts ++ t ∷ []) (moved s ts role t good e) (omega (arith, count, length-append s.moves (record { turn = t; bytes = b } ∷ []))) all.1 in
@@ -279,7 +269,6 @@ module _ (c : Cast) (atoms : ℕ → List ℕ) where
             (on ∙ ap (λ l. unwrap_or (first (long_turn c atoms) rest) (closing total l)) (append_assoc ts (t ∷ []) rest))
 
     pub rehearsed : (turns : List ℕ) → AllByRecursion (λ role. role < length c.protocol.roles) turns → joint c turns ≡ honest_end c atoms turns
-    unfolding closing rep
     rehearsed turns all =
         let went = walks turns outset [] (length turns) (record { moves = refl; order = none_in_order c.protocol }) (omega arith) all in
         let is : taken c.protocol turns ≡ new_turns c.protocol [] turns = taken_is c.protocol [] turns in

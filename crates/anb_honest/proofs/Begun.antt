@@ -2,6 +2,7 @@
 use Rattle.std.proofs.Common.{◌≡◌, ℕ, zero, suc, ◌+◌, ◌<◌, ◌≤◌, List, [], ◌∷◌, ◌++◌, length, map, drop, take, Bool, Option, Some, None, refl, sym, ap, ◌∙◌, subst, arith, append_assoc}
 use Rattle.std.specs.Prelude.{filter_map, flat_map, slice_get, IfSome}
 use Rattle.std.specs.Prelude.{Vec}
+use Rattle.std.specs.Global.{Global}
 use Rattle.std.specs.Option.{option_map_or, option_or}
 use Rattle.std.specs.List.{AllByRecursion, range_with_len}
 use Rattle.std.proofs.lemmas.List.{length-map, map-append}
@@ -67,7 +68,7 @@ player_new c role code pl there follows verified none parts runs =
       parts = parts ∙ parts_are c.protocol role;
       done = none;
       within = omega arith;
-      gives = λ more. ap (λ o. option_map_or (λ (x : CodeValue). run_bytes x (initial c role) c.seed role more) o (ends done [])) there ∙ sym (runs more);
+      comes = λ more. ap (λ o. option_map_or (λ (x : CodeValue). run_bytes x (initial c role) c.seed role more) o (ends done [])) there ∙ sym (runs more);
       order = subst (λ n. KeepsOrder (drop n (parts_of c.protocol role)) (gives pl.machine)) (sym none)
           (order_same (parts_of c.protocol role) (run_bytes code (initial c role) c.seed role) (gives pl.machine) (λ arrivals. sym (runs arrivals))
           (code_keeps c.protocol role code (initial c role) c.seed role follows verified count));
@@ -131,7 +132,7 @@ first_mapped f g [] = refl
 first_mapped f g (x ∷ xs) = ap (option_or (f (g x))) (first_mapped f g xs)
 
 -- the first of them that is too long
-pub first_is : (c : Cast) (all : List (Vec (List ℕ))) → length c.protocol.knows ≡ length c.protocol.roles
+pub first_is : (c : Cast) (all : List (Vec (List ℕ) Global)) → length c.protocol.knows ≡ length c.protocol.roles
     → map items_of all ≡ map (initial c) (range_with_len 0 (length c.protocol.roles))
     → first (long_end 0) (flat_map items_of all) ≡ first (λ t. long_end 0 (given_bytes c t)) (known_terms c.protocol)
 first_is c all count is =

@@ -1,7 +1,7 @@
 //! Schedules from their texts.
 ghost use Rattle.std.specs.Prelude.{◌≡◌, ◌<◌, ◌≤◌, ℕ, length, map, All, IfOk, Some, Err};
 ghost use Rattle.std.specs.List.{position_from};
-ghost use Rattle.anb_honest.specs.declared.schedule.ScheduleNo.TheVariants as refusal;
+ghost use Rattle.anb_honest.specs.declared.words.ScheduleNo.TheVariants as refusal;
 ghost use Rattle.anb_honest.specs.Words.{is_blank, names_none, role_of, words_of};
 
 use anb_resolve::Protocol;
