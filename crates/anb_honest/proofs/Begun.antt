@@ -34,7 +34,7 @@ use Rattle.anb_resolve.specs.Schedules.{parts_of}
 use Rattle.anb_honest.specs.declared.player.Player.{Player}
 use Rattle.anb_honest.specs.Order.{FollowsRole}
 use Rattle.anb_honest.specs.Given.{items_of}
-use Rattle.anb_honest.specs.Joint.{Cast, initial, run_over, given_bytes, long_end}
+use Rattle.anb_honest.specs.Joint.{Cast, init_of, run_over, given_bytes, long_end}
 use Rattle.anb_honest.specs.Acting.{Coming, KeepsOrder}
 use Rattle.anb_honest.specs.Inside.{IsPlayer, GivesBehind, part_of, turn_value}
 use Rattle.anb_honest.proofs.Ordering.{order_same, keeps}
@@ -61,17 +61,17 @@ takes_of p role code follows = ap length follows.texts ∙ length-map (known_by 
 -- a role before its first turn
 pub player_new : (c : Cast) (role : ℕ) (code : CodeValue) (pl : Player) → slice_get c.codes role ≡ Some code → FollowsRole c.protocol role code → IsVerifiedCode ARRIVAL WIDE code
     → pl.done ≡ 0 → map (turn_value role) pl.parts.items ≡ filter_map (part_of role) (plan_of c.protocol role)
-    → ((arrivals : List (List ℕ)) → gives pl.machine arrivals ≡ run_bytes code (initial c role) c.seed role arrivals) → IsPlayer c [] role pl
+    → ((arrivals : List (List ℕ)) → gives pl.machine arrivals ≡ run_bytes code (init_of c role) c.seed role arrivals) → IsPlayer c [] role pl
 player_new c role code pl there follows verified none parts runs =
-    let count : length (initial c role) ≡ length (take_texts code.instrs) = length-map (known_by c.protocol role) (given_bytes c) ∙ sym (takes_of c.protocol role code follows) in
+    let count : length (init_of c role) ≡ length (take_texts code.instrs) = length-map (known_by c.protocol role) (given_bytes c) ∙ sym (takes_of c.protocol role code follows) in
     record {
       parts = parts ∙ parts_are c.protocol role;
       done = none;
       within = omega arith;
-      comes = λ more. ap (λ o. option_map_or (λ (x : CodeValue). run_bytes x (initial c role) c.seed role more) o (ends done [])) there ∙ sym (runs more);
+      comes = λ more. ap (λ o. option_map_or (λ (x : CodeValue). run_bytes x (init_of c role) c.seed role more) o (ends done [])) there ∙ sym (runs more);
       order = subst (λ n. KeepsOrder (drop n (parts_of c.protocol role)) (gives pl.machine)) (sym none)
-          (order_same (parts_of c.protocol role) (run_bytes code (initial c role) c.seed role) (gives pl.machine) (λ arrivals. sym (runs arrivals))
-          (code_keeps c.protocol role code (initial c role) c.seed role follows verified count));
+          (order_same (parts_of c.protocol role) (run_bytes code (init_of c role) c.seed role) (gives pl.machine) (λ arrivals. sym (runs arrivals))
+          (code_keeps c.protocol role code (init_of c role) c.seed role follows verified count));
     }
 
 -- ---- what roles know, plan by plan
@@ -118,10 +118,10 @@ mapped_twice f g (x ∷ xs) = ap (λ l. f (g x) ∷ l) (mapped_twice f g xs)
 -- the initial values, by plans
 pub initial_all : (c : Cast)
     → map (λ (plan : List PlanEvent). map (given_bytes c) (known_in plan)) (map (plan_of c.protocol) (range_with_len 0 (length c.protocol.roles)))
-    ≡ map (initial c) (range_with_len 0 (length c.protocol.roles))
+    ≡ map (init_of c) (range_with_len 0 (length c.protocol.roles))
 initial_all c =
     mapped_twice (λ (plan : List PlanEvent). map (given_bytes c) (known_in plan)) (plan_of c.protocol) (range_with_len 0 (length c.protocol.roles))
-    ∙ mapped_same (λ r. map (given_bytes c) (known_in (plan_of c.protocol r))) (initial c) (range_with_len 0 (length c.protocol.roles)) (λ r. ap (map (given_bytes c)) (known_of_plan c.protocol r))
+    ∙ mapped_same (λ r. map (given_bytes c) (known_in (plan_of c.protocol r))) (init_of c) (range_with_len 0 (length c.protocol.roles)) (λ r. ap (map (given_bytes c)) (known_of_plan c.protocol r))
 
 map_flat : {A B D : Type 0} (g : B → D) (f : A → List B) (xs : List A) → flat_map (λ x. map g (f x)) xs ≡ map g (flat_map f xs)
 map_flat g f [] = refl
@@ -133,12 +133,12 @@ first_mapped f g (x ∷ xs) = ap (option_or (f (g x))) (first_mapped f g xs)
 
 -- the first of them that is too long
 pub first_is : (c : Cast) (all : List (Vec (List ℕ) Global)) → length c.protocol.knows ≡ length c.protocol.roles
-    → map items_of all ≡ map (initial c) (range_with_len 0 (length c.protocol.roles))
+    → map items_of all ≡ map (init_of c) (range_with_len 0 (length c.protocol.roles))
     → first (long_end 0) (flat_map items_of all) ≡ first (λ t. long_end 0 (given_bytes c t)) (known_terms c.protocol)
 first_is c all count is =
     let n = length c.protocol.roles in
     let lists : flat_map items_of all ≡ map (given_bytes c) (known_terms c.protocol) =
-    sym (flat_mapped (λ (l : List (List ℕ)). l) items_of all) ∙ ap (flat_map (λ (l : List (List ℕ)). l)) is ∙ flat_mapped (λ (l : List (List ℕ)). l) (initial c) (range_with_len 0 n)
+    sym (flat_mapped (λ (l : List (List ℕ)). l) items_of all) ∙ ap (flat_map (λ (l : List (List ℕ)). l)) is ∙ flat_mapped (λ (l : List (List ℕ)). l) (init_of c) (range_with_len 0 n)
     ∙ map_flat (given_bytes c) (known_by c.protocol) (range_with_len 0 n) ∙ ap (map (given_bytes c)) (known_roles c.protocol count) in
     ap (first (long_end 0)) lists ∙ first_mapped (long_end 0) (given_bytes c) (known_terms c.protocol)
 

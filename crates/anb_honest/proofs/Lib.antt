@@ -11,3 +11,6 @@ pub mod Rehearsed
 pub mod Ended
 pub mod Wording
 pub mod Acting
+pub mod Comparing
+pub mod Valuing
+pub mod Setting

@@ -32,7 +32,7 @@ use Rattle.anb_resolve.specs.Schedules.{Turn, parts_of, next_of, turn_of, append
 use Rattle.anb_honest.specs.declared.report.Report.{Report}
 use Rattle.anb_honest.specs.declared.report.RehearseEnd.{RehearseEnd}
 use Rattle.anb_honest.specs.declared.report.RehearseEnd.TheVariants.{AllDone, Part, Stopped}
-use Rattle.anb_honest.specs.Joint.{Cast, Course, Move, turns_of, bytes_of, is_report, is_receipt, gave, took, told, told_by, run_of, run_over, unreported, halt_behind, stuck, message_of, long_end, end_at, passes, moves_on, after, turn_with, walk, end_behind, initial, given_bytes, is_complete, all_reported, reported, report, outset, joint}
+use Rattle.anb_honest.specs.Joint.{Cast, Course, Move, turns_of, bytes_of, is_report, is_receipt, gave, took, told, told_by, run_of, run_over, unreported, halt_behind, stuck, message_of, long_end, end_at, passes, moves_on, after, turn_with, walk, end_behind, init_of, given_bytes, is_complete, all_reported, reported, report, outset, joint}
 use Rattle.anb_honest.specs.Honest.{AreHonest, term_at, is_heard, honest_message, honest_sent, long_turn, honest_end, honest_report, honest_known, honest_taken, play_so_far}
 use Rattle.anb_honest.specs.Laws.{IsFitting}
 use Rattle.anb_honest.specs.Inside.{part_of}
@@ -168,7 +168,7 @@ module _ (c : Cast) (atoms : ℕ → List ℕ) where
           let arrivals = map (honest_bytes p atoms) (take (length (filter (is_heard role) ts)) (heard (events_of p role))) in
           let q = honest_play (meaning_of p) atoms (events_of p role) (length (filter (is_heard role) ts)) in
           let over : run_of c s.moves role ≡ run_bytes there.0 init c.seed role arrivals =
-          ap (λ o. option_map_or (λ (x : CodeValue). run_bytes x (initial c role) c.seed role (took s.moves role)) o (ends done [])) there.1
+          ap (λ o. option_map_or (λ (x : CodeValue). run_bytes x (init_of c role) c.seed role (took s.moves role)) o (ends done [])) there.1
           ∙ ap (λ i. run_bytes there.0 i c.seed role (took s.moves role)) (initial_honest c atoms are role) ∙ ap (run_bytes there.0 init c.seed role) took_is in
           let strings = (agrees atoms (known_by p role) are.strings (known_formed (has_operator p.formats) p role holds.formed)).0 in
           let heard_strings = (agrees atoms (take (length (filter (is_heard role) ts)) (heard (events_of p role))) are.strings (heard_all_formed (has_operator p.formats) p role (length (filter (is_heard role) ts)) holds.formed)).0 in

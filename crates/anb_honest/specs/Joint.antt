@@ -46,8 +46,8 @@ abbrev pub given_bytes : Cast → Tree → List ℕ
 given_bytes c t = honest_bytes c.protocol (given c) t
 
 -- the initial values of a role: the honest bytes of what it knows
-abbrev pub initial : Cast → ℕ → List (List ℕ)
-initial c role = map (given_bytes c) (known_by c.protocol role)
+abbrev pub init_of : Cast → ℕ → List (List ℕ)
+init_of c role = map (given_bytes c) (known_by c.protocol role)
 
 abbrev pub is_long : List ℕ → Bool
 is_long bytes = nat_lt ARRIVAL (length bytes)
@@ -119,7 +119,7 @@ module _ (c : Cast) where
   abbrev pub run_over : ℕ → List (List ℕ) → Played (List ℕ)
   run_over role arrivals =
       option_map_or
-      (λ (code : CodeValue). run_bytes code (initial c role) c.seed role arrivals)
+      (λ (code : CodeValue). run_bytes code (init_of c role) c.seed role arrivals)
       (slice_get c.codes role) (ends done [])
 
   abbrev pub run_of : List Move → ℕ → Played (List ℕ)

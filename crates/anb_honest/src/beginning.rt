@@ -14,7 +14,7 @@ ghost use Rattle.anb_resolve.specs.Plans.{plan_of};
 ghost use Rattle.anb_resolve.specs.Views.{plan_event};
 ghost use Rattle.anb_honest.specs.Given.{Gives, items_of};
 ghost use Rattle.anb_honest.specs.Order.{FollowRoles};
-ghost use Rattle.anb_honest.specs.Joint.{cast, initial, long_end, outset};
+ghost use Rattle.anb_honest.specs.Joint.{cast, init_of, long_end, outset};
 ghost use Rattle.anb_honest.specs.Inside.{IsPlayer, Stands, part_of, turn_value};
 
 use crate::RehearseEnd;
@@ -50,12 +50,12 @@ pub(crate) fn initial_values(
 ) -> Result<Vec<Vec<Bytes>>, NoMemory>
     requires holds { HoldsOf p.now }
     requires plans { plans.now ≡ map (plan_of p.now) (range_with_len 0 (length p.now.roles)) }
-    ensures { (codes : List CodeValue) (seed : List ℕ) → IfOk result (λ all.
-        map items_of all.items ≡ map (initial (cast p.now codes values.now seed))
+    ensures { IfOk result (λ all. (codes : List CodeValue) (seed : List ℕ)
+        → map items_of all.items ≡ map (init_of (cast p.now codes values.now seed))
         (range_with_len 0 (length p.now.roles))) }
 {
     let known = known_atoms(alloc, plans)?;
-    let given = Given::new(alloc, &known, values)?;
+    let given = Given::new(alloc, known, values)?;
     let algebra = ByteAlgebra::new(p.formats(), p.suite());
     let mut all = Vec::new(alloc);
     for plan in plans {
@@ -97,8 +97,8 @@ fn values_of(
     plan: &Plan,
 ) -> Result<Vec<Bytes>, NoMemory>
     requires { AllByRecursion (IsFormed (has_operator algebra.now.formats)) (known_in plan.now) }
-    ensures { (atoms : ℕ → List ℕ) → Gives given.now atoms → IfOk result (λ values. values.items
-        ≡ map (honest (byte_meaning algebra.now.formats algebra.now.suite) atoms)
+    ensures { IfOk result (λ values. (atoms : ℕ → List ℕ) → Gives given.now atoms
+        → values.items ≡ map (honest (byte_meaning algebra.now.formats algebra.now.suite) atoms)
         (known_in plan.now)) }
 {
     let mut values = Vec::new(alloc);
@@ -150,12 +150,13 @@ pub(crate) fn stage<'c>(
     requires codes { FollowRoles p.now codes.now }
     requires plans { plans.now ≡ map (plan_of p.now) (range_with_len 0 (length p.now.roles)) }
     requires initial { (values : List (List ℕ)) × (map items_of initial.now
-        ≡ map (initial (cast p.now codes.now values seed.now))
+        ≡ map (init_of (cast p.now codes.now values seed.now))
         (range_with_len 0 (length p.now.roles))) }
     requires short { first (long_end 0) (flat_map items_of initial.now) ≡ None }
-    ensures { (values : List (List ℕ)) → let c = cast p.now codes.now values seed.now in
-        map items_of initial.now ≡ map (initial c) (range_with_len 0 (length p.now.roles))
-        → IfOk result (Stands c outset) }
+    ensures { IfOk result (λ stage. (values : List (List ℕ))
+        → let c = cast p.now codes.now values seed.now in
+        map items_of initial.now ≡ map (init_of c) (range_with_len 0 (length p.now.roles))
+        → Stands c outset stage) }
 {
     let mut players = Vec::new(alloc);
     for (role, code) in codes.iter().enumerate() {
@@ -187,8 +188,8 @@ fn no_messages(alloc: Global, actions: u32) -> Result<Vec<Option<Bytes>>, NoMemo
 
 /// What a role is to do, in order.
 fn parts_of(alloc: Global, plan: &Plan) -> Result<Vec<Part>, NoMemory>
-    ensures { (role : ℕ) → IfOk result (λ parts.
-        map (turn_value role) parts.items ≡ filter_map (part_of role) plan.now) }
+    ensures { IfOk result (λ parts. (role : ℕ)
+        → map (turn_value role) parts.items ≡ filter_map (part_of role) plan.now) }
 {
     let mut parts = Vec::new(alloc);
     for event in plan.events() {

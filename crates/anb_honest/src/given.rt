@@ -26,16 +26,16 @@ impl<'v> Given<'v> {
     /// Values for the atoms of this list, in the order in which they first stand there.
     pub(crate) fn new(
         alloc: Global,
-        atoms: &[u32],
+        atoms: Vec<u32>,
         values: &'v [Bytes],
     ) -> Result<Self, NoMemory>
         ensures places { IfOk result (λ given.
-            IsTable (distinct nat_eq atoms.now) given.places.items) }
+            IsTable (distinct nat_eq atoms.items) given.places.items) }
         ensures values { IfOk result (λ given. given.values.now ≡ values.now) }
     {
         let mut places = Vec::new(alloc);
         let mut next = 0;
-        for a in atoms {
+        for a in &atoms {
             if put_place(&mut places, *a, next)? {
                 next += 1;
             }
@@ -111,17 +111,18 @@ pub(crate) fn honest_bytes(
     t: &Term,
 ) -> Result<Bytes, NoMemory>
     requires { IsFormed (has_operator algebra.now.formats) (tree_of t.now) }
-    ensures { (atoms : ℕ → List ℕ) → Gives given.now atoms → IfOk result (λ bytes.
-        bytes ≡ honest (byte_meaning algebra.now.formats algebra.now.suite) atoms (tree_of t.now)) }
+    ensures { IfOk result (λ bytes. (atoms : ℕ → List ℕ) → Gives given.now atoms
+        → bytes ≡ honest (byte_meaning algebra.now.formats algebra.now.suite) atoms (tree_of t.now)) }
 {
     match t {
         Term::Atom(a) => Ok(Bytes::new(Vec::from_slice(alloc, given.value(*a))?)),
         Term::Node(op, operands) => {
             let table = all_honest_bytes(alloc, algebra, given, operands.as_slice())?;
             let at = first_places(alloc, op.arity())?;
-            algebra
-                .build(alloc, *op, &table, &at)
-                .map_err(|_| NoMemory)
+            let Ok(bytes) = algebra.build(alloc, *op, &table, &at) else {
+                return Err(NoMemory);
+            };
+            Ok(bytes)
         }
     }
 }
@@ -135,8 +136,8 @@ fn all_honest_bytes(
     terms: &[Term],
 ) -> Result<Vec<Bytes>, NoMemory>
     requires { AreFormed (has_operator algebra.now.formats) (trees_of (map tree_of terms.now)) }
-    ensures values { (atoms : ℕ → List ℕ) → Gives given.now atoms → IfOk result (λ table.
-        table.items ≡ honest_all (byte_meaning algebra.now.formats algebra.now.suite) atoms
+    ensures values { IfOk result (λ table. (atoms : ℕ → List ℕ) → Gives given.now atoms
+        → table.items ≡ honest_all (byte_meaning algebra.now.formats algebra.now.suite) atoms
         (trees_of (map tree_of terms.now))) }
     ensures count { IfOk result (λ table. length table.items ≡ length terms.now) }
 {

@@ -1,0 +1,84 @@
+-- Lists that are compared item by item.
+use Rattle.std.proofs.Common.{◌≡◌, ℕ, zero, suc, ◌+◌, ◌<◌, ◌≤◌, List, [], ◌∷◌, ◌++◌, length, map, take, get_or, Bool, true, false, Option, Some, None, refl, sym, ap, ◌∙◌, subst, arith, IsTrue}
+use Rattle.std.specs.Prelude.{filter_map, ◌↔◌}
+use Rattle.std.proofs.lemmas.List.{take_all}
+use Rattle.anb_lemmas.proofs.Each.{take_next}
+use Rattle.anb_plays.specs.Plans.{Event, know, fresh, send, recv}
+use Rattle.anb_plays.specs.Codes.{Act, takes, draws, receives, sends, works}
+use Rattle.anb_plays.specs.Fits.{Place, Along, AnySend, AnyWork, AnyBorder, after_take, after_label, after_work}
+use Rattle.anb_honest.specs.declared.kind.Kind.{Kind}
+use Rattle.anb_honest.specs.declared.kind.Kind.TheVariants.{Know, Make, Send, Receive}
+use Rattle.anb_honest.specs.Kinds.{kind_of, event_kind}
+
+pub both_next : {A : Type 0} (xs ys : List A) (i : ℕ) (x y : A) → i < length xs → i < length ys → x ≡ get_or xs i x → y ≡ get_or ys i y → x ≡ y
+    → take i xs ≡ take i ys → take (i + 1) xs ≡ take (i + 1) ys
+both_next xs ys i x y hx hy ex ey same before = take_next xs i x hx ex ∙ ap (λ l. l ++ x ∷ []) before ∙ ap (λ z. take i ys ++ z ∷ []) same ∙ sym (take_next ys i y hy ey)
+
+read_same : {A : Type 0} (xs : List A) (i : ℕ) (x y : A) → i < length xs → x ≡ get_or xs i x → y ≡ get_or xs i y → x ≡ y
+read_same [] i x y h ex ey = absurd (omega arith)
+read_same (z ∷ zs) zero x y h ex ey = ex ∙ sym ey
+read_same (z ∷ zs) (suc i) x y h ex ey = read_same zs i x y (omega arith) ex ey
+
+pub items_same : {A : Type 0} (xs ys : List A) (i : ℕ) (x y : A) → i < length xs → x ≡ get_or xs i x → y ≡ get_or ys i y → xs ≡ ys → x ≡ y
+items_same xs ys i x y h ex ey e = read_same xs i x y h ex (ey ∙ ap (λ l. get_or l i y) (sym e))
+
+pub whole_same : {A : Type 0} (xs ys : List A) (n : ℕ) → length xs ≤ n → length ys ≤ n → take n xs ≡ take n ys → xs ≡ ys
+whole_same xs ys n hx hy e = sym (take_all n xs hx) ∙ e ∙ take_all n ys hy
+
+-- ---- the order of a plan, by kinds
+
+abbrev Follow : List Act → List Event → Place → Type 0
+Follow acts es s = Along AnySend AnyWork AnyBorder acts es s
+
+tail_same : (k : Kind) (ks ls : List Kind) (l : Kind) → k ∷ ks ≡ l ∷ ls → ks ≡ ls
+tail_same k ks ls l e = cc
+
+pub kinds_kept : (acts : List Act) (es : List Event) (s : Place) → Follow acts es s → filter_map kind_of acts ≡ map event_kind es
+kinds_kept [] [] s f = refl
+kinds_kept [] (e ∷ es) s f = absurd f
+kinds_kept (works w ∷ acts) es s f = kinds_kept acts es (after_work s w) f.1
+kinds_kept (takes ∷ acts) (know t ∷ es) s f = ap (λ l. Know ∷ l) (kinds_kept acts es (after_take s) f)
+kinds_kept (draws ∷ acts) (fresh t ∷ es) s f = ap (λ l. Make ∷ l) (kinds_kept acts es (after_label s t) f)
+kinds_kept (receives ∷ acts) (recv t ∷ es) s f = ap (λ l. Receive ∷ l) (kinds_kept acts es (after_label s t) f.1)
+kinds_kept (sends n ∷ acts) (send t ∷ es) s f = ap (λ l. Send ∷ l) (kinds_kept acts es s f.2)
+kinds_kept (takes ∷ acts) [] s f = absurd f
+kinds_kept (takes ∷ acts) (fresh t ∷ es) s f = absurd f
+kinds_kept (takes ∷ acts) (send t ∷ es) s f = absurd f
+kinds_kept (takes ∷ acts) (recv t ∷ es) s f = absurd f
+kinds_kept (draws ∷ acts) [] s f = absurd f
+kinds_kept (draws ∷ acts) (know t ∷ es) s f = absurd f
+kinds_kept (draws ∷ acts) (send t ∷ es) s f = absurd f
+kinds_kept (draws ∷ acts) (recv t ∷ es) s f = absurd f
+kinds_kept (receives ∷ acts) [] s f = absurd f
+kinds_kept (receives ∷ acts) (know t ∷ es) s f = absurd f
+kinds_kept (receives ∷ acts) (fresh t ∷ es) s f = absurd f
+kinds_kept (receives ∷ acts) (send t ∷ es) s f = absurd f
+kinds_kept (sends n ∷ acts) [] s f = absurd f
+kinds_kept (sends n ∷ acts) (know t ∷ es) s f = absurd f
+kinds_kept (sends n ∷ acts) (fresh t ∷ es) s f = absurd f
+kinds_kept (sends n ∷ acts) (recv t ∷ es) s f = absurd f
+
+pub kept_kinds : (acts : List Act) (es : List Event) (s : Place) → filter_map kind_of acts ≡ map event_kind es → Follow acts es s
+kept_kinds [] [] s e = tt
+kept_kinds [] (x ∷ es) s e = absurd (cc)
+kept_kinds (works w ∷ acts) es s e = (tt, kept_kinds acts es (after_work s w) e)
+kept_kinds (takes ∷ acts) (know t ∷ es) s e = kept_kinds acts es (after_take s) (tail_same Know (filter_map kind_of acts) (map event_kind es) Know e)
+kept_kinds (draws ∷ acts) (fresh t ∷ es) s e = kept_kinds acts es (after_label s t) (tail_same Make (filter_map kind_of acts) (map event_kind es) Make e)
+kept_kinds (receives ∷ acts) (recv t ∷ es) s e = (tt, kept_kinds acts es (after_label s t) (tail_same Receive (filter_map kind_of acts) (map event_kind es) Receive e))
+kept_kinds (sends n ∷ acts) (send t ∷ es) s e = (tt, (tt, kept_kinds acts es s (tail_same Send (filter_map kind_of acts) (map event_kind es) Send e)))
+kept_kinds (takes ∷ acts) [] s e = absurd (cc)
+kept_kinds (takes ∷ acts) (fresh t ∷ es) s e = absurd (cc)
+kept_kinds (takes ∷ acts) (send t ∷ es) s e = absurd (cc)
+kept_kinds (takes ∷ acts) (recv t ∷ es) s e = absurd (cc)
+kept_kinds (draws ∷ acts) [] s e = absurd (cc)
+kept_kinds (draws ∷ acts) (know t ∷ es) s e = absurd (cc)
+kept_kinds (draws ∷ acts) (send t ∷ es) s e = absurd (cc)
+kept_kinds (draws ∷ acts) (recv t ∷ es) s e = absurd (cc)
+kept_kinds (receives ∷ acts) [] s e = absurd (cc)
+kept_kinds (receives ∷ acts) (know t ∷ es) s e = absurd (cc)
+kept_kinds (receives ∷ acts) (fresh t ∷ es) s e = absurd (cc)
+kept_kinds (receives ∷ acts) (send t ∷ es) s e = absurd (cc)
+kept_kinds (sends n ∷ acts) [] s e = absurd (cc)
+kept_kinds (sends n ∷ acts) (know t ∷ es) s e = absurd (cc)
+kept_kinds (sends n ∷ acts) (fresh t ∷ es) s e = absurd (cc)
+kept_kinds (sends n ∷ acts) (recv t ∷ es) s e = absurd (cc)
