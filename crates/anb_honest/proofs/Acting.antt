@@ -1,7 +1,11 @@
 -- What a role that tells or hears next does not do.
 use Rattle.std.proofs.Common.{◌≡◌, ℕ, List, [], ◌∷◌, Option, Some, None, refl, sym, ap, ◌∙◌, inl, inr, ◌⊎◌}
 use Rattle.anb_plays.specs.Plays.{Played, End, stopped, waiting, done, ends, says}
+use Rattle.std.proofs.Common.{subst}
+use Rattle.anb_machine.specs.Machines.{MachineValue, gives, Turned}
 use Rattle.anb_machine.specs.declared.turn.Halt.{Halt}
+use Rattle.anb_machine.specs.declared.turn.Turn.{Turn}
+use Rattle.anb_machine.specs.declared.turn.Turn.TheVariants.{Message, Wants, Done}
 use Rattle.anb_honest.specs.Joint.{halt_behind}
 use Rattle.anb_honest.specs.Acting.{Coming, StopsNow, TellsFirst, HearsFirst, AnyComing, TellsNow, HearsNow}
 
@@ -40,3 +44,12 @@ halt_none b p q e = ap (λ (x : Played (List ℕ)). halt_behind x.sent x.end) e 
   by (stopped x at) = refl
   by (waiting x) = refl
   by done = refl
+
+-- the turns that can't come
+pub tells_not : (old new : MachineValue) (r : Turn) → Turned old new r → TellsNow (gives old) → ((e : ℕ) × (r ≡ Wants e)) ⊎ (r ≡ Done) → ⊥
+tells_not old new r t h (inl m) = let q = subst (Turned old new) m.1 t in tells_no_wait (gives old) m.0 h (q.0 [] ∙ q.1)
+tells_not old new r t h (inr d) = let q = subst (Turned old new) d t in tells_no_end (gives old) h (q.1 [])
+
+pub hears_not : (old new : MachineValue) (r : Turn) → Turned old new r → HearsNow (gives old) → ((b : List ℕ) × (r ≡ Message b)) ⊎ (r ≡ Done) → ⊥
+hears_not old new r t h (inl m) = let q = subst (Turned old new) m.1 t in hears_no_message (gives old) m.0 (gives new []) h (q.0 [])
+hears_not old new r t h (inr d) = let q = subst (Turned old new) d t in hears_no_end (gives old) h (q.1 [])

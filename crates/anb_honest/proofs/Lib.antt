@@ -14,3 +14,5 @@ pub mod Acting
 pub mod Comparing
 pub mod Valuing
 pub mod Setting
+pub mod Joining
+pub mod Staging

@@ -4,6 +4,7 @@ use Rattle.std.specs.Prelude.{slice_get, filter_map, flat_map, All}
 use Rattle.std.proofs.lemmas.List.{length-map, take_all, map-append}
 use Rattle.std.proofs.lemmas.List.Elements.{All-push, All-nil, filter_map-append}
 use Rattle.std.proofs.lemmas.Option.{slice_get-get_or, slice_get_read}
+use Rattle.std.specs.List.{range_with_len}
 use Rattle.std.proofs.Math.Seq.{take-suc}
 use Rattle.anb_lemmas.proofs.Each.{take_next}
 use Rattle.anb_term.specs.declared.term.Op.{Op}
@@ -16,6 +17,16 @@ use Rattle.anb_term.specs.Value.{Meaning}
 use Rattle.anb_term.specs.Lawful.{picked}
 use Rattle.anb_term.specs.RecipeView.{first_places}
 use Rattle.anb_plays.specs.Honest.{honest, honest_all}
+use Rattle.anb_compile.specs.Emitting.{known_in}
+use Rattle.anb_compile.proofs.Events.{known_append}
+use Rattle.anb_resolve.specs.declared.plans.Event.{Event}
+use Rattle.anb_resolve.specs.Plans.{PlanEvent}
+use Rattle.anb_resolve.specs.Texts.{atoms_in_each}
+use Rattle.anb_resolve.specs.Views.{plan_event}
+use Rattle.anb_resolve.specs.Schedules.{Turn}
+use Rattle.anb_resolve.proofs.AtomLemmas.{each-append}
+use Rattle.anb_honest.specs.declared.player.Part.{Part}
+use Rattle.anb_honest.specs.Inside.{part_of, turn_value}
 use Rattle.anb_honest.proofs.Standing.{drop_at}
 
 pub dropped : {A : Type 0} (xs : List A) (i : ℕ) (x : A) → i < length xs → x ≡ get_or xs i x → drop i xs ≡ x ∷ drop (i + 1) xs
@@ -95,3 +106,45 @@ pub node_count : {A : Type 0} (has : Op → Bool) (t : Term) (op : Op) (operands
 node_count has t op operands terms table is formed same count =
     let f : IsFormed has (node op (trees_of operands)) = subst (λ x. IsFormed has (tree_of x)) is formed in
     count ∙ sym (length-map terms tree_of) ∙ ap length same ∙ node_formed has op operands f
+
+-- ---- events of a plan, one after another
+
+module _ (events : List Event) (i : ℕ) (x : Event) (within : i < length events) (at : x ≡ get_or events i x) where
+  event_next : map plan_event (take (i + 1) events) ≡ map plan_event (take i events) ++ plan_event x ∷ []
+  event_next = ap (map plan_event) (take_next events i x within at) ∙ map-append plan_event (take i events) (x ∷ [])
+
+  known_next : known_in (map plan_event (take (i + 1) events)) ≡ known_in (map plan_event (take i events)) ++ known_in (plan_event x ∷ [])
+  known_next = ap known_in event_next ∙ known_append (map plan_event (take i events)) (plan_event x ∷ [])
+
+  pub atoms_next : (first old new : List ℕ) → old ≡ first ++ atoms_in_each (known_in (map plan_event (take i events))) → new ≡ old ++ atoms_in_each (known_in (plan_event x ∷ []))
+      → new ≡ first ++ atoms_in_each (known_in (map plan_event (take (i + 1) events)))
+  atoms_next first old new before put =
+      put ∙ ap (λ l. l ++ atoms_in_each (known_in (plan_event x ∷ []))) before
+      ∙ append_assoc first (atoms_in_each (known_in (map plan_event (take i events)))) (atoms_in_each (known_in (plan_event x ∷ [])))
+      ∙ ap (λ l. first ++ l) (sym (each-append (known_in (map plan_event (take i events))) (known_in (plan_event x ∷ []))) ∙ ap atoms_in_each (sym known_next))
+
+  pub bytes_next : {A : Type 0} (f : Tree → A) (old new : List A) → old ≡ map f (known_in (map plan_event (take i events))) → new ≡ old ++ map f (known_in (plan_event x ∷ []))
+      → new ≡ map f (known_in (map plan_event (take (i + 1) events)))
+  bytes_next f old new before put =
+      put ∙ ap (λ l. l ++ map f (known_in (plan_event x ∷ []))) before
+      ∙ sym (map-append f (known_in (map plan_event (take i events))) (known_in (plan_event x ∷ []))) ∙ ap (map f) (sym known_next)
+
+  pub turns_next : (role : ℕ) (old new : List Part) → map (turn_value role) old ≡ filter_map (part_of role) (map plan_event (take i events))
+      → map (turn_value role) new ≡ map (turn_value role) old ++ filter_map (part_of role) (plan_event x ∷ [])
+      → map (turn_value role) new ≡ filter_map (part_of role) (map plan_event (take (i + 1) events))
+  turns_next role old new before put =
+      put ∙ ap (λ l. l ++ filter_map (part_of role) (plan_event x ∷ [])) before
+      ∙ sym (filter_map-append (part_of role) (map plan_event (take i events)) (plan_event x ∷ [])) ∙ ap (filter_map (part_of role)) (sym event_next)
+
+-- ---- numbers in order
+
+range_last : (k n : ℕ) → range_with_len k (suc n) ≡ range_with_len k n ++ (k + n) ∷ []
+range_last k zero = let e : k ≡ k + 0 = omega arith in ap (λ x. x ∷ []) e
+range_last k (suc n) = let e : k + 1 + n ≡ k + suc n = omega arith in ap (λ l. k ∷ l) (range_last (k + 1) n ∙ ap (λ x. range_with_len (k + 1) n ++ x ∷ []) e)
+
+pub ranged_next : {A : Type 0} (f : ℕ → A) (n : ℕ) (old new : List A) (y : A) → old ≡ map f (range_with_len 0 n) → new ≡ old ++ y ∷ [] → y ≡ f n → new ≡ map f (range_with_len 0 (n + 1))
+ranged_next f n old new y before pushed is =
+    let e : 0 + n ≡ n = omega arith in
+    let m : n + 1 ≡ suc n = omega arith in
+    pushed ∙ ap (λ l. l ++ y ∷ []) before ∙ ap (λ z. map f (range_with_len 0 n) ++ z ∷ []) (is ∙ ap f (sym e)) ∙ sym (map-append f (range_with_len 0 n) ((0 + n) ∷ []))
+    ∙ ap (map f) (sym (range_last 0 n)) ∙ ap (λ k. map f (range_with_len 0 k)) (sym m)

@@ -1,5 +1,5 @@
 //! A rehearsal before its first turn.
-ghost use Rattle.std.specs.Prelude.{◌≡◌, ◌≤◌, ◌++◌, ℕ, List, length, map, flat_map, filter_map, replicate, option_map, Some, None, IfOk, OnOk};
+ghost use Rattle.std.specs.Prelude.{◌≡◌, ◌≤◌, ◌++◌, ℕ, List, length, map, flat_map, filter_map, replicate, [], ◌∷◌, None, IfOk, OnOk};
 ghost use Rattle.std.specs.List.{AllByRecursion, range_with_len};
 ghost use Rattle.anb_base.specs.declared.TheConstants.{ARRIVAL};
 ghost use Rattle.anb_term.specs.Tree.{IsFormed};
@@ -82,11 +82,20 @@ fn put_known_atoms(atoms: &mut Vec<u32>, plan: &Plan) -> Result<(), NoMemory>
         ≡ atoms.old.items ++ atoms_in_each (known_in plan.now)) }
 {
     for event in plan.events() {
-        if let Event::Know(term) = event {
-            put_atoms(atoms, term)?;
-        }
+        put_atoms_of(atoms, event)?;
     }
     Ok(())
+}
+
+/// Appends the atoms in what a role knows by this event.
+fn put_atoms_of(atoms: &mut Vec<u32>, event: &Event) -> Result<(), NoMemory>
+    ensures { OnOk result (atoms.new.items
+        ≡ atoms.old.items ++ atoms_in_each (known_in (plan_event event.now ∷ []))) }
+{
+    match event {
+        Event::Know(term) => put_atoms(atoms, term),
+        Event::Fresh(_) | Event::Send { .. } | Event::Recv { .. } => Ok(()),
+    }
 }
 
 /// The honest bytes of what a role knows.
@@ -103,11 +112,33 @@ fn values_of(
 {
     let mut values = Vec::new(alloc);
     for event in plan.events() {
-        if let Event::Know(term) = event {
-            values.push(honest_bytes(alloc, algebra, given, term)?)?;
-        }
+        put_value(alloc, &mut values, algebra, given, event)?;
     }
     Ok(values)
+}
+
+/// Appends the honest bytes of what a role knows by this event.
+fn put_value(
+    alloc: Global,
+    values: &mut Vec<Bytes>,
+    algebra: &ByteAlgebra<'_>,
+    given: &Given<'_>,
+    event: &Event,
+) -> Result<(), NoMemory>
+    requires { AllByRecursion (IsFormed (has_operator algebra.now.formats))
+        (known_in (plan_event event.now ∷ [])) }
+    ensures { OnOk result ((atoms : ℕ → List ℕ) → Gives given.now atoms
+        → values.new.items ≡ values.old.items
+        ++ map (honest (byte_meaning algebra.now.formats algebra.now.suite) atoms)
+        (known_in (plan_event event.now ∷ []))) }
+{
+    match event {
+        Event::Know(term) => {
+            values.push(honest_bytes(alloc, algebra, given, term)?)?;
+            Ok(())
+        }
+        Event::Fresh(_) | Event::Send { .. } | Event::Recv { .. } => Ok(()),
+    }
 }
 
 /// The end that the first value makes that is longer than an arrival may be.
@@ -193,26 +224,32 @@ fn parts_of(alloc: Global, plan: &Plan) -> Result<Vec<Part>, NoMemory>
 {
     let mut parts = Vec::new(alloc);
     for event in plan.events() {
-        if let Some(part) = part_of(event) {
-            parts.push(part)?;
-        }
+        put_part(&mut parts, event)?;
     }
     Ok(parts)
 }
 
-fn part_of(event: &Event) -> Option<Part>
-    ensures { (role : ℕ) → option_map (turn_value role) result
-        ≡ part_of role (plan_event event.now) }
+/// Appends what a role is to do by this event.
+fn put_part(parts: &mut Vec<Part>, event: &Event) -> Result<(), NoMemory>
+    ensures { OnOk result ((role : ℕ) → map (turn_value role) parts.new.items
+        ≡ map (turn_value role) parts.old.items
+        ++ filter_map (part_of role) (plan_event event.now ∷ [])) }
 {
     match event {
-        Event::Send { action, .. } => Some(Part {
-            action: *action,
-            sends: true,
-        }),
-        Event::Recv { action, .. } => Some(Part {
-            action: *action,
-            sends: false,
-        }),
-        Event::Know(_) | Event::Fresh(_) => None,
+        Event::Send { action, .. } => {
+            parts.push(Part {
+                action: *action,
+                sends: true,
+            })?;
+            Ok(())
+        }
+        Event::Recv { action, .. } => {
+            parts.push(Part {
+                action: *action,
+                sends: false,
+            })?;
+            Ok(())
+        }
+        Event::Know(_) | Event::Fresh(_) => Ok(()),
     }
 }

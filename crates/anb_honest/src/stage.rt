@@ -69,6 +69,7 @@ impl<'c> Stage<'c> {
         action: u32,
     ) -> Result<Option<RehearseEnd>, NoMemory>
         requires turn { IsAtTurn self.old (turn_at role action true) }
+        requires role { role < length self.old.players.items }
         requires few { self.old.taken + 1 < 2 ^ 32 }
         ensures { IfOk result (λ end. (c : Cast) (s : Course) → Stands c s self.old
             → turn_of c.protocol (turns_of s.moves) role ≡ Some (turn_at role action true)
@@ -101,6 +102,7 @@ impl<'c> Stage<'c> {
         action: u32,
     ) -> Result<Option<RehearseEnd>, NoMemory>
         requires turn { IsAtTurn self.old (turn_at role action false) }
+        requires role { role < length self.old.players.items }
         requires few { self.old.taken + 1 < 2 ^ 32 }
         ensures { IfOk result (λ end. (c : Cast) (s : Course) → Stands c s self.old
             → turn_of c.protocol (turns_of s.moves) role ≡ Some (turn_at role action false)
