@@ -16,6 +16,24 @@ use Rattle.anb_honest.specs.declared.report.RehearseEnd.TheVariants.{LongMessage
 use Rattle.anb_honest.specs.Given.{items_of}
 use Rattle.anb_honest.specs.Joint.{Cast, told, outset, init_of, long_end}
 use Rattle.anb_honest.specs.Inside.{IsPlayer, IsShort, Stands}
+use Rattle.std.specs.List.{AllByRecursion}
+use Rattle.std.proofs.lemmas.List.{length-map}
+use Rattle.anb_base.specs.declared.content.Suite.{Suite}
+use Rattle.anb_format.specs.Formats.{FormatValue}
+use Rattle.anb_term.specs.Tree.{Tree, IsFormed}
+use Rattle.anb_plays.specs.Honest.{honest}
+use Rattle.anb_algebra.specs.ByteMeaning.{byte_meaning, has_operator}
+use Rattle.anb_compile.specs.Emitting.{known_in}
+use Rattle.anb_compile.proofs.Protocols.{known_of_plan}
+use Rattle.anb_lemmas.proofs.Each.{each_in_front}
+use Rattle.anb_resolve.specs.declared.plans.Event.{Event}
+use Rattle.anb_resolve.specs.Laws.{HoldsOf}
+use Rattle.anb_resolve.specs.Protocols.{ProtocolValue}
+use Rattle.anb_resolve.specs.Texts.{known_by, known_terms}
+use Rattle.anb_resolve.specs.Plans.{PlanEvent, to_know, to_make, to_send, to_receive, plan_of, messages}
+use Rattle.anb_resolve.specs.Views.{plan_event}
+use Rattle.anb_honest.specs.Joint.{given}
+use Rattle.anb_honest.proofs.Begun.{all_known, initial_all}
 use Rattle.anb_honest.proofs.Valuing.{dropped}
 
 pub ranged : {X : Type 0} (f : ℕ → X) (xs : List X) (n r : ℕ) (x : X) → xs ≡ map f (range_with_len 0 n) → r < n → x ≡ get_or xs r x → x ≡ f r
@@ -120,3 +138,45 @@ long_ends b h = let e : nat_lt ARRIVAL (length b) ≡ true = grind (arith, nat_t
 
 pub short_goes : (b : List ℕ) → length b ≤ ARRIVAL → long_end 0 b ≡ None
 short_goes b h = let e : nat_lt ARRIVAL (length b) ≡ false = grind (arith, nat_tests, h) in ap (λ v. cond v (Some (LongMessage 0 (length b))) None) e
+
+-- ---- what a plan knows
+
+know_parts : (P : Tree → Type 0) (e : PlanEvent) (es : List PlanEvent) → AllByRecursion P (known_in (e ∷ es)) → AllByRecursion P (known_in (e ∷ [])) × AllByRecursion P (known_in es)
+know_parts P (to_know t) es all = ((all.0, tt), all.1)
+know_parts P (to_make t) es all = (tt, all)
+know_parts P (to_send i t) es all = (tt, all)
+know_parts P (to_receive i t) es all = (tt, all)
+
+pub known_at : (P : Tree → Type 0) (events : List Event) (i : ℕ) (x : Event) → i < length events → x ≡ get_or events i x → AllByRecursion P (known_in (map plan_event events))
+    → AllByRecursion P (known_in (plan_event x ∷ []))
+known_at P [] i x h at all = absurd (omega arith)
+known_at P (y ∷ ys) zero x h at all = subst (λ z. AllByRecursion P (known_in (plan_event z ∷ []))) (sym at) (know_parts P (plan_event y) (map plan_event ys) all).0
+known_at P (y ∷ ys) (suc i) x h at all = known_at P ys i x (omega arith) at (know_parts P (plan_event y) (map plan_event ys) all).1
+
+length_range : (k n : ℕ) → length (range_with_len k n) ≡ n
+length_range k zero = refl
+length_range k (suc n) = ap suc (length_range (k + 1) n)
+
+pub long_as : {A B : Type 0} (g : A → B) (f : ℕ → B) (xs : List A) (n : ℕ) → map g xs ≡ map f (range_with_len 0 n) → length xs ≡ n
+long_as g f xs n e = sym (length-map xs g) ∙ ap length e ∙ length-map (range_with_len 0 n) f ∙ length_range 0 n
+
+pub long_is : {B : Type 0} (f : ℕ → B) (xs : List B) (n : ℕ) → xs ≡ map f (range_with_len 0 n) → length xs ≡ n
+long_is f xs n e = ap length e ∙ length-map (range_with_len 0 n) f ∙ length_range 0 n
+
+pub plan_formed_at : (p : ProtocolValue) → HoldsOf p → (plans : List (List PlanEvent)) (i : ℕ) (plan : List PlanEvent) → plans ≡ map (plan_of p) (range_with_len 0 (length p.roles)) → i < length plans
+    → plan ≡ get_or plans i plan → (formats : List FormatValue) → formats ≡ p.formats → AllByRecursion (IsFormed (has_operator formats)) (known_in plan)
+plan_formed_at p holds plans i plan e h at formats same =
+    let n = long_is (plan_of p) plans (length p.roles) e in
+    let is : plan ≡ plan_of p i = ranged (plan_of p) plans (length p.roles) i plan e (omega (arith, n)) at in
+    let all = all_known (IsFormed (has_operator p.formats)) p.knows i (each_in_front (IsFormed (has_operator p.formats)) (known_terms p) (messages p.actions) holds.formed) in
+    subst (λ f. AllByRecursion (IsFormed (has_operator f)) (known_in plan)) (sym same)
+    (subst (λ ts. AllByRecursion (IsFormed (has_operator p.formats)) ts) (sym (ap known_in is ∙ known_of_plan p i)) all)
+
+pub initial_done : (c : Cast) (plans : List (List PlanEvent)) (all : List (Vec (List ℕ) Global)) (formats : List FormatValue) (suite : Suite) → formats ≡ c.protocol.formats → suite ≡ c.protocol.suite
+    → plans ≡ map (plan_of c.protocol) (range_with_len 0 (length c.protocol.roles))
+    → map items_of all ≡ map (λ (plan : List PlanEvent). map (honest (byte_meaning formats suite) (given c)) (known_in plan)) plans
+    → map items_of all ≡ map (init_of c) (range_with_len 0 (length c.protocol.roles))
+initial_done c plans all formats suite f s p e =
+    e ∙ ap (λ g. map (λ (plan : List PlanEvent). map (honest (byte_meaning g suite) (given c)) (known_in plan)) plans) f
+    ∙ ap (λ g. map (λ (plan : List PlanEvent). map (honest (byte_meaning c.protocol.formats g) (given c)) (known_in plan)) plans) s
+    ∙ ap (map (λ (plan : List PlanEvent). map (honest (byte_meaning c.protocol.formats c.protocol.suite) (given c)) (known_in plan))) p ∙ initial_all c

@@ -2,7 +2,8 @@
 use Rattle.std.proofs.Common.{◌≡◌, ℕ, zero, suc, ◌+◌, ◌-◌, ◌<◌, ◌≤◌, List, [], ◌∷◌, length, map, get_or, Bool, true, false, cond, Option, Some, None, refl, sym, ap, ◌∙◌, subst, inl, inr, ◌⊎◌, arith}
 use Rattle.std.specs.Prelude.{slice_get, is_some, option_map, option_and_then, IfSome, IfOk, Result, Ok, Err, ◌||◌}
 use Rattle.std.specs.List.{AllByRecursion}
-use Rattle.std.proofs.lemmas.Option.{slice_get_read, slice_get_within, slice_get-map}
+use Rattle.anb_term.proofs.Lists.{slice_get-there}
+use Rattle.std.proofs.lemmas.Option.{get_or_from_slice_get, slice_get_read, slice_get_within, slice_get-map}
 use Rattle.anb_machine.specs.Machines.{gives}
 use Rattle.anb_resolve.specs.Schedules.{Turn, parts_of, next_of, if_ready, turn_of, was_sent}
 use Rattle.anb_honest.specs.declared.player.Player.{Player}
@@ -111,6 +112,14 @@ module _ (c : Cast) (s : Course) (stage : Stage) (st : Stands c s stage) (role :
     | inl x ↦ inl x
     | inr a ↦ inr (a.0, a.1, λ x. tt)
   ]
+
+-- the action of a turn that is due
+pub due_within : (c : Cast) (s : Course) (stage : Stage) → Stands c s stage → (role action : ℕ) (sends : Bool) → role < length stage.players.items
+    → turn_of c.protocol (turns_of s.moves) role ≡ Some (turn_at role action sends) → (1 ≤ action) × (action ≤ length stage.told.items)
+due_within c s stage st role action sends within due =
+    let p = slice_get-there stage.players.items role within in
+    let at = sym (get_or_from_slice_get stage.players.items role p.0 p.0 p.1) in
+    (due_least c s stage st role p.0 within at action sends due, due_most c s stage st role p.0 within at action sends due)
 
 -- what is received is there
 pub message_there : (c : Cast) (s : Course) (stage : Stage) → Stands c s stage → (role action k : ℕ) (slot : Option (List ℕ)) → k + 1 ≡ action → slice_get stage.told.items k ≡ Some slot

@@ -191,6 +191,8 @@ pub(crate) fn stage<'c>(
 {
     let mut players = Vec::new(alloc);
     for (role, code) in codes.iter().enumerate() {
+        // Each code is a verified one, as a look at its instructions tells.
+        let _ = code.instrs();
         let player = Player {
             machine: Machine::start(alloc, code, &initial[role], seed, role as u32)?,
             parts: parts_of(alloc, &plans[role])?,

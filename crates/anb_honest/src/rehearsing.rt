@@ -36,6 +36,7 @@ pub fn rehearse(
         end ≡ joint (cast p.now codes.now atoms.now seed.now) turns.now) }
 {
     protocols_hold();
+    let _ = p.name();
     let plans = plans(alloc, p)?;
     let initial = initial_values(alloc, p, &plans, atoms)?;
     if let Some(end) = first_long(&initial) {
