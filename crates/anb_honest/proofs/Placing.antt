@@ -1,5 +1,5 @@
 -- The places of atoms, by a table.
-use Rattle.std.proofs.Common.{◌≡◌, ℕ, zero, suc, ◌+◌, ◌-◌, ◌<◌, ◌≤◌, List, [], ◌∷◌, ◌++◌, length, get_or, Bool, true, false, cond, Option, Some, None, refl, sym, ap, ◌∙◌, subst, arith, append_assoc, length-append}
+use Rattle.std.proofs.Common.{◌≡◌, ℕ, zero, suc, ◌+◌, ◌-◌, ◌<◌, ◌≤◌, List, [], ◌∷◌, ◌++◌, length, take, get_or, Bool, true, false, cond, Option, Some, None, refl, sym, ap, ◌∙◌, subst, arith, append_assoc, length-append}
 use Rattle.std.specs.Prelude.{is_some, slice_get, nat_eq, option_and_then, unwrap_or, ◌==◌, ◌&&◌, ◌||◌}
 use Rattle.std.specs.Option.{option_or, option_map_or}
 use Rattle.std.specs.List.{list_any, position_from}
@@ -155,3 +155,8 @@ table_gives c g table values a = by (position_from (λ b. b == a) 0 (known_atoms
       ap (λ l. unwrap_or (slice_get l i) []) (sym values)
       ∙ sym (ap (λ k. cond (k == 0) [] (unwrap_or (slice_get g.values.now (k - 1)) [])) e ∙ ap (λ v. cond v [] (unwrap_or (slice_get g.values.now (suc i - 1)) [])) (not_zero i)
       ∙ ap (λ k. unwrap_or (slice_get g.values.now k) []) n)
+
+pub take_read : (xs : List ℕ) (i : ℕ) → i < length xs → take (i + 1) xs ≡ take i xs ++ get_or xs i 0 ∷ []
+take_read [] i h = absurd (omega arith)
+take_read (x ∷ xs) zero h = refl
+take_read (x ∷ xs) (suc i) h = let n : suc i + 1 ≡ suc (i + 1) = omega arith in rw n (ap (λ l. x ∷ l) (take_read xs i (omega arith)))

@@ -1,4 +1,4 @@
-use Rattle.std.proofs.Common.{◌≡◌, ◌<◌, ◌≤◌, ◌∙◌, ap, sym, arith, subst, map, List, [], ℕ, length, Some, refl}
+use Rattle.std.proofs.Common.{◌≡◌, ◌<◌, ◌≤◌, ◌∙◌, ap, sym, arith, subst, map, List, [], ℕ, length, replicate, Option, Some, None, refl}
 use Rattle.std.specs.Prelude.{All, slice_get, filter_map}
 use Rattle.std.proofs.lemmas.List.{length-map}
 use Rattle.std.proofs.lemmas.Option.{slice_get_read}
@@ -6,6 +6,7 @@ use Rattle.anb_base.specs.declared.TheConstants.{ARRIVAL}
 use Rattle.anb_machine.specs.ByteRuns.{run_bytes}
 use Rattle.anb_resolve.specs.Plans.{plan_of}
 use Rattle.anb_resolve.specs.Texts.{known_by}
+use Rattle.anb_honest.specs.declared.player.Player.{Player}
 use Rattle.anb_honest.specs.Given.{items_of}
 use Rattle.anb_honest.specs.Joint.{cast, init_of, given_bytes}
 use Rattle.anb_honest.specs.Inside.{part_of}
@@ -54,7 +55,7 @@ loop-role-preserved c =
       each = λ values e.
           let k = cast p c.args.codes.now values c.args.seed.now in
           let v = initial_at k c.args.initial.now (length p.roles) r c.index-initial-role.result e (omega (arith, c.requires.codes.count)) c.index-initial-role.is in
-          let pl = record { machine = c.in_ok-start.field-0; parts = c.in_ok-parts_of.field-0; done = 0 } in
+          let pl : Player = record { machine = c.in_ok-start.field-0; parts = c.in_ok-parts_of.field-0; done = 0 } in
           players_next k c.loop-role.players.items c.push.new.self.items r pl c.loop-role.invariant.count c.in_ok-push.ensures.items (c.loop-role.invariant.each values e)
           (player_new k r code pl there (c.requires.codes.each r code there) c.instrs.ensures.verified refl
           (c.in_ok-parts_of.ensures r ∙ ap (filter_map (part_of r)) plan)
@@ -64,4 +65,4 @@ loop-role-preserved c =
 pub returns : goal.returns
 returns c = λ values e.
     stands_first (cast c.args.p.now c.args.codes.now values c.args.seed.now) _ c.requires.holds.roles c.requires.holds.actions (omega (arith, c.requires.codes.count, c.loop-role.invariant.count)) (c.loop-role.invariant.each values e)
-    (c.in_ok-no_messages.ensures ∙ ap (λ n. _) c.actions.ensures) refl refl
+    (c.in_ok-no_messages.ensures ∙ ap (λ (n : ℕ). replicate {A = Option (List ℕ)} n None) c.actions.ensures) refl refl
