@@ -1,6 +1,17 @@
 -- Lists that are compared item by item.
 use Rattle.std.proofs.Common.{◌≡◌, ℕ, zero, suc, ◌+◌, ◌<◌, ◌≤◌, List, [], ◌∷◌, ◌++◌, length, map, take, get_or, Bool, true, false, Option, Some, None, refl, sym, ap, ◌∙◌, subst, arith, IsTrue}
-use Rattle.std.specs.Prelude.{filter_map, ◌↔◌}
+use Rattle.std.specs.Prelude.{filter_map, slice_get, drop, nat_eq, ◌↔◌, ◌≢◌}
+use Rattle.std.specs.List.{cons_option}
+use Rattle.std.proofs.lemmas.Bool.{eqb-true, eq-eqb}
+use Rattle.std.proofs.lemmas.List.{length-map, map-append}
+use Rattle.std.proofs.lemmas.List.Elements.{filter_map-append}
+use Rattle.anb_format.specs.Formats.{FormatValue}
+use Rattle.anb_code.specs.declared.instr.Instr.{Instr}
+use Rattle.anb_code.specs.Meaning.{act_of}
+use Rattle.anb_resolve.specs.declared.plans.Event as code
+use Rattle.anb_resolve.specs.Plays.{event_of}
+use Rattle.anb_resolve.specs.Views.{plan_event}
+use Rattle.anb_honest.proofs.Valuing.{dropped}
 use Rattle.std.proofs.lemmas.List.{take_all}
 use Rattle.anb_lemmas.proofs.Each.{take_next}
 use Rattle.anb_plays.specs.Plans.{Event, know, fresh, send, recv}
@@ -8,7 +19,7 @@ use Rattle.anb_plays.specs.Codes.{Act, takes, draws, receives, sends, works}
 use Rattle.anb_plays.specs.Fits.{Place, Along, AnySend, AnyWork, AnyBorder, after_take, after_label, after_work}
 use Rattle.anb_honest.specs.declared.kind.Kind.{Kind}
 use Rattle.anb_honest.specs.declared.kind.Kind.TheVariants.{Know, Make, Send, Receive}
-use Rattle.anb_honest.specs.Kinds.{kind_of, event_kind}
+use Rattle.anb_honest.specs.Kinds.{kind_of, kinds_of, event_kind}
 
 pub both_next : {A : Type 0} (xs ys : List A) (i : ℕ) (x y : A) → i < length xs → i < length ys → x ≡ get_or xs i x → y ≡ get_or ys i y → x ≡ y
     → take i xs ≡ take i ys → take (i + 1) xs ≡ take (i + 1) ys
@@ -82,3 +93,55 @@ kept_kinds (sends n ∷ acts) [] s e = absurd (cc)
 kept_kinds (sends n ∷ acts) (know t ∷ es) s e = absurd (cc)
 kept_kinds (sends n ∷ acts) (fresh t ∷ es) s e = absurd (cc)
 kept_kinds (sends n ∷ acts) (recv t ∷ es) s e = absurd (cc)
+
+-- ---- kinds so far
+
+cut_front : {A : Type 0} (xs : List A) (n : ℕ) (x : A) (rest : List A) → n ≤ length xs → take n xs ++ x ∷ rest ≡ xs → slice_get xs n ≡ Some x
+cut_front [] zero x rest h e = cc
+cut_front [] (suc n) x rest h e = absurd (omega arith)
+cut_front (y ∷ ys) zero x rest h e = let f : x ≡ y = cc in ap Some (sym f)
+cut_front (y ∷ ys) (suc n) x rest h e = cut_front ys n x rest (omega arith) (let f : take n ys ++ x ∷ rest ≡ ys = cc in f)
+
+length_front : {A : Type 0} (xs : List A) (n : ℕ) → n ≤ length xs → length (take n xs) ≡ n
+length_front [] zero h = refl
+length_front [] (suc n) h = absurd (omega arith)
+length_front (x ∷ xs) zero h = refl
+length_front (x ∷ xs) (suc n) h = ap suc (length_front xs n (omega arith))
+
+joined : {A : Type 0} (xs : List A) (i : ℕ) → take i xs ++ drop i xs ≡ xs
+joined xs zero = refl
+joined [] (suc i) = refl
+joined (x ∷ xs) (suc i) = ap (λ l. x ∷ l) (joined xs i)
+
+length_kinds : (events : List code.Event) → length (kinds_of events) ≡ length events
+length_kinds events = length-map (map event_of (map plan_event events)) event_kind ∙ length-map (map plan_event events) event_of ∙ length-map events plan_event
+
+module _ (formats : List FormatValue) (instrs : List Instr) (events : List code.Event) (i : ℕ) where
+  module _ (x : Instr) (next : ℕ) (within : i < length instrs) (at : x ≡ get_or instrs i x) where
+    pub kinds_next : (later : ℕ) → filter_map kind_of (map (act_of formats) (take i instrs)) ≡ take next (kinds_of events)
+        → take later (kinds_of events) ≡ take next (kinds_of events) ++ filter_map kind_of (act_of formats x ∷ [])
+        → filter_map kind_of (map (act_of formats) (take (i + 1) instrs)) ≡ take later (kinds_of events)
+    kinds_next later before here =
+        ap (λ l. filter_map kind_of (map (act_of formats) l)) (take_next instrs i x within at)
+        ∙ ap (filter_map kind_of) (map-append (act_of formats) (take i instrs) (x ∷ [])) ∙ filter_map-append kind_of (map (act_of formats) (take i instrs)) (act_of formats x ∷ [])
+        ∙ ap (λ l. l ++ filter_map kind_of (act_of formats x ∷ [])) before ∙ sym here
+
+    pub kinds_broken : (kind : Kind) → next ≤ length events → filter_map kind_of (map (act_of formats) (take i instrs)) ≡ take next (kinds_of events)
+        → kind_of (act_of formats x) ≡ Some kind → slice_get (kinds_of events) next ≢ Some kind
+        → (IsTrue false → filter_map kind_of (map (act_of formats) instrs) ≡ kinds_of events) × (filter_map kind_of (map (act_of formats) instrs) ≡ kinds_of events → IsTrue false)
+    kinds_broken kind few before is other =
+        let rest = map (act_of formats) (drop (i + 1) instrs) in
+        let parts : filter_map kind_of (map (act_of formats) instrs) ≡ take next (kinds_of events) ++ (kind ∷ filter_map kind_of rest) =
+        ap (λ l. filter_map kind_of (map (act_of formats) l)) (sym (joined instrs i) ∙ ap (λ l. take i instrs ++ l) (dropped instrs i x within at))
+        ∙ ap (filter_map kind_of) (map-append (act_of formats) (take i instrs) (x ∷ drop (i + 1) instrs)) ∙ filter_map-append kind_of (map (act_of formats) (take i instrs)) (act_of formats x ∷ rest)
+        ∙ ap (λ l. l ++ filter_map kind_of (act_of formats x ∷ rest)) before ∙ ap (λ o. take next (kinds_of events) ++ cons_option o (filter_map kind_of rest)) is in
+        (λ e. cc, λ e. absurd (other (cut_front (kinds_of events) next kind (filter_map kind_of rest) (let n = length_kinds events in omega arith) (sym parts ∙ e))))
+
+  pub kinds_end : (next : ℕ) → length instrs ≤ i → next ≤ length events → filter_map kind_of (map (act_of formats) (take i instrs)) ≡ take next (kinds_of events)
+      → (IsTrue (nat_eq next (length events)) → filter_map kind_of (map (act_of formats) instrs) ≡ kinds_of events)
+      × (filter_map kind_of (map (act_of formats) instrs) ≡ kinds_of events → IsTrue (nat_eq next (length events)))
+  kinds_end next end few before =
+      let all : filter_map kind_of (map (act_of formats) instrs) ≡ take next (kinds_of events) = ap (λ l. filter_map kind_of (map (act_of formats) l)) (sym (take_all i instrs end)) ∙ before in
+      let n = length_kinds events in
+      (λ e. let h : next ≡ length events = eqb-true next (length events) e in all ∙ take_all next (kinds_of events) (omega arith),
+      λ e. eq-eqb next (length events) (sym (length_front (kinds_of events) next (omega arith)) ∙ ap length (sym all ∙ e) ∙ n))

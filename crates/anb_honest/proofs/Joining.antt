@@ -1,5 +1,5 @@
 -- A joint run, turn by turn.
-use Rattle.std.proofs.Common.{◌≡◌, ℕ, ◌+◌, ◌<◌, ◌≤◌, List, [], ◌∷◌, length, map, drop, get_or, Option, Some, None, refl, sym, ap, ◌∙◌, subst, arith}
+use Rattle.std.proofs.Common.{◌≡◌, ℕ, zero, suc, ◌+◌, ◌<◌, ◌≤◌, List, [], ◌∷◌, length, map, drop, get_or, Option, Some, None, refl, sym, ap, ◌∙◌, subst, arith}
 use Rattle.std.specs.Prelude.{flat_map, unwrap_or, All, Vec}
 use Rattle.std.specs.Global.{Global}
 use Rattle.std.specs.List.{range_with_len}
@@ -36,3 +36,8 @@ module _ (c : Cast) (s : Course) (turns : List ℕ) (i role : ℕ) (within : i <
 -- each role that has a turn is there
 pub role_at : (n : ℕ) (turns : List ℕ) (i role : ℕ) → All (λ r. r < n) turns → i < length turns → role ≡ get_or turns i role → role < n
 role_at n turns i role all within at = subst (λ r. r < n) (sym at) (all i role within)
+
+pub read_again : (xs : List ℕ) (i : ℕ) → i < length xs → get_or xs i 0 ≡ get_or xs i (get_or xs i 0)
+read_again [] i h = absurd (omega arith)
+read_again (x ∷ xs) zero h = refl
+read_again (x ∷ xs) (suc i) h = read_again xs i (omega arith)

@@ -1,11 +1,12 @@
 //! Whether a code keeps the order of a role's plan.
-ghost use Rattle.std.specs.Prelude.{◌≡◌, ◌<◌, ◌↔◌, List, length, map, filter_map, IfOk, IsTrue};
+ghost use Rattle.std.specs.Prelude.{◌≡◌, ◌≢◌, ◌<◌, ◌≤◌, ◌↔◌, ◌++◌, List, [], ◌∷◌, length, map, take, filter_map, slice_get, Some, IfOk, IfSome, IfNone, IsTrue};
 ghost use Rattle.anb_format.specs.Formats.{FormatValue};
 ghost use Rattle.anb_code.specs.Meaning.{act_of};
 ghost use Rattle.anb_code.specs.Taking.{take_texts};
 ghost use Rattle.anb_resolve.specs.Plays.{event_of};
 ghost use Rattle.anb_resolve.specs.Views.{plan_event};
-ghost use Rattle.anb_honest.specs.Kinds.{kind_of, event_kind};
+ghost use Rattle.anb_honest.specs.declared.kind.Kind.{Kind};
+ghost use Rattle.anb_honest.specs.Kinds.{kind_of, kinds_of, event_kind};
 ghost use Rattle.anb_honest.specs.Order.{FollowsRole};
 
 use crate::kind::Kind;
@@ -102,18 +103,40 @@ fn takes_these(code: &RoleCode, texts: &[Text]) -> bool
 fn keeps_order(instrs: &[Instr], events: &[Event]) -> bool
     ensures { (formats : List FormatValue) → IsTrue result
         ↔ (filter_map kind_of (map (act_of formats) instrs.now)
-        ≡ map event_kind (map event_of (map plan_event events.now))) }
+        ≡ kinds_of events.now) }
 {
     let mut next = 0;
     for instr in instrs {
-        if let Some(kind) = kind_of(instr) {
-            if next == events.len() || event_kind(&events[next]) != kind {
-                return false;
-            }
-            next += 1;
+        match behind(instr, events, next) {
+            Some(later) => next = later,
+            None => return false,
         }
     }
     next == events.len()
+}
+
+/// How many events are done with an instruction, where so many are done before it. There are none
+/// such where the instruction meets the outside and the next event is of another kind.
+fn behind(instr: &Instr, events: &[Event], next: usize) -> Option<usize>
+    requires { next ≤ length events.now }
+    ensures within { IfSome result (λ later. later ≤ length events.now) }
+    ensures some { IfSome result (λ later. (formats : List FormatValue)
+        → take later (kinds_of events.now) ≡ take next (kinds_of events.now)
+        ++ filter_map kind_of (act_of formats instr.now ∷ [])) }
+    ensures none { IfNone result ((formats : List FormatValue) → (kind : Kind)
+        × (kind_of (act_of formats instr.now) ≡ Some kind)
+        × (slice_get (kinds_of events.now) next ≢ Some kind)) }
+{
+    let Some(kind) = kind_of(instr) else {
+        return Some(next);
+    };
+    let Some(event) = events.get(next) else {
+        return None;
+    };
+    if event_kind(event) != kind {
+        return None;
+    }
+    Some(next + 1)
 }
 
 /// The kind of an instruction that meets the outside.

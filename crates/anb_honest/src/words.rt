@@ -1,8 +1,8 @@
 //! Schedules from their texts.
-ghost use Rattle.std.specs.Prelude.{◌≡◌, ◌<◌, ◌≤◌, ℕ, length, map, All, IfOk, Some, Err};
+ghost use Rattle.std.specs.Prelude.{◌≡◌, ◌<◌, ◌≤◌, ◌+◌, ◌++◌, ℕ, [], ◌∷◌, length, map, filter, true, All, IfOk, OnOk, Some, None, Err};
 ghost use Rattle.std.specs.List.{position_from};
 ghost use Rattle.anb_honest.specs.declared.words.ScheduleNo.TheVariants as refusal;
-ghost use Rattle.anb_honest.specs.Words.{is_blank, names_none, role_of, words_of};
+ghost use Rattle.anb_honest.specs.Words.{is_blank, is_word, names_none, role_of, words_of};
 
 use anb_resolve::Protocol;
 use std::alloc::{AllocFailed, Global};
@@ -35,15 +35,30 @@ pub fn schedule(alloc: Global, p: &Protocol, text: &[u8]) -> Result<Vec<u32>, Sc
 {
     let mut turns = Vec::new(alloc);
     for word in text.split(|byte| is_blank(*byte)) {
-        if word.is_empty() {
-            continue;
-        }
-        match p.role_of(word) {
-            Some(role) => turns.push(role)?,
-            None => return Err(ScheduleNo::BadTurn(turns.len() as u32 + 1)),
-        }
+        put_turn(p, &mut turns, word)?;
     }
     Ok(turns)
+}
+
+/// Appends the number of the role that a word names, unless the word is empty.
+fn put_turn(p: &Protocol, turns: &mut Vec<u32>, word: &[u8]) -> Result<(), ScheduleNo>
+    requires { length turns.old.items < 1048576 }
+    ensures turns { OnOk result (map Some turns.new.items
+        ≡ map Some turns.old.items ++ map (role_of p.now) (filter is_word (word.now ∷ []))) }
+    ensures refused { (n : ℕ) → result ≡ Err (ScheduleNo.BadTurn n)
+        → (n ≡ length turns.old.items + 1) × (is_word word.now ≡ true)
+        × (role_of p.now word.now ≡ None) }
+{
+    if word.is_empty() {
+        return Ok(());
+    }
+    match p.role_of(word) {
+        Some(role) => {
+            turns.push(role)?;
+            Ok(())
+        }
+        None => Err(ScheduleNo::BadTurn(turns.len() as u32 + 1)),
+    }
 }
 
 fn is_blank(byte: u8) -> bool
