@@ -11,6 +11,18 @@ use Rattle.anb_code.specs.Meaning.{act_of}
 use Rattle.anb_resolve.specs.declared.plans.Event as code
 use Rattle.anb_resolve.specs.Plays.{event_of}
 use Rattle.anb_resolve.specs.Views.{plan_event}
+use Rattle.std.proofs.lemmas.Option.{slice_get-map, slice_get_read, slice_get_past}
+use Rattle.std.specs.Prelude.{option_map}
+use Rattle.anb_plays.specs.Fits.{start}
+use Rattle.anb_code.specs.CodeValue.{CodeValue}
+use Rattle.anb_code.specs.Meaning.{acts_of}
+use Rattle.anb_code.specs.Taking.{take_texts}
+use Rattle.anb_resolve.specs.Protocols.{ProtocolValue}
+use Rattle.anb_resolve.specs.Texts.{known_texts}
+use Rattle.anb_resolve.specs.Plans.{PlanEvent, plan_of}
+use Rattle.anb_resolve.specs.Plays.{events_of}
+use Rattle.anb_honest.specs.Order.{FollowsRole}
+use Rattle.anb_honest.proofs.Standing.{drop_at}
 use Rattle.anb_honest.proofs.Valuing.{dropped}
 use Rattle.std.proofs.lemmas.List.{take_all}
 use Rattle.anb_lemmas.proofs.Each.{take_next}
@@ -145,3 +157,65 @@ module _ (formats : List FormatValue) (instrs : List Instr) (events : List code.
       let n = length_kinds events in
       (λ e. let h : next ≡ length events = eqb-true next (length events) e in all ∙ take_all next (kinds_of events) (omega arith),
       λ e. eq-eqb next (length events) (sym (length_front (kinds_of events) next (omega arith)) ∙ ap length (sym all ∙ e) ∙ n))
+
+-- the kind of the next event
+kind_at : (events : List code.Event) (next : ℕ) (x : code.Event) → next < length events → x ≡ get_or events next x → slice_get (kinds_of events) next ≡ Some (event_kind (event_of (plan_event x)))
+kind_at events next x within at =
+    slice_get-map event_kind (map event_of (map plan_event events)) next
+    ∙ ap (option_map event_kind) (slice_get-map event_of (map plan_event events) next ∙ ap (option_map event_of) (slice_get-map plan_event events next ∙ ap (option_map plan_event) (slice_get_read events (length events) next x refl within at)))
+
+some_differ : {A : Type 0} (x y : A) → Some x ≡ Some y → x ≡ y
+some_differ x y e = cc
+
+none_some : {A : Type 0} (x : A) → None ≡ Some x → ⊥
+none_some x e = cc
+
+true_false : (b : Bool) → b ≡ true → b ≡ false → ⊥
+true_false true e f = cc
+true_false false e f = cc
+
+pub no_kind : (events : List code.Event) (next : ℕ) (kind : Kind) → length events ≤ next → slice_get (kinds_of events) next ≡ Some kind → ⊥
+no_kind events next kind past e = none_some kind (sym (slice_get_past (kinds_of events) next (let n = length_kinds events in omega arith)) ∙ e)
+
+pub other_kind : (events : List code.Event) (next : ℕ) (x : code.Event) (own kind : Kind) (same : Bool) → next < length events → x ≡ get_or events next x → own ≡ event_kind (event_of (plan_event x))
+    → (IsTrue same ↔ (own ≡ kind)) → same ≡ false → slice_get (kinds_of events) next ≡ Some kind → ⊥
+other_kind events next x own kind same within at is tells differ e =
+    let g : event_kind (event_of (plan_event x)) ≡ kind = some_differ (event_kind (event_of (plan_event x))) kind (sym (kind_at events next x within at) ∙ e) in
+    true_false same (tells.1 (is ∙ g)) differ
+
+take_more : {A : Type 0} (xs : List A) (n : ℕ) (x : A) → slice_get xs n ≡ Some x → take (n + 1) xs ≡ take n xs ++ x ∷ []
+take_more [] n x h = cc
+take_more (y ∷ ys) zero x h = let e : y ≡ x = cc in ap (λ z. z ∷ []) e
+take_more (y ∷ ys) (suc n) x h = let m : suc n + 1 ≡ suc (n + 1) = omega arith in rw m (ap (λ l. y ∷ l) (take_more ys n x h))
+
+pub kind_taken : (formats : List FormatValue) (instr : Instr) (events : List code.Event) (next : ℕ) (x : code.Event) (own kind : Kind) → next < length events → x ≡ get_or events next x
+    → own ≡ event_kind (event_of (plan_event x)) → own ≡ kind → kind_of (act_of formats instr) ≡ Some kind
+    → take (next + 1) (kinds_of events) ≡ take next (kinds_of events) ++ filter_map kind_of (act_of formats instr ∷ [])
+kind_taken formats instr events next x own kind within at is same act =
+    take_more (kinds_of events) next (event_kind (event_of (plan_event x))) (kind_at events next x within at)
+    ∙ ap (λ z. take next (kinds_of events) ++ z ∷ []) (sym is ∙ same) ∙ ap (λ o. take next (kinds_of events) ++ cons_option o []) (sym act)
+
+-- ---- what is followed
+
+module _ (p : ProtocolValue) (role : ℕ) (c : CodeValue) (b : Bool) where
+  pub follows_where : c.suite ≡ p.suite → c.formats ≡ p.formats → c.protocol ≡ p.name → slice_get p.roles role ≡ Some c.role → take_texts c.instrs ≡ known_texts p role
+      → (plan : List PlanEvent) → plan ≡ plan_of p role
+      → (IsTrue b → filter_map kind_of (acts_of c) ≡ map event_kind (map event_of plan)) × (filter_map kind_of (acts_of c) ≡ map event_kind (map event_of plan) → IsTrue b)
+      → (IsTrue b → FollowsRole p role c) × (FollowsRole p role c → IsTrue b)
+  follows_where suite formats protocol name texts plan is tells =
+      let k = ap (λ l. map event_kind (map event_of l)) is in
+      (λ e. record {
+        suite = suite;
+        formats = formats;
+        protocol = protocol;
+        name = name;
+        texts = texts;
+        order = kept_kinds (acts_of c) (events_of p role) (start (events_of p role)) (tells.0 e ∙ k);
+      },
+      λ f. tells.1 (kinds_kept (acts_of c) (events_of p role) (start (events_of p role)) f.order ∙ sym k))
+
+  pub follows_not : b ≡ false → (take_texts c.instrs ≡ known_texts p role → ⊥) → (IsTrue b → FollowsRole p role c) × (FollowsRole p role c → IsTrue b)
+  follows_not no other = (λ e. absurd (true_false b e no), λ f. absurd (other f.texts))
+
+pub falls : (b : Bool) (P : Type 0) → b ≡ false → (P → IsTrue b) → P → ⊥
+falls b P no tells x = true_false b (tells x) no

@@ -16,3 +16,4 @@ pub mod Valuing
 pub mod Setting
 pub mod Joining
 pub mod Staging
+pub mod Naming

@@ -10,7 +10,7 @@ ghost use Rattle.anb_honest.specs.Kinds.{kind_of, kinds_of, event_kind};
 ghost use Rattle.anb_honest.specs.Order.{FollowsRole};
 
 use crate::kind::Kind;
-use anb_base::{NoMemory, Text};
+use anb_base::{NoMemory, Suite, Text};
 use anb_code::{Instr, RoleCode};
 use anb_format::{Format, Piece};
 use anb_resolve::{Event, Protocol};
@@ -23,7 +23,7 @@ pub fn follows(alloc: Global, p: &Protocol, role: u32, code: &RoleCode) -> Resul
     requires { role < length p.now.roles }
     ensures { IfOk result (λ follows. IsTrue follows ↔ FollowsRole p.now role code.now) }
 {
-    if code.suite() != p.suite() || !same_formats(code.formats(), p.formats()) {
+    if !same_suite(code.suite(), p.suite()) || !same_formats(code.formats(), p.formats()) {
         return Ok(false);
     }
     if !same_text(code.protocol(), p.name()) || !same_text(code.role(), &p.roles()[role as usize]) {
@@ -32,6 +32,12 @@ pub fn follows(alloc: Global, p: &Protocol, role: u32, code: &RoleCode) -> Resul
     let texts = p.known(alloc, role)?;
     let plan = p.plan(alloc, role)?;
     Ok(takes_these(code, &texts) && keeps_order(code.instrs(), plan.events()))
+}
+
+fn same_suite(one: Suite, other: Suite) -> bool
+    ensures { IsTrue result ↔ (one ≡ other) }
+{
+    one == other
 }
 
 fn same_text(one: &Text, other: &Text) -> bool
@@ -130,13 +136,19 @@ fn behind(instr: &Instr, events: &[Event], next: usize) -> Option<usize>
     let Some(kind) = kind_of(instr) else {
         return Some(next);
     };
-    let Some(event) = events.get(next) else {
+    if next == events.len() {
         return None;
-    };
-    if event_kind(event) != kind {
+    }
+    if !same_kind(event_kind(&events[next]), kind) {
         return None;
     }
     Some(next + 1)
+}
+
+fn same_kind(one: Kind, other: Kind) -> bool
+    ensures { IsTrue result ↔ (one ≡ other) }
+{
+    one == other
 }
 
 /// The kind of an instruction that meets the outside.

@@ -35,7 +35,9 @@ pub fn schedule(alloc: Global, p: &Protocol, text: &[u8]) -> Result<Vec<u32>, Sc
 {
     let mut turns = Vec::new(alloc);
     for word in text.split(|byte| is_blank(*byte)) {
-        put_turn(p, &mut turns, word)?;
+        if let Err(no) = put_turn(p, &mut turns, word) {
+            return Err(no);
+        }
     }
     Ok(turns)
 }

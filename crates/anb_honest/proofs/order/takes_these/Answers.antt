@@ -1,12 +1,8 @@
-use Rattle.std.proofs.Common.{◌≡◌, ◌<◌, length, get_or, arith, sym, Bool, true, false, not, refl}
+use Rattle.std.proofs.Common.{◌≡◌, ◌<◌, length, get_or, arith, sym}
 use Rattle.std.proofs.lemmas.Option.{get_or_from_slice_get}
 use Rattle.anb_code.specs.Taking.{take_texts}
 use Rattle.anb_honest.proofs.Comparing.{both_next}
 use Rattle.anb_honest.proofs.order.takes_these.Goals as goal
-
-not_false : (b : Bool) → not b ≡ false → b ≡ true
-not_false true e = refl
-not_false false e = cc
 
 pub loop-i-preserved : goal.loop-i-preserved
 loop-i-preserved c =
@@ -15,4 +11,4 @@ loop-i-preserved c =
     let x = c.take_text.result.now in
     let count : length xs ≡ length ys = omega (arith, c.takes.ensures, c.if-takes-texts.false) in
     both_next xs ys c.loop-i.i x c.index-texts-i.result (omega (arith, count)) (omega arith) (sym (get_or_from_slice_get xs c.loop-i.i x x (sym c.take_text.ensures))) c.index-texts-i.is
-    (c.same_text.ensures.0 (not_false c.same_text.result c.if-not-same_text.false)) c.loop-i.invariant
+    (c.same_text.ensures.0 c.if-not-same_text.false) c.loop-i.invariant

@@ -38,7 +38,19 @@ returns-in-Some-2 c =
     (sym c.in_default.is ∙ c.first_long.ensures) w
 
 pub loop-role-preserved : goal.loop-role-preserved
-loop-role-preserved c = ?
+loop-role-preserved c =
+    let k = cast c.args.p.now c.args.codes.now c.args.atoms.now c.args.seed.now in
+    let s = c.loop-role.invariant.course in
+    let turns = c.args.turns.now in
+    let i = c.loop-role.role-index in
+    let role = get_or turns i 0 in
+    let g = subst (Takes k s (turn_of k.protocol (turns_of s.moves) role) c.turn.new.self) c.in_default-2.is (c.in_ok-end.ensures k s c.loop-role.invariant.stands) in
+    record {
+      course = g.next;
+      stands = g.stands;
+      walked = walk_on k s turns i role (omega arith) (read_again turns i (omega arith)) (walk k outset turns) c.loop-role.invariant.walked c.turn.new.self g;
+      counted = omega (arith, g.counted, c.loop-role.invariant.counted);
+    }
 
 pub returns : goal.returns
 returns c = ?
