@@ -215,7 +215,7 @@ module _ (p : ProtocolValue) (role : ℕ) (c : CodeValue) (b : Bool) where
       λ f. tells.1 (kinds_kept (acts_of c) (events_of p role) (start (events_of p role)) f.order ∙ sym k))
 
   pub follows_not : b ≡ false → (take_texts c.instrs ≡ known_texts p role → ⊥) → (IsTrue b → FollowsRole p role c) × (FollowsRole p role c → IsTrue b)
-  follows_not no other = (λ e. absurd (true_false b e no), λ f. absurd (other f.texts))
+  follows_not differs other = (λ e. absurd (true_false b e differs), λ f. absurd (other f.texts))
 
 pub falls : (b : Bool) (P : Type 0) → b ≡ false → (P → IsTrue b) → P → ⊥
-falls b P no tells x = true_false b (tells x) no
+falls b P differs tells x = true_false b (tells x) differs

@@ -1,4 +1,4 @@
-use Rattle.std.proofs.Common.{◌≡◌, ◌∙◌, sym, ap, subst, List, length, map, refl, Some, IsTrue}
+use Rattle.std.proofs.Common.{◌≡◌, ◌∙◌, arith, sym, ap, subst, List, length, map, refl, Some, IsTrue}
 use Rattle.std.specs.Prelude.{filter_map, slice_get, ◌↔◌}
 use Rattle.std.proofs.lemmas.Option.{slice_get_read}
 use Rattle.anb_code.specs.declared.instr.Instr.{Instr}
@@ -20,7 +20,7 @@ returns c =
     let suite = sym c.suite.ensures ∙ c.same_suite.ensures.0 c.if-not-same_suite.false ∙ c.suite-2.ensures in
     let formats = sym c.formats.ensures.formats ∙ c.same_formats.ensures.0 c.if-not-same_formats.false ∙ c.formats-else-not-same_suite.ensures in
     let protocol = sym c.protocol.ensures ∙ c.same_text.ensures.0 c.if-not-same_text.false ∙ c.name.ensures.name in
-    let here = slice_get_read c.roles.result.now (length c.roles.result.now) role c.index-roles-role.result refl (subst (λ l. _) (sym c.roles.ensures) c.requires) c.index-roles-role.is in
+    let here = slice_get_read c.roles.result.now (length c.roles.result.now) role c.index-roles-role.result refl (let n = ap length c.roles.ensures in omega (arith, n, c.requires)) c.index-roles-role.is in
     let name : slice_get p.roles role ≡ Some code.role =
     ap (λ l. slice_get l role) (sym c.roles.ensures) ∙ here ∙ ap Some (sym (c.same_text-else-not-same_text.ensures.0 c.if-not-same_text-2.false) ∙ c.role.ensures) in
     let texts = c.deref.ensures.value ∙ c.in_ok-texts.ensures in

@@ -1,9 +1,11 @@
 use Rattle.std.proofs.Common.{◌≡◌, ◌<◌, ◌∙◌, ℕ, List, length, map, get_or, Some, sym, ap, subst, refl, arith}
+use Rattle.std.proofs.lemmas.List.{drop_all}
 use Rattle.anb_resolve.specs.Schedules.{turn_of}
 use Rattle.anb_honest.specs.Given.{items_of}
 use Rattle.anb_honest.specs.Joint.{cast, outset, turns_of, walk}
 use Rattle.anb_honest.specs.Inside.{Takes}
 use Rattle.anb_honest.proofs.Joining.{ends_long, ends_walked, walk_on, walk_ends, read_again}
+use Rattle.anb_honest.proofs.Staging.{ok_map}
 use Rattle.anb_honest.proofs.rehearsing.rehearse.Goals as goal
 
 pub returns-in-Some : goal.returns-in-Some
@@ -53,4 +55,12 @@ loop-role-preserved c =
     }
 
 pub returns : goal.returns
-returns c = ?
+returns c =
+    let k = cast c.args.p.now c.args.codes.now c.args.atoms.now c.args.seed.now in
+    let holds = c.protocols_hold.ensures c.args.p.now c.name.ensures.protocol in
+    let s = c.loop-role.invariant.course in
+    let turns = c.args.turns.now in
+    let none = drop_all c.loop-role.role-index turns (omega arith) in
+    ok_map c.end_of.result c.end_of.ensures (λ end f.
+    ends_walked k c.deref-2.result.now holds.knows (ap (map items_of) c.deref-2.ensures.value ∙ c.in_ok-initial.ensures c.args.codes.now c.args.seed.now) turns end (sym c.in_default.is ∙ c.first_long.ensures)
+    (f k s c.loop-role.invariant.stands ∙ ap (walk k s) (sym none) ∙ c.loop-role.invariant.walked))
