@@ -1,13 +1,12 @@
 -- What a role that tells or hears next does not do.
-use Rattle.std.proofs.Common.{◌≡◌, ℕ, List, [], ◌∷◌, Option, Some, None, refl, sym, ap, ◌∙◌, inl, inr, ◌⊎◌}
+use Rattle.std.proofs.Common.{◌≡◌, ℕ, List, [], ◌∷◌, None, refl, sym, ap, ◌∙◌, inl, inr, ◌⊎◌}
 use Rattle.anb_plays.specs.Plays.{Played, End, stopped, waiting, done, ends, says}
 use Rattle.std.proofs.Common.{subst}
 use Rattle.anb_machine.specs.Machines.{MachineValue, gives, Turned}
-use Rattle.anb_machine.specs.declared.turn.Halt.{Halt}
 use Rattle.anb_machine.specs.declared.turn.Turn.{Turn}
 use Rattle.anb_machine.specs.declared.turn.Turn.TheVariants.{Message, Wants, Done}
 use Rattle.anb_honest.specs.Joint.{halt_behind}
-use Rattle.anb_honest.specs.Acting.{Coming, StopsNow, TellsFirst, HearsFirst, AnyComing, TellsNow, HearsNow}
+use Rattle.anb_honest.specs.Acting.{Coming, TellsNow, HearsNow}
 
 stop_wait : (x at e : ℕ) → stopped x at ≡ waiting e → ⊥
 stop_wait x at e h = cc

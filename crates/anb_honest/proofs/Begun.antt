@@ -1,6 +1,6 @@
 -- Roles before the first turn.
-use Rattle.std.proofs.Common.{◌≡◌, ℕ, zero, suc, ◌+◌, ◌<◌, ◌≤◌, List, [], ◌∷◌, ◌++◌, length, map, drop, take, Bool, Option, Some, None, refl, sym, ap, ◌∙◌, subst, arith, append_assoc}
-use Rattle.std.specs.Prelude.{filter_map, flat_map, slice_get, IfSome}
+use Rattle.std.proofs.Common.{◌≡◌, ℕ, zero, suc, ◌+◌, List, [], ◌∷◌, ◌++◌, length, map, drop, Option, Some, refl, sym, ap, ◌∙◌, subst, arith}
+use Rattle.std.specs.Prelude.{filter_map, flat_map, slice_get}
 use Rattle.std.specs.Prelude.{Vec}
 use Rattle.std.specs.Global.{Global}
 use Rattle.std.specs.Option.{option_map_or, option_or}
@@ -12,7 +12,7 @@ use Rattle.anb_algebra.specs.ByteMeaning.{byte_meaning, has_operator}
 use Rattle.anb_algebra.specs.ByteLawful.{bytes_are_lawful}
 use Rattle.anb_lemmas.proofs.Each.{each_in_front, each_in_parts}
 use Rattle.anb_seal.specs.Streams.{draw_of}
-use Rattle.anb_plays.specs.Plays.{Played, done, ends}
+use Rattle.anb_plays.specs.Plays.{done, ends}
 use Rattle.anb_plays.specs.Exec.{exec, HasTakes}
 use Rattle.anb_plays.specs.Fits.{start}
 use Rattle.anb_plays.proofs.Exec.{exec_is_run, takes_ready}
@@ -34,9 +34,9 @@ use Rattle.anb_resolve.specs.Schedules.{parts_of}
 use Rattle.anb_honest.specs.declared.player.Player.{Player}
 use Rattle.anb_honest.specs.Order.{FollowsRole}
 use Rattle.anb_honest.specs.Given.{items_of}
-use Rattle.anb_honest.specs.Joint.{Cast, init_of, run_over, given_bytes, long_end}
+use Rattle.anb_honest.specs.Joint.{Cast, init_of, given_bytes, long_end}
 use Rattle.anb_honest.specs.Acting.{Coming, KeepsOrder}
-use Rattle.anb_honest.specs.Inside.{IsPlayer, GivesBehind, part_of, turn_value}
+use Rattle.anb_honest.specs.Inside.{IsPlayer, part_of, turn_value}
 use Rattle.anb_honest.proofs.Ordering.{order_same, keeps}
 use Rattle.anb_honest.proofs.Parts.{parts_are}
 

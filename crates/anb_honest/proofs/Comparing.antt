@@ -1,5 +1,5 @@
 -- Lists that are compared item by item.
-use Rattle.std.proofs.Common.{◌≡◌, ℕ, zero, suc, ◌+◌, ◌<◌, ◌≤◌, List, [], ◌∷◌, ◌++◌, length, map, take, get_or, Bool, true, false, Option, Some, None, refl, sym, ap, ◌∙◌, subst, arith, IsTrue}
+use Rattle.std.proofs.Common.{◌≡◌, ℕ, zero, suc, ◌+◌, ◌<◌, ◌≤◌, List, [], ◌∷◌, ◌++◌, length, map, take, get_or, Bool, true, false, Some, None, refl, sym, ap, ◌∙◌, arith, IsTrue}
 use Rattle.std.specs.Prelude.{filter_map, slice_get, drop, nat_eq, ◌↔◌, ◌≢◌}
 use Rattle.std.specs.List.{cons_option}
 use Rattle.std.proofs.lemmas.Bool.{eqb-true, eq-eqb}
@@ -22,7 +22,6 @@ use Rattle.anb_resolve.specs.Texts.{known_texts}
 use Rattle.anb_resolve.specs.Plans.{PlanEvent, plan_of}
 use Rattle.anb_resolve.specs.Plays.{events_of}
 use Rattle.anb_honest.specs.Order.{FollowsRole}
-use Rattle.anb_honest.proofs.Standing.{drop_at}
 use Rattle.anb_honest.proofs.Valuing.{dropped}
 use Rattle.std.proofs.lemmas.List.{take_all}
 use Rattle.anb_lemmas.proofs.Each.{take_next}
@@ -154,9 +153,10 @@ module _ (formats : List FormatValue) (instrs : List Instr) (events : List code.
       × (filter_map kind_of (map (act_of formats) instrs) ≡ kinds_of events → IsTrue (nat_eq next (length events)))
   kinds_end next end few before =
       let all : filter_map kind_of (map (act_of formats) instrs) ≡ take next (kinds_of events) = ap (λ l. filter_map kind_of (map (act_of formats) l)) (sym (take_all i instrs end)) ∙ before in
-      let n = length_kinds events in
-      (λ e. let h : next ≡ length events = eqb-true next (length events) e in all ∙ take_all next (kinds_of events) (omega arith),
-      λ e. eq-eqb next (length events) (sym (length_front (kinds_of events) next (omega arith)) ∙ ap length (sym all ∙ e) ∙ n))
+      let n = length_kinds events in (
+        λ e. let h : next ≡ length events = eqb-true next (length events) e in all ∙ take_all next (kinds_of events) (omega arith),
+        λ e. eq-eqb next (length events) (sym (length_front (kinds_of events) next (omega arith)) ∙ ap length (sym all ∙ e) ∙ n),
+      )
 
 -- the kind of the next event
 kind_at : (events : List code.Event) (next : ℕ) (x : code.Event) → next < length events → x ≡ get_or events next x → slice_get (kinds_of events) next ≡ Some (event_kind (event_of (plan_event x)))
@@ -203,16 +203,17 @@ module _ (p : ProtocolValue) (role : ℕ) (c : CodeValue) (b : Bool) where
       → (IsTrue b → filter_map kind_of (acts_of c) ≡ map event_kind (map event_of plan)) × (filter_map kind_of (acts_of c) ≡ map event_kind (map event_of plan) → IsTrue b)
       → (IsTrue b → FollowsRole p role c) × (FollowsRole p role c → IsTrue b)
   follows_where suite formats protocol name texts plan is tells =
-      let k = ap (λ l. map event_kind (map event_of l)) is in
-      (λ e. record {
-        suite = suite;
-        formats = formats;
-        protocol = protocol;
-        name = name;
-        texts = texts;
-        order = kept_kinds (acts_of c) (events_of p role) (start (events_of p role)) (tells.0 e ∙ k);
-      },
-      λ f. tells.1 (kinds_kept (acts_of c) (events_of p role) (start (events_of p role)) f.order ∙ sym k))
+      let k = ap (λ l. map event_kind (map event_of l)) is in (
+        λ e. record {
+          suite = suite;
+          formats = formats;
+          protocol = protocol;
+          name = name;
+          texts = texts;
+          order = kept_kinds (acts_of c) (events_of p role) (start (events_of p role)) (tells.0 e ∙ k);
+        },
+        λ f. tells.1 (kinds_kept (acts_of c) (events_of p role) (start (events_of p role)) f.order ∙ sym k),
+      )
 
   pub follows_not : b ≡ false → (take_texts c.instrs ≡ known_texts p role → ⊥) → (IsTrue b → FollowsRole p role c) × (FollowsRole p role c → IsTrue b)
   follows_not differs other = (λ e. absurd (true_false b e differs), λ f. absurd (other f.texts))

@@ -1,23 +1,21 @@
 -- The end of a joint run after its last turn.
-use Rattle.std.proofs.Common.{◌≡◌, ℕ, zero, suc, ◌+◌, ◌<◌, ◌≤◌, List, [], ◌∷◌, ◌++◌, length, map, take, Bool, true, false, cond, Option, Some, None, refl, sym, ap, ◌∙◌, subst, arith}
+use Rattle.std.proofs.Common.{◌≡◌, ℕ, zero, suc, ◌+◌, ◌≤◌, List, [], ◌∷◌, ◌++◌, length, take, Bool, true, false, cond, Option, Some, None, refl, sym, ap, ◌∙◌, subst, arith}
 use Rattle.std.specs.Prelude.{filter_map, slice_get, is_none, unwrap_or, option_map, IfSome, ◌==◌, ◌&&◌}
 use Rattle.std.specs.Option.{option_or}
 use Rattle.std.specs.List.{list_all, range_with_len, cons_option}
-use Rattle.std.proofs.lemmas.List.{length-map, take_all}
-use Rattle.std.proofs.lemmas.Option.{slice_get-map, slice_get_past}
+use Rattle.std.proofs.lemmas.List.{take_all}
 use Rattle.std.proofs.lemmas.Bool.Decides.{nat_tests}
 use Rattle.anb_base.specs.declared.content.Sent.{Sent}
 use Rattle.anb_term.proofs.Lists.{slice_get-there}
 use Rattle.anb_resolve.specs.Choices.{first}
-use Rattle.anb_resolve.specs.Schedules.{Turn, next_of}
+use Rattle.anb_resolve.specs.Schedules.{next_of}
 use Rattle.anb_honest.specs.declared.player.Player.{Player}
-use Rattle.anb_honest.specs.declared.player.Part.{Part}
 use Rattle.anb_honest.specs.declared.stage.Stage.{Stage}
 use Rattle.anb_honest.specs.declared.report.Report.{Report}
 use Rattle.anb_honest.specs.declared.report.RehearseEnd.{RehearseEnd}
 use Rattle.anb_honest.specs.declared.report.RehearseEnd.TheVariants.{AllDone, Part as Partly, Stopped}
 use Rattle.anb_honest.specs.Joint.{Cast, Course, Move, turns_of, told, stuck, is_complete, reported, all_reported, report, end_behind}
-use Rattle.anb_honest.specs.Acting.{halt_of, is_done}
+use Rattle.anb_honest.specs.Acting.{is_done}
 use Rattle.anb_honest.specs.Inside.{IsPlayer, Stands, turn_value, first_stopped, sent_from}
 use Rattle.anb_honest.proofs.Standing.{stuck_is, next_is}
 

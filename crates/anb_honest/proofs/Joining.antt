@@ -1,5 +1,5 @@
 -- A joint run, turn by turn.
-use Rattle.std.proofs.Common.{◌≡◌, ℕ, zero, suc, ◌+◌, ◌<◌, ◌≤◌, List, [], ◌∷◌, length, map, drop, get_or, Option, Some, None, refl, sym, ap, ◌∙◌, subst, arith}
+use Rattle.std.proofs.Common.{◌≡◌, ℕ, zero, suc, ◌+◌, ◌<◌, List, [], ◌∷◌, length, map, drop, get_or, Some, None, refl, sym, ap, ◌∙◌, subst, arith}
 use Rattle.std.specs.Prelude.{flat_map, unwrap_or, All, Vec}
 use Rattle.std.specs.Global.{Global}
 use Rattle.std.specs.List.{range_with_len}
@@ -9,7 +9,7 @@ use Rattle.anb_honest.specs.declared.stage.Stage.{Stage}
 use Rattle.anb_honest.specs.declared.report.RehearseEnd.{RehearseEnd}
 use Rattle.anb_honest.specs.Given.{items_of}
 use Rattle.anb_honest.specs.Joint.{Cast, Course, turns_of, init_of, long_end, turn_with, walk, outset, joint}
-use Rattle.anb_honest.specs.Inside.{GoesOn, Takes}
+use Rattle.anb_honest.specs.Inside.{GoesOn}
 use Rattle.anb_honest.proofs.Begun.{first_is}
 use Rattle.anb_honest.proofs.Valuing.{dropped}
 

@@ -1,12 +1,11 @@
 -- A code that follows a plan does the plan's turns in order, or stops before one of them.
-use Rattle.std.proofs.Common.{◌≡◌, ℕ, ◌+◌, List, [], ◌∷◌, ◌++◌, length, map, Bool, true, false, Option, Some, None, refl, sym, ap, ◌∙◌, subst, inl, inr, ◌⊎◌, arith, length-append, IsTrue}
+use Rattle.std.proofs.Common.{◌≡◌, ℕ, ◌+◌, List, [], ◌∷◌, ◌++◌, length, map, Bool, true, false, Option, Some, None, refl, sym, ap, ◌∙◌, subst, inl, inr, length-append}
 use Rattle.std.specs.Prelude.{filter_map, slice_get}
-use Rattle.anb_term.specs.declared.term.Op.{Op}
 use Rattle.anb_term.specs.Lawful.{Lawful}
 use Rattle.anb_term.specs.Value.{Meaning}
 use Rattle.anb_term.proofs.Lists.{slice_get-there}
-use Rattle.anb_plays.specs.Plays.{Played, stopped, ends, says}
-use Rattle.anb_plays.specs.Codes.{Act, takes, draws, receives, sends, works, Work}
+use Rattle.anb_plays.specs.Plays.{stopped, ends}
+use Rattle.anb_plays.specs.Codes.{Act, takes, draws, receives, sends, works}
 use Rattle.anb_plays.specs.Runs.{says_if}
 use Rattle.anb_plays.specs.Exec.{exec, worked, on_written, IsVerified, count_written}
 use Rattle.anb_plays.specs.Fits.{Place, Along, AnySend, AnyWork, AnyBorder, after_take, after_label, after_work}

@@ -1,28 +1,24 @@
 -- One role among honest ones: its play and its run.
-use Rattle.std.proofs.Common.{◌≡◌, ℕ, zero, suc, ◌+◌, ◌<◌, List, [], ◌∷◌, ◌++◌, length, map, take, Bool, true, false, cond, not, Option, Some, None, refl, sym, ap, ◌∙◌, subst, arith, IsTrue}
-use Rattle.std.specs.Prelude.{filter, slice_get, is_some, nat_eq, unwrap_or, option_and_then, ◌==◌, ◌||◌}
-use Rattle.std.specs.List.{AllByRecursion, list_any, position_from, flat_map}
-use Rattle.std.specs.Option.{option_map_or, option_or}
+use Rattle.std.proofs.Common.{◌≡◌, ℕ, zero, suc, ◌+◌, List, [], ◌∷◌, ◌++◌, length, map, take, Bool, true, false, cond, Some, None, refl, ap, ◌∙◌, arith, IsTrue}
+use Rattle.std.specs.Prelude.{slice_get, unwrap_or, option_and_then, ◌==◌, ◌||◌}
+use Rattle.std.specs.List.{AllByRecursion, list_any, position_from}
+use Rattle.std.specs.Option.{option_or}
 use Rattle.std.proofs.lemmas.Bool.{eqb-true, eq-eqb}
-use Rattle.anb_base.specs.Bytes.{IsBytes, is_bytes-IsBytes}
+use Rattle.anb_base.specs.Bytes.{is_bytes-IsBytes}
 use Rattle.anb_term.specs.declared.term.Op.{Op}
 use Rattle.anb_term.specs.Tree.{Tree, leaf, node, Trees, none, more, trees_of, IsFormed, AreFormed}
 use Rattle.anb_term.specs.Value.{Meaning}
-use Rattle.anb_lemmas.proofs.Each.{each_in_both, each_in_front, each_in_parts}
-use Rattle.anb_algebra.specs.ByteMeaning.{has_operator}
-use Rattle.anb_plays.specs.Plans.{Event, know, fresh, send, recv, known}
-use Rattle.anb_plays.specs.Plays.{Played, End, stopped, waiting, done, says}
-use Rattle.anb_plays.specs.Honest.{honest, honest_all, honest_from, honest_play, heard, made, LabelsAreFormed}
+use Rattle.anb_lemmas.proofs.Each.{each_in_both, each_in_parts}
+use Rattle.anb_plays.specs.Plans.{Event, know, fresh, send, recv}
+use Rattle.anb_plays.specs.Plays.{End, stopped, waiting, done}
+use Rattle.anb_plays.specs.Honest.{honest, honest_all, honest_from, heard, LabelsAreFormed}
 use Rattle.anb_plays.specs.Runs.{no_place}
-use Rattle.anb_machine.specs.declared.turn.Halt.{Halt}
 use Rattle.anb_resolve.specs.Choices.{each_after, first}
-use Rattle.anb_resolve.specs.Names.{distinct}
 use Rattle.anb_resolve.specs.Protocols.{ActionValue, ProtocolValue}
 use Rattle.anb_resolve.specs.Texts.{atoms_in, atoms_in_all, atoms_in_each, known_by, known_terms}
 use Rattle.anb_resolve.specs.Plans.{PlanEvent, to_know, to_make, to_send, to_receive, events_at, plan_of, messages}
 use Rattle.anb_resolve.specs.Plans as plans
 use Rattle.anb_resolve.specs.Plays.{event_of, events_of, honest_bytes, meaning_of}
-use Rattle.anb_honest.specs.declared.report.RehearseEnd.{RehearseEnd}
 use Rattle.anb_honest.specs.Joint.{Cast, known_atoms, given, given_bytes, halt_behind, long_end}
 use Rattle.anb_honest.specs.Honest.{AreHonest}
 use Rattle.anb_honest.proofs.Placing.{any_distinct}
@@ -68,9 +64,10 @@ or_true false = refl
 
 all_members : (P : ℕ → Type 0) (xs : List ℕ) → ((a : ℕ) → list_any (λ y. y == a) xs ≡ true → P a) → AllByRecursion P xs
 all_members P [] each = tt
-all_members P (x ∷ xs) each =
-    (each x (ap (λ b. b || list_any (λ y. y == x) xs) (eq-eqb x x refl)),
-    all_members P xs (λ a h. each a (ap (λ b. (x == a) || b) h ∙ or_true (x == a))))
+all_members P (x ∷ xs) each = (
+  each x (ap (λ b. b || list_any (λ y. y == x) xs) (eq-eqb x x refl)),
+  all_members P xs (λ a h. each a (ap (λ b. (x == a) || b) h ∙ or_true (x == a))),
+)
 
 place_there : (a i : ℕ) (xs : List ℕ) → list_any (λ y. y == a) xs ≡ true → (k : ℕ) × (position_from (λ b. b == a) i xs ≡ Some (i + k)) × (slice_get xs k ≡ Some a)
 place_there a i [] h = cc

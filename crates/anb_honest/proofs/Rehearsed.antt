@@ -1,19 +1,16 @@
 -- The joint run of codes that fit is that of honest roles.
-use Rattle.std.proofs.Common.{◌≡◌, ℕ, zero, suc, ◌+◌, ◌-◌, ◌<◌, ◌≤◌, List, [], ◌∷◌, ◌++◌, length, map, take, drop, Bool, true, false, cond, not, Option, Some, None, refl, sym, ap, ◌∙◌, subst, arith, append_assoc, length-append, IsTrue}
-use Rattle.std.specs.Prelude.{filter, filter_map, count_by, slice_get, nat_lt, unwrap_or, option_map, option_and_then, ◌==◌, ◌&&◌, ◌||◌}
+use Rattle.std.proofs.Common.{◌≡◌, ℕ, zero, suc, ◌+◌, ◌-◌, ◌<◌, ◌≤◌, List, [], ◌∷◌, ◌++◌, length, map, take, drop, Bool, true, false, cond, Option, Some, None, refl, sym, ap, ◌∙◌, subst, arith, append_assoc, length-append}
+use Rattle.std.specs.Prelude.{filter, filter_map, count_by, slice_get, unwrap_or, option_map, option_and_then, ◌==◌, ◌&&◌, ◌||◌}
 use Rattle.std.specs.Option.{option_map_or, option_or}
 use Rattle.std.specs.List.{AllByRecursion, range_with_len, cons_option}
 use Rattle.std.proofs.lemmas.Bool.{eqb-true}
 use Rattle.std.proofs.lemmas.List.{append-nil, length-map, map-append}
-use Rattle.anb_base.specs.Bytes.{IsBytes}
-use Rattle.anb_base.specs.declared.content.Sent.{Sent}
-use Rattle.anb_term.specs.Tree.{Tree}
 use Rattle.anb_term.proofs.Lists.{slice_get-there}
 use Rattle.anb_algebra.specs.ByteMeaning.{has_operator}
 use Rattle.anb_seal.specs.Streams.{draw_of}
 use Rattle.anb_plays.specs.Plans.{known}
 use Rattle.anb_plays.specs.Plays.{Played, Play, done, ends}
-use Rattle.anb_plays.specs.Honest.{honest, honest_play, heard, made}
+use Rattle.anb_plays.specs.Honest.{honest_play, heard}
 use Rattle.anb_plays.specs.Runs.{without_place}
 use Rattle.anb_plays.specs.Statements.{HonestPlays}
 use Rattle.anb_code.specs.CodeValue.{CodeValue}
@@ -28,16 +25,15 @@ use Rattle.anb_resolve.specs.Protocols.{ProtocolValue}
 use Rattle.anb_resolve.specs.Texts.{known_by, known_terms}
 use Rattle.anb_resolve.specs.Plans.{plan_of}
 use Rattle.anb_resolve.specs.Plays.{events_of, honest_bytes, meaning_of, IsSendable, IsPlay}
-use Rattle.anb_resolve.specs.Schedules.{Turn, parts_of, next_of, turn_of, append_if, taken_after, taken, was_sent}
+use Rattle.anb_resolve.specs.Schedules.{Turn, next_of, turn_of, append_if, taken, was_sent}
 use Rattle.anb_honest.specs.declared.report.Report.{Report}
 use Rattle.anb_honest.specs.declared.report.RehearseEnd.{RehearseEnd}
 use Rattle.anb_honest.specs.declared.report.RehearseEnd.TheVariants.{AllDone, Part, Stopped}
-use Rattle.anb_honest.specs.Joint.{Cast, Course, Move, turns_of, bytes_of, is_report, is_receipt, gave, took, told, told_by, run_of, run_over, unreported, halt_behind, stuck, message_of, long_end, end_at, passes, moves_on, after, turn_with, walk, end_behind, init_of, given_bytes, is_complete, all_reported, reported, report, outset, joint}
-use Rattle.anb_honest.specs.Honest.{AreHonest, term_at, is_heard, honest_message, honest_sent, long_turn, honest_end, honest_report, honest_known, honest_taken, play_so_far}
+use Rattle.anb_honest.specs.Joint.{Cast, Course, Move, turns_of, bytes_of, is_report, is_receipt, gave, took, told, told_by, run_of, unreported, stuck, message_of, long_end, passes, moves_on, turn_with, walk, end_behind, init_of, is_complete, all_reported, reported, report, outset, joint}
+use Rattle.anb_honest.specs.Honest.{AreHonest, term_at, is_heard, honest_message, honest_sent, long_turn, honest_end, honest_known, honest_taken, play_so_far}
 use Rattle.anb_honest.specs.Laws.{IsFitting}
 use Rattle.anb_honest.specs.Inside.{part_of}
-use Rattle.anb_honest.proofs.Parts.{IsPartOf, parts_are}
-use Rattle.anb_honest.proofs.Moving.{told_sent}
+use Rattle.anb_honest.proofs.Parts.{parts_are}
 use Rattle.anb_honest.proofs.Turning.{ready_next, ready_sent}
 use Rattle.anb_honest.proofs.Begun.{mapped_twice}
 use Rattle.anb_honest.proofs.Ended.{same_report}
@@ -239,6 +235,7 @@ module _ (c : Cast) (atoms : ℕ → List ℕ) where
         (all_free s ts good (range_with_len 0 (length c.protocol.roles)) (below 0 (length c.protocol.roles) (length c.protocol.roles) (omega arith)))
         ∙ ap (λ l. cond (is_complete c l (length c.protocol.roles)) (AllDone (report c s)) (Part (report c s))) turns
         ∙ ap (λ r. cond (is_complete c ts (length c.protocol.roles)) (AllDone r) (Part r)) same
+
     or_first : (o : Option RehearseEnd) (rest : Option RehearseEnd) (x y : RehearseEnd) → x ≡ unwrap_or rest y → unwrap_or o x ≡ unwrap_or (option_or o rest) y
     or_first None rest x y e = e
     or_first (Some z) rest x y e = refl

@@ -1,15 +1,14 @@
 -- Schedules: a role's taken turns are the first of its parts.
-use Rattle.std.proofs.Common.{◌≡◌, ℕ, zero, suc, ◌+◌, ◌-◌, ◌<◌, ◌≤◌, List, [], ◌∷◌, ◌++◌, length, map, take, drop, Bool, true, false, cond, not, Option, Some, None, refl, sym, ap, ◌∙◌, subst, arith, append_assoc, length-append, IsTrue}
-use Rattle.std.specs.Prelude.{filter, filter_map, count_by, slice_get, is_none, option_and_then, ◌==◌, ◌&&◌, ◌↔◌}
+use Rattle.std.proofs.Common.{◌≡◌, ℕ, zero, suc, ◌+◌, ◌-◌, ◌<◌, List, [], ◌∷◌, ◌++◌, length, map, take, Bool, true, false, cond, not, Option, Some, None, refl, sym, ap, ◌∙◌, subst, arith, append_assoc, IsTrue}
+use Rattle.std.specs.Prelude.{filter, filter_map, count_by, slice_get, is_none, ◌==◌, ◌&&◌, ◌↔◌}
 use Rattle.std.specs.Option.{option_map_or}
 use Rattle.std.specs.List.{AllByRecursion}
-use Rattle.std.proofs.lemmas.Bool.{eqb-true, eq-eqb}
+use Rattle.std.proofs.lemmas.Bool.{eqb-true}
 use Rattle.std.proofs.lemmas.List.{append-nil}
 use Rattle.std.proofs.lemmas.List.Elements.{filter-append}
 use Rattle.anb_term.specs.Tree.{Tree, leaf}
 use Rattle.anb_term.specs.Value.{Meaning}
 use Rattle.anb_lemmas.proofs.Each.{each_in_both}
-use Rattle.anb_plays.specs.Plays.{Played}
 use Rattle.anb_plays.specs.Honest.{honest, honest_from, heard}
 use Rattle.std.proofs.lemmas.Bool.Decides.{nat_tests}
 use Rattle.anb_resolve.specs.Choices.{each_after}
@@ -19,10 +18,10 @@ use Rattle.anb_resolve.specs.Plans.{PlanEvent, to_know, to_make, to_send, to_rec
 use Rattle.anb_resolve.specs.Plays.{event_of}
 use Rattle.anb_resolve.specs.Schedules.{Turn, parts_of, next_of, turn_of, append_if, taken_after, taken, IsComplete}
 use Rattle.anb_honest.specs.Joint.{Cast, is_complete}
-use Rattle.anb_honest.specs.Honest.{term_at, is_heard}
+use Rattle.anb_honest.specs.Honest.{term_at}
 use Rattle.anb_honest.specs.Inside.{part_of}
 use Rattle.anb_honest.proofs.Moving.{count_last}
-use Rattle.anb_honest.proofs.Parts.{IsPartOf, parts_of_role, parts_are}
+use Rattle.anb_honest.proofs.Parts.{IsPartOf, parts_of_role}
 use Rattle.anb_honest.proofs.Turning.{ready_next}
 
 abbrev pub is_of : ℕ → Turn → Bool

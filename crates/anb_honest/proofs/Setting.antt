@@ -1,5 +1,5 @@
 -- A joint run before its first turn.
-use Rattle.std.proofs.Common.{◌≡◌, ℕ, zero, suc, ◌+◌, ◌<◌, ◌≤◌, List, [], ◌∷◌, ◌++◌, length, map, take, drop, get_or, replicate, Bool, true, false, cond, Option, Some, None, refl, sym, ap, ◌∙◌, subst, arith}
+use Rattle.std.proofs.Common.{◌≡◌, ℕ, zero, suc, ◌+◌, ◌<◌, ◌≤◌, List, [], ◌∷◌, ◌++◌, length, map, drop, get_or, replicate, Bool, true, false, cond, Option, Some, None, refl, sym, ap, ◌∙◌, subst, arith}
 use Rattle.std.specs.Prelude.{IfSome, slice_get, flat_map, nat_lt, All, Vec}
 use Rattle.std.specs.Global.{Global}
 use Rattle.std.specs.Option.{option_or}
@@ -29,7 +29,7 @@ use Rattle.anb_lemmas.proofs.Each.{each_in_front}
 use Rattle.anb_resolve.specs.declared.plans.Event.{Event}
 use Rattle.anb_resolve.specs.Laws.{HoldsOf}
 use Rattle.anb_resolve.specs.Protocols.{ProtocolValue}
-use Rattle.anb_resolve.specs.Texts.{known_by, known_terms}
+use Rattle.anb_resolve.specs.Texts.{known_terms}
 use Rattle.anb_resolve.specs.Plans.{PlanEvent, to_know, to_make, to_send, to_receive, plan_of, messages}
 use Rattle.anb_resolve.specs.Views.{plan_event}
 use Rattle.anb_honest.specs.Joint.{given}

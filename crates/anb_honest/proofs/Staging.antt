@@ -1,18 +1,17 @@
 -- What is known of a role at its turn.
-use Rattle.std.proofs.Common.{◌≡◌, ℕ, zero, suc, ◌+◌, ◌-◌, ◌<◌, ◌≤◌, List, [], ◌∷◌, length, map, get_or, Bool, true, false, cond, Option, Some, None, refl, sym, ap, ◌∙◌, subst, inl, inr, ◌⊎◌, arith}
+use Rattle.std.proofs.Common.{◌≡◌, ℕ, zero, suc, ◌+◌, ◌<◌, ◌≤◌, List, [], ◌∷◌, length, get_or, Bool, true, false, cond, Option, Some, None, refl, sym, ap, ◌∙◌, subst, inl, inr, arith}
 use Rattle.std.specs.Prelude.{slice_get, is_some, option_map, option_and_then, IfSome, IfOk, Result, Ok, Err, ◌||◌}
 use Rattle.std.specs.List.{AllByRecursion}
 use Rattle.anb_term.proofs.Lists.{slice_get-there}
-use Rattle.std.proofs.lemmas.Option.{get_or_from_slice_get, slice_get_read, slice_get_within, slice_get-map}
+use Rattle.std.proofs.lemmas.Option.{get_or_from_slice_get, slice_get_read, slice_get-map}
 use Rattle.anb_machine.specs.Machines.{gives}
 use Rattle.anb_resolve.specs.Schedules.{Turn, parts_of, next_of, if_ready, turn_of, was_sent}
 use Rattle.anb_honest.specs.declared.player.Player.{Player}
 use Rattle.anb_honest.specs.declared.player.Part.{Part}
 use Rattle.anb_honest.specs.declared.stage.Stage.{Stage}
-use Rattle.anb_honest.specs.declared.report.RehearseEnd.{RehearseEnd}
-use Rattle.anb_honest.specs.Joint.{Cast, Course, Move, turns_of, told}
-use Rattle.anb_honest.specs.Acting.{KeepsOrder, TellsNow, HearsNow}
-use Rattle.anb_honest.specs.Inside.{IsPlayer, IsShort, Stands, IsStage, IsAtTurn, Takes, turn_at, turn_value}
+use Rattle.anb_honest.specs.Joint.{Cast, Course, turns_of, told}
+use Rattle.anb_honest.specs.Acting.{TellsNow, HearsNow}
+use Rattle.anb_honest.specs.Inside.{IsPlayer, IsShort, Stands, turn_at, turn_value}
 use Rattle.anb_honest.proofs.Parts.{IsPartOf, parts_of_role}
 use Rattle.anb_honest.proofs.Moving.{told_sent}
 use Rattle.anb_honest.proofs.Standing.{acts_next, next_is, room_next}

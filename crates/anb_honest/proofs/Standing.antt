@@ -1,25 +1,20 @@
 -- Roles and joint runs on their way, after one move more.
-use Rattle.std.proofs.Common.{◌≡◌, ℕ, zero, suc, ◌+◌, ◌-◌, ◌<◌, ◌≤◌, List, [], ◌∷◌, ◌++◌, length, map, drop, Bool, true, false, cond, not, ltb, Option, Some, None, refl, sym, ap, ◌∙◌, subst, inl, inr, ◌⊎◌, arith, rules, append_assoc}
-use Rattle.std.specs.Prelude.{count_by, is_some, IfSome, slice_get, slice_set, nat_lt, option_map, option_and_then, unwrap_or, ◌==◌, ◌&&◌, ◌||◌, ◌≢◌}
-use Rattle.std.specs.Option.{option_or, option_map_or}
+use Rattle.std.proofs.Common.{◌≡◌, ℕ, zero, suc, ◌+◌, ◌<◌, ◌≤◌, List, [], ◌∷◌, ◌++◌, length, map, drop, Bool, true, false, cond, Option, Some, None, refl, sym, ap, ◌∙◌, subst, inl, inr, ◌⊎◌, arith, append_assoc}
+use Rattle.std.specs.Prelude.{count_by, IfSome, slice_get, slice_set, option_map, ◌==◌}
 use Rattle.std.proofs.Math.Seq.{drop-append_seam}
 use Rattle.std.proofs.lemmas.Bool.{eqb-true, eq-eqb}
 use Rattle.std.proofs.lemmas.List.{append-nil}
 use Rattle.std.proofs.lemmas.Option.{slice_get-map, slice_get_within}
 use Rattle.anb_base.specs.declared.TheConstants.{ARRIVAL}
-use Rattle.anb_plays.specs.Plays.{Played, End, stopped, waiting, done, ends, says}
+use Rattle.anb_plays.specs.Plays.{Played, stopped, waiting, ends, says}
 use Rattle.anb_machine.specs.Machines.{gives}
-use Rattle.anb_machine.specs.declared.turn.Halt.{Halt}
 use Rattle.std.proofs.lemmas.Bool.Decides.{nat_tests}
-use Rattle.anb_resolve.specs.Schedules.{Turn, parts_of, next_of, if_ready, turn_of, was_sent}
+use Rattle.anb_resolve.specs.Schedules.{Turn, parts_of, next_of}
 use Rattle.anb_honest.specs.declared.player.Player.{Player}
-use Rattle.anb_honest.specs.declared.stage.Stage.{Stage}
-use Rattle.anb_honest.specs.declared.report.RehearseEnd.{RehearseEnd}
-use Rattle.anb_honest.specs.declared.report.RehearseEnd.TheVariants.{Stopped, LongMessage}
-use Rattle.anb_honest.specs.Joint.{Cast, Course, Move, turns_of, is_report, is_receipt, gave, took, told, told_by, run_over, run_of, unreported, halt_behind, stuck, is_long, long_end, message_of, end_at, moves_on, after, passes, turn_with}
-use Rattle.anb_honest.specs.Acting.{Coming, StopsWith, StopsNow, KeepsOrder, ActsFirst, halt_of}
-use Rattle.anb_honest.specs.Inside.{GivesBehind, IsPlayer, IsShort, Stands, GoesOn, Takes, turn_at, turn_value}
-use Rattle.anb_honest.proofs.Moving.{set_gets, set_apart, set_long, told_last, told_sent, turns_more, count_last, gave_more, gave_same, took_more, took_same}
+use Rattle.anb_honest.specs.Joint.{Cast, Move, turns_of, gave, took, told, run_over, run_of, unreported, halt_behind, stuck}
+use Rattle.anb_honest.specs.Acting.{StopsNow, KeepsOrder, ActsFirst, halt_of}
+use Rattle.anb_honest.specs.Inside.{GivesBehind, IsPlayer, IsShort, turn_at, turn_value}
+use Rattle.anb_honest.proofs.Moving.{set_gets, set_apart, told_last, turns_more, count_last, gave_more, gave_same, took_more, took_same}
 use Rattle.anb_honest.proofs.Ordering.{order_same}
 
 pub drop_at : {A : Type 0} (xs : List A) (n : ℕ) (x : A) → slice_get xs n ≡ Some x → drop n xs ≡ x ∷ drop (n + 1) xs

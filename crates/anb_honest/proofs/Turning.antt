@@ -1,6 +1,6 @@
 -- What one turn makes of a joint run.
-use Rattle.std.proofs.Common.{◌≡◌, ℕ, zero, suc, ◌+◌, ◌-◌, ◌<◌, ◌≤◌, List, [], ◌∷◌, ◌++◌, length, map, drop, Bool, true, false, cond, Option, Some, None, refl, sym, ap, ◌∙◌, subst, inl, inr, ◌⊎◌, arith, length-append}
-use Rattle.std.specs.Prelude.{is_some, IfSome, slice_get, slice_set, nat_lt, option_map, option_and_then, unwrap_or, ◌||◌}
+use Rattle.std.proofs.Common.{◌≡◌, ℕ, ◌+◌, ◌<◌, ◌≤◌, List, [], ◌∷◌, ◌++◌, length, Bool, true, false, cond, Option, Some, None, refl, sym, ap, ◌∙◌, subst, arith, length-append}
+use Rattle.std.specs.Prelude.{IfSome, slice_get, slice_set, option_map, option_and_then, unwrap_or, ◌||◌}
 use Rattle.std.specs.Option.{option_or, option_map_or}
 use Rattle.std.proofs.lemmas.Option.{slice_get_within}
 use Rattle.anb_base.specs.declared.TheConstants.{ARRIVAL}
@@ -8,13 +8,13 @@ use Rattle.anb_plays.specs.Plays.{Played, End, stopped, waiting, done, ends, say
 use Rattle.anb_machine.specs.Machines.{gives}
 use Rattle.anb_machine.specs.declared.turn.Halt.{Halt}
 use Rattle.std.proofs.lemmas.Bool.Decides.{nat_tests}
-use Rattle.anb_resolve.specs.Schedules.{Turn, parts_of, next_of, if_ready, turn_of, was_sent}
+use Rattle.anb_resolve.specs.Schedules.{Turn, next_of, if_ready, turn_of, was_sent}
 use Rattle.anb_honest.specs.declared.player.Player.{Player}
 use Rattle.anb_honest.specs.declared.stage.Stage.{Stage}
 use Rattle.anb_honest.specs.declared.report.RehearseEnd.{RehearseEnd}
 use Rattle.anb_honest.specs.declared.report.RehearseEnd.TheVariants.{Stopped, LongMessage}
 use Rattle.anb_honest.specs.Joint.{Cast, Course, Move, turns_of, told, unreported, halt_behind, stuck, is_long, long_end, moves_on, passes, turn_with}
-use Rattle.anb_honest.specs.Acting.{StopsWith, StopsNow, KeepsOrder, ActsFirst, halt_of}
+use Rattle.anb_honest.specs.Acting.{StopsWith}
 use Rattle.anb_honest.specs.Inside.{IsPlayer, IsShort, Stands, GoesOn, Takes, turn_at}
 use Rattle.anb_honest.proofs.Moving.{set_long}
 use Rattle.anb_honest.proofs.Standing.{unreported_is, stuck_is, told_player, heard_player, players_moved, slots_told, slots_short, slots_heard}

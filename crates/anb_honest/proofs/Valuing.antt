@@ -1,5 +1,5 @@
 -- The values of terms over a table, and lists that grow item by item.
-use Rattle.std.proofs.Common.{◌≡◌, ℕ, zero, suc, ◌+◌, ◌<◌, ◌≤◌, List, [], ◌∷◌, ◌++◌, length, map, take, drop, get_or, Bool, Option, Some, None, refl, sym, ap, ◌∙◌, subst, arith, append_assoc, length-append, IsTrue}
+use Rattle.std.proofs.Common.{◌≡◌, ℕ, zero, suc, ◌+◌, ◌<◌, ◌≤◌, List, [], ◌∷◌, ◌++◌, length, map, take, drop, get_or, Bool, refl, sym, ap, ◌∙◌, subst, arith, append_assoc, length-append}
 use Rattle.std.specs.Prelude.{slice_get, filter_map, flat_map, All}
 use Rattle.std.proofs.lemmas.List.{length-map, take_all, map-append}
 use Rattle.std.proofs.lemmas.List.Elements.{All-push, All-nil, filter_map-append}
@@ -9,10 +9,10 @@ use Rattle.std.proofs.Math.Seq.{take-suc}
 use Rattle.anb_lemmas.proofs.Each.{take_next}
 use Rattle.anb_term.specs.declared.term.Op.{Op}
 use Rattle.anb_term.specs.declared.term.Term.{Term}
-use Rattle.anb_term.specs.declared.term.Term.TheVariants.{Atom, Node}
+use Rattle.anb_term.specs.declared.term.Term.TheVariants.{Node}
 use Rattle.anb_term.specs.Operator.{arity}
 use Rattle.anb_term.specs.View.{tree_of}
-use Rattle.anb_term.specs.Tree.{Tree, leaf, node, trees_of, list_of, IsFormed, AreFormed}
+use Rattle.anb_term.specs.Tree.{Tree, node, trees_of, list_of, IsFormed, AreFormed}
 use Rattle.anb_term.specs.Value.{Meaning}
 use Rattle.anb_term.specs.Lawful.{picked}
 use Rattle.anb_term.specs.RecipeView.{first_places}
@@ -20,10 +20,8 @@ use Rattle.anb_plays.specs.Honest.{honest, honest_all}
 use Rattle.anb_compile.specs.Emitting.{known_in}
 use Rattle.anb_compile.proofs.Events.{known_append}
 use Rattle.anb_resolve.specs.declared.plans.Event.{Event}
-use Rattle.anb_resolve.specs.Plans.{PlanEvent}
 use Rattle.anb_resolve.specs.Texts.{atoms_in_each}
 use Rattle.anb_resolve.specs.Views.{plan_event}
-use Rattle.anb_resolve.specs.Schedules.{Turn}
 use Rattle.anb_resolve.proofs.AtomLemmas.{each-append}
 use Rattle.anb_honest.specs.declared.player.Part.{Part}
 use Rattle.anb_honest.specs.Inside.{part_of, turn_value}

@@ -1,11 +1,9 @@
 -- How many words a text has.
-use Rattle.std.proofs.Common.{◌≡◌, ℕ, zero, suc, ◌+◌, ◌*◌, ◌<◌, ◌≤◌, List, [], ◌∷◌, ◌++◌, length, map, Bool, true, false, cond, not, Option, Some, None, refl, sym, ap, ◌∙◌, subst, arith}
-use Rattle.std.specs.Prelude.{filter, is_none, ◌==◌}
-use Rattle.std.specs.List.{slice_split, onto_first, position_from}
-use Rattle.std.specs.Str.{bytes_eq}
+use Rattle.std.proofs.Common.{◌≡◌, ℕ, suc, ◌+◌, ◌*◌, ◌≤◌, List, [], ◌∷◌, length, Bool, true, false, cond, refl, ap, arith}
+use Rattle.std.specs.Prelude.{filter}
+use Rattle.std.specs.List.{slice_split, onto_first}
 use Rattle.std.proofs.lemmas.Bool.Decides.{nat_tests}
-use Rattle.anb_resolve.specs.Protocols.{ProtocolValue}
-use Rattle.anb_honest.specs.Words.{is_blank, is_word, words_of, role_of, names_none}
+use Rattle.anb_honest.specs.Words.{is_blank, is_word, words_of}
 
 abbrev words_in : List (List ℕ) → ℕ
 words_in parts = length (filter is_word parts)

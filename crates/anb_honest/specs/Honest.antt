@@ -1,5 +1,5 @@
 -- What comes of a schedule where all roles are honest: by the bytes of the atoms, and no code.
-use Rattle.std.specs.Prelude.{◌≡◌, ℕ, ◌-◌, ◌<◌, ◌==◌, ◌&&◌, not, if◌then◌else◌, List, [], length, map, filter, unwrap_or, Bool, Option, Some, None, slice_get}
+use Rattle.std.specs.Prelude.{◌≡◌, ℕ, ◌-◌, ◌<◌, ◌==◌, ◌&&◌, not, if◌then◌else◌, List, length, map, filter, unwrap_or, Bool, Option, Some, None, slice_get}
 use Rattle.std.specs.Option.{option_map_or}
 use Rattle.anb_base.specs.Bytes.{IsBytes}
 use Rattle.anb_term.specs.Tree.{Tree, leaf}

@@ -24,11 +24,7 @@ pub(crate) struct Given<'v> {
 
 impl<'v> Given<'v> {
     /// Values for the atoms of this list, in the order in which they first stand there.
-    pub(crate) fn new(
-        alloc: Global,
-        atoms: Vec<u32>,
-        values: &'v [Bytes],
-    ) -> Result<Self, NoMemory>
+    pub(crate) fn new(alloc: Global, atoms: Vec<u32>, values: &'v [Bytes]) -> Result<Self, NoMemory>
         ensures places { IfOk result (λ given.
             IsTable (distinct nat_eq atoms.items) given.places.items) }
         ensures values { IfOk result (λ given. given.values.now ≡ values.now) }

@@ -1,6 +1,6 @@
 //! A rehearsal on its way.
-use crate::player::{Part, Player, Stop};
 use crate::RehearseEnd;
+use crate::player::{Part, Player, Stop};
 use anb_base::{ARRIVAL, Bytes, NoMemory};
 use std::alloc::Global;
 
@@ -20,11 +20,7 @@ impl<'c> Stage<'c> {
     ghost use Rattle.anb_honest.specs.Inside.{IsAtTurn, IsStage, Stands, Takes, turn_at, turn_value};
 
     /// Takes a role's turn or passes it over, and tells the end that it makes.
-    pub(crate) fn turn(
-        &mut self,
-        alloc: Global,
-        role: u32,
-    ) -> Result<Option<RehearseEnd>, NoMemory>
+    pub(crate) fn turn(&mut self, alloc: Global, role: u32) -> Result<Option<RehearseEnd>, NoMemory>
         requires stage { IsStage self.old }
         requires role { role < length self.old.players.items }
         requires few { self.old.taken + self.old.passed + 1 < 2 ^ 32 }

@@ -26,7 +26,8 @@ const SHARED_KEYS_VALUES: &str = "41 42 53 6b6173 6b6273";
 const FIRST_MESSAGE: &str =
     "1 4d31014101422076b8e0ada0f13d90405d6ae55386bd28bdd219b8a08ded1aa836efcc8b770dc7\n";
 
-const OTHER_MESSAGES: &str = "2 2d60b32fbae329d203cc1154746b98f2583906ee436fe3f7968b934f73fb11ca6a10f0ba0e71ee20adfad22f62520b888749139025d02f7cf78074701ed58ad71681896d028bf228045ba8ff04a0aaa639d719cf6ae8f18fb5e338589eb2833bdfd38082912dbdae669fd846314f65528e7a3230f33af042591cc1b180a2e7ac5a3a436bc2ee2546e365ee6f3f262c05a5d040e49d593c84b9295066715f4859406ab4eef0dedacf2021b7e2
+const OTHER_MESSAGES: &str =
+    "2 2d60b32fbae329d203cc1154746b98f2583906ee436fe3f7968b934f73fb11ca6a10f0ba0e71ee20adfad22f62520b888749139025d02f7cf78074701ed58ad71681896d028bf228045ba8ff04a0aaa639d719cf6ae8f18fb5e338589eb2833bdfd38082912dbdae669fd846314f65528e7a3230f33af042591cc1b180a2e7ac5a3a436bc2ee2546e365ee6f3f262c05a5d040e49d593c84b9295066715f4859406ab4eef0dedacf2021b7e2
 3 b20f8e266ccd5a18ca36e8b9c4c25153c6cddcd77b74597a8db9e7d94741dbc68cf21617893f84d6cee506c78091af5e036b2cab5fe9adb70d801864ff92d8f472c43acea6
 4 c04e4800e56d4824c0513640b97534738cde389ebd9642ec67a9a83c8e1fe4121ce67b0178ba12ab65d27f0a8baecd7f68cf4ce500c6c33332a4ef17059d8a95d42fa7
 5 05f9feed71a5e37a0139bee33abbf2bae076d75650cd80ce7dc1893fee7e86edebd438a90e5c089d94a78614072e6be89c8301a7cfe06801b38169d59aee2f84c2dccf
@@ -48,9 +49,7 @@ const PING_HASH: &str =
     "anb-role 1\nprotocol Ping\nrole B\ncode\nr0 = take N\nr1 = recv\nr2 = hash r1\nsend r2\nend\n";
 
 #[test]
-fn honest_roles_send_their_messages_in_order_and_out_of_order(
-    rt: HostRuntime,
-) -> Result<(), Fail> {
+fn honest_roles_send_their_messages_in_order_and_out_of_order(rt: HostRuntime) -> Result<(), Fail> {
     let alloc = rt.alloc();
     let p = protocol_in(alloc, SHARED_KEYS.as_bytes())?;
     let codes = compile_all(alloc, &p)?;
@@ -143,7 +142,10 @@ fn messages_and_values_may_be_too_long(rt: HostRuntime) -> Result<(), Fail> {
     let codes = compile_all(alloc, &p)?;
     let end = ends(&rt, alloc, &p, &codes, digits.as_str(), "A B")?;
     let told = told(alloc, &end)?;
-    assert!(&rt; told.as_str().ends_with("turns 2, taken 2, passed 0\nall done"));
+    assert!(&rt;
+        told.as_str()
+            .ends_with("turns 2, taken 2, passed 0\nall done")
+    );
     assert_eq!(&rt; told.len(), 2 + 524_288 + 1 + 35);
     Ok(())
 }

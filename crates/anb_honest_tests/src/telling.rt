@@ -85,8 +85,7 @@ pub(crate) fn told(alloc: Global, end: &RehearseEnd) -> Result<String, Fail> {
         }
         RehearseEnd::Stopped { role, halt } => format!(in alloc;
             "role {role} stopped at event {}, instruction {}",
-            halt.event,
-            halt.at
+            halt.event, halt.at
         )?,
         RehearseEnd::LongMessage { action, len } => {
             format!(in alloc; "message of action {action} has {len} bytes")?
@@ -104,9 +103,7 @@ fn report_text(alloc: Global, report: &Report) -> Result<String, Fail> {
     }
     let counts = format!(in alloc;
         "turns {}, taken {}, passed {}\n",
-        report.turns,
-        report.taken,
-        report.passed
+        report.turns, report.taken, report.passed
     )?;
     text.push_str(counts.as_str())?;
     Ok(text)

@@ -1,4 +1,4 @@
-use Rattle.std.proofs.Common.{◌≡◌, ◌∙◌, ap, sym, arith, subst, map, List, ℕ}
+use Rattle.std.proofs.Common.{◌∙◌, ap, arith, subst, map, List}
 use Rattle.std.proofs.lemmas.List.{map-append, take_all}
 use Rattle.std.specs.Prelude.{nat_eq}
 use Rattle.anb_plays.specs.Honest.{honest}

@@ -1,4 +1,3 @@
-use Rattle.std.proofs.Common.{◌≡◌, ◌+◌, ◌∙◌, ap, sym, map}
 use Rattle.anb_resolve.specs.Plans.{plan_of}
 use Rattle.anb_honest.proofs.Valuing.{ranged_next}
 use Rattle.anb_honest.proofs.beginning.plans.Goals as goal

@@ -1,5 +1,5 @@
-use Rattle.std.proofs.Common.{◌≡◌, ◌<◌, ◌≤◌, ◌∙◌, ap, sym, arith, subst, map, List, [], ℕ, length, replicate, Option, Some, None, refl}
-use Rattle.std.specs.Prelude.{All, slice_get, filter_map}
+use Rattle.std.proofs.Common.{◌≤◌, ◌∙◌, ap, sym, arith, subst, List, ℕ, length, replicate, Option, None, refl}
+use Rattle.std.specs.Prelude.{All, filter_map}
 use Rattle.std.proofs.lemmas.List.{length-map}
 use Rattle.std.proofs.lemmas.Option.{slice_get_read}
 use Rattle.anb_base.specs.declared.TheConstants.{ARRIVAL}

@@ -1,4 +1,4 @@
-use Rattle.std.proofs.Common.{◌≡◌, ◌+◌, ◌∙◌, sym, ap, refl, Bool, cond}
+use Rattle.std.proofs.Common.{◌+◌, ◌∙◌, sym, ap, refl, Bool, cond}
 use Rattle.std.specs.List.{list_all}
 use Rattle.anb_honest.specs.declared.report.Report.{Report}
 use Rattle.anb_honest.specs.declared.report.RehearseEnd.TheVariants.{AllDone, Part}

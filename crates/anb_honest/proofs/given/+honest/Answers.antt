@@ -1,5 +1,4 @@
-use Rattle.std.proofs.Common.{◌≡◌, subst, List, ℕ, arith, length, map, ap, ◌∙◌, sym}
-use Rattle.anb_term.specs.Operator.{arity}
+use Rattle.std.proofs.Common.{arith, length, map, ap, ◌∙◌, sym}
 use Rattle.anb_term.specs.View.{tree_of}
 use Rattle.anb_algebra.specs.ByteMeaning.{byte_meaning, has_operator}
 use Rattle.anb_term.specs.Lawful.{picked}

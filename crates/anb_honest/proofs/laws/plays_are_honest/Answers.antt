@@ -17,4 +17,4 @@ returns c =
     let plays = subst Q suite (subst P formats c.honest_plays.ensures) in
     let holds = c.protocols_hold.ensures p c.name.ensures.protocol in
     λ codes values seed atoms turns role sendable are within.
-        play_honest (cast p codes values seed) atoms are sendable holds plays role turns within
+    play_honest (cast p codes values seed) atoms are sendable holds plays role turns within

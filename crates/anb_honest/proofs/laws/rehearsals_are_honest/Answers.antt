@@ -17,4 +17,4 @@ returns c =
     let plays = subst Q suite (subst P formats c.honest_plays.ensures) in
     let holds = c.protocols_hold.ensures p c.name.ensures.protocol in
     λ codes values seed atoms turns fit sendable are all.
-        rehearsed (cast p codes values seed) atoms are fit sendable holds plays c.honest_agrees.ensures c.fitting_codes_play.ensures turns all
+    rehearsed (cast p codes values seed) atoms are fit sendable holds plays c.honest_agrees.ensures c.fitting_codes_play.ensures turns all

@@ -1,4 +1,4 @@
-use Rattle.std.proofs.Common.{◌≡◌, ◌<◌, ◌∙◌, ℕ, List, length, map, get_or, Some, sym, ap, subst, refl, arith}
+use Rattle.std.proofs.Common.{◌∙◌, map, get_or, sym, ap, subst, refl, arith}
 use Rattle.std.proofs.lemmas.List.{drop_all}
 use Rattle.anb_resolve.specs.Schedules.{turn_of}
 use Rattle.anb_honest.specs.Given.{items_of}

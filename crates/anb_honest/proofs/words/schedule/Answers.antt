@@ -1,4 +1,4 @@
-use Rattle.std.proofs.Common.{◌≡◌, ◌<◌, ◌+◌, ◌∙◌, length, map, take, get_or, Some, sym, ap, subst, arith, rules, tests}
+use Rattle.std.proofs.Common.{◌≡◌, ◌<◌, ◌∙◌, length, map, take, get_or, sym, ap, arith, rules, tests}
 use Rattle.std.specs.Prelude.{filter, Result, Err}
 use Rattle.anb_honest.specs.declared.words.ScheduleNo.TheVariants.{BadTurn}
 use Rattle.std.specs.List.{slice_split}

@@ -1,4 +1,4 @@
-use Rattle.std.proofs.Common.{◌≡◌, ◌-◌, ◌+◌, arith, sym, ap, length, true, false, refl}
+use Rattle.std.proofs.Common.{◌≡◌, ◌-◌, arith, sym, length, true, false, refl}
 use Rattle.std.specs.Prelude.{is_some}
 use Rattle.std.proofs.lemmas.Option.{slice_get_read}
 use Rattle.anb_honest.proofs.Staging.{part_least, part_most, due_send, due_told, due_untold}

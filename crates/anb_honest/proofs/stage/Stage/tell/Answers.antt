@@ -1,4 +1,4 @@
-use Rattle.std.proofs.Common.{◌≡◌, ◌-◌, ◌+◌, ◌≤◌, ◌<◌, ◌∙◌, [], arith, sym, ap, subst, length, true, false, refl}
+use Rattle.std.proofs.Common.{◌-◌, ◌≤◌, ◌<◌, ◌∙◌, [], arith, sym, ap, subst, length, true, refl}
 use Rattle.anb_base.specs.declared.TheConstants.{ARRIVAL}
 use Rattle.anb_machine.specs.Machines.{gives}
 use Rattle.anb_honest.specs.declared.report.RehearseEnd.TheVariants.{LongMessage}

@@ -1,4 +1,4 @@
-use Rattle.std.proofs.Common.{◌≡◌, ◌+◌, ◌∙◌, sym, ap, subst, refl}
+use Rattle.std.proofs.Common.{◌+◌, ◌∙◌, sym, ap, subst, refl}
 use Rattle.std.specs.Prelude.{option_map}
 use Rattle.anb_honest.specs.Inside.{GoesOn, turn_value}
 use Rattle.anb_honest.proofs.Turning.{passed_over}
