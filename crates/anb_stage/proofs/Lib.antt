@@ -1,0 +1,9 @@
+pub mod Beside
+pub mod Carries
+pub mod Finishes
+pub mod Messages
+pub mod PlanParts
+pub mod Roles
+pub mod Starts
+pub mod Steps
+pub mod Whole

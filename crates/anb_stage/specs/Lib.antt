@@ -1,0 +1,8 @@
+pub mod Children
+pub mod Words
+pub mod Relays
+pub mod Memory
+-- for proofs alone
+pub mod Sides
+pub mod Steps
+pub mod Parts
