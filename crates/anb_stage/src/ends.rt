@@ -20,7 +20,6 @@ pub(crate) struct Ends {
 }
 
 /// The sender and the receiver of each action.
-#[tactic(none)]
 pub(crate) fn ends_of(alloc: Global, p: &Protocol) -> Result<Vec<Ends>, NoMemory>
     requires { HoldsOf p.now }
     ensures { IfOk result (λ ends. ends.items ≡ ends_in p.now) }
@@ -37,7 +36,6 @@ pub(crate) fn ends_of(alloc: Global, p: &Protocol) -> Result<Vec<Ends>, NoMemory
 }
 
 /// The plans of all roles, in order.
-#[tactic(none)]
 fn plans(alloc: Global, p: &Protocol) -> Result<Vec<Plan>, NoMemory>
     requires { length p.now.roles ≤ 32 }
     ensures { IfOk result (λ plans.
@@ -51,7 +49,6 @@ fn plans(alloc: Global, p: &Protocol) -> Result<Vec<Plan>, NoMemory>
 }
 
 /// The role that sends an action's message, or that receives it.
-#[tactic(none)]
 fn role_with(plans: &[Plan], action: u32, sends: bool) -> u32
     requires { length plans.now ≤ 32 }
     ensures { (role : ℕ) → IsAlone action sends plans.now role → result ≡ role }
@@ -65,7 +62,6 @@ fn role_with(plans: &[Plan], action: u32, sends: bool) -> u32
 }
 
 /// Whether a plan sends an action's message, or receives it.
-#[tactic(none)]
 fn has_part(plan: &Plan, action: u32, sends: bool) -> bool
     ensures { result ≡ list_any (is_part action sends) plan.now }
 {
@@ -77,7 +73,6 @@ fn has_part(plan: &Plan, action: u32, sends: bool) -> bool
     false
 }
 
-#[tactic(none)]
 fn is_part(event: &Event, action: u32, sends: bool) -> bool
     ensures { result ≡ is_part action sends (plan_event event.now) }
 {

@@ -21,7 +21,6 @@ struct Room {
 }
 
 impl Room {
-#[tactic(none)]
     fn new(alloc: Global, limit: u32) -> Result<Self, NoMemory>
         ensures empty { IfOk result (λ room. room.bytes.items ≡ []) }
         ensures limit { IfOk result (λ room. room.limit ≡ limit) }
@@ -32,14 +31,12 @@ impl Room {
         })
     }
 
-#[tactic(none)]
     fn left(&self) -> usize
         ensures { result ≡ self.now.limit - length self.now.bytes.items }
     {
         self.limit as usize - self.bytes.len()
     }
 
-#[tactic(none)]
     fn put(&mut self, bytes: &[u8])
         requires { length bytes.now ≤ self.old.limit - length self.old.bytes.items }
         ensures put { self.new.bytes.items ≡ self.old.bytes.items ++ bytes.now }
@@ -81,7 +78,6 @@ impl Model for MemChild {
 }
 
 impl MemChild {
-#[tactic(none)]
     fn new(alloc: Global, output: Bytes, status: u8, room: u32) -> Result<Self, NoMemory>
         ensures { IfOk result (λ child. child ≡ fresh_child room output status) }
     {
@@ -97,7 +93,6 @@ impl MemChild {
     }
 
     /// Counts a call that failed.
-#[tactic(none)]
     fn fail(&mut self) -> Failed
         ensures failed { self.new ≡ failed self.old }
         ensures rose { Rose self.old.faults self.new.faults }
@@ -108,7 +103,6 @@ impl MemChild {
     }
 
     /// Takes as many bytes as the buffer has room for.
-#[tactic(none)]
     fn read(&mut self, buf: &mut [u8]) -> usize
         ensures count { result ≡ min (length buf.old) (length self.old.left) }
         ensures bytes { buf.new ≡ take result self.old.left ++ drop result buf.old }
@@ -121,7 +115,6 @@ impl MemChild {
         n
     }
 
-#[tactic(none)]
     fn has_no_room(&self, piece: &[u8]) -> bool
         ensures { IsTrue result ↔ HasNoRoom self.now piece.now }
     {
@@ -129,7 +122,6 @@ impl MemChild {
     }
 
     /// Puts as many bytes as there is room for.
-#[tactic(none)]
     fn write(&mut self, piece: &[u8]) -> usize
         ensures count { result ≡ min (length piece.now) (self.old.room - length self.old.written) }
         ensures moved { self.new ≡ after_write self.old (take result piece.now) }
@@ -140,7 +132,6 @@ impl MemChild {
     }
 
     /// Whether the words, each with a line feed, fit.
-#[tactic(none)]
     fn has_room_for(&self, words: &[Text]) -> bool
         ensures { IsTrue result ↔ (length self.now.asked + length (lines words.now) ≤ self.now.room) }
     {
@@ -156,7 +147,6 @@ impl MemChild {
     }
 
     /// Keeps the words.
-#[tactic(none)]
     fn ask(&mut self, words: &[Text])
         requires { length self.old.asked + length (lines words.now) ≤ self.old.room }
         ensures { self.new ≡ after_start self.old words.now }
@@ -168,7 +158,6 @@ impl MemChild {
         self.phase = 1;
     }
 
-#[tactic(none)]
     fn finish(&mut self) -> u8
         ensures status { result ≡ self.old.status }
         ensures finished { self.new ≡ after_finish self.old }
@@ -203,7 +192,6 @@ impl MemSpawner {
     /// A spawner that has started nothing. Each child has room for `room` bytes written and for as
     /// many bytes of words, each with a line feed; the memory is taken here. The calls whose numbers
     /// from 1 stand in `fails` answer `Failed`.
-#[tactic(none)]
     pub fn new(
         alloc: Global,
         outputs: Vec<Bytes>,
@@ -229,7 +217,6 @@ impl MemSpawner {
     }
 
     /// What was written to a role's child.
-#[tactic(none)]
     pub fn written(&self, role: u32) -> &[u8]
         requires { role < length self.now.children }
         ensures { result.now ≡ (child_at self.now role).written }
@@ -239,7 +226,6 @@ impl MemSpawner {
     }
 
     /// The words that were asked of a role's child, each with a line feed.
-#[tactic(none)]
     pub fn asked(&self, role: u32) -> &[u8]
         requires { role < length self.now.children }
         ensures { result.now ≡ (child_at self.now role).asked }
@@ -249,7 +235,6 @@ impl MemSpawner {
     }
 
     /// Counts the call that comes now, and says whether it fails.
-#[tactic(none)]
     fn next_fails(&mut self) -> bool
         ensures fails { result ≡ fails_after self.old.calls self.old.fails }
         ensures counted { self.new ≡ record self.old { calls = raised self.old.calls } }
@@ -263,7 +248,6 @@ impl MemSpawner {
 impl Spawner for MemSpawner {
     ghost child = { λ spawner role. told (child_at spawner role) };
 
-#[tactic(none)]
     fn start(&mut self, role: u32, words: &[Text]) -> Result<(), Failed> {
         let fails = self.next_fails();
         if role as usize >= self.children.len() {
@@ -277,7 +261,6 @@ impl Spawner for MemSpawner {
         Ok(())
     }
 
-#[tactic(none)]
     fn read(&mut self, role: u32, buf: &mut [u8]) -> Result<usize, Failed> {
         let fails = self.next_fails();
         let child = &mut self.children[role as usize];
@@ -287,7 +270,6 @@ impl Spawner for MemSpawner {
         Ok(child.read(buf))
     }
 
-#[tactic(none)]
     fn write(&mut self, role: u32, piece: &[u8]) -> Result<usize, Failed> {
         let fails = self.next_fails();
         let child = &mut self.children[role as usize];
@@ -297,7 +279,6 @@ impl Spawner for MemSpawner {
         Ok(child.write(piece))
     }
 
-#[tactic(none)]
     fn finish(&mut self, role: u32) -> Result<u8, Failed> {
         let fails = self.next_fails();
         let child = &mut self.children[role as usize];
