@@ -6,8 +6,10 @@ use Rattle.anb_syntax.specs.Canon.{canon}
 use Rattle.anb_syntax.specs.Grammar.{Narration}
 use Rattle.anb_code.specs.CodeValue.{CodeValue}
 use Rattle.anb_code.specs.Verified.{IsVerifiedCode}
+use Rattle.anb_code.specs.Spelling.{raw_of}
 use Rattle.anb_compile.specs.Fitting.{FitsRole}
-use Rattle.anb_text.specs.RoleFiles.{role_text}
+use Rattle.anb_compile.specs.Laws.{FittingCodesPlay}
+use Rattle.anb_text.specs.RoleFiles.{IsSpellable, role_text}
 use Rattle.anb_explain.specs.Explained.{IsExplained}
 use Rattle.anb_command.specs.declared.status.Status.{Status}
 use Rattle.anb_command.specs.Fetches.{Files, IfTold}
@@ -38,11 +40,14 @@ abbrev pub IsTextOf : RoleText → Part → CodeValue → List ℕ → Type 0
 IsTextOf RoleFile part code text = text ≡ role_text code
 IsTextOf Explanation part code text = IsExplained part.protocol part.role code text
 
--- such a text, of a code that fits the role and is accepted
+-- Such a text, of a code that fits the role and is accepted. The code can be written, so its role file is
+-- read as the same code; and the runs of codes that fit are the role's plays.
 pub record IsDescribed (kind : RoleText) (part : Part) (text : List ℕ) : Type 0 where
   pub code : CodeValue
   pub accepted : IsVerifiedCode ARRIVAL WIDE code
+  pub spellable : IsSpellable (raw_of code)
   pub fits : FitsRole part.protocol part.role code
+  pub plays : FittingCodesPlay part.protocol
   pub is : IsTextOf kind part code text
 
 -- `compile` and `explain` write such a text of the role in the narration's file
@@ -67,7 +72,8 @@ abbrev pub help_text : List ℕ
 help_text =
     codes "anb fmt <narration>\n" ++ codes "anb compile <narration> <role>\n"
     ++ codes "anb explain <narration> <role>\n" ++ codes "anb play <narration> <role> <values> [place]\n"
-    ++ codes "anb enact <rolefile> <values> [place]\n" ++ codes "anb help\n"
+    ++ codes "anb enact <rolefile> <values> [place]\n"
+    ++ codes "anb replay <narration> <role> <values> <transcript>\n" ++ codes "anb help\n"
 
 abbrev pub HelpText : Answer (List ℕ) → Type 0
 HelpText answer = answer ≡ given help_text

@@ -6,7 +6,10 @@ ghost use Rattle.anb_base.specs.Moves.{Rose};
 ghost use Rattle.anb_base.specs.declared.TheConstants.{ARRIVAL, WIDE};
 ghost use Rattle.anb_base.specs.declared.place.Place.TheVariants as place;
 ghost use Rattle.anb_code.specs.Verified.{IsVerifiedCode};
+ghost use Rattle.anb_code.specs.Spelling.{raw_of};
 ghost use Rattle.anb_compile.specs.Fitting.{FitsRole};
+ghost use Rattle.anb_compile.specs.Laws.{FittingCodesPlay};
+ghost use Rattle.anb_text.specs.RoleFiles.{IsSpellable};
 ghost use Rattle.anb_command.specs.Causes.{HasCause, NoneRose};
 ghost use Rattle.anb_command.specs.Fetches.{Fetches, IfTold};
 ghost use Rattle.anb_command.specs.OverWire.{OverWire};
@@ -21,6 +24,7 @@ ghost use Rattle.anb_text_commands.specs.TextCommands.{DescribedText, FmtText, I
 
 use anb_base::{Bytes, NoMemory, Shelf, Text, Wire};
 use anb_command::{Playable, RoleText, Status, narration_in_file, playable_in_file, write_text};
+use anb_compile::fitting_codes_play;
 use anb_explain::explain;
 use anb_read::{narrations_are_unique, none_is_both, refusals_are_unique};
 use anb_syntax::text_of;
@@ -34,6 +38,7 @@ const HELP: &str = concat!(
     "anb explain <narration> <role>\n",
     "anb play <narration> <role> <values> [place]\n",
     "anb enact <rolefile> <values> [place]\n",
+    "anb replay <narration> <role> <values> <transcript>\n",
     "anb help\n",
 );
 
@@ -94,6 +99,8 @@ fn text_of_role(alloc: Global, kind: RoleText, playable: &Playable) -> Result<By
         IsTextOf kind (record { protocol = playable.now.protocol; role = playable.now.role })
         playable.now.code described) }
     ensures accepted { IsVerifiedCode ARRIVAL WIDE playable.now.code }
+    ensures spellable { IsSpellable (raw_of playable.now.code) }
+    ensures plays { FittingCodesPlay playable.now.protocol }
 {
     let Playable {
         protocol,
@@ -101,6 +108,8 @@ fn text_of_role(alloc: Global, kind: RoleText, playable: &Playable) -> Result<By
         code,
     } = playable;
     let _verified = code.instrs();
+    let _protocol = protocol.name();
+    fitting_codes_play(protocol);
     match kind {
         RoleText::RoleFile => print(alloc, code),
         RoleText::Explanation => explain(alloc, protocol, *role, code),

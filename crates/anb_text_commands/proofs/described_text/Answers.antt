@@ -9,7 +9,7 @@ returns-in-Ok-text_of_role-clause-given g c =
     let playable = c.in-Ok.playable in
     let part : Part = record { protocol = playable.protocol; role = playable.role } in
     then_given (λ files. PartInFile files c.args.narration.now c.args.role.now) (Describes c.args.kind) (g.F.Shelf.files c.args.shelf.now) part c.in-Ok-text_of_role.described
-    c.in-Ok.ensures.given (record { code = playable.code; accepted = c.text_of_role.ensures.accepted; fits = c.in-Ok.ensures.fits; is = c.in-Ok-text_of_role.ensures.text })
+    c.in-Ok.ensures.given (record { code = playable.code; accepted = c.text_of_role.ensures.accepted; spellable = c.text_of_role.ensures.spellable; fits = c.in-Ok.ensures.fits; plays = c.text_of_role.ensures.plays; is = c.in-Ok-text_of_role.ensures.text })
 
 pub returns-in-Err-clause-refused : goal.returns-in-Err-clause-refused
 returns-in-Err-clause-refused g c =
