@@ -2,4 +2,5 @@ pub mod Completing
 pub mod Draws
 pub mod Enacting
 pub mod Preparing
+pub mod Replaying
 pub mod Tasks

@@ -58,7 +58,7 @@ module _ (values : List ℕ) (host_seed : Option (List ℕ)) (p : ProtocolValue)
     by (inl (t, none, is)) = inl (t, subst (λ (b : Bool). SeedIs b fitted.seed host_seed (refused t)) (draws_as_made p role code fits) none, ap refused (same_refusal s t is))
     by (inr (seed, some, never)) = not_both s (as_errand code fitted.values seed) never
 
-  job_given : (files : Files) (initial : List (List ℕ)) (seed : List ℕ) → ErrandOf files values host_seed code (given (record { code = code; initial = initial; seed = seed }))
+  pub job_given : (files : Files) (initial : List (List ℕ)) (seed : List ℕ) → ErrandOf files values host_seed code (given (record { code = code; initial = initial; seed = seed }))
       → JobOf files values host_seed (record { protocol = p; role = role }) (given (record { protocol = p; role = role; initial = initial; seed = seed }))
   job_given files initial seed (inl (t, first, never)) = not_both t (as_errand code initial seed) (sym never)
   job_given files initial seed (inr (fitted, first, next)) = inr (fitted, subst (λ (ns : List (List ℕ)). ValuesInFile files values ns (given fitted)) fits.texts first, by next) where

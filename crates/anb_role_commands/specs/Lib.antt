@@ -2,5 +2,7 @@ pub mod Completions
 pub mod EnactCommand
 pub mod Jobs
 pub mod PlayCommand
+pub mod ReplayCommand
 -- for proofs alone
+pub mod Comparing
 pub mod Playing

@@ -3,6 +3,8 @@
 
 mod role_file;
 mod role_play;
+mod role_replay;
 
 pub use role_file::enact;
 pub use role_play::play;
+pub use role_replay::replay;

@@ -89,7 +89,7 @@ fn play_over<W: Wire>(
 }
 
 /// Reads the files of a play.
-fn prepare<F: Shelf>(
+pub(crate) fn prepare<F: Shelf>(
     alloc: Global,
     shelf: &mut F,
     words: PlayWords,
