@@ -4,9 +4,10 @@ use Rattle.std.specs.Prelude.{ℕ, List, Option, Some, None}
 use Rattle.anb_base.specs.Wires.{WireState}
 use Rattle.anb_command.specs.declared.status.Status.{Status}
 use Rattle.anb_command.specs.Fetches.{Files}
-use Rattle.anb_command.specs.Words.{Asked, fmt, describe, play, enact, help}
+use Rattle.anb_command.specs.Words.{Asked, fmt, describe, play, enact, replay, help}
 use Rattle.anb_role_commands.specs.EnactCommand.{CompletesEnact, DoesEnact}
 use Rattle.anb_role_commands.specs.PlayCommand.{CompletesPlay, DoesPlay}
+use Rattle.anb_role_commands.specs.ReplayCommand.{CompletesReplay, DoesReplay}
 use Rattle.anb_text_commands.specs.TextCommands.{
   CompletesDescribe,
   CompletesFmt,
@@ -26,6 +27,8 @@ Does (Some (play narration role values place)) told seed old new status =
     DoesPlay narration role values told seed old new status
 Does (Some (enact code values place)) told seed old new status =
     DoesEnact code values told seed old new status
+Does (Some (replay narration role values transcript)) told seed old new status =
+    DoesReplay narration role values transcript seed told old new status
 Does (Some help) told seed old new status = DoesHelp old new status
 
 -- where nothing failed
@@ -38,4 +41,6 @@ Completes (Some (play narration role values place)) told seed old new status =
     CompletesPlay narration role values told seed old new status
 Completes (Some (enact code values place)) told seed old new status =
     CompletesEnact code values told seed old new status
+Completes (Some (replay narration role values transcript)) told seed old new status =
+    CompletesReplay narration role values transcript seed told status
 Completes (Some help) told seed old new status = CompletesHelp status

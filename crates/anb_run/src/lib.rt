@@ -15,11 +15,15 @@ ghost use Rattle.anb_command.specs.Touches.{Touches};
 ghost use Rattle.anb_command.specs.Words.{asked_of, files_of, is_reading, place_of};
 ghost use Rattle.anb_command.specs.declared.status.Status.TheVariants.{Usage};
 ghost use Rattle.anb_run.specs.Commands.{Completes, Does};
+ghost use Rattle.anb_run.specs.Compiled.{EnactsAsPlay};
 
+mod laws;
+
+use crate::laws::compiled_files_play;
 use anb_base::{Shelf, Sink, Text, Wire};
 use anb_command::{Command, tell};
-pub use anb_command::{Halt, NarrationNo, Status};
-use anb_role_commands::{enact, play};
+pub use anb_command::{Due, Halt, NarrationNo, Status};
+use anb_role_commands::{enact, play, replay};
 use anb_text_commands::{describe, fmt, help};
 use std::alloc::Global;
 
@@ -41,6 +45,7 @@ pub fn run<F: Shelf, W: Wire, E: Sink>(
         (F.faults shelf.old) (F.faults shelf.new) (W.state wire.old) (W.state wire.new)
         → Completes (asked_of words.now) (F.files shelf.old) seed
         (W.state wire.old) (W.state wire.new) result }
+    ensures enacts { EnactsAsPlay }
     ensures usage { (result ≡ Usage) ↔ (asked_of words.now ≡ None) }
     ensures faults { HasCause (files_of (asked_of words.now)) (place_of (asked_of words.now))
         (F.faults shelf.old) (F.faults shelf.new) (W.state wire.old) (W.state wire.new) result }
@@ -56,6 +61,7 @@ pub fn run<F: Shelf, W: Wire, E: Sink>(
         (E.written err.old) (E.written err.new) (E.faults err.old) (E.faults err.new) }
     ensures beside_line { E.kept err.new ≡ E.kept err.old }
 {
+    compiled_files_play();
     let status = match Command::read(words) {
         None => Status::Usage,
         Some(Command::Fmt { narration }) => fmt(alloc, shelf, wire, narration),
@@ -68,6 +74,7 @@ pub fn run<F: Shelf, W: Wire, E: Sink>(
         ) => describe(alloc, shelf, wire, kind, narration, role),
         Some(Command::Play(words)) => play(alloc, shelf, wire, words, seed),
         Some(Command::Enact(words)) => enact(alloc, shelf, wire, words, seed),
+        Some(Command::Replay(words)) => replay(alloc, shelf, wire, words, seed),
         Some(Command::Help) => help(wire),
     };
     tell(err, &status);
