@@ -4,8 +4,8 @@
     python3 docs/check.py crates/anb/out/anb           compares; the status is 0 where all is as it stands
     python3 docs/check.py crates/anb/out/anb --write   writes what the program gives into the pages
 
-Examples: `fmt` gives the narration's text, each role compiles, all roles play to their ends over pipes, and each message
-has the bytes that docs/narration.py computes apart. What came of it is compared with examples/expected, and the index
+Examples: `fmt` gives the narration's text, each role compiles, all roles play to their ends over pipes, the codes that
+`compile` wrote send the same under `enact`, and each message has the bytes that docs/narration.py computes apart. What came of it is compared with examples/expected, and the index
 of the examples with what docs/charts.py writes. Where the program has `rehearse`, all roles are rehearsed too. A role's transcript
 stands beside its values, and examples/commands lists what the gate runs of each example (crates/anb_examples).
 
@@ -79,11 +79,10 @@ def names_of(story, folder):
     return names
 
 
-def relay(program, story, folder):
-    """Plays all roles, one process each, and carries every message from its sender to its receiver."""
-    path = folder / f"{folder.name}.anb"
+def relay(program, story, words_of):
+    """Runs all roles by their words, one process each, and carries every message from its sender to its receiver."""
     pipes = {"stdin": subprocess.PIPE, "stdout": subprocess.PIPE, "stderr": subprocess.PIPE}
-    roles = {r: subprocess.Popen([program, "play", path, r, values_file(folder, r)], **pipes) for r in story.roles}
+    roles = {role: subprocess.Popen([program, *words_of(role)], **pipes) for role in story.roles}
     carried = []
     try:
         for sender, receiver, _ in story.actions:
@@ -101,6 +100,14 @@ def relay(program, story, folder):
             process.kill()
             process.communicate()
     return carried
+
+
+def enacted(program, story, folder, codes):
+    """What the codes that `compile` wrote send, where `enact` runs them."""
+    with tempfile.TemporaryDirectory() as scratch:
+        for role, code in codes.items():
+            (pathlib.Path(scratch) / role).write_text(code)
+        return relay(program, story, lambda role: ["enact", pathlib.Path(scratch) / role, values_file(folder, role)])
 
 
 def rehearsal(story, folder, turns):
@@ -177,12 +184,16 @@ def check_example(program, folder, commands, write):
             raise ValueError(f"{path.name} isn't what fmt writes")
     if story.canonical() != without_comment(text):
         raise ValueError("docs/narration.py reads another text")
-    for role in story.roles:
-        if not re.fullmatch(r"anb-role 2\n.*\nend\n", run(program, "compile", folder / f"{folder.name}.anb", role), re.S):
+    path = folder / f"{folder.name}.anb"
+    codes = {role: run(program, "compile", path, role) for role in story.roles}
+    for role, code in codes.items():
+        if not re.fullmatch(r"anb-role 2\n.*\nend\n", code, re.S):
             raise ValueError(f"no role file for {role}")
     check_schedule(program, story, folder, commands)
     names = names_of(story, folder)
-    carried = relay(program, story, folder)
+    carried = relay(program, story, lambda role: ["play", path, role, values_file(folder, role)])
+    if enacted(program, story, folder, codes) != carried:
+        raise ValueError("the role files' codes sent something else than the roles' plays")
     if carried != [story.bytes_of(message, names) for _, _, message in story.actions]:
         raise ValueError("a message has other bytes than those computed apart")
     check_transcripts(story, folder, carried, write)
