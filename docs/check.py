@@ -7,7 +7,7 @@
 Examples: `fmt` gives the narration's text, each role compiles, all roles play to their ends over pipes, the codes that
 `compile` wrote send the same under `enact`, and each message has the bytes that docs/narration.py computes apart. What came of it is compared with examples/expected, and the index
 of the examples with what docs/charts.py writes. Where the program has `rehearse`, all roles are rehearsed too. A role's transcript
-stands beside its values, and examples/commands lists what the gate runs of each example (crates/anb_examples).
+stands beside its values. What the gate runs of each example is a copy, in crates/anb_examples.
 
 Pages: in a fenced block that begins with a line `$ ...` each such line is a command for sh, and what follows is what
 it writes, errors too. The commands run in a folder of their own with a copy of examples/, block by block, with `anb` on
@@ -32,9 +32,8 @@ ROOT = pathlib.Path(__file__).resolve().parent.parent
 EXAMPLES = ROOT / "examples"
 EXPECTED = EXAMPLES / "expected"
 PAGES = ["README.md", "docs/TUTORIAL.md", "docs/REFERENCE.md"]
-# What the gate runs of the examples, and what it prints then.
-COMMANDS = EXAMPLES / "commands"
-PRINTED = ROOT / "crates" / "anb_examples" / "stdout"
+# What the gate runs of the examples: the files, the commands, and what they print.
+GATE = ROOT / "crates" / "anb_examples"
 # What names each command of the program.
 LISTS = ["README.md", "docs/REFERENCE.md", "anb.1", "completions/anb.bash", "completions/_anb", "completions/anb.fish"]
 MARK = "\x1e"
@@ -159,21 +158,33 @@ def gate_commands(folder, roles):
         yield f"replay {whole} {role} {folder.name}/{values.name} {folder.name}/{values.stem}.transcript"
 
 
-def check_gate(write):
-    """The commands that the gate runs are those of all examples."""
-    listed = []
+def gate_files():
+    """The files that the gate wants, by their paths in crates/anb_examples."""
+    commands = []
     for folder in charts.folders():
         roles = narration.Narration((folder / f"{folder.name}.anb").read_text()).roles
-        listed += gate_commands(folder, roles)
-    faults = 0
-    for path, lines in ((COMMANDS, listed), (PRINTED, [f"0 {line}" for line in listed])):
-        found = "".join(line + "\n" for line in lines)
-        if write:
-            path.write_text(found)
-        if path.read_text() != found:
-            print(f"{path.name}: not what the gate runs of the examples")
-            faults += 1
-    return faults
+        commands += gate_commands(folder, roles)
+    files = {"data/commands": "".join(f"{command}\n" for command in commands)}
+    files["stdout"] = "".join(f"0 {command}\n" for command in commands)
+    for word in {word for command in commands for word in command.split() if "/" in word}:
+        files[f"data/{word}"] = (EXAMPLES / word).read_text()
+    return files
+
+
+def check_gate(write):
+    """The gate's copies are those of the examples."""
+    wanted = gate_files()
+    if write:
+        shutil.rmtree(GATE / "data", ignore_errors=True)
+        for path, text in wanted.items():
+            (GATE / path).parent.mkdir(parents=True, exist_ok=True)
+            (GATE / path).write_text(text)
+    there = {str(path.relative_to(GATE)) for path in (GATE / "data").rglob("*") if path.is_file()} | {"stdout"}
+    faults = [path for path in sorted(there | set(wanted))
+              if path not in there or path not in wanted or (GATE / path).read_text() != wanted[path]]
+    for path in faults:
+        print(f"crates/anb_examples/{path}: not that of the examples")
+    return len(faults)
 
 
 def check_example(program, folder, commands, write):
