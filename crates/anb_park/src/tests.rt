@@ -1,0 +1,248 @@
+//! Sessions that are parked and go on later. The record was computed in Python, with the packages
+//! hashlib, hmac and cryptography.
+
+use crate::{Live, ParkNo, play_on, resume};
+use anb_base::{Bytes, MemWire, Suite};
+use anb_code::RoleCode;
+use anb_machine::{Halt, Turn};
+use anb_sample_codes::{code, values};
+use anb_seal::seal;
+use anb_session::PlayEnd;
+use std::alloc::Global;
+use std::process::Abort;
+use std::test::Fail;
+
+/// Sends what it knows, and compares it with what comes.
+const SENDER: &str = "take N; send 0; recv; equal 0 1";
+
+/// Waits three times, and sends between.
+const TALKER: &str = "take N; recv; send 1; recv; send 2; recv; send 0; send 3";
+
+/// The record of a sender that knows `ab` and waits: of the identity of 32 bytes 7, under a seed of
+/// zeros, session 0, sealed under `key`.
+const RECORD: &str = "6354233d1d89abb42bcec65b87a8fd3706e69421a7440e3d4017b5d08c54b88e\
+    014bc5d35caf1ffd5edd50b2d9e4867290c14d6fed6447d5825bfac12e773958\
+    8e43a82b2b4b72b5035e16ba6d9e29b30612b968a9e9ec90152f7648c77f71a8\
+    eb61084aa5bac336a7dcffcc83";
+
+/// A session of a code that takes `ab`, or nothing.
+fn start<'c>(
+    rt: &impl Abort,
+    alloc: Global,
+    code: &'c RoleCode,
+    session: u32,
+) -> Result<Live<'c>, Fail> {
+    let mut init = values(alloc, "ab")?;
+    init.truncate(code.takes() as usize);
+    assert!(rt; code.takes() as usize == init.len());
+    Ok(Live::start(alloc, code, [7; 32], &init, &[0; 32], session)?)
+}
+
+/// Plays a session on, and tests the end and what it writes.
+fn ends(
+    rt: &impl Abort,
+    alloc: Global,
+    live: &mut Live<'_>,
+    input: &[u8],
+    end: PlayEnd,
+    written: &[u8],
+) -> Result<(), Fail> {
+    let input = Bytes::new(Vec::from_slice(alloc, input)?);
+    let mut wire = MemWire::new(alloc, input, 3, 64, Vec::new(alloc))?;
+    assert_eq!(rt; play_on(alloc, live, &mut wire), end);
+    assert_eq!(rt; wire.written(), written);
+    Ok(())
+}
+
+/// Plays a session on to where it waits, and parks it.
+fn parks(
+    rt: &impl Abort,
+    alloc: Global,
+    live: &mut Live<'_>,
+    input: &[u8],
+    event: u32,
+    written: &[u8],
+) -> Result<Bytes, Fail> {
+    let input = Bytes::new(Vec::from_slice(alloc, input)?);
+    let mut wire = MemWire::new(alloc, input, 3, 64, Vec::new(alloc))?;
+    let end = play_on(alloc, live, &mut wire);
+    assert_eq!(rt; wire.written(), written);
+    if end != PlayEnd::Waiting(event) {
+        panic!(rt; "it doesn't wait");
+    }
+    Ok(live.park(alloc, b"key")?)
+}
+
+#[test]
+fn a_sender_is_parked_and_resumed(rt: HostRuntime) -> Result<(), Fail> {
+    let alloc = rt.alloc();
+    let code = code(alloc, Suite::One, SENDER)?;
+    let mut live = start(&rt, alloc, &code, 0)?;
+    let record = parks(&rt, alloc, &mut live, b"", 2, b"\0\0\0\x02ab")?;
+    assert_eq!(&rt; hex::encode(alloc, record.as_slice())?.as_str(), RECORD);
+
+    let mut live = resume(alloc, &code, [7; 32], b"key", record.as_slice())?;
+    ends(&rt, alloc, &mut live, b"\0\0\0\x02ab", PlayEnd::Done, b"")?;
+
+    let mut live = resume(alloc, &code, [7; 32], b"key", record.as_slice())?;
+    let stopped = PlayEnd::Stopped(Halt { event: 2, at: 4 });
+    ends(&rt, alloc, &mut live, b"\0\0\0\x02ac", stopped, b"")?;
+
+    let mut live = resume(alloc, &code, [7; 32], b"key", record.as_slice())?;
+    let again = parks(&rt, alloc, &mut live, b"", 2, b"")?;
+    assert_eq!(&rt; again.as_slice(), record.as_slice());
+    Ok(())
+}
+
+#[test]
+fn a_session_is_parked_after_each_arrival(rt: HostRuntime) -> Result<(), Fail> {
+    let alloc = rt.alloc();
+    let code = code(alloc, Suite::One, TALKER)?;
+    let mut live = start(&rt, alloc, &code, 0)?;
+    let record = parks(&rt, alloc, &mut live, b"", 1, b"")?;
+
+    let mut live = resume(alloc, &code, [7; 32], b"key", record.as_slice())?;
+    let record = parks(&rt, alloc, &mut live, b"\0\0\0\x01x", 3, b"\0\0\0\x01x")?;
+
+    let mut live = resume(alloc, &code, [7; 32], b"key", record.as_slice())?;
+    let record = parks(&rt, alloc, &mut live, b"\0\0\0\0", 5, b"\0\0\0\0")?;
+
+    let mut live = resume(alloc, &code, [7; 32], b"key", record.as_slice())?;
+    let rest = b"\0\0\0\x02ab\0\0\0\x01z";
+    ends(&rt, alloc, &mut live, b"\0\0\0\x01z", PlayEnd::Done, rest)
+}
+
+#[test]
+fn nonces_are_drawn_once(rt: HostRuntime) -> Result<(), Fail> {
+    let alloc = rt.alloc();
+    let code = code(alloc, Suite::One, "fresh; recv; send 0")?;
+    let nonce = "00000020ef3fdfd6c61578fbf5cf35bd3dd33b8009631634d21e42ac33960bd138e50d32";
+    let frame = hex::decode(alloc, nonce.as_bytes())?;
+    let mut live = start(&rt, alloc, &code, 1)?;
+    let record = parks(&rt, alloc, &mut live, b"", 1, b"")?;
+    let mut live = resume(alloc, &code, [7; 32], b"key", record.as_slice())?;
+    ends(&rt, alloc, &mut live, b"\0\0\0\0", PlayEnd::Done, &frame)
+}
+
+#[test]
+fn a_session_goes_on_by_turns(rt: HostRuntime) -> Result<(), Fail> {
+    let alloc = rt.alloc();
+    let code = code(alloc, Suite::One, SENDER)?;
+    let mut live = start(&rt, alloc, &code, 0)?;
+    assert!(&rt; matches!(live.advance(alloc), Turn::Message(_)));
+    if !matches!(live.advance(alloc), Turn::Wants(2)) {
+        panic!(&rt; "it doesn't wait");
+    }
+    live.arrive(Bytes::new(Vec::from_slice(alloc, b"ab")?))?;
+    assert!(&rt; matches!(live.advance(alloc), Turn::Done));
+    Ok(())
+}
+
+/// Whether a record is refused so for a sender with the identity of 32 bytes 7, under `key`.
+fn is_refused(alloc: Global, code: &RoleCode, record: &[u8], no: ParkNo) -> bool {
+    match resume(alloc, code, [7; 32], b"key", record) {
+        Ok(_) => false,
+        Err(other) => other == no,
+    }
+}
+
+#[test]
+fn a_changed_record_is_damaged(rt: HostRuntime) -> Result<(), Fail> {
+    let alloc = rt.alloc();
+    let code = code(alloc, Suite::One, SENDER)?;
+    let record = hex::decode(alloc, RECORD.as_bytes())?;
+    for i in 0..record.len() {
+        assert!(&rt; is_refused(alloc, &code, &record[..i], ParkNo::Damaged));
+        for bit in 0..8 {
+            let mut changed = Vec::from_slice(alloc, &record)?;
+            changed[i] ^= 1u8 << bit;
+            assert!(&rt; is_refused(alloc, &code, &changed, ParkNo::Damaged));
+        }
+    }
+    Ok(())
+}
+
+#[test]
+fn another_key_or_identity_is_refused(rt: HostRuntime) -> Result<(), Fail> {
+    let alloc = rt.alloc();
+    let code = code(alloc, Suite::One, SENDER)?;
+    let record = hex::decode(alloc, RECORD.as_bytes())?;
+    let other_key = resume(alloc, &code, [7; 32], b"kez", &record).err();
+    assert_eq!(&rt; other_key, Some(ParkNo::Damaged));
+    let other_id = resume(alloc, &code, [8; 32], b"key", &record).err();
+    assert_eq!(&rt; other_id, Some(ParkNo::Other));
+    Ok(())
+}
+
+/// Tests that a body with these frames, under an identity of 32 such bytes, is refused so.
+fn refuses(rt: &impl Abort, alloc: Global, id: u8, frames: &[u8], no: ParkNo) -> Result<(), Fail> {
+    let code = code(alloc, Suite::One, SENDER)?;
+    let mut body = Vec::from_slice(alloc, b"PK1")?;
+    body.extend_from_slice(&[id; 32])?;
+    body.extend_from_slice(&[0; 36])?;
+    body.extend_from_slice(frames)?;
+    let record = seal(alloc, b"key", &body)?;
+    assert!(rt; is_refused(alloc, &code, record.as_slice(), no));
+    Ok(())
+}
+
+#[test]
+fn what_a_record_holds_is_refused(rt: HostRuntime) -> Result<(), Fail> {
+    let alloc = rt.alloc();
+    refuses(&rt, alloc, 7, b"", ParkNo::Body)?;
+    refuses(&rt, alloc, 7, b"\0\0\0\x02ab\0", ParkNo::Body)?;
+    refuses(&rt, alloc, 7, b"\0\0\0\x02ab\0\x04\0\x01", ParkNo::Body)?;
+    refuses(&rt, alloc, 8, b"\0\0\0\x02a", ParkNo::Body)?;
+    refuses(&rt, alloc, 8, b"\0\0\0\x02ab\0\0\0\x02ab", ParkNo::Other)?;
+    refuses(
+        &rt,
+        alloc,
+        7,
+        b"\0\0\0\x02ab\0\0\0\x02ab",
+        ParkNo::NotWaiting,
+    )?;
+    refuses(
+        &rt,
+        alloc,
+        7,
+        b"\0\0\0\x02ab\0\0\0\x02ac",
+        ParkNo::NotWaiting,
+    )?;
+    let code = code(alloc, Suite::One, SENDER)?;
+    let short = seal(alloc, b"key", &[0x50; 70])?;
+    assert!(&rt; is_refused(alloc, &code, short.as_slice(), ParkNo::Body));
+    let other = seal(alloc, b"key", &[0x50; 99])?;
+    assert!(&rt; is_refused(alloc, &code, other.as_slice(), ParkNo::Body));
+    Ok(())
+}
+
+/// How a sender's play ends where this call fails, and how many bytes it wrote of its frame.
+fn ends_failing(
+    rt: &impl Abort,
+    alloc: Global,
+    code: &RoleCode,
+    call: u32,
+) -> Result<(PlayEnd, usize), Fail> {
+    let mut live = start(rt, alloc, code, 0)?;
+    let input = Bytes::new(Vec::from_slice(alloc, b"\0\0\0\x02ab")?);
+    let mut wire = MemWire::new(alloc, input, 1, 16, vec![in alloc; call]?)?;
+    let end = play_on(alloc, &mut live, &mut wire);
+    assert!(rt; b"\0\0\0\x02ab".starts_with(wire.written()));
+    Ok((end, wire.written().len()))
+}
+
+#[test]
+fn a_fault_at_any_call_is_answered(rt: HostRuntime) -> Result<(), Fail> {
+    let alloc = rt.alloc();
+    let code = code(alloc, Suite::One, SENDER)?;
+    for call in 1..7 {
+        let end = ends_failing(&rt, alloc, &code, call)?;
+        assert_eq!(&rt; end, (PlayEnd::WriteFault, call as usize - 1));
+    }
+    for call in 7..13 {
+        let end = ends_failing(&rt, alloc, &code, call)?;
+        assert_eq!(&rt; end, (PlayEnd::ReadFault, 6));
+    }
+    assert_eq!(&rt; ends_failing(&rt, alloc, &code, 13)?, (PlayEnd::Done, 6));
+    Ok(())
+}
