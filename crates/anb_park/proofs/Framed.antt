@@ -1,6 +1,6 @@
 -- Bytes that are frames, one after another.
-use Rattle.std.proofs.Common.{◌≡◌, ◌+◌, ◌<◌, ◌≤◌, ◌^◌, ℕ, zero, suc, List, [], ◌∷◌, ◌++◌, length, take, drop, All, refl, sym, ap, ◌∙◌, subst, arith, append_assoc, length-append}
-use Rattle.std.proofs.lemmas.List.{take_at, drop_at, append-nil}
+use Rattle.std.proofs.Common.{◌≡◌, true, false, ◌+◌, ◌<◌, ◌≤◌, ◌^◌, ℕ, zero, suc, List, [], ◌∷◌, ◌++◌, length, take, drop, All, refl, sym, ap, ◌∙◌, subst, arith, append_assoc, length-append}
+use Rattle.std.proofs.lemmas.List.{take_at, drop_at, append-nil, take-append-drop, length-drop}
 use Rattle.std.proofs.lemmas.List.Elements.{All-nil, All-cons, All-head, All-tail, All-append}
 use Rattle.std.proofs.lemmas.Grind.{flat_map-append}
 use Rattle.anb_base.specs.declared.TheConstants.{ARRIVAL}
@@ -80,4 +80,27 @@ next_of (d ∷ rest) zero b ds e = (ap (λ t. t ∷ []) (first d b rest ds e), o
 
   others : (d b : List ℕ) (rest ds : List (List ℕ)) → d ∷ rest ≡ b ∷ ds → rest ≡ ds
   others d b rest ds e = cc
-next_of (d ∷ rest) (suc i) b ds e = let n = next_of rest i b ds e in (ap (λ l. d ∷ l) n.0, n.1)
+next_of (d ∷ rest) (suc i) b ds e = let n = next_of rest i b ds e in rw (after i) (ap (λ l. d ∷ l) n.0, n.1) where
+  after : (k : ℕ) → suc k + 1 ≡ suc (k + 1)
+  after k = omega arith
+
+-- what begins with a frame begins with its length, and is long enough
+pub begins_so : (bytes front back b rest : List ℕ) (len : ℕ) → len < 2 ^ 32 → front ≡ take 4 bytes → back ≡ drop 4 bytes → length_bytes len ≡ front → length b ≤ ARRIVAL → bytes ≡ frame b ++ rest
+    → (length b ≡ len) × (length b ≤ length back)
+begins_so bytes front back b rest len small is_front is_back said fits e =
+    let whole : length_bytes (length b) ++ (b ++ rest) ≡ length_bytes len ++ back = sym (append_assoc (length_bytes (length b)) b rest) ∙ sym e ∙ sym (take-append-drop 4 bytes) ∙ ap (λ t. t ++ drop 4 bytes) (sym is_front ∙ sym said) ∙ ap (λ t. length_bytes len ++ t) (sym is_back) in
+    let s = same_length_bytes (length b) len (b ++ rest) back (omega (arith, fits)) small whole in
+    (s.0, omega (arith, ap length s.1, length-append b rest))
+
+-- where some of the frames are left, one begins there
+pub one_left : (bs : List (List ℕ)) (i : ℕ) (rest : List ℕ) → i < length bs → AreFrames rest (drop i bs) → ((b r : List ℕ) → length b ≤ ARRIVAL → rest ≡ frame b ++ r → ⊥) → ⊥
+one_left bs i rest within a none = by (drop i bs) (omega (arith, length-drop {A = List ℕ}, within)) a where
+  by : (ds : List (List ℕ)) → 0 < length ds → AreFrames rest ds → ⊥
+  by [] some a = omega (arith, some)
+  by (d ∷ ds) some a = none d (frames ds) (All-head (λ b. length b ≤ ARRIVAL) d ds a.short) a.whole
+
+pub not_so : false ≡ true → ⊥
+not_so e = cc
+
+pub pushed : (values now bs : List (List ℕ)) (i : ℕ) (b v : List ℕ) → now ≡ values ++ v ∷ [] → values ≡ take i bs → v ≡ b → take (i + 1) bs ≡ take i bs ++ b ∷ [] → now ≡ take (i + 1) bs
+pushed values now bs i b v is so same next = is ∙ ap (λ (l : List (List ℕ)). l ++ v ∷ []) so ∙ ap (λ (w : List ℕ). take i bs ++ w ∷ []) same ∙ sym next

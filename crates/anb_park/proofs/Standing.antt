@@ -1,5 +1,5 @@
 -- What a session under way stands for, from call to call.
-use Rattle.std.proofs.Common.{◌≡◌, ◌≢◌, ◌+◌, ◌<◌, ◌≤◌, ◌^◌, ℕ, List, [], ◌∷◌, ◌++◌, length, take, drop, All, true, Option, refl, sym, ap, ◌∙◌, subst, arith, append_assoc}
+use Rattle.std.proofs.Common.{◌≡◌, ◌≢◌, ◌⊎◌, inl, inr, ◌+◌, ◌<◌, ◌≤◌, ◌^◌, ℕ, List, [], ◌∷◌, ◌++◌, length, take, drop, All, Bool, true, false, Option, refl, sym, ap, ◌∙◌, subst, arith, append_assoc}
 use Rattle.std.proofs.lemmas.List.{append-nil, take-append-drop, length-take-le}
 use Rattle.std.proofs.lemmas.List.Elements.{All-nil, All-take, All-drop}
 use Rattle.std.proofs.lemmas.Grind.{flat_map-append}
@@ -21,28 +21,44 @@ use Rattle.anb_session.specs.Sessions.{end_at}
 use Rattle.anb_session.specs.Turns.{Ends, EndsWaiting, Receives}
 use Rattle.anb_session.proofs.Written.{put_nothing}
 use Rattle.anb_park.specs.declared.body.Head.{Head}
-use Rattle.anb_park.specs.Records.{Parked, marker, body_of, record_of, after, count_takes, HasSizes, play_of, IsWaiting, AcceptsBody, Accepts}
+use Rattle.anb_park.specs.Records.{Parked, marker, body_of, record_of, after, count_takes, HasSizes, play_of, IsWaiting, RefusesBody, AcceptsBody, Accepts}
+use Rattle.anb_park.specs.declared.resuming.ParkNo.{ParkNo}
+use Rattle.anb_park.specs.declared.resuming.ParkNo.TheVariants as cause
+use Rattle.anb_park.specs.declared.live.Live.TheInside.{Inside}
+use Rattle.anb_park.specs.Inside.{live_of}
 use Rattle.anb_park.specs.Lives.{LiveValue, Follows, Stands, IsParked, started, sent_after}
 use Rattle.anb_park.specs.Going.{AreFrames, HasHead, RunsTo, RunsElsewhere, GoesOnFrom, StandsOn, StandsStill}
-use Rattle.anb_park.proofs.Framed.{all_more}
+use Rattle.anb_park.proofs.Framed.{all_more, not_so}
 use Rattle.anb_park.proofs.Following.{follows_saying, follows_on, follows_ended}
 
 -- ---- the body
 
 pub body_more : (p : Parked) (more : List (List ℕ)) → body_of p ++ frames more ≡ body_of (after p more)
 body_more p more =
-    let arrivals : frames p.arrivals ++ frames more ≡ frames (p.arrivals ++ more) = sym (flat_map-append frame p.arrivals more) in
-    let all = append_assoc (frames p.init) (frames p.arrivals) (frames more) ∙ ap (λ t. frames p.init ++ t) arrivals in
-    let numbered = append_assoc (length_bytes p.session) (frames p.init ++ frames p.arrivals) (frames more) ∙ ap (λ t. length_bytes p.session ++ t) all in
-    let seeded = append_assoc p.seed (length_bytes p.session ++ frames p.init ++ frames p.arrivals) (frames more) ∙ ap (λ t. p.seed ++ t) numbered in
-    let owned = append_assoc p.id (p.seed ++ length_bytes p.session ++ frames p.init ++ frames p.arrivals) (frames more) ∙ ap (λ t. p.id ++ t) seeded in
-    ap (λ t. marker ++ t) owned
+    append_assoc (marker ++ p.id ++ p.seed ++ length_bytes p.session ++ frames p.init) (frames p.arrivals) (frames more)
+    ∙ ap (λ t. marker ++ p.id ++ p.seed ++ length_bytes p.session ++ frames p.init ++ t) (sym (flat_map-append frame p.arrivals more))
 
 pub after_nothing : (p : Parked) → after p [] ≡ p
 after_nothing p = ap (λ (l : List (List ℕ)). record p { arrivals = l }) (append-nil p.arrivals)
 
 pub after_both : (p : Parked) (xs ys : List (List ℕ)) → after (after p xs) ys ≡ after p (xs ++ ys)
 after_both p xs ys = ap (λ (l : List (List ℕ)). record p { arrivals = l }) (append_assoc p.arrivals xs ys)
+
+-- ---- what contracts see of a session
+
+pub waits_sound : (l : Inside) (v : LiveValue) → live_of l ≡ v → waits v.machine ≡ true → l.failed ≡ false
+waits_sound l v is w = by l.failed refl (ap (λ (x : LiveValue). waits x.machine) is ∙ w) where
+  by : (b : Bool) → l.failed ≡ b → waits (live_of l).machine ≡ true → l.failed ≡ false
+  by false e h = e
+  by true e h = absurd (not_so (rw e at h))
+
+pub sound_machine : (l : Inside) (v : LiveValue) → live_of l ≡ v → l.failed ≡ false → l.machine ≡ v.machine
+sound_machine l v is sound = sym (seen l sound) ∙ ap (λ (x : LiveValue). x.machine) is where
+  seen : (l : Inside) → l.failed ≡ false → (live_of l).machine ≡ l.machine
+  seen l sound = rw sound refl
+
+pub sound_body : (l : Inside) (v : LiveValue) → live_of l ≡ v → l.body.items ≡ v.body
+sound_body l v is = ap (λ (x : LiveValue). x.body) is
 
 -- ---- calls of a session
 
@@ -51,7 +67,7 @@ pub stands_at_start : (code : CodeValue) (id init_seed : List ℕ) (session : �
     → ((xs : List (List ℕ)) → gives live.machine xs ≡ run_bytes code init init_seed session xs) → Stands code (started id init init_seed session) [] live
 stands_at_start code id init_seed session init live li ls small count short body run = record {
   sizes = record { id = li; seed = ls; session = small; init = count; values = short; arrivals = All-nil (λ b. length b ≤ ARRIVAL) };
-  body = body ∙ ap (λ t. marker ++ id ++ init_seed ++ length_bytes session ++ t) (sym (append-nil (frames init)));
+  body = body ∙ sym (append-nil (marker ++ id ++ init_seed ++ length_bytes session ++ frames init));
   comes = λ more. sym (run more);
 }
 
@@ -127,13 +143,14 @@ module _ (code : CodeValue) (p : Parked) (first now : MachineValue) (same : (xs 
   elsewhere_from other (e, end, left) = other e (ap (λ (q : Played (List ℕ)). q.end) (same p.arrivals) ∙ end) (ap (λ (q : Played (List ℕ)). q.left) (same p.arrivals) ∙ left)
 
 -- the session of a body, by its head and its frames
-pub session_of : Head → List (List ℕ) → ℕ → Parked
+abbrev pub session_of : Head → List (List ℕ) → ℕ → Parked
 session_of head bs takes = record { id = head.id; seed = head.seed; session = head.session; init = take takes bs; arrivals = drop takes bs }
 
 pub whole_of : (m : List ℕ) (head : Head) (rest : List ℕ) (bs : List (List ℕ)) (takes : ℕ) → HasHead m head rest → AreFrames rest bs → m ≡ body_of (session_of head bs takes)
 whole_of m head rest bs takes h a =
     let parts : rest ≡ frames (take takes bs) ++ frames (drop takes bs) = a.whole ∙ ap frames (sym (take-append-drop takes bs)) ∙ flat_map-append frame (take takes bs) (drop takes bs) in
     h.whole ∙ ap (λ t. marker ++ head.id ++ head.seed ++ length_bytes head.session ++ t) parts
+    ∙ sym (append_assoc (marker ++ head.id ++ head.seed ++ length_bytes head.session) (frames (take takes bs)) (frames (drop takes bs)))
 
 pub sizes_of : (code : CodeValue) (m : List ℕ) (head : Head) (rest : List ℕ) (bs : List (List ℕ)) (takes : ℕ) → HasHead m head rest → AreFrames rest bs → takes ≡ count_takes code → takes ≤ length bs → HasSizes code (session_of head bs takes)
 sizes_of code m head rest bs takes h a is enough = record {
@@ -158,6 +175,14 @@ accepted code id key parked m p is a = record {
   whole = sym is ∙ ap (sealed One key) a.whole;
   body = record { whole = refl; sizes = a.sizes; own = a.own; waits = a.waits };
 }
+
+pub refused_from : (code : CodeValue) (id m : List ℕ) (p : Parked) (first : MachineValue) (x : List ℕ) (why : ParkNo) → m ≡ body_of p → HasSizes code p → p.id ≡ id → AreFrames x p.arrivals
+    → ((xs : List (List ℕ)) → gives first xs ≡ run_bytes code p.init p.seed p.session xs)
+    → (why ≡ cause.NoMemory) ⊎ ((why ≡ cause.NotWaiting) × ((bs : List (List ℕ)) → AreFrames x bs → RunsElsewhere first bs)) → RefusesBody code id m why
+refused_from code id m p first x why e s own a same by = elim by [
+  | inl is ↦ subst (RefusesBody code id m) (sym is) tt
+  | inr r ↦ subst (RefusesBody code id m) (sym r.0) (p, e, s, own, elsewhere_from code p first first same (r.1 p.arrivals a))
+]
 
 -- ---- over a wire
 
@@ -198,12 +223,15 @@ by_arrivals : ℕ → List (List ℕ) → Played (List ℕ)
 by_arrivals event [] = ends (waiting event) []
 by_arrivals event (b ∷ bs) = ends done (b ∷ bs)
 
+not_done : (e : ℕ) → Waiting e ≡ Done → ⊥
+not_done e is = cc
+
 pub still_waiting : (old new : LiveValue) (event : ℕ) (left now written written_now : Option (List ℕ)) (end : PlayEnd) → EndsWaiting event left now written written_now end
     → ((code : CodeValue) (p : Parked) (sent : List (List ℕ)) → Stands code p sent old → Stands code p sent new) → gives new.machine [] ≡ ends (waiting event) [] → waits new.machine ≡ true → StandsStill old new left end
 still_waiting old new event left now written written_now (Waiting e) waiting_so stays waits_now waits_too = λ code p sent arrivals tail s cut. by code p sent arrivals tail s (waiting_so (by_arrivals event) refl arrivals tail cut).0 where
   by : (code : CodeValue) (p : Parked) (sent arrivals : List (List ℕ)) (tail : Tail) → Stands code p sent old → Waiting e ≡ end_at (by_arrivals event arrivals).end tail → (arrivals ≡ []) × IsParked code p new
   by code p sent [] tail s is = (refl, parked_here code p sent new event (stays code p sent s) waits_now waits_too)
-  by code p sent (b ∷ bs) tail s is = absurd cc
+  by code p sent (b ∷ bs) tail s is = absurd (not_done e is)
 still_waiting old new event left now written written_now Done w stays a b = tt
 still_waiting old new event left now written written_now (Stopped halt) w stays a b = tt
 still_waiting old new event left now written written_now (Truncated have need) w stays a b = tt

@@ -92,7 +92,7 @@ module _ (code : CodeValue) (id : List ℕ) where
     abbrev pub Refuses : ParkNo → Type 0
     Refuses Damaged = (m : List ℕ) → sealed One key m ≢ parked
     Refuses NoMemory = Unit {0}
-    Refuses no = (m : List ℕ) × (sealed One key m ≡ parked) × RefusesBody m no
+    Refuses why = (m : List ℕ) × (sealed One key m ≡ parked) × RefusesBody m why
 
     pub record Accepts (p : Parked) : Type 0 where
       pub whole : parked ≡ record_of key p
@@ -100,14 +100,14 @@ module _ (code : CodeValue) (id : List ℕ) where
 
 -- a record that is accepted, as one that was written is, is refused for no cause
 abbrev pub AcceptedIsNotRefused : Type 0
-AcceptedIsNotRefused = (code : CodeValue) (id key parked : List ℕ) (p : Parked) (no : ParkNo)
-    → Accepts code id key parked p → Refuses code id key parked no → no ≡ NoMemory
+AcceptedIsNotRefused = (code : CodeValue) (id key parked : List ℕ) (p : Parked) (why : ParkNo)
+    → Accepts code id key parked p → Refuses code id key parked why → why ≡ NoMemory
 
 -- it has one cause at most
 abbrev pub HasOneCause : Type 0
-HasOneCause = (code : CodeValue) (id key parked : List ℕ) (no other : ParkNo)
-    → Refuses code id key parked no → Refuses code id key parked other
-    → (no ≢ NoMemory) → (other ≢ NoMemory) → no ≡ other
+HasOneCause = (code : CodeValue) (id key parked : List ℕ) (why other : ParkNo)
+    → Refuses code id key parked why → Refuses code id key parked other
+    → why ≢ NoMemory → other ≢ NoMemory → why ≡ other
 
 -- and it is the record of one session
 abbrev pub RecordsAreApart : Type 0

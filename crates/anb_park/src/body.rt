@@ -32,7 +32,8 @@ pub(crate) fn begin_body(
     init: &[Bytes],
 ) -> Result<Vec<u8>, NoMemory>
     requires short { All (λ value. length value ≤ ARRIVAL) init.now }
-    ensures { IfOk result (λ body. body.items
+    ensures id { length id.now ≡ 32 }
+    ensures body { IfOk result (λ body. body.items
         ≡ marker ++ id.now ++ seed.now ++ length_bytes session ++ frames init.now) }
 {
     let mut body = Vec::with_capacity(alloc, HEAD)?;

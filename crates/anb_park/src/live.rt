@@ -95,12 +95,16 @@ impl<'c> Live<'c> {
         ensures stands { OnOk result ((code : CodeValue) (p : Parked) (sent : List (List ℕ)) →
             Stands code p sent self.old → Stands code (after p (bytes ∷ [])) sent self.new) }
     {
-        if append_frame(&mut self.body, bytes.as_slice()).is_err() {
-            self.failed = true;
-            return Err(NoMemory);
+        match append_frame(&mut self.body, bytes.as_slice()) {
+            Ok(()) => {
+                self.machine.arrive(bytes);
+                Ok(())
+            }
+            Err(NoMemory) => {
+                self.failed = true;
+                Err(NoMemory)
+            }
         }
-        self.machine.arrive(bytes);
-        Ok(())
     }
 
     /// The record of a session that waits: 32 bytes more than what it holds, which are 71 bytes

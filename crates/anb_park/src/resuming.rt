@@ -1,6 +1,6 @@
 //! Going on from a record.
 
-ghost use Rattle.std.specs.Prelude.{◌≡◌, ◌≤◌, ◌⊎◌, ℕ, List, [], ◌∷◌, ◌++◌, length, true, IfOk, IfErr, OnOk};
+ghost use Rattle.std.specs.Prelude.{◌≡◌, ◌≢◌, ◌≤◌, ◌⊎◌, ℕ, List, [], ◌∷◌, ◌++◌, length, true, false, IfOk, IfErr, OnOk};
 ghost use Rattle.anb_machine.specs.Machines.{gives};
 ghost use Rattle.anb_park.specs.Records.{Parked, body_of, Refuses, RefusesBody, Accepts, AcceptsBody};
 ghost use Rattle.anb_park.specs.Lives.{IsParked};
@@ -91,7 +91,7 @@ fn run_again<'c>(
     if count < code.takes() as usize {
         return Err(ParkNo::Body);
     }
-    if head.id != *id {
+    if differ(&head.id, id) {
         return Err(ParkNo::Other);
     }
     let Ok((init, arrivals)) = read_values(alloc, frames, code.takes()) else {
@@ -104,6 +104,13 @@ fn run_again<'c>(
         Err(no) => Err(no),
         Ok(()) => Ok(machine),
     }
+}
+
+fn differ(a: &[u8; 32], b: &[u8; 32]) -> bool
+    ensures other { result ≡ true → a.now ≢ b.now }
+    ensures same { result ≡ false → a.now ≡ b.now }
+{
+    a != b
 }
 
 /// Runs a machine over the arrivals in these frames, to where it waits for one more.

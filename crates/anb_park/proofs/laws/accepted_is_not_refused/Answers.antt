@@ -2,4 +2,4 @@ use Rattle.anb_park.proofs.Bodies.{not_refused}
 use Rattle.anb_park.proofs.laws.accepted_is_not_refused.Goals as goal
 
 pub returns : goal.returns
-returns c = λ code id key parked p no a r. not_refused code id key parked p no a r
+returns c = λ code id key parked p why a r. not_refused code id key parked p why a r

@@ -2,4 +2,4 @@ use Rattle.anb_park.proofs.Bodies.{one_cause}
 use Rattle.anb_park.proofs.laws.has_one_cause.Goals as goal
 
 pub returns : goal.returns
-returns c = λ code id key parked no other r t a b. one_cause code id key parked no other r t a b
+returns c = λ code id key parked why other r t a b. one_cause code id key parked why other r t a b
