@@ -219,7 +219,7 @@ on_joined old mid new left between now first second = record {
 }
 
 -- a run that waits with nothing before, and is done after any arrival
-by_arrivals : ℕ → List (List ℕ) → Played (List ℕ)
+abbrev by_arrivals : ℕ → List (List ℕ) → Played (List ℕ)
 by_arrivals event [] = ends (waiting event) []
 by_arrivals event (b ∷ bs) = ends done (b ∷ bs)
 
