@@ -1,7 +1,7 @@
 -- Bodies by their parts, and why a record is refused.
-use Rattle.std.proofs.Common.{◌≡◌, ◌≢◌, Result, Ok, Err, ◌+◌, ◌<◌, ◌≤◌, ◌^◌, ◌⊎◌, inl, inr, ℕ, List, [], ◌∷◌, ◌++◌, length, take, drop, All, refl, sym, ap, ◌∙◌, subst, arith, append_assoc, length-append}
+use Rattle.std.proofs.Common.{◌≡◌, ◌≢◌, Result, Ok, Err, ◌+◌, ◌<◌, ◌≤◌, ◌^◌, ◌⊎◌, inl, inr, ℕ, List, [], ◌++◌, length, take, drop, refl, sym, ap, ◌∙◌, subst, arith, append_assoc, length-append}
 use Rattle.std.specs.Result.{IfErr}
-use Rattle.std.proofs.lemmas.List.{take_at, drop_at, take-append-drop, length-take-le, length-drop}
+use Rattle.std.proofs.lemmas.List.{take_at, drop_at}
 use Rattle.std.proofs.lemmas.List.Elements.{All-append}
 use Rattle.std.proofs.lemmas.Grind.{flat_map-append}
 use Rattle.anb_base.specs.declared.content.Suite.TheVariants.{One}
@@ -14,7 +14,7 @@ use Rattle.anb_frame.proofs.Lengths.{length-length_bytes, same_length_bytes}
 use Rattle.anb_code.specs.CodeValue.{CodeValue}
 use Rattle.anb_park.specs.declared.resuming.ParkNo.{ParkNo}
 use Rattle.anb_park.specs.declared.resuming.ParkNo.TheVariants.{Damaged, Body, Other, NotWaiting, NoMemory}
-use Rattle.anb_park.specs.Records.{Parked, marker, body_of, record_of, after, count_takes, HasSizes, IsWaiting, IsNoBody, RefusesBody, Refuses, Accepts}
+use Rattle.anb_park.specs.Records.{Parked, marker, body_of, record_of, count_takes, HasSizes, IsWaiting, IsNoBody, RefusesBody, Refuses, Accepts}
 use Rattle.anb_park.specs.declared.body.Head.{Head}
 use Rattle.anb_park.specs.Going.{AreFrames, HasHead}
 use Rattle.anb_park.proofs.Framed.{same_frames, cut_of, of_cut}

@@ -1,6 +1,5 @@
 -- for proofs alone: what contracts see of a session under way, by what it keeps.
 use Rattle.std.specs.Prelude.{if◌then◌else◌}
-use Rattle.anb_machine.specs.Machines.{MachineValue}
 use Rattle.anb_machine.specs.declared.turn.Last.TheVariants as last
 use Rattle.anb_park.specs.declared.live.Live.TheInside.{Inside}
 use Rattle.anb_park.specs.Lives.{LiveValue}

@@ -1,4 +1,4 @@
-use Rattle.std.proofs.Common.{◌≡◌, [], sym, subst}
+use Rattle.std.proofs.Common.{◌≡◌, [], subst}
 use Rattle.anb_machine.specs.Machines.{MachineValue, gives, turn_of, Turned}
 use Rattle.anb_park.specs.Inside.{live_of}
 use Rattle.anb_park.proofs.Standing.{sound_machine, sound_body, stands_turning}

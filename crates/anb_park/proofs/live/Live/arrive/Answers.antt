@@ -1,4 +1,4 @@
-use Rattle.std.proofs.Common.{◌≡◌, ◌∷◌, ◌++◌, List, ℕ, sym, ap, ◌∙◌}
+use Rattle.std.proofs.Common.{◌∷◌, ◌++◌, List, ℕ, sym, ap, ◌∙◌}
 use Rattle.anb_frame.specs.Frames.{frame}
 use Rattle.anb_machine.specs.Machines.{MachineValue, gives}
 use Rattle.anb_park.specs.Inside.{live_of}
