@@ -1,11 +1,14 @@
 //! Sessions that are parked and go on later. The record was computed in Python, with the packages
 //! hashlib, hmac and cryptography.
 
+ghost use Rattle.std.specs.Prelude.{◌≤◌, length, All, IfOk};
+ghost use Rattle.anb_base.specs.declared.TheConstants.{ARRIVAL};
+
 use crate::{Live, ParkNo, play_on, resume};
 use anb_base::{Bytes, MemWire, Suite};
 use anb_code::RoleCode;
 use anb_machine::{Halt, Turn};
-use anb_sample_codes::{code, values};
+use anb_sample_codes::{NoCode, code, values};
 use anb_seal::seal;
 use anb_session::PlayEnd;
 use std::alloc::Global;
@@ -25,15 +28,24 @@ const RECORD: &str = "6354233d1d89abb42bcec65b87a8fd3706e69421a7440e3d4017b5d08c
     8e43a82b2b4b72b5035e16ba6d9e29b30612b968a9e9ec90152f7648c77f71a8\
     eb61084aa5bac336a7dcffcc83";
 
-/// A session of a code that takes `ab`, or nothing.
+/// No initial value, or `ab`.
+fn initial(alloc: Global, code: &RoleCode) -> Result<Vec<Bytes>, NoCode>
+    ensures { IfOk result (λ init. All (λ value. length value ≤ ARRIVAL) init.items) }
+{
+    if code.takes() == 0 {
+        return Ok(Vec::new(alloc));
+    }
+    values(alloc, "ab")
+}
+
+/// A session over these values.
 fn start<'c>(
     rt: &impl Abort,
     alloc: Global,
     code: &'c RoleCode,
     session: u32,
 ) -> Result<Live<'c>, Fail> {
-    let mut init = values(alloc, "ab")?;
-    init.truncate(code.takes() as usize);
+    let init = initial(alloc, code)?;
     assert!(rt; code.takes() as usize == init.len());
     Ok(Live::start(alloc, code, [7; 32], &init, &[0; 32], session)?)
 }
@@ -65,11 +77,11 @@ fn parks(
 ) -> Result<Bytes, Fail> {
     let input = Bytes::new(Vec::from_slice(alloc, input)?);
     let mut wire = MemWire::new(alloc, input, 3, 64, Vec::new(alloc))?;
-    let end = play_on(alloc, live, &mut wire);
-    assert_eq!(rt; wire.written(), written);
-    if end != PlayEnd::Waiting(event) {
+    let PlayEnd::Waiting(at) = play_on(alloc, live, &mut wire) else {
         panic!(rt; "it doesn't wait");
-    }
+    };
+    assert_eq!(rt; at, event);
+    assert_eq!(rt; wire.written(), written);
     Ok(live.park(alloc, b"key")?)
 }
 
