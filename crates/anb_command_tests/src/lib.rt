@@ -7,6 +7,8 @@ mod enact;
 #[cfg(test)]
 mod play;
 #[cfg(test)]
+mod replay;
+#[cfg(test)]
 mod role_texts;
 #[cfg(test)]
 mod running;

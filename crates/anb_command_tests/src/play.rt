@@ -3,7 +3,8 @@ use crate::running::{Given, Row, ZERO_SEED, check, check_left, check_rows, run_w
 use std::alloc::Global;
 use std::test::Fail;
 
-const HEAD: &str = "Protocol: P; Types: Agent A, B, S; Number N, NA, NB, M, X, D; Key K, L; ";
+pub(crate) const HEAD: &str =
+    "Protocol: P; Types: Agent A, B, S; Number N, NA, NB, M, X, D; Key K, L; ";
 
 /// The first 32 bytes of ChaCha20 under 32 zero bytes, in a frame (RFC 8439).
 const FIRST_DRAW: &str = "0000002076b8e0ada0f13d90405d6ae55386bd28bdd219b8a08ded1aa836efcc8b770dc7";
@@ -219,7 +220,7 @@ fn a_seal_is_looked_at_by_its_tag(rt: HostRuntime) -> Result<(), Fail> {
     check_rows(&rt, rt.alloc(), &rows)
 }
 
-const LATE_KEY: &str =
+pub(crate) const LATE_KEY: &str =
     "Formats: ok = \"OK\"; Knowledge: A: X; B: X; Actions: A -> B: scrypt(K,X); B -> A: ok(); A -> B: K; B -> A: X;";
 
 const LATE_HASH: &str = "Formats: ok = \"OK\"; Actions: A -> B: h(N); A -> B: N; B -> A: ok();";
@@ -346,19 +347,20 @@ fn a_length_is_read_in_its_shortest_form(rt: HostRuntime) -> Result<(), Fail> {
 }
 
 /// Needham and Schroeder over shared keys, in which the last two messages differ by their format.
-const SHARED_KEYS: &str = "Protocol: NSSK; Types: Agent A, B, S; Number NA, NB; Key KAS, KBS, KAB;
+pub(crate) const SHARED_KEYS: &str =
+    "Protocol: NSSK; Types: Agent A, B, S; Number NA, NB; Key KAS, KBS, KAB;
 Formats: m1 = \"M1\" len len len; m2 = \"M2\" len len len len; m3 = \"M3\" len len; m4 = \"M4\" len; m5 = \"M5\" len;
 Knowledge: A: A, B, S, KAS; B: B, S, KBS; S: A, B, S, KAS, KBS;
 Actions: A -> S: m1(A,B,NA); S -> A: scrypt(KAS,m2(NA,B,KAB,scrypt(KBS,m3(KAB,A)))); A -> B: scrypt(KBS,m3(KAB,A)); B -> A: scrypt(KAB,m4(NB)); A -> B: scrypt(KAB,m5(NB));";
 
-const SHARED_KEYS_VALUES: &str = "A = \"A\"\nB = \"B\"\nS = \"S\"\nKAS = \"kas\"\n";
+pub(crate) const SHARED_KEYS_VALUES: &str = "A = \"A\"\nB = \"B\"\nS = \"S\"\nKAS = \"kas\"\n";
 
 /// What A receives: its nonce, a key of 32 bytes 01 and a ticket under its own key, and then 32 bytes 02
 /// under the new one. The ticket is the word `ticket`, which isn't sealed at all, and A can't tell.
-const SHARED_KEYS_INPUT: &str =
+pub(crate) const SHARED_KEYS_INPUT: &str =
     "0000006dbe9bf4075d78ec0a4717909e067e9a56d2bd3dda41ea4be9a6961f0d8bf8a116efff8da4c15d423368507d640a8e06035991ac3b98c43b6326c083cac3b877513cc7f7cbdec5c2e8d96e93f16f5274242ec355474a60dd83174ca8bd4878dba19e8461ee5c8e59dc168112567d00000043b9bf5b9907fd30044a78b8c973063a1113820e200b75ccee3cd35a45ee16dd137725aa2906649c7eeda5d8ec32c519fb8c2ea30ae74bd27d900c13c87e6f973e007268";
 
-const SHARED_KEYS_OUTPUT: &str =
+pub(crate) const SHARED_KEYS_OUTPUT: &str =
     "000000274d31014101422076b8e0ada0f13d90405d6ae55386bd28bdd219b8a08ded1aa836efcc8b770dc7000000067469636b6574000000431dcc2eed5447dbd7c14767d510fa2636f2a6612b24b7f6ac926ba222057928142a895a63c324d21a9f1b3b50c7598871c391529a1dc426a728f7b49942ea7e24aa78cb";
 
 #[test]
