@@ -19,6 +19,13 @@ fn ping(transcript: &str) -> Given<'_> {
     given
 }
 
+/// Files with a transcript.
+fn given_lines<'a>(narration: &'a str, values: &'a str, transcript: &'a str) -> Given<'a> {
+    let mut given = Given::new(narration, values, "");
+    given.transcript = transcript;
+    given
+}
+
 /// Replays the transcript over the play of A.
 fn replay(alloc: Global, given: Given) -> Result<Ran, Fail> {
     run_words(alloc, &["replay", "n", "A", "v", "t"], given)
@@ -243,12 +250,12 @@ fn check_replay(rt: &impl Abort, alloc: Global, played: Played) -> Result<(), Fa
         signs,
         number,
     } = played;
-    let mut given = Given::new(narration, values, input);
+    let given = Given::new(narration, values, input);
     let ran = run_words(alloc, &["play", "n", role, "v"], given)?;
     assert_eq!(rt; ran.number, number);
     let heard = hex::decode(alloc, input.as_bytes())?;
     let lines = transcript(alloc, signs, ran.wire.written(), &heard)?;
-    given.transcript = &lines;
+    let given = given_lines(narration, values, &lines);
     let again = run_words(alloc, &["replay", "n", role, "v", "t"], given)?;
     assert_eq!(rt; again.number, number);
     assert_eq!(rt; again.err.written(), ran.err.written());
@@ -304,8 +311,7 @@ fn a_message_that_was_changed_differs(rt: HostRuntime) -> Result<(), Fail> {
     ];
     for (signs, number, line) in cases {
         let lines = transcript(rt.alloc(), signs, &sent, &heard)?;
-        let mut given = Given::new(SHARED_KEYS, SHARED_KEYS_VALUES, "");
-        given.transcript = &lines;
+        let given = given_lines(SHARED_KEYS, SHARED_KEYS_VALUES, &lines);
         let ran = replay(rt.alloc(), given)?;
         check(&rt, rt.alloc(), &ran, number, line, "")?;
     }
