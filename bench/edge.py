@@ -402,6 +402,54 @@ def silent_peers(program):
     return f"{', '.join(found)} s with a limit of 1; a late listener is reached"
 
 
+# A child of a stage, with what A does behind its message, and what B does.
+CHILD = r"""#!/bin/sh
+echo $$ >> pids
+case $3 in
+    A) printf '\0\0\0\2ab'; %s ;;
+    B) %s ;;
+esac
+"""
+
+WAITS, HEARS = "exec sleep 1000", "head -c 6 > /dev/null"
+
+# What A and B do, and the status and the line.
+CHILDREN = (
+    (HEARS, "head -c 6", 0, ""),
+    (WAITS, f"{HEARS}; exit 0", 32, "no message of action 2"),
+    (WAITS, HEARS + r"; printf '\0\0'", 33, "message of action 2 ends after 2 of 4 bytes"),
+    (WAITS, HEARS + r"; printf '\0\4\0\1'", 34, "message of action 2 has 262145 bytes"),
+    (HEARS, "head -c 6; exit 10", 35, "child B ended with 10"),
+    (HEARS, "head -c 6; kill -9 $$", 31, "child B failed"),
+    (HEARS, "head -c 6; head -c 1000000 /dev/zero", 0, ""),
+)
+
+
+def children_of_stages(program):
+    """a stage leaves no child behind, whatever the children do"""
+    write_ping(program)
+    report = b"1 6162\n2 6162\nrelayed 2\n"
+    for role in "AB":
+        program.write(f"{role}.values", 'N = "ab"\n')
+    want("a stage of the program itself", program.run("stage", "ping.anb", ".")[1], (0, report, b""))
+    for a, b, status, line in CHILDREN:
+        program.write("child", CHILD % (a, b))
+        program.write("pids", "")
+        os.chmod(os.path.join(program.folder, "child"), 0o755)
+        found = program.run("stage", "ping.anb", ".", before="export ANB_CHILD=./child;")[1]
+        want(f"the children {a!r} and {b!r}", found, (status, report if status == 0 else b"", f"anb: {line}\n".encode() if line else b""))
+        with open(os.path.join(program.folder, "pids")) as file:
+            pids = file.read().split()
+        want("children", len(pids), 2)
+        left = [pid for pid in pids if os.path.exists(f"/proc/{pid}")]
+        want("children that are left", left, [])
+    examples = os.path.join(os.path.dirname(os.path.abspath(__file__)), "..", "examples")
+    for name, before, messages in (("nssk", "", 5), ("mutual", f"export ANB={program.path} ANB_CHILD={examples}/peer/child.py;", 3)):
+        found = program.run("stage", f"{examples}/{name}/{name}.anb", f"{examples}/{name}", before=before)[1]
+        want(f"a stage of {name}", (found[0], found[1].splitlines()[-1:]), (0, [b"relayed %d" % messages]))
+    return f"{len(CHILDREN)} pairs of children, none left; nssk, and mutual with a role in Python"
+
+
 ROWS = {
     row.__name__: row
     for row in (
@@ -416,6 +464,7 @@ ROWS = {
         path_of_other_bytes,
         shared_error_pipe,
         silent_peers,
+        children_of_stages,
     )
 }
 

@@ -6,7 +6,13 @@ _anb_words() {
         compile | explain) echo narration role ;;
         play | host) echo narration role values place ;;
         replay) echo narration role values file ;;
+        rehearse) echo narration values file ;;
+        why) echo narration ;;
+        park) echo narration role values file place ;;
+        resume) echo narration role file file place ;;
+        chart) echo narration ;;
         enact) echo file values place ;;
+        stage) echo narration folder ;;
     esac
 }
 
@@ -24,7 +30,7 @@ _anb() {
     local word=${COMP_WORDS[COMP_CWORD]} before=${COMP_WORDS[COMP_CWORD-1]} kinds kind
     COMPREPLY=()
     if ((COMP_CWORD == 1)); then
-        mapfile -t COMPREPLY < <(compgen -W 'fmt compile explain play enact host replay help' -- "$word")
+        mapfile -t COMPREPLY < <(compgen -W 'fmt compile explain play enact host replay rehearse drill why park resume stage chart help' -- "$word")
         return
     fi
     read -ra kinds < <(_anb_words "${COMP_WORDS[1]}")
@@ -34,6 +40,7 @@ _anb() {
         values) _anb_files "$word" values ;;
         role) mapfile -t COMPREPLY < <(compgen -W "$(_anb_roles "${COMP_WORDS[COMP_CWORD-1]}")" -- "$word") ;;
         place) mapfile -t COMPREPLY < <(compgen -W '--dial --listen' -- "$word") ;;
+        folder) compopt -o filenames; mapfile -t COMPREPLY < <(compgen -d -- "$word") ;;
         file) compopt -o filenames; mapfile -t COMPREPLY < <(compgen -f -- "$word") ;;
         *)
             case $before in

@@ -17,6 +17,9 @@ function __anb_place
     set -l words (commandline -opc)
     test (count $words) -ge 5; and contains -- $words[2] play host
     or begin
+        test (count $words) -ge 6; and contains -- $words[2] park resume
+    end
+    or begin
         test (count $words) -ge 4; and test "$words[2]" = enact
     end
 end
@@ -29,14 +32,35 @@ complete -c anb -n __fish_use_subcommand -a play -d 'Play a role'
 complete -c anb -n __fish_use_subcommand -a enact -d 'Run the code of a role file'
 complete -c anb -n __fish_use_subcommand -a host -d 'Serve many sessions of a role'
 complete -c anb -n __fish_use_subcommand -a replay -d 'Compare a transcript with a role'
+complete -c anb -n __fish_use_subcommand -a rehearse -d 'Rehearse all roles'
+complete -c anb -n __fish_use_subcommand -a drill -d 'Write the numbers of a drill'
+complete -c anb -n __fish_use_subcommand -a why -d 'Say why a narration is refused'
+complete -c anb -n __fish_use_subcommand -a park -d 'Play a role and park it'
+complete -c anb -n __fish_use_subcommand -a resume -d 'Go on from a parked session'
+complete -c anb -n __fish_use_subcommand -a chart -d 'Draw a narration'
+complete -c anb -n __fish_use_subcommand -a stage -d 'Relay among children of all roles'
 complete -c anb -n __fish_use_subcommand -a help -d 'List the commands'
 
-complete -c anb -n '__anb_at 1 fmt compile explain play host replay' -k -a '(__fish_complete_suffix .anb)'
+complete -c anb -n '__anb_at 1 fmt compile explain play host replay stage' -k -a '(__fish_complete_suffix .anb)'
 complete -c anb -n '__anb_at 2 compile explain play host replay' -a '(__anb_roles)' -d Role
 complete -c anb -n '__anb_at 3 play host replay' -k -a '(__fish_complete_suffix .values)'
 complete -c anb -n '__anb_at 4 replay' -F
+complete -c anb -n '__anb_at 2 stage' -a '(__fish_complete_directories)'
 complete -c anb -n '__anb_at 1 enact' -F
 complete -c anb -n '__anb_at 2 enact' -k -a '(__fish_complete_suffix .values)'
+complete -c anb -n '__anb_at 1 rehearse' -k -a '(__fish_complete_suffix .anb)'
+complete -c anb -n '__anb_at 2 rehearse' -k -a '(__fish_complete_suffix .values)'
+complete -c anb -n '__anb_at 3 rehearse' -F
+complete -c anb -n '__anb_at 1 why' -k -a '(__fish_complete_suffix .anb)'
+complete -c anb -n '__anb_at 1 park' -k -a '(__fish_complete_suffix .anb)'
+complete -c anb -n '__anb_at 2 park' -a '(__anb_roles)' -d Role
+complete -c anb -n '__anb_at 3 park' -k -a '(__fish_complete_suffix .values)'
+complete -c anb -n '__anb_at 4 park' -F
+complete -c anb -n '__anb_at 1 resume' -k -a '(__fish_complete_suffix .anb)'
+complete -c anb -n '__anb_at 2 resume' -a '(__anb_roles)' -d Role
+complete -c anb -n '__anb_at 3 resume' -F
+complete -c anb -n '__anb_at 4 resume' -F
+complete -c anb -n '__anb_at 1 chart' -k -a '(__fish_complete_suffix .anb)'
 complete -c anb -n __anb_place -x -l dial -d 'Connect to host:port'
 complete -c anb -n __anb_place -x -l listen -d 'Wait for a connection at host:port'
 complete -c anb -n __anb_place -x -l timeout -d 'Seconds to wait'

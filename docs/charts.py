@@ -13,11 +13,18 @@ import narration
 
 EXAMPLES = pathlib.Path(__file__).resolve().parent.parent / "examples"
 
+# The words that Mermaid takes for its own where a participant may stand, in any case of letters.
+WORDS = set("""
+    participant actor create destroy activate deactivate note over autonumber off
+    end box rect loop opt alt else par par_over and critical option break
+    sequencediagram title acctitle accdescr link links properties details
+""".split())
+
 OPENING = """# Examples
 
 {count} narrations, most of them protocols of the literature over symmetric keys and hashes. This page is written by `docs/charts.py`; `docs/check.py` plays each example and compares each byte.
 
-A folder has the narration, `ROLE.values` for each role (three old ones in lower case), `all.values` with a value for each name that some role knows, and `schedule`, the roles in the order in which they take their turns. [expected](expected) has what comes of playing all roles against each other, with the SHA-256 of all frames in a row. Seeds are fixed, so that each run gives the same bytes.
+A folder has the narration, `ROLE.values` for each role, `all.values` with a value for each name that some role knows, and `schedule`, the roles in the order in which they take their turns. [expected](expected) has what comes of playing all roles against each other, with the SHA-256 of all frames in a row. Seeds are fixed, so that each run gives the same bytes.
 
 Under each chart stands what a role **takes as it comes**: the received terms on which none of its checks depends, then or later, by the code that `anb explain` shows. A nonce of the partner is often among them, and rightly; a key or a ticket there deserves a thought. What came out of a seal is still from someone who had the seal's key. Nothing here is a claim that a protocol is secure, and some of these are known not to be.
 
@@ -32,11 +39,19 @@ def comment_of(text):
     return parts[0], parts[1:]
 
 
+def participant(role):
+    """A role's name; one that is a word of Mermaid's has an entity code in place of its first letter."""
+    return f"#{ord(role[0])};{role[1:]}" if role.lower() in WORDS else role
+
+
 def chart(story):
-    lines = [f"    participant {role}" for role in story.roles]
-    for number, (sender, receiver, message) in enumerate(story.actions, 1):
-        lines.append(f"    {sender}->>{receiver}: {number} {narration.text_of(message)}")
-    return "\n".join(["```mermaid", "sequenceDiagram", *lines, "```"])
+    """What `anb chart` writes, made apart from it."""
+    lines = ["sequenceDiagram", *(f"    participant {participant(role)}" for role in story.roles)]
+    for number, ((sender, receiver, message), made) in enumerate(zip(story.actions, story.made_names()), 1):
+        if made:
+            lines.append(f"    Note over {participant(sender)}: new {', '.join(made)}")
+        lines.append(f"    {participant(sender)}->>{participant(receiver)}: {number} {narration.text_of(message)}")
+    return "".join(line + "\n" for line in lines)
 
 
 def taken(program, path, role):
@@ -51,7 +66,7 @@ def section(program, folder):
     first, others = comment_of(text)
     lines = [f"## {folder.name}", "", f"[{path.name}]({folder.name}/{path.name}): {first}"]
     lines += [line for other in others for line in ("", other)]
-    lines += ["", chart(story), ""]
+    lines += ["", f"```mermaid\n{chart(story)}```", ""]
     for role in story.roles:
         terms = ", ".join(f"`{term}`" for term in taken(program, path, role))
         lines.append(f"- {role} takes as it comes: {terms or 'nothing'}.")

@@ -6,7 +6,8 @@
 
 Examples: `fmt` gives the narration's text, each role compiles, all roles play to their ends over pipes, the codes that
 `compile` wrote send the same under `enact`, and each message has the bytes that docs/narration.py computes apart. What came of it is compared with examples/expected, and the index
-of the examples with what docs/charts.py writes. Where the program has `rehearse`, all roles are rehearsed too. A role's transcript
+of the examples with what docs/charts.py writes. Where the program has `rehearse`, all roles are rehearsed too, and where it
+has `chart`, the charts are those of docs/charts.py. A role's transcript
 stands beside its values. What the gate runs of each example is a copy, in crates/anb_examples.
 
 Pages: in a fenced block that begins with a line `$ ...` each such line is a command for sh, and what follows is what
@@ -54,9 +55,7 @@ def run(program, *words):
 
 
 def values_file(folder, role):
-    """ROLE.values; the oldest examples have it in lower case."""
-    named = folder / f"{role}.values"
-    return named if named.exists() else folder / f"{role.lower()}.values"
+    return folder / f"{role}.values"
 
 
 def without_comment(text):
@@ -196,6 +195,8 @@ def check_example(program, folder, commands, write):
     if story.canonical() != without_comment(text):
         raise ValueError("docs/narration.py reads another text")
     path = folder / f"{folder.name}.anb"
+    if "chart" in commands and run(program, "chart", path) != charts.chart(story):
+        raise ValueError("chart writes something else than docs/charts.py")
     codes = {role: run(program, "compile", path, role) for role in story.roles}
     for role, code in codes.items():
         if not re.fullmatch(r"anb-role 2\n.*\nend\n", code, re.S):

@@ -110,15 +110,18 @@ class Narration:
     def known_names(self):
         return [n for n in self.sorts if any(n in names_in(t) for terms in self.knows.values() for t in terms)]
 
+    def made_names(self):
+        """For each action, the names that its sender draws."""
+        seen, made = set(self.known_names()), []
+        for _, _, message in self.actions:
+            new = [n for n in dict.fromkeys(names_in(message)) if n not in seen and self.sorts[n] != "Agent"]
+            seen.update(new)
+            made.append(new)
+        return made
+
     def fresh_names(self, role):
         """The names that this role draws, in the order of its plan."""
-        known, seen, drawn = set(self.known_names()), set(), []
-        for sender, _, message in self.actions:
-            for name in names_in(message):
-                if name not in known | seen and self.sorts[name] != "Agent":
-                    seen.add(name)
-                    drawn += [name] if sender == role else []
-        return drawn
+        return [n for (sender, _, _), made in zip(self.actions, self.made_names()) if sender == role for n in made]
 
     def bytes_of(self, term, names):
         """The honest bytes of a term, where `names` gives those of each name."""

@@ -1,11 +1,13 @@
-//! The program: it hands its words, the files, the wire and standard error of the machine to `run`,
-//! and ends with the number of the status.
+//! The program: it hands its words, the files, the wire, standard error and the child programs of the
+//! machine to `run_all`, and ends with the number of the status.
 #![tactic(auto)]
 
 use anb_base::{NoMemory, Text};
 use anb_command::tell;
+use anb_processes::RealSpawner;
 use anb_real::{RealShelf, RealWire, StandardError, fill_standard_descriptors};
-use anb_run::{Status, run};
+use anb_run::{Status, run_all};
+use std::env;
 use std::env::{Env, FillError};
 use std::process::ExitCode;
 use std::random::RandomSource;
@@ -23,17 +25,32 @@ fn status(rt: HostRuntime, skipped: usize) -> Status {
         return Status::NoMemory;
     };
     let mut shelf = RealShelf::new(rt);
+    let mut spawner = RealSpawner::new(rt, child_program(rt));
     let mut wire = RealWire::new(rt);
-    let status = run(
+    let status = run_all(
         rt.alloc(),
         &words,
         &mut shelf,
+        &mut spawner,
         &mut wire,
         &mut err,
         seed(rt),
     );
+    spawner.end();
     wire.finish();
     status
+}
+
+/// The program that each child runs: the one that the environment names, else this one itself. Where
+/// its path isn't known the name is empty, and no child can be started.
+fn child_program(rt: HostRuntime) -> Text {
+    if let Ok(program) = env::var(&rt, "ANB_CHILD") {
+        return Text::new(program);
+    }
+    match env::current_exe(&rt) {
+        Ok(path) => Text::new(path.into_string()),
+        Err(_) => Text::new(String::new(rt.alloc())),
+    }
 }
 
 /// The words behind the first ones. Where one isn't UTF-8 the list is empty: such a word fits no

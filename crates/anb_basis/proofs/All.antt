@@ -1,5 +1,5 @@
 -- The checks that were given are all that the entries have.
-use Rattle.std.proofs.Common.{◌≡◌, ℕ, zero, suc, ◌-◌, ◌<◌, ◌≤◌, List, [], ◌∷◌, ◌++◌, length, Bool, true, false, Option, Some, None, refl, sym, ap, ◌∙◌, subst, arith, inl, inr, length-append}
+use Rattle.std.proofs.Common.{◌≡◌, ℕ, zero, suc, ◌-◌, ◌<◌, ◌≤◌, List, [], ◌∷◌, ◌++◌, length, Bool, true, false, Option, Some, None, refl, sym, ap, ◌∙◌, subst, arith, inl, inr, ⊎_elim, length-append}
 use Rattle.std.specs.Prelude.{slice_get}
 use Rattle.std.proofs.Math.ListN.{replicate}
 use Rattle.std.proofs.lemmas.List.{length-replicate, length-map}
@@ -21,7 +21,9 @@ use Rattle.anb_close.proofs.Growing.{terms_later}
 use Rattle.anb_close.proofs.Closing.{opened_row}
 use Rattle.anb_basis.specs.declared.check.Check.{Check}
 use Rattle.anb_basis.specs.declared.check.Check.TheVariants.{Open, Equal}
-use Rattle.anb_basis.specs.Checks.{IsComparedWith, Fits, entry_of, trues, IsGiven, IsBasis, AreAll, OpensMarked, OpensUnmarked, DoublesMarked}
+use Rattle.anb_basis.specs.Checks.{IsComparedWith, Fits, entry_of, trues, IsGiven, IsBasis, AreAll, OpensMarked, OpensUnmarked, RestMarked}
+use Rattle.anb_close.specs.Listed.{AreTouched}
+use Rattle.anb_basis.proofs.Listing.{compared_before}
 
 row_stays : (es later : List Entry) (i : ℕ) (r : Option Tree) → slice_get (rows es) i ≡ Some r → slice_get (rows (es ++ later)) i ≡ Some r
 row_stays es later i r e = ap (λ l. slice_get l i) (rows_append es later) ∙ row_later (rows es) (terms_of later) i r e
@@ -141,7 +143,7 @@ module _ (es : List Entry) (known : IsKnown es) where
 
 -- of the entries before, each double is marked
 module _ (es later : List Entry) (cs : List Check) (ms : List Bool) (basis : IsBasis es cs ms) where
-  pub doubles_before : (k : ℕ) → DoublesMarked (es ++ later) (ms ++ replicate k false) (length es)
+  doubles_before : (k i : ℕ) → i < length es → slice_get (rows (es ++ later)) i ≡ Some None → slice_get (ms ++ replicate k false) i ≡ Some true
   doubles_before k i h row =
       let r = slice_get-there (rows es) i (omega (arith, h, rows_length es)) in
       let stays = row_stays es later i r.0 r.1 in
@@ -149,6 +151,11 @@ module _ (es later : List Entry) (cs : List Check) (ms : List Bool) (basis : IsB
       let t = slice_get-there (terms_of es) i (omega (arith, h, length-map es (λ (y : Entry). tree_of y.term))) in
       let m = entry_made [] (terms_of es) i t.0 t.1 in
       slice_get-append ms (replicate k false) i true (basis.equals i m.0 h (inl (t.0, here, t.1, m.1)))
+
+  -- those that are compared and were not before are touched
+  pub rest_before : (ks : List ℕ) → AreTouched (rows es) (rows (es ++ later)) ks → (k : ℕ) → RestMarked (es ++ later) (ms ++ replicate k false) (length es) ks
+  rest_before ks touched k i c h (inl (t, row, at, made)) = inl (doubles_before k i h row)
+  rest_before ks touched k i c h (inr b) = ⊎_elim (λ a. inl (slice_get-append ms (replicate k false) i true (basis.equals i c h a))) (λ l. inr l) (compared_before es (es ++ later) ks touched i c b)
 
 -- of entries that came after, no opening is marked, and of those before each is
 module _ (es later : List Entry) (cs : List Check) (ms : List Bool) (basis : IsBasis es cs ms) (known : IsKnown (es ++ later)) where
@@ -181,8 +188,8 @@ module _ (es es' later : List Entry) (cs : List Check) (ms ms' : List Bool) (bas
   pub marked_there : OpensMarked es' ms' (length ms)
   marked_there = at_end OpensMarked (marked_before es later cs ms basis (subst IsKnown is known) (length es' - length ms))
 
-  pub doubles_there : DoublesMarked es' ms' (length ms)
-  doubles_there = at_end DoublesMarked (doubles_before es later cs ms basis (length es' - length ms))
+  pub rest_there : (ks : List ℕ) → AreTouched (rows es) (rows es') ks → RestMarked es' ms' (length ms) ks
+  rest_there ks touched = at_end (λ l m n. RestMarked l m n ks) (rest_before es later cs ms basis ks (subst (λ l. AreTouched (rows es) (rows l) ks) is touched) (length es' - length ms))
 
   pub unmarked_there : OpensUnmarked es' ms' (length ms)
   unmarked_there = at_end OpensUnmarked (unmarked_after es later cs ms basis (subst IsKnown is known) (length es' - length ms))

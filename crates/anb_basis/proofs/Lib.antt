@@ -12,3 +12,4 @@ mod Frames
 pub mod Exact
 mod Counting
 mod Listing
+mod Again

@@ -12,7 +12,7 @@ use Rattle.anb_close.specs.declared.entry.Origin.TheVariants.{Part}
 use Rattle.anb_close.specs.declared.made.Made.{Made}
 use Rattle.anb_close.specs.MadeView.{made_tree}
 use Rattle.anb_close.specs.Entries.{rows, terms_of, openings_from}
-use Rattle.anb_close.specs.Listed.{AreListed, AreWithin}
+use Rattle.anb_close.specs.Listed.{IsListed}
 use Rattle.anb_close.specs.Recipes.{recipes}
 use Rattle.anb_basis.specs.declared.check.Check.{Check}
 use Rattle.anb_basis.specs.declared.check.Check.TheVariants.{Open, Equal}
@@ -79,18 +79,9 @@ OpensUnmarked es ms n = (f : ℕ) (e : Entry) (o : Op) (ks : List Tree) (i : ℕ
 abbrev pub EqualsMarked : List Entry → List Bool → ℕ → Type 0
 EqualsMarked es ms n = (i : ℕ) (c : Tree) → i < n → IsComparedWith es i c → slice_get ms i ≡ Some true
 
--- the doubles among these first entries are marked
-abbrev pub DoublesMarked : List Entry → List Bool → ℕ → Type 0
-DoublesMarked es ms n = (i : ℕ) → i < n → slice_get (rows es) i ≡ Some None → slice_get ms i ≡ Some true
-
--- an operator that can't be undone
-abbrev pub IsRebuilt : Op → Trees → Type 0
-IsRebuilt o us = undoable o ≡ false
-
--- of these first entries, those with such an operator are listed, and none that comes after
-pub record ListsRebuilt (es : List Entry) (ks : List ℕ) (n : ℕ) : Type 0 where
-  pub listed : AreListed IsRebuilt (terms_of es) ks n
-  pub within : AreWithin ks n
+-- those of the first entries that can be compared are marked or listed
+abbrev pub RestMarked : List Entry → List Bool → ℕ → List ℕ → Type 0
+RestMarked es ms n ks = (i : ℕ) (c : Tree) → i < n → IsComparedWith es i c → (slice_get ms i ≡ Some true) ⊎ IsListed ks i
 
 -- marks stay
 abbrev pub MarksStay : List Bool → List Bool → Type 0

@@ -6,12 +6,13 @@ ghost use Rattle.std.specs.Prelude.{MatchOption, OnOk, OnErr, Some, slice_get, r
 ghost use Rattle.anb_term.specs.declared.term.Op.{Op};
 ghost use Rattle.anb_term.specs.Tree.{Tree, Trees, node};
 ghost use Rattle.anb_close.specs.MadeView.{made_tree};
-ghost use Rattle.anb_close.specs.Entries.{terms_of, openings_from, IsKnown};
+ghost use Rattle.anb_close.specs.Entries.{rows, terms_of, openings_from, IsKnown};
 ghost use Rattle.anb_term.specs.View.{tree_of};
 ghost use Rattle.anb_basis.specs.declared.check.Check.TheVariants.{Open};
 ghost use Rattle.anb_basis.specs.Checks.{IsComparedWith, Fits, entry_of, IsGiven, OpensMarked};
 ghost use Rattle.anb_basis.specs.Checks.{OpensUnmarked, EqualsMarked, MarksStay, After};
-ghost use Rattle.anb_basis.specs.Checks.{AfterEquals, InOrder, IsBasis, DoublesMarked, IsRebuilt, ListsRebuilt};
+ghost use Rattle.anb_basis.specs.Checks.{AfterEquals, InOrder, IsBasis, RestMarked};
+ghost use Rattle.anb_close.specs.Listed.{AreTouched};
 
 use crate::check::Check;
 use anb_close::{Closure, Entry, Made, Opening, Origin};
@@ -30,6 +31,7 @@ fn add_check(
     requires of { entry_of check ≡ at }
     ensures more { After given.old.items given.new.items }
     ensures stay { MarksStay marks.old.items marks.new.items }
+    ensures long { length marks.new.items ≡ length marks.old.items }
     ensures ok { OnOk result ((es : List Entry) → IsGiven es given.old.items marks.old.items
         → Fits es check → IsGiven es given.new.items marks.new.items) }
     ensures marked { OnOk result (slice_get marks.new.items at ≡ Some true) }
@@ -58,6 +60,7 @@ fn add_opens(
     requires within { from ≤ length entries.now }
     ensures more { After given.old.items given.new.items }
     ensures stay { MarksStay marks.old.items marks.new.items }
+    ensures long { length marks.new.items ≡ length marks.old.items }
     ensures ok { OnOk result (IsGiven entries.now given.new.items marks.new.items) }
     ensures opens { OnOk result (OpensMarked entries.now marks.new.items (length entries.now)) }
     ensures listed { OnOk result (given.new.items
@@ -118,18 +121,6 @@ fn compared_with(
     }
 }
 
-/// Whether an entry with this term may come to be compared by its operands: its operator can't be
-/// undone.
-fn is_rebuilt(term: &Term) -> bool
-    ensures { (o : Op) (us : Trees) → tree_of term.now ≡ node o us → IsRebuilt o us
-        → IsTrue result }
-{
-    match term {
-        Term::Atom(_) => false,
-        Term::Node(op, _) => !op.undoes(),
-    }
-}
-
 /// Gives the check of comparing an entry, where it has none yet and one is due.
 fn add_equal(
     alloc: Global,
@@ -142,6 +133,7 @@ fn add_equal(
     requires within { i < length closure.now }
     ensures more { After given.old.items given.new.items }
     ensures stay { MarksStay marks.old.items marks.new.items }
+    ensures long { length marks.new.items ≡ length marks.old.items }
     ensures ok { OnOk result (IsGiven closure.now given.new.items marks.new.items) }
     ensures marked { OnOk result ((c : Tree) → IsComparedWith closure.now i c
         → slice_get marks.new.items i ≡ Some true) }
@@ -157,29 +149,29 @@ fn add_equal(
     }
 }
 
-/// Gives the checks of comparing. Of the first entries each double has a check, so only those are
-/// looked at that may come to be compared by their operands.
+/// Gives the checks of comparing. Of the first entries only those that were touched may come to be
+/// compared.
 fn add_equals(
     alloc: Global,
     closure: &Closure,
     from: usize,
-    rebuilt: &[u32],
+    touched: &[u32],
     given: &mut Vec<Check>,
     marks: &mut Vec<bool>,
 ) -> Result<(), NoMemory>
     requires given { IsGiven closure.now given.old.items marks.old.items }
-    requires doubles { DoublesMarked closure.now marks.old.items from }
-    requires lists { ListsRebuilt closure.now rebuilt.now from }
+    requires touched { RestMarked closure.now marks.old.items from touched.now }
     requires within { from ≤ length closure.now }
     ensures more { After given.old.items given.new.items }
     ensures stay { MarksStay marks.old.items marks.new.items }
+    ensures long { length marks.new.items ≡ length marks.old.items }
     ensures ok { OnOk result (IsGiven closure.now given.new.items marks.new.items) }
     ensures equals { OnOk result (EqualsMarked closure.now marks.new.items (length closure.now)) }
     ensures compared { OnOk result (AfterEquals given.old.items given.new.items) }
 {
     let count = closure.entries().len();
-    for i in rebuilt {
-        if !closure.operands_compose(*i) {
+    for i in touched {
+        if *i as usize >= from {
             continue;
         }
         add_equal(alloc, closure, *i, given, marks)?;
@@ -190,59 +182,70 @@ fn add_equals(
     Ok(())
 }
 
-/// Lists the entries from a place on that may come to be compared by their operands.
-fn list_rebuilt(entries: &[Entry], from: usize, rebuilt: &mut Vec<u32>) -> Result<(), NoMemory>
-    requires lists { ListsRebuilt entries.now rebuilt.old.items from }
-    requires within { from ≤ length entries.now }
-    requires few { length entries.now < 2 ^ 32 }
-    ensures more { After rebuilt.old.items rebuilt.new.items }
-    ensures ok { OnOk result (ListsRebuilt entries.now rebuilt.new.items (length entries.now)) }
+/// Makes the marks so many, with none for the entries after.
+fn extend(marks: &mut Vec<bool>, count: usize) -> Result<(), NoMemory>
+    requires { length marks.old.items ≤ count }
+    ensures longer { length marks.old.items ≤ length marks.new.items }
+    ensures ok { OnOk result (marks.new.items ≡ marks.old.items
+        ++ replicate (count - length marks.old.items) false) }
 {
-    for i in from..entries.len() {
-        if !is_rebuilt(&entries[i].term) {
-            continue;
-        }
-        rebuilt.push(i as u32)?;
+    for k in marks.len()..count {
+        let _ = k;
+        marks.push(false)?;
     }
     Ok(())
 }
 
-/// These marks, and none for the entries after.
-fn extended(alloc: Global, marks: &[bool], count: usize) -> Result<Vec<bool>, NoMemory>
-    requires { length marks.now ≤ count }
-    ensures { IfOk result (λ v. v.items ≡ marks.now ++ replicate (count - length marks.now) false) }
-{
-    let mut all = marks.to_vec(alloc)?;
-    for k in marks.len()..count {
-        let _ = k;
-        all.push(false)?;
-    }
-    Ok(all)
-}
-
-/// Gives all checks that have become possible.
+/// Gives all checks that have become possible. After an error there may be more marks.
 pub fn add_all(
     alloc: Global,
     closure: &Closure,
     given: &mut Vec<Check>,
-    marks: &[bool],
-    rebuilt: &mut Vec<u32>,
-) -> Result<Vec<bool>, NoMemory>
+    marks: &mut Vec<bool>,
+    touched: &[u32],
+) -> Result<(), NoMemory>
     requires given { (before : List Entry) × After before closure.now
-        × IsBasis before given.old.items marks.now
-        × ListsRebuilt before rebuilt.old.items (length before) }
+        × IsBasis before given.old.items marks.old.items
+        × AreTouched (rows before) (rows closure.now) touched.now }
     ensures more { After given.old.items given.new.items }
-    ensures listed_more { After rebuilt.old.items rebuilt.new.items }
-    ensures ok { IfOk result (λ m. IsBasis closure.now given.new.items m.items) }
-    ensures listed { OnOk result
-        (ListsRebuilt closure.now rebuilt.new.items (length closure.now)) }
-    ensures order { IfOk result (λ m. InOrder (length marks.now) closure.now
+    ensures longer { length marks.old.items ≤ length marks.new.items }
+    ensures ok { OnOk result (IsBasis closure.now given.new.items marks.new.items) }
+    ensures order { OnOk result (InOrder (length marks.old.items) closure.now
         given.old.items given.new.items) }
 {
     let entries = closure.entries();
-    let mut all = extended(alloc, marks, entries.len())?;
-    add_opens(alloc, entries, marks.len(), given, &mut all)?;
-    add_equals(alloc, closure, marks.len(), rebuilt, given, &mut all)?;
-    list_rebuilt(entries, marks.len(), rebuilt)?;
-    Ok(all)
+    let from = marks.len();
+    extend(marks, entries.len())?;
+    add_opens(alloc, entries, from, given, marks)?;
+    add_equals(alloc, closure, from, touched, given, marks)?;
+    Ok(())
+}
+
+/// The entry that a check is of.
+fn entry_of(check: &Check) -> u32
+    ensures { result ≡ entry_of check.now }
+{
+    match check {
+        Check::Open(opening) => opening.of,
+        Check::Equal(i, _) => *i,
+    }
+}
+
+/// Clears the marks but those of so many entries' checks. It looks at all checks.
+pub fn mark_again(given: &[Check], marks: &mut Vec<bool>, count: usize)
+    requires within { count ≤ length marks.old.items }
+    ensures { (es : List Entry) (ms : List Bool) → IsGiven es given.now ms → length ms ≡ count
+        → marks.new.items ≡ ms }
+{
+    marks.truncate(count);
+    for n in 0..count {
+        marks[n] = false;
+    }
+    for check in given {
+        let at = entry_of(check) as usize;
+        if at >= count {
+            continue;
+        }
+        marks[at] = true;
+    }
 }

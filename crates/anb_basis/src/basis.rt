@@ -6,21 +6,19 @@ ghost use Rattle.anb_term.specs.Tree.{tree_size, trees_of, nodes, IsFormed, AreF
 ghost use Rattle.anb_close.specs.Entries.{labels_of, HasAdded, IsKnown};
 ghost use Rattle.anb_basis.specs.Checks.{AreAll, After, InOrder, IsOnce, AllFit};
 
-use crate::adding::add_all;
+use crate::adding::{add_all, mark_again};
 use crate::check::Check;
 use anb_close::Closure;
 use anb_term::{NoMemory, Term};
 use std::alloc::Global;
 use std::marker::Model;
 
-/// The entries of a role, the checks that were given, and the entries that may come to be compared
-/// by their operands.
+/// The entries of a role, the checks that were given, and which entries have one.
 #[derive(Drop)]
 pub struct Basis {
     closure: Closure,
     given: Vec<Check>,
     marks: Vec<bool>,
-    rebuilt: Vec<u32>,
 }
 
 impl Model for Basis {
@@ -37,11 +35,9 @@ impl Model for Basis {
 
     ghost view = { λ a. (a.closure, a.given.items) };
 
-    ghost use Rattle.std.specs.Prelude.{length};
-    ghost use Rattle.anb_basis.specs.Checks.{IsBasis, ListsRebuilt};
+    ghost use Rattle.anb_basis.specs.Checks.{IsBasis};
 
-    ghost invariant = { λ a. IsBasis a.closure a.given.items a.marks.items
-        × ListsRebuilt a.closure a.rebuilt.items (length a.closure) };
+    ghost invariant = { λ a. IsBasis a.closure a.given.items a.marks.items };
 }
 
 impl Basis {
@@ -52,7 +48,6 @@ impl Basis {
             closure: Closure::new(alloc),
             given: Vec::new(alloc),
             marks: Vec::new(alloc),
-            rebuilt: Vec::new(alloc),
         }
     }
 
@@ -88,23 +83,20 @@ impl Basis {
         ensures err { OnErr result (self.new ≡ self.old) }
     {
         let first = self.given.len();
-        let listed = self.rebuilt.len();
-        let _ = self.closure.add(alloc, t)?;
+        let known = self.marks.len();
+        let step = self.closure.add(alloc, t)?;
         let given = add_all(
             alloc,
             &self.closure,
             &mut self.given,
-            &self.marks,
-            &mut self.rebuilt,
+            &mut self.marks,
+            &step.touched,
         );
         match given {
-            Ok(marks) => {
-                self.marks = marks;
-                Ok(first as u64)
-            }
+            Ok(()) => Ok(first as u64),
             Err(e) => {
                 self.given.truncate(first);
-                self.rebuilt.truncate(listed);
+                mark_again(&self.given, &mut self.marks, known);
                 self.closure.take_back();
                 Err(e)
             }

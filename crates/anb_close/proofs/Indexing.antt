@@ -1,9 +1,8 @@
 -- Where the terms of a pool are found, while entries come and go.
-use Rattle.std.proofs.Common.{◌≡◌, ℕ, zero, suc, ◌+◌, ◌-◌, ◌<◌, ◌≤◌, List, [], ◌∷◌, ◌++◌, length, map, take, drop, get_or, Bool, true, false, cond, ◌&&◌, Option, Some, None, is_some, option_map, Vec, Global, refl, sym, ap, ◌∙◌, subst, arith, length-append, length-take-le, take-append-drop, append_assoc, inl, inr, ◌⊎◌, ⊎_elim, IsTrue}
+use Rattle.std.proofs.Common.{◌≡◌, ℕ, zero, suc, ◌+◌, ◌-◌, ◌<◌, ◌≤◌, List, [], ◌∷◌, ◌++◌, length, map, take, drop, get_or, Bool, true, false, cond, ◌&&◌, Option, Some, None, is_some, option_map, Vec, Global, refl, sym, ap, ◌∙◌, subst, arith, length-append, length-take-le, take-append-drop, append_assoc, inl, inr, ◌⊎◌, ⊎_elim}
 use Rattle.std.specs.Prelude.{slice_get, unwrap_or, ◌==◌, replicate}
 use Rattle.std.specs.List.{AllByRecursion}
 use Rattle.std.proofs.Math.ListN.{set, length-set}
-use Rattle.std.proofs.Math.Dec.{ltb}
 use Rattle.std.proofs.lemmas.Bool.{le-ltb, lt-ltb}
 use Rattle.std.proofs.Math.Seq.{take-append_seam}
 use Rattle.std.proofs.lemmas.List.{length-map, append-nil, drop_more, length-replicate}
@@ -12,16 +11,17 @@ use Rattle.anb_term.specs.declared.term.Op.{Op}
 use Rattle.anb_term.specs.Tree.{Tree, leaf, node, Trees, none, more, trees_of, list_of}
 use Rattle.anb_term.specs.TreeSame.{list_of-trees_of}
 use Rattle.anb_term.specs.Operator.{arity}
-use Rattle.anb_term.proofs.Lists.{slice_get-append, slice_get-at, slice_get-last, slice_get-map, slice_get-there, slice_get-within, set-at, set-other, set-same, map-append}
+use Rattle.anb_term.proofs.Lists.{slice_get-append, slice_get-at, slice_get-map, slice_get-there, slice_get-within, set-other, set-same}
 use Rattle.anb_intern.specs.declared.node.NodeId.{NodeId}
 use Rattle.anb_intern.specs.declared.node.Node.{Node}
 use Rattle.anb_intern.specs.declared.node.Node.TheVariants.{Atom, Apply}
-use Rattle.anb_intern.specs.Nodes.{operands_at, tree_at, AreUnder, IsOver, AreDistinct, AreBefore, Below}
+use Rattle.anb_intern.specs.Nodes.{operands_at, tree_at, AreUnder, IsOver, AreDistinct}
 use Rattle.anb_intern.proofs.Nodes.{operands_stay}
 use Rattle.anb_intern.proofs.Putting.{operands_last, under_last}
-use Rattle.anb_close.specs.Rows.{is_at, place, both_more, or_built, made_for, mades_for, row_unless, rows_from, rows_of}
+use Rattle.anb_close.specs.Rows.{is_at, place, both_more, or_built, made_for, mades_for, row_unless, rows_of}
 use Rattle.anb_close.specs.Entries.{is_double}
 use Rattle.anb_close.specs.Standings.{standing, standing_of, standings_of, place_in, is_found, all_stand, is_ready, cleared, IsIndexed, IsSettling}
+use Rattle.anb_close.specs.Spreading.{HavePlaces}
 use Rattle.anb_close.specs.declared.index.Standing.{Standing}
 use Rattle.anb_close.specs.declared.index.Standing.TheVariants.{Nowhere, Built, At}
 use Rattle.anb_close.proofs.Rows.{mapped, optional, place_at, row_term, made_leaf, place_more, place_last, unplaced, length_rows, rows_more}
@@ -80,7 +80,7 @@ unplaced_by terms t never =
     ⊎_elim (λ (i, p). absurd (never i (row_term terms i t (place_at (rows_of terms) t i p)))) (λ p. sym p) (optional (place (rows_of terms) t))
 
 -- operands that are all found have compositions
-both_found : (a : Option Tree) (b : Option Trees) → is_some (both_more a b) ≡ is_some a && is_some b
+pub both_found : (a : Option Tree) (b : Option Trees) → is_some (both_more a b) ≡ is_some a && is_some b
 both_found None b = refl
 both_found (Some m) None = refl
 both_found (Some m) (Some ms) = refl
@@ -101,12 +101,12 @@ pub right_all : (rs : List (Option Tree)) (ts : List Tree) (ss : List Standing) 
 right_all rs ts ss is k t at = ap (λ l. slice_get l k) is ∙ slice_get-map (standing_of rs) ts k t at
 
 -- the first operands of an entry's term
-operands_take : (ts : List Tree) (n : ℕ) (ids : List NodeId) → operands_at ts (take n ids) ≡ take n (operands_at ts ids)
+pub operands_take : (ts : List Tree) (n : ℕ) (ids : List NodeId) → operands_at ts (take n ids) ≡ take n (operands_at ts ids)
 operands_take ts zero ids = refl
 operands_take ts (suc n) [] = refl
 operands_take ts (suc n) (i ∷ ids) = ap (λ l. unwrap_or (slice_get ts i.0) (leaf 0) ∷ l) (operands_take ts n ids)
 
-under_take : (m n : ℕ) (ids : List NodeId) → AreUnder m ids → AreUnder m (take n ids)
+pub under_take : (m n : ℕ) (ids : List NodeId) → AreUnder m ids → AreUnder m (take n ids)
 under_take m zero ids u = tt
 under_take m (suc n) [] u = tt
 under_take m (suc n) (i ∷ ids) u = (u.0, under_take m n ids u.1)
@@ -136,7 +136,7 @@ front_composes rs ts ss ids n us is u e =
     ∙ ap (λ l. is_some (mades_for rs (trees_of l))) (operands_take ts n ids ∙ ap (take n) (sym (ap list_of e ∙ list_of-trees_of (operands_at ts ids))))
 
 -- one write, and what it leaves
-set_either : {A : Type 0} (xs : List A) (i k : ℕ) (v x : A) → slice_get (set xs i v) k ≡ Some x → ((k ≡ i) × (x ≡ v)) ⊎ ((i ≡ k → ⊥) × (slice_get xs k ≡ Some x))
+pub set_either : {A : Type 0} (xs : List A) (i k : ℕ) (v x : A) → slice_get (set xs i v) k ≡ Some x → ((k ≡ i) × (x ≡ v)) ⊎ ((i ≡ k → ⊥) × (slice_get xs k ≡ Some x))
 set_either [] i k v x e = cc
 set_either (y ∷ xs) zero zero v x e = inl (refl, let s : x ≡ v = cc in s)
 set_either (y ∷ xs) zero (suc k) v x e = inr ((λ z. absurd (omega arith)), e)
@@ -165,7 +165,7 @@ none_step false None e = (refl, refl)
 none_step false (Some i) e = cc
 
 -- a node composes without an entry exactly where it is ready
-built_found : (o : Op) (b : Bool) (ms : Option Trees) → is_some (or_built None o b ms) ≡ b && is_some ms
+pub built_found : (o : Op) (b : Bool) (ms : Option Trees) → is_some (or_built None o b ms) ≡ b && is_some ms
 built_found o false ms = refl
 built_found o true None = refl
 built_found o true (Some ms) = refl
@@ -234,13 +234,6 @@ module _ (ts : List Tree) (ids : List NodeId) (ss : List Standing) (ix : IsIndex
       → all_stand ss (take n js.items) ≡ is_some (mades_for (rows_of (operands_at ts ids)) (trees_of (take n (list_of us))))
   front_is p js n is over o us e = front_composes (rows_of (operands_at ts ids)) ts ss js.items n us ix.right (within_pool p js is over) (operands_are p js is o us e)
 
-  pub operands_is : (p : Op) (js : Vec NodeId Global) → k ≡ Apply p js → IsOver id.0 k → (o : Op) (us : Trees) → slice_get (operands_at ts ids) i ≡ Some (node o us)
-      → all_stand ss js.items ≡ is_some (mades_for (rows_of (operands_at ts ids)) us)
-  operands_is p js is over o us e =
-      let rs = rows_of (operands_at ts ids) in
-      all_made rs ts ss (length ts) (omega arith) (λ j t h here. right_all rs ts ss ix.right j t here) js.items (within_pool p js is over)
-      ∙ ap (λ l. is_some (mades_for rs l)) (sym (operands_are p js is o us e))
-
 -- rows where terms stand as before leave their compositions
 module _ (rs rs' : List (Option Tree)) (Q : Tree → Type 0) (same : (t : Tree) → Q t → place rs' t ≡ place rs t) (below : (o : Op) (us : Trees) → Q (node o us) → AllByRecursion Q (list_of us)) where
   mutual
@@ -267,20 +260,20 @@ any : (us : List Tree) → AllByRecursion (λ t. Unit {0}) us
 any [] = tt
 any (u ∷ us) = (tt, any us)
 
-rows_next : (ts : List Tree) (ids : List NodeId) (id : NodeId) (t : Tree) → slice_get ts id.0 ≡ Some t → rows_of (operands_at ts (ids ++ id ∷ [])) ≡ rows_of (operands_at ts ids) ++ row_unless (made_for (rows_of (operands_at ts ids)) t) t ∷ []
+pub rows_next : (ts : List Tree) (ids : List NodeId) (id : NodeId) (t : Tree) → slice_get ts id.0 ≡ Some t → rows_of (operands_at ts (ids ++ id ∷ [])) ≡ rows_of (operands_at ts ids) ++ row_unless (made_for (rows_of (operands_at ts ids)) t) t ∷ []
 rows_next ts ids id t at =
     ap rows_of (operands_last ts ids id ∙ ap (λ x. operands_at ts ids ++ x ∷ []) (ap (λ o. unwrap_or o (leaf 0)) at)) ∙ rows_more [] (operands_at ts ids) (t ∷ [])
 
-row_found : (o : Option Tree) (t : Tree) (b : Bool) → is_double (row_unless o t) ≡ b → row_unless o t ≡ cond b None (Some t)
+pub row_found : (o : Option Tree) (t : Tree) (b : Bool) → is_double (row_unless o t) ≡ b → row_unless o t ≡ cond b None (Some t)
 row_found None t b e = rw (← e)
 row_found (Some m) t b e = rw (← e)
 
-unmade : (o : Option Tree) (t : Tree) → is_double (row_unless o t) ≡ false → o ≡ None
+pub unmade : (o : Option Tree) (t : Tree) → is_double (row_unless o t) ≡ false → o ≡ None
 unmade None t e = refl
 unmade (Some m) t e = cc
 
 module _ (ts : List Tree) (ids : List NodeId) (ss : List Standing) (ix : IsIndexed ts ids ss) (id : NodeId) (t : Tree) (at : slice_get ts id.0 ≡ Some t) where
-  under_next : AreUnder (length ts) (ids ++ id ∷ [])
+  pub under_next : AreUnder (length ts) (ids ++ id ∷ [])
   under_next = under_last (length ts) (length ts) ids id (omega arith) (slice_get-within ts id.0 t at) ix.under
 
   -- whether it is a double
@@ -308,7 +301,7 @@ module _ (ts : List Tree) (ids : List NodeId) (ss : List Standing) (ix : IsIndex
       }
 
   -- a further entry that is none
-  module _ (distinct : AreDistinct ts) (before : AreBefore ts) (s : Standing) (own : s ≡ get_or ss id.0 s) (new : is_found s ≡ false) where
+  module _ (distinct : AreDistinct ts) (s : Standing) (own : s ≡ get_or ss id.0 s) (new : is_found s ≡ false) where
     other : (k : ℕ) (u : Tree) → (id.0 ≡ k → ⊥) → slice_get ts k ≡ Some u → is_at (Some t) u ≡ false
     other k u h here = differs (is_at (Some t) u) t u refl (λ s. h (distinct id.0 k u (at ∙ ap Some s) here))
 
@@ -326,39 +319,25 @@ module _ (ts : List Tree) (ids : List NodeId) (ss : List Standing) (ix : IsIndex
         let b : s ≡ standing_of rs u = cc in
         ap place_in b ∙ place_standing (place rs u) (is_some (made_for rs u)) ∙ sym (place_skip rs (Some t) u (other k u h here))
 
-    lower : (k : ℕ) → k < id.0 → (us : List Tree) → AllByRecursion (Below ts k) us → AllByRecursion (λ u. (j : ℕ) × (j < id.0) × (slice_get ts j ≡ Some u)) us
-    lower k h [] all = tt
-    lower k h (u ∷ us) ((j, l, here), rest) = ((j, omega (arith, h, l), here), lower k h us rest)
-
-    settled : (rs : List (Option Tree)) (k : ℕ) (u : Tree) → ss ≡ standings_of rs ts → k < id.0 → slice_get ts k ≡ Some u → slice_get (set ss id.0 (At (length ids))) k ≡ Some (standing_of (rs ++ Some t ∷ []) u)
-    settled rs k u right h here =
-        let Q : Tree → Type 0 = λ x. (j : ℕ) × (j < id.0) × (slice_get ts j ≡ Some x) in
-        let same : (x : Tree) → Q x → place (rs ++ Some t ∷ []) x ≡ place rs x = λ x (j, l, there). place_skip rs (Some t) x (other j x (λ e. absurd (omega arith)) there) in
-        let down : (o : Op) (us : Trees) → Q (node o us) → AllByRecursion Q (list_of us) = λ o us (j, l, there). lower j l (list_of us) (before j o us there) in
-        set-other ss id.0 k (At (length ids)) (standing_of (rs ++ Some t ∷ []) u)
-        (right_all rs ts ss right k u here ∙ ap Some (sym (standing_same rs (rs ++ Some t ∷ []) Q same down u (k, h, here))))
-        (λ e. absurd (omega arith))
-
-    pub push_new : IsSettling (rows_of (operands_at ts (ids ++ id ∷ []))) ts (set ss id.0 (At (length ids))) id.0
-    push_new =
+    places_new : HavePlaces (rows_of (operands_at ts (ids ++ id ∷ []))) ts (set ss id.0 (At (length ids)))
+    places_new =
         let rs = rows_of (operands_at ts ids) in
         let lone = sym (double_is s false own new) in
         let free : made_for rs t ≡ None = unmade (made_for rs t) t lone in
         let is : rows_of (operands_at ts (ids ++ id ∷ [])) ≡ rs ++ Some t ∷ [] = rows_next ts ids id t at ∙ ap (λ r. rs ++ r ∷ []) (row_found (made_for rs t) t false lone) in
         let long : length rs ≡ length ids = omega (arith, length_rows [] (operands_at ts ids), operands_long ts ids) in
-        subst (λ l. IsSettling l ts (set ss id.0 (At (length ids))) id.0) (sym is) (record {
-          long = omega (arith, length-set ss id.0 (At (length ids)), standings_long rs ts ss ix.right);
-          places = λ k u s here stands. ⊎_elim
+        subst (λ l. HavePlaces l ts (set ss id.0 (At (length ids)))) (sym is) (
+          length-set ss id.0 (At (length ids)) ∙ standings_long rs ts ss ix.right,
+          λ k u s here stands. ⊎_elim
               (λ (same, mine). placed rs k u s same here mine free long)
               (λ (h, old). placed_other rs k u s ix.right here old h)
-              (set_either ss id.0 k (At (length ids)) s stands);
-          right = λ k u h here. settled rs k u ix.right h here;
-        })
+              (set_either ss id.0 k (At (length ids)) s stands),
+        )
 
-    pub push_settles : (ids' : List NodeId) (n : ℕ) → ids' ≡ ids ++ id ∷ [] → n ≡ length ids → AreUnder (length ts) ids' × IsSettling (rows_of (operands_at ts ids')) ts (set ss id.0 (At n)) id.0
-    push_settles ids' n is long =
-        let P : List NodeId → ℕ → Type 0 = λ l m. AreUnder (length ts) l × IsSettling (rows_of (operands_at ts l)) ts (set ss id.0 (At m)) id.0 in
-        subst (P ids') (sym long) (subst (λ l. P l (length ids)) (sym is) (under_next, push_new))
+    pub push_places : (ids' : List NodeId) (n : ℕ) → ids' ≡ ids ++ id ∷ [] → n ≡ length ids → AreUnder (length ts) ids' × HavePlaces (rows_of (operands_at ts ids')) ts (set ss id.0 (At n))
+    push_places ids' n is long =
+        let P : List NodeId → ℕ → Type 0 = λ l m. AreUnder (length ts) l × HavePlaces (rows_of (operands_at ts l)) ts (set ss id.0 (At m)) in
+        subst (P ids') (sym long) (subst (λ l. P l (length ids)) (sym is) (under_next, places_new))
 
 -- a term that is put in stands nowhere
 nowhere_after : (ss : List Standing) (n k : ℕ) (s : Standing) → slice_get (ss ++ replicate n Nowhere) k ≡ Some s → (slice_get ss k ≡ Some s) ⊎ ((length ss ≤ k) × (s ≡ Nowhere))
@@ -462,11 +441,13 @@ all_settled rs ts ss n so_far h = each_same ss (standings_of rs ts) (so_far.long
 operands_front : (ts : List Tree) (at : ℕ) (ids : List NodeId) → rows_of (operands_at ts (take at ids)) ≡ rows_of (take at (operands_at ts ids))
 operands_front ts at ids = ap rows_of (operands_take ts at ids)
 
-cleared_place : (b : ℕ) (p q : Option ℕ) (c : Bool) → ((i : ℕ) → p ≡ Some i → (q ≡ Some i) × (i < b)) → (p ≡ None → (i : ℕ) → q ≡ Some i → b ≤ i) → place_in (cleared b (standing q c)) ≡ p
-cleared_place b None None true h g = refl
-cleared_place b None None false h g = refl
-cleared_place b None (Some i) c h g = rw (le-ltb i b (g refl i refl))
-cleared_place b (Some i) q c h g = let a = h i refl in rw (a.0, lt-ltb i b a.1)
+cleared_place : (b : ℕ) (p q : Option ℕ) (s : Standing) → place_in s ≡ q → ((i : ℕ) → p ≡ Some i → (q ≡ Some i) × (i < b)) → (p ≡ None → (i : ℕ) → q ≡ Some i → b ≤ i) → place_in (cleared b s) ≡ p
+cleared_place b None q Nowhere e h g = refl
+cleared_place b None q Built e h g = refl
+cleared_place b None q (At i) e h g = rw (le-ltb i b (g refl i (sym e)))
+cleared_place b (Some i) q Nowhere e h g = let a = h i refl in let no : None ≡ Some i = e ∙ a.0 in cc
+cleared_place b (Some i) q Built e h g = let a = h i refl in let no : None ≡ Some i = e ∙ a.0 in cc
+cleared_place b (Some i) q (At j) e h g = let a = h i refl in let z : Some j ≡ Some i = e ∙ a.0 in let y : j ≡ i = cc in rw (y, lt-ltb i b a.1)
 
 place_back : (rs xs : List (Option Tree)) (t : Tree) → place rs t ≡ None → (i : ℕ) → place (rs ++ xs) t ≡ Some i → length rs ≤ i
 place_back [] xs t unless i e = omega arith
@@ -480,31 +461,47 @@ place_front : (rs xs : List (Option Tree)) (t : Tree) (i : ℕ) → place rs t �
 place_front rs [] t i e = rw (append-nil rs) e
 place_front rs (x ∷ xs) t i e = rw (← append_assoc rs (x ∷ []) xs) (place_front (rs ++ x ∷ []) xs t i (place_more rs x t i e))
 
-cut_settling : (ts : List Tree) (ids : List NodeId) (ss : List Standing) (at : ℕ) → IsIndexed ts ids ss → at ≤ length ids → AreUnder (length ts) (take at ids) × IsSettling (rows_of (operands_at ts (take at ids))) ts (map (cleared at) ss) 0
-cut_settling ts ids ss at ix h =
+-- the places of the first entries
+pub places_back : (rs xs : List (Option Tree)) (ts : List Tree) (ss : List Standing) (b : ℕ) → length rs ≡ b → HavePlaces (rs ++ xs) ts ss → HavePlaces rs ts (map (cleared b) ss)
+places_back rs xs ts ss b long places = (
+  length-map ss (cleared b) ∙ places.0,
+  λ k t s here stands.
+      let own = slice_get-there ss k (omega (arith, places.0, slice_get-within ts k t here)) in
+      let a = slice_get-map (cleared b) ss k own.0 own.1 in
+      let is : s ≡ cleared b own.0 = cc in
+      ap place_in is ∙ cleared_place b (place rs t) (place (rs ++ xs) t) own.0 (places.1 k t own.0 here own.1)
+      (λ i e. (place_front rs xs t i e, omega (arith, long, slice_get-within rs i (Some t) (place_at rs t i e))))
+      (λ unless i e. omega (arith, long, place_back rs xs t unless i e)),
+)
+
+pub right_places : (rs : List (Option Tree)) (ts : List Tree) (ss : List Standing) → ss ≡ standings_of rs ts → HavePlaces rs ts ss
+right_places rs ts ss right = (
+  standings_long rs ts ss right,
+  λ k t s here stands.
+      let a = right_all rs ts ss right k t here in
+      let is : s ≡ standing_of rs t = cc in
+      ap place_in is ∙ place_standing (place rs t) (is_some (made_for rs t)),
+)
+
+pub settling_none : (rs : List (Option Tree)) (ts : List Tree) (ss : List Standing) → HavePlaces rs ts ss → IsSettling rs ts ss 0
+settling_none rs ts ss places = record { long = places.0; places = places.1; right = λ k t l here. absurd (omega arith) }
+
+rows_front : (ts : List Tree) (ids : List NodeId) (at : ℕ) → (xs : List (Option Tree)) × (rows_of (operands_at ts ids) ≡ rows_of (operands_at ts (take at ids)) ++ xs)
+rows_front ts ids at =
     let all = operands_at ts ids in
     let rs' = rows_of (operands_at ts (take at ids)) in
     let p = prefix rs' (drop at all) in
-    let is : rows_of all ≡ rs' ++ p.0 = ap rows_of (sym (take-append-drop at all) ∙ ap (λ l. l ++ drop at all) (sym (operands_take ts at ids))) ∙ rows_more [] (operands_at ts (take at ids)) (drop at all) ∙ p.1 in
-    let long : length rs' ≡ at = omega (arith, length_rows [] (operands_at ts (take at ids)), operands_long ts (take at ids), length-take-le at ids h) in (
-      under_take (length ts) at ids ix.under,
-      record {
-        long = length-map ss (cleared at) ∙ standings_long (rows_of all) ts ss ix.right;
-        places = λ k t s here stands.
-            let a = slice_get-map (cleared at) ss k (standing_of (rows_of all) t) (right_all (rows_of all) ts ss ix.right k t here) in
-            let b : s ≡ cleared at (standing_of (rows_of all) t) = cc in
-            ap place_in b ∙ ap (λ l. place_in (cleared at (standing (place l t) (is_some (made_for (rows_of all) t))))) is
-            ∙ cleared_place at (place rs' t) (place (rs' ++ p.0) t) (is_some (made_for (rows_of all) t))
-            (λ i e. (place_front rs' p.0 t i e, omega (arith, long, slice_get-within rs' i (Some t) (place_at rs' t i e))))
-            (λ unless i e. omega (arith, long, place_back rs' p.0 t unless i e));
-        right = λ k t l here. absurd (omega arith);
-      },
-    )
+    (p.0, ap rows_of (sym (take-append-drop at all) ∙ ap (λ l. l ++ drop at all) (sym (operands_take ts at ids))) ∙ rows_more [] (operands_at ts (take at ids)) (drop at all) ∙ p.1)
 
-pub cut_settles : (ts : List Tree) (ids ids' : List NodeId) (ss ss' : List Standing) (at : ℕ) → IsIndexed ts ids ss → at ≤ length ids → ids' ≡ take at ids → ss' ≡ map (cleared at) ss → AreUnder (length ts) ids' × IsSettling (rows_of (operands_at ts ids')) ts ss' 0
-cut_settles ts ids ids' ss ss' at ix h is_ids is_ss =
-    let P : List NodeId → List Standing → Type 0 = λ l x. AreUnder (length ts) l × IsSettling (rows_of (operands_at ts l)) ts x 0 in
-    subst (P ids') (sym is_ss) (subst (λ l. P l (map (cleared at) ss)) (sym is_ids) (cut_settling ts ids ss at ix h))
+pub cut_places : (ts : List Tree) (ids ids' : List NodeId) (ss : List Standing) (at : ℕ) → at ≤ length ids → ids' ≡ take at ids → HavePlaces (rows_of (operands_at ts ids)) ts ss → HavePlaces (rows_of (operands_at ts ids')) ts (map (cleared at) ss)
+cut_places ts ids ids' ss at h is places =
+    let f = rows_front ts ids at in
+    let rs' = rows_of (operands_at ts (take at ids)) in
+    let long : length rs' ≡ at = omega (arith, length_rows [] (operands_at ts (take at ids)), operands_long ts (take at ids), length-take-le at ids h) in
+    subst (λ l. HavePlaces (rows_of (operands_at ts l)) ts (map (cleared at) ss)) (sym is) (places_back rs' f.0 ts ss at long (subst (λ l. HavePlaces l ts ss) f.1 places))
+
+pub cut_under : (ts : List Tree) (ids ids' : List NodeId) (at : ℕ) → ids' ≡ take at ids → AreUnder (length ts) ids → AreUnder (length ts) ids'
+cut_under ts ids ids' at is u = subst (AreUnder (length ts)) (sym is) (under_take (length ts) at ids u)
 
 pub cut_terms : (ts : List Tree) (ids ids' : List NodeId) (at : ℕ) → ids' ≡ take at ids → operands_at ts ids' ≡ take at (operands_at ts ids)
 cut_terms ts ids ids' at is = ap (operands_at ts) is ∙ operands_take ts at ids

@@ -10,4 +10,6 @@ pub mod Closing
 pub mod Origins
 pub mod Sound
 pub mod Indexing
-pub mod Listing
+pub mod Linking
+pub mod Spreading
+pub mod Due

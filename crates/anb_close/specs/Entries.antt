@@ -9,6 +9,7 @@ use Rattle.anb_term.specs.View.{tree_of, term_of}
 use Rattle.anb_term.specs.Operator.{keys, undoable}
 use Rattle.anb_close.specs.Rows.{mades_for, rows_of, seen}
 use Rattle.anb_close.specs.Closed.{IsClosed}
+use Rattle.anb_close.specs.Listed.{AreTouched}
 use Rattle.anb_close.specs.declared.entry.Entry.{Entry}
 use Rattle.anb_close.specs.declared.entry.Opening.{Opening}
 use Rattle.anb_close.specs.declared.entry.Origin.{Origin}
@@ -162,6 +163,20 @@ pub record HasOpened (es es' : List Entry) : Type 0 where
   pub are : AllByRecursion IsPart parts
   pub is : es' ≡ es ++ parts
   pub some : 0 < length parts
+
+-- where entries came, these were listed, among them each whose first operands have come to compose
+pub record HasTouched (es : List Entry) (ks : List ℕ) (es' : List Entry) (ks' : List ℕ) : Type 0 where
+  pub later : List ℕ
+  pub is : ks' ≡ ks ++ later
+  pub touched : AreTouched (rows es) (rows es') later
+
+-- what can be opened is listed from a place on
+abbrev pub AreDue : List Entry → List ℕ → List ℕ → ℕ → Type 0
+AreDue es fs ks n = (i : ℕ) (o : Op) (us ms : Trees) → CanOpen es fs i o us → keys_for es o us ≡ Some ms → (k : ℕ) × (n ≤ k) × (slice_get ks k ≡ Some i)
+
+-- an entry was opened, and those of before that are not were not
+abbrev pub HasShut : List ℕ → ℕ → List ℕ → Type 0
+HasShut fs i fs' = (k : ℕ) → k < length fs → slice_get fs' k ≡ Some 0 → (k ≡ i → ⊥) × (slice_get fs k ≡ Some 0)
 
 -- a label's entry, and then parts, came to entries that are at rest again
 pub record HasGrown (es : List Entry) (t : Term) (es' : List Entry) (fs' : List ℕ) : Type 0 where

@@ -5,6 +5,8 @@ pub mod MadeFalls
 pub mod Joined
 pub mod Entries
 pub mod Recipes
+pub mod Listed
 -- for proofs alone
 pub mod Standings
-pub mod Listed
+pub mod Parents
+pub mod Spreading

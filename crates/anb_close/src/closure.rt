@@ -13,6 +13,7 @@ ghost use Rattle.anb_close.specs.Recipes.{recipes};
 ghost use Rattle.anb_close.specs.MadeView.{made_tree};
 ghost use Rattle.anb_close.specs.Entries.{rows, terms_of, labels_of, is_label, openings_from, HasAdded, IsLastLabel, IsKnown};
 ghost use Rattle.anb_close.specs.declared.entry.Entry.{Entry};
+ghost use Rattle.anb_close.specs.Listed.{AreTouched};
 
 use crate::entry::Entry;
 use crate::growth::Growth;
@@ -42,14 +43,10 @@ impl Model for Closure {
     ghost view = { λ a. a.growth.entries.items };
 
     ghost use Rattle.std.specs.Prelude.{◌≡◌};
-    ghost use Rattle.std.specs.Prelude.{length};
     ghost use Rattle.anb_close.specs.Entries.{IsKept, terms_of};
-    ghost use Rattle.anb_close.specs.Listed.{AreListed, HasParts};
 
     ghost invariant = { λ a. IsKept a.growth.entries.items a.growth.doubles.items
-        a.growth.firsts.items × (a.growth.index.0 ≡ terms_of a.growth.entries.items)
-        × AreListed HasParts (terms_of a.growth.entries.items) a.growth.kept.items
-        (length a.growth.entries.items) };
+        a.growth.firsts.items × (a.growth.index.0 ≡ terms_of a.growth.entries.items) };
 }
 
 impl Closure {
@@ -62,7 +59,6 @@ impl Closure {
                 doubles: Vec::new(alloc),
                 firsts: Vec::new(alloc),
                 index: Index::new(alloc),
-                kept: Vec::new(alloc),
             },
         }
     }
@@ -88,6 +84,8 @@ impl Closure {
         ensures label { IfOk result (λ s. s.label ≡ length self.old) }
         ensures opened { IfOk result (λ s.
             s.opened ≡ openings_from (length self.old) (drop (length self.old) self.new)) }
+        ensures touched { IfOk result (λ s. AreTouched (rows self.old) (rows self.new)
+            s.touched.items) }
         ensures err { OnErr result (self.new ≡ self.old) }
     {
         let before = self.growth.entries.len();
@@ -132,15 +130,6 @@ impl Closure {
             None => Ok(None),
             Some(m) => Ok(Some(m)),
         }
-    }
-
-    /// Whether the operands of an entry's term compose.
-    pub fn operands_compose(&self, i: u32) -> bool
-        requires within { i < length self.now }
-        ensures { (o : Op) (us : Trees) → slice_get (terms_of self.now) i ≡ Some (node o us)
-            → result ≡ is_some (mades_for (rows self.now) us) }
-    {
-        self.growth.index.all_compose(i as usize)
     }
 
     /// The compositions of all of these, where each has one, as `compose` gives them.

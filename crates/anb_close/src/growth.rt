@@ -1,15 +1,15 @@
 // Entries while they grow.
 
-ghost use Rattle.std.specs.Prelude.{◌≡◌, ◌+◌, ◌++◌, ◌∷◌, [], ◌<◌, ◌≤◌, ◌^◌, length, ℕ, List, map, take, drop, Bool, true, IfOk, IsTrue, MatchOption, OnOk, OnErr, Some, option_map, slice_get};
+ghost use Rattle.std.specs.Prelude.{◌≡◌, ◌+◌, ◌++◌, ◌∷◌, [], ◌<◌, ◌≤◌, ◌^◌, ◌⊎◌, length, ℕ, List, map, take, drop, true, IfOk, IfSome, MatchOption, OnOk, OnErr, Some, option_map, slice_get};
 ghost use Rattle.anb_term.specs.View.{tree_of};
 ghost use Rattle.anb_term.specs.Tree.{trees_of};
 ghost use Rattle.anb_close.specs.Rows.{place, made_for, mades_for, row_unless};
 ghost use Rattle.anb_close.specs.MadeView.{made_tree};
-ghost use Rattle.anb_close.specs.Entries.{rows, terms_of, is_double, part_entries, openings_from, labels_of, cut, cut_first, Extends, Follow, NoKeys, Opens, IsGrown, Keeps, GoesBack, HasOpened, HasGrown, IsLastLabel};
+ghost use Rattle.anb_close.specs.Entries.{rows, terms_of, is_double, part_entries, openings_from, labels_of, cut, cut_first, Extends, Follow, NoKeys, Opens, IsGrown, IsRest, Keeps, GoesBack, HasOpened, HasTouched, HasShut, HasGrown, IsLastLabel};
 ghost use Rattle.anb_term.specs.declared.term.Op.{Op};
 ghost use Rattle.anb_term.specs.Tree.{IsFormed, Trees, node};
 ghost use Rattle.anb_close.specs.declared.entry.Origin.{Origin};
-ghost use Rattle.anb_close.specs.Listed.{AreListed, HasParts};
+ghost use Rattle.anb_close.specs.Listed.{AreTouched};
 ghost use Rattle.anb_term.specs.Tree.{tree_size, nodes};
 ghost use Rattle.anb_close.specs.declared.entry.Entry.{Entry};
 ghost use Rattle.anb_term.specs.Operator.{keys as keys_of};
@@ -21,15 +21,13 @@ use crate::step::{Openings, Step};
 use anb_term::{NoMemory, Op, Term};
 use std::alloc::Global;
 
-/// The entries, which of them are doubles, where each was opened, or 0, where terms stand, and the
-/// places of the entries that have parts.
+/// The entries, which of them are doubles, where each was opened, or 0, and where terms stand.
 #[derive(Drop)]
 pub struct Growth {
     pub entries: Vec<Entry>,
     pub doubles: Vec<bool>,
     pub firsts: Vec<u32>,
     pub index: Index,
-    pub kept: Vec<u32>,
 }
 
 impl Growth {
@@ -76,17 +74,22 @@ impl Growth {
         Ok(Some(all))
     }
 
-    /// Adds an entry. After an error nothing has changed.
-    fn push(&mut self, alloc: Global, origin: Origin, term: Term) -> Result<(), NoMemory>
+    /// Adds an entry, and lists it and the entries of which an operand has come to compose. After an
+    /// error nothing has changed, but more may be listed.
+    fn push(
+        &mut self,
+        alloc: Global,
+        origin: Origin,
+        term: Term,
+        touched: &mut Vec<u32>,
+    ) -> Result<(), NoMemory>
         requires doubles { self.old.doubles.items ≡ map is_double (rows self.old.entries.items) }
         requires indexed { self.old.index.0 ≡ terms_of self.old.entries.items }
-        requires listed { AreListed HasParts (terms_of self.old.entries.items) self.old.kept.items
-            (length self.old.entries.items) }
         requires few { length self.old.entries.items < 2 ^ 32 }
         ensures doubles { self.new.doubles.items ≡ map is_double (rows self.new.entries.items) }
         ensures indexed { self.new.index.0 ≡ terms_of self.new.entries.items }
-        ensures listed { AreListed HasParts (terms_of self.new.entries.items) self.new.kept.items
-            (length self.new.entries.items) }
+        ensures touched { OnOk result (HasTouched self.old.entries.items touched.old.items
+            self.new.entries.items touched.new.items) }
         ensures ok { OnOk result
             (Extends self.old.entries.items self.old.firsts.items self.new.entries.items
             self.new.firsts.items (record { origin = origin; term = term } ∷ [])) }
@@ -96,8 +99,7 @@ impl Growth {
     {
         let at = self.entries.len();
         let firsts = self.firsts.len();
-        let kept = self.kept.len();
-        let double = self.index.push(alloc, &term)?;
+        let double = self.index.push(alloc, &term, touched)?;
         match self.push_row(double, origin, term) {
             Ok(()) => return Ok(()),
             Err(_) => {}
@@ -105,33 +107,24 @@ impl Growth {
         self.index.cut(at);
         self.doubles.truncate(at);
         self.firsts.truncate(firsts);
-        self.kept.truncate(kept);
         Err(NoMemory)
     }
 
     /// Adds an entry whose term stands in the index. After an error there may be more than before
     /// beside the entries.
     fn push_row(&mut self, double: bool, origin: Origin, term: Term) -> Result<(), NoMemory>
-        requires few { length self.old.entries.items < 2 ^ 32 }
         ensures index { self.new.index ≡ self.old.index }
         ensures ok { OnOk result
             (Extends self.old.entries.items self.old.firsts.items self.new.entries.items
             self.new.firsts.items (record { origin = origin; term = term } ∷ [])) }
         ensures double { OnOk result (self.new.doubles.items
             ≡ self.old.doubles.items ++ double ∷ []) }
-        ensures listed { OnOk result (AreListed HasParts (terms_of self.old.entries.items)
-            self.old.kept.items (length self.old.entries.items)
-            → AreListed HasParts (terms_of self.new.entries.items) self.new.kept.items
-            (length self.new.entries.items)) }
         ensures err { OnErr result (self.new.entries.items ≡ self.old.entries.items) }
         ensures doubles { take (length self.old.doubles.items) self.new.doubles.items
             ≡ self.old.doubles.items }
         ensures firsts { take (length self.old.firsts.items) self.new.firsts.items
             ≡ self.old.firsts.items }
-        ensures kept { take (length self.old.kept.items) self.new.kept.items
-            ≡ self.old.kept.items }
     {
-        keep(&mut self.kept, self.entries.len() as u32, &term)?;
         self.doubles.push(double)?;
         self.firsts.push(0)?;
         self.entries.push(Entry { origin, term })?;
@@ -146,17 +139,16 @@ impl Growth {
         keys: &Compositions,
         of: u32,
         operands: &[Term],
+        touched: &mut Vec<u32>,
     ) -> Result<(), NoMemory>
         requires doubles { self.old.doubles.items ≡ map is_double (rows self.old.entries.items) }
         requires indexed { self.old.index.0 ≡ terms_of self.old.entries.items }
-        requires listed { AreListed HasParts (terms_of self.old.entries.items) self.old.kept.items
-            (length self.old.entries.items) }
         requires few { length self.old.entries.items + length operands.now < 2 ^ 32 }
         requires arity { length operands.now < 2 ^ 16 }
         ensures doubles { self.new.doubles.items ≡ map is_double (rows self.new.entries.items) }
         ensures indexed { self.new.index.0 ≡ terms_of self.new.entries.items }
-        ensures listed { AreListed HasParts (terms_of self.new.entries.items) self.new.kept.items
-            (length self.new.entries.items) }
+        ensures touched { OnOk result (HasTouched self.old.entries.items touched.old.items
+            self.new.entries.items touched.new.items) }
         ensures ok { OnOk result
             (Extends self.old.entries.items self.old.firsts.items self.new.entries.items
             self.new.firsts.items
@@ -173,7 +165,7 @@ impl Growth {
                 keys: keys.copy(alloc)?,
                 of,
             };
-            self.push(alloc, origin, operands[j].copy(alloc)?)?;
+            self.push(alloc, origin, operands[j].copy(alloc)?, touched)?;
         }
         Ok(())
     }
@@ -222,18 +214,23 @@ impl Growth {
     fn next(
         &self,
         alloc: Global,
+        touched: &[u32],
         from: usize,
     ) -> Result<Option<(usize, u32, Compositions)>, NoMemory>
         requires doubles { self.now.doubles.items ≡ map is_double (rows self.now.entries.items) }
         requires indexed { self.now.index.0 ≡ terms_of self.now.entries.items }
         requires long { length self.now.firsts.items ≡ length self.now.entries.items }
-        ensures { IfOk result (λ r.
-            MatchOption r ((k : ℕ) (i : ℕ) → from ≤ k → slice_get self.now.kept.items k ≡ Some i
-            → NoKeys self.now.entries.items self.now.firsts.items i) (λ f.
+        ensures opens { IfOk result (λ r. IfSome r (λ f.
             Opens self.now.entries.items self.now.firsts.items f.1 f.2)) }
+        ensures passed { IfOk result (λ r.
+            MatchOption r ((k : ℕ) (i : ℕ) → from ≤ k → slice_get touched.now k ≡ Some i
+            → NoKeys self.now.entries.items self.now.firsts.items i)
+            (λ f. (k : ℕ) (i : ℕ) → from ≤ k → k < f.0 → slice_get touched.now k ≡ Some i
+            → (i ≡ f.1) ⊎ NoKeys self.now.entries.items self.now.firsts.items i)) }
+        ensures within { IfOk result (λ r. IfSome r (λ f. f.0 ≤ length touched.now)) }
     {
-        for k in from..self.kept.len() {
-            let i = self.kept[k];
+        for k in from..touched.len() {
+            let i = touched[k];
             match self.opens(alloc, i as usize)? {
                 None => {}
                 Some(keys) => return Ok(Some((k + 1, i, keys))),
@@ -243,22 +240,27 @@ impl Growth {
     }
 
     /// Opens an entry.
-    fn open(&mut self, alloc: Global, of: u32, keys: &Compositions) -> Result<(), NoMemory>
+    fn open(
+        &mut self,
+        alloc: Global,
+        of: u32,
+        keys: &Compositions,
+        touched: &mut Vec<u32>,
+    ) -> Result<(), NoMemory>
         requires doubles { self.old.doubles.items ≡ map is_double (rows self.old.entries.items) }
         requires indexed { self.old.index.0 ≡ terms_of self.old.entries.items }
-        requires listed { AreListed HasParts (terms_of self.old.entries.items) self.old.kept.items
-            (length self.old.entries.items) }
         requires grown { IsGrown self.old.entries.items self.old.firsts.items }
         requires opens { Opens self.old.entries.items self.old.firsts.items of keys.now }
         requires few { nodes (labels_of self.old.entries.items) < 2 ^ 32 }
         ensures doubles { self.new.doubles.items ≡ map is_double (rows self.new.entries.items) }
         ensures indexed { self.new.index.0 ≡ terms_of self.new.entries.items }
-        ensures listed { AreListed HasParts (terms_of self.new.entries.items) self.new.kept.items
-            (length self.new.entries.items) }
         ensures back { Keeps self.old.entries.items self.old.firsts.items self.new.entries.items
             self.new.firsts.items }
         ensures grown { OnOk result (IsGrown self.new.entries.items self.new.firsts.items) }
         ensures opened { OnOk result (HasOpened self.old.entries.items self.new.entries.items) }
+        ensures touched { OnOk result (HasTouched self.old.entries.items touched.old.items
+            self.new.entries.items touched.new.items) }
+        ensures closed { OnOk result (HasShut self.old.firsts.items of self.new.firsts.items) }
     {
         let first = self.entries.len() as u32;
         let term = self.entries[of as usize].term.copy(alloc)?;
@@ -266,7 +268,7 @@ impl Growth {
             Term::Atom(_) => Err(NoMemory),
             Term::Node(op, operands) => {
                 let _arity = op.arity();
-                self.push_parts(alloc, *op, keys, of, operands.as_slice())?;
+                self.push_parts(alloc, *op, keys, of, operands.as_slice(), touched)?;
                 self.firsts[of as usize] = first;
                 Ok(())
             }
@@ -290,38 +292,34 @@ impl Growth {
         0
     }
 
-    /// Takes the next label's term, and opens what can be opened.
-    pub fn grow(&mut self, alloc: Global, t: &Term) -> Result<(), NoMemory>
+    /// Takes the next label's term, opens what can be opened, and lists the entries that came and
+    /// those of which an operand has come to compose. Only these are looked at, each once for each
+    /// time that it is listed.
+    pub fn grow(&mut self, alloc: Global, t: &Term) -> Result<Vec<u32>, NoMemory>
         requires doubles { self.old.doubles.items ≡ map is_double (rows self.old.entries.items) }
         requires indexed { self.old.index.0 ≡ terms_of self.old.entries.items }
-        requires listed { AreListed HasParts (terms_of self.old.entries.items) self.old.kept.items
-            (length self.old.entries.items) }
-        requires grown { IsGrown self.old.entries.items self.old.firsts.items }
+        requires rest { IsRest self.old.entries.items self.old.firsts.items }
         requires formed { IsFormed (λ o. true) (tree_of t.now) }
         requires few { nodes (labels_of self.old.entries.items) + tree_size (tree_of t.now)
             < 2 ^ 32 }
         ensures doubles { self.new.doubles.items ≡ map is_double (rows self.new.entries.items) }
         ensures indexed { self.new.index.0 ≡ terms_of self.new.entries.items }
-        ensures listed { AreListed HasParts (terms_of self.new.entries.items) self.new.kept.items
-            (length self.new.entries.items) }
         ensures back { GoesBack self.old.entries.items self.old.firsts.items self.new.entries.items
             self.new.firsts.items }
         ensures ok { OnOk result
             (HasGrown self.old.entries.items t.now self.new.entries.items self.new.firsts.items) }
+        ensures touched { IfOk result (λ v. AreTouched (rows self.old.entries.items)
+            (rows self.new.entries.items) v.items) }
     {
         let label = self.labels();
-        self.push(alloc, Origin::Label(label), t.copy(alloc)?)?;
+        let mut touched = Vec::new(alloc);
+        self.push(alloc, Origin::Label(label), t.copy(alloc)?, &mut touched)?;
         let mut from = 0;
         'worklist: loop {
-            match self.next(alloc, from)? {
-                None => {
-                    if from == 0 {
-                        return Ok(());
-                    }
-                    from = 0;
-                }
+            match self.next(alloc, &touched, from)? {
+                None => return Ok(touched),
                 Some((after, of, keys)) => {
-                    self.open(alloc, of, &keys)?;
+                    self.open(alloc, of, &keys, &mut touched)?;
                     from = after;
                 }
             }
@@ -358,16 +356,12 @@ impl Growth {
     pub fn step(&mut self, alloc: Global, t: &Term) -> Result<Step, NoMemory>
         requires doubles { self.old.doubles.items ≡ map is_double (rows self.old.entries.items) }
         requires indexed { self.old.index.0 ≡ terms_of self.old.entries.items }
-        requires listed { AreListed HasParts (terms_of self.old.entries.items) self.old.kept.items
-            (length self.old.entries.items) }
-        requires grown { IsGrown self.old.entries.items self.old.firsts.items }
+        requires rest { IsRest self.old.entries.items self.old.firsts.items }
         requires formed { IsFormed (λ o. true) (tree_of t.now) }
         requires few { nodes (labels_of self.old.entries.items) + tree_size (tree_of t.now)
             < 2 ^ 32 }
         ensures doubles { self.new.doubles.items ≡ map is_double (rows self.new.entries.items) }
         ensures indexed { self.new.index.0 ≡ terms_of self.new.entries.items }
-        ensures listed { AreListed HasParts (terms_of self.new.entries.items) self.new.kept.items
-            (length self.new.entries.items) }
         ensures back { GoesBack self.old.entries.items self.old.firsts.items self.new.entries.items
             self.new.firsts.items }
         ensures ok { OnOk result
@@ -375,13 +369,16 @@ impl Growth {
         ensures step { IfOk result (λ s. (s.label ≡ length self.old.entries.items)
             × (s.opened ≡ openings_from (length self.old.entries.items)
             (drop (length self.old.entries.items) self.new.entries.items))) }
+        ensures touched { IfOk result (λ s. AreTouched (rows self.old.entries.items)
+            (rows self.new.entries.items) s.touched.items) }
     {
         let label = self.entries.len();
-        self.grow(alloc, t)?;
+        let touched = self.grow(alloc, t)?;
         let opened = self.openings(alloc, label)?;
         Ok(Step {
             label: label as u32,
             opened: Openings::new(opened),
+            touched,
         })
     }
 
@@ -405,13 +402,9 @@ impl Growth {
     pub fn cut(&mut self, at: usize)
         requires doubles { self.old.doubles.items ≡ map is_double (rows self.old.entries.items) }
         requires indexed { self.old.index.0 ≡ terms_of self.old.entries.items }
-        requires listed { AreListed HasParts (terms_of self.old.entries.items) self.old.kept.items
-            (length self.old.entries.items) }
         requires within { at ≤ length self.old.entries.items }
         ensures doubles { self.new.doubles.items ≡ map is_double (rows self.new.entries.items) }
         ensures indexed { self.new.index.0 ≡ terms_of self.new.entries.items }
-        ensures listed { AreListed HasParts (terms_of self.new.entries.items) self.new.kept.items
-            (length self.new.entries.items) }
         ensures entries { self.new.entries.items ≡ take at self.old.entries.items }
         ensures firsts { self.new.firsts.items ≡ cut at self.old.firsts.items }
     {
@@ -419,50 +412,8 @@ impl Growth {
         self.doubles.truncate(at);
         self.firsts.truncate(at);
         self.index.cut(at);
-        drop_from(&mut self.kept, at);
         clear_from(&mut self.firsts, at);
     }
-}
-
-/// Whether a term can be undone and has parts.
-fn has_parts(term: &Term) -> bool
-    ensures { (o : Op) (us : Trees) → tree_of term.now ≡ node o us → HasParts o us
-        → IsTrue result }
-{
-    match term {
-        Term::Atom(_) => false,
-        Term::Node(op, operands) => op.undoes() && operands.len() > op.keys() as usize,
-    }
-}
-
-/// Lists an entry's place where its term has parts.
-fn keep(kept: &mut Vec<u32>, at: u32, term: &Term) -> Result<(), NoMemory>
-    ensures ok { OnOk result ((es : List Entry) (origin : Origin) → at ≡ length es
-        → AreListed HasParts (terms_of es) kept.old.items (length es)
-        → AreListed HasParts (terms_of (es ++ record { origin = origin; term = term.now } ∷ []))
-        kept.new.items (length (es ++ record { origin = origin; term = term.now } ∷ []))) }
-    ensures more { take (length kept.old.items) kept.new.items ≡ kept.old.items }
-{
-    if !has_parts(term) {
-        return Ok(());
-    }
-    kept.push(at)?;
-    Ok(())
-}
-
-/// Drops the places from one on that stand last.
-fn drop_from(kept: &mut Vec<u32>, at: usize)
-    ensures { (k : ℕ) (i : ℕ) → slice_get kept.old.items k ≡ Some i → i < at
-        → slice_get kept.new.items k ≡ Some i }
-{
-    let mut n = kept.len();
-    while n > 0 {
-        if (kept[n - 1] as usize) < at {
-            break;
-        }
-        n -= 1;
-    }
-    kept.truncate(n);
 }
 
 /// Clears the places from one on.

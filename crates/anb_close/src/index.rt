@@ -9,7 +9,12 @@ ghost use Rattle.anb_close.specs.Rows.{place, made_for, mades_for, row_unless, r
 ghost use Rattle.anb_close.specs.Entries.{is_double};
 ghost use Rattle.anb_close.specs.declared.index.Standing.TheVariants.{Nowhere};
 ghost use Rattle.anb_close.specs.Standings.{standing, place_in, is_found, all_stand, is_ready, standings_of, cleared, IsSettling};
+ghost use Rattle.anb_close.specs.Listed.{AreTouched};
+ghost use Rattle.anb_close.specs.Parents.{ListsStay, AreLinked};
+ghost use Rattle.anb_close.specs.Spreading.{HavePlaces};
 
+use crate::parents::link;
+use crate::spread::spread;
 use anb_intern::{Node, NodeId, Pool};
 use anb_term::{NoMemory, Term};
 use std::alloc::Global;
@@ -39,12 +44,14 @@ impl Standing {
     }
 }
 
-/// The terms of entries in order, and where each term that is part of them is found.
+/// The terms of entries in order, where each term that is part of them is found, and the terms that
+/// each is an operand of.
 #[derive(Drop)]
 pub struct Index {
     pool: Pool,
     numbers: Vec<NodeId>,
     standings: Vec<Standing>,
+    parents: Vec<Vec<u32>>,
 }
 
 impl Model for Index {
@@ -53,7 +60,9 @@ impl Model for Index {
     ghost use Rattle.anb_term.specs.Tree.{Tree};
     ghost use Rattle.anb_term.specs.TreeCode.{coded_tree};
     ghost use Rattle.anb_intern.specs.Nodes.{operands_at};
+    ghost use Rattle.std.specs.Prelude.{◌≤◌, length};
     ghost use Rattle.anb_close.specs.Standings.{IsIndexed};
+    ghost use Rattle.anb_close.specs.Parents.{AreLinked};
 
     ghost Value = { List Tree × List Tree };
 
@@ -61,7 +70,9 @@ impl Model for Index {
 
     ghost view = { λ a. (operands_at a.pool a.numbers.items, a.pool) };
 
-    ghost invariant = { λ a. IsIndexed a.pool a.numbers.items a.standings.items };
+    ghost invariant = { λ a. IsIndexed a.pool a.numbers.items a.standings.items
+        × AreLinked a.pool a.parents.items (length a.pool)
+        × (length a.pool ≤ length a.parents.items) };
 }
 
 impl Index {
@@ -72,6 +83,7 @@ impl Index {
             pool: Pool::new(alloc),
             numbers: Vec::new(alloc),
             standings: Vec::new(alloc),
+            parents: Vec::new(alloc),
         }
     }
 
@@ -101,18 +113,6 @@ impl Index {
         }
     }
 
-    /// Whether all operands of an entry's term compose.
-    pub fn all_compose(&self, i: usize) -> bool
-        requires within { i < length self.now.0 }
-        ensures { (o : Op) (us : Trees) → slice_get self.now.0 i ≡ Some (node o us)
-            → result ≡ is_some (mades_for (rows_of self.now.0) us) }
-    {
-        match self.pool.get(self.numbers[i]) {
-            Node::Atom(_) => false,
-            Node::Apply(_, ids) => all_stand(ids, &self.standings),
-        }
-    }
-
     /// The number of a term, which is put in where it isn't there yet.
     fn number(&mut self, alloc: Global, t: &Term) -> Result<NodeId, NoMemory>
         ensures same { self.new.0 ≡ self.old.0 }
@@ -120,10 +120,17 @@ impl Index {
     {
         let before = self.pool.len();
         let id = self.pool.put_term(alloc, t)?;
-        let count = self.pool.len() as usize;
-        match pad(&mut self.standings, count) {
+        let from = before as usize;
+        let _ = self.pool.len();
+        match make_room(
+            alloc,
+            &self.pool,
+            &mut self.parents,
+            &mut self.standings,
+            from,
+        ) {
             Ok(()) => {
-                settle(&self.pool, &mut self.standings, before as usize);
+                settle(&self.pool, &mut self.standings, from);
                 return Ok(id);
             }
             Err(_) => {}
@@ -132,24 +139,46 @@ impl Index {
         Err(NoMemory)
     }
 
-    /// Adds an entry with this term, and says whether it is a double.
-    pub fn push(&mut self, alloc: Global, t: &Term) -> Result<bool, NoMemory>
+    /// Adds an entry with this term, and says whether it is a double. It is listed, and so are the
+    /// entries of which an operand has come to compose. After an error more may be listed.
+    pub fn push(
+        &mut self,
+        alloc: Global,
+        t: &Term,
+        touched: &mut Vec<u32>,
+    ) -> Result<bool, NoMemory>
         requires few { length self.old.0 < 4294967296 }
         ensures ok { OnOk result (self.new.0 ≡ self.old.0 ++ tree_of t.now ∷ []) }
         ensures double { IfOk result (λ b. b ≡ is_double (row_unless
             (made_for (rows_of self.old.0) (tree_of t.now)) (tree_of t.now))) }
+        ensures touched { OnOk result ((later : List ℕ)
+            × (touched.new.items ≡ touched.old.items ++ later)
+            × AreTouched (rows_of self.old.0) (rows_of self.new.0) later) }
         ensures err { OnErr result (self.new.0 ≡ self.old.0) }
     {
         let id = self.number(alloc, t)?;
         let _ = self.pool.len();
         let at = self.numbers.len();
+        touched.push(at as u32)?;
         self.numbers.push(id)?;
         if self.standings[id.0 as usize].is_found() {
             return Ok(true);
         }
         self.standings[id.0 as usize] = Standing::At(at as u32);
-        settle(&self.pool, &mut self.standings, id.0 as usize);
-        Ok(false)
+        match spread(
+            alloc,
+            &self.pool,
+            &self.parents,
+            &mut self.standings,
+            id.0,
+            touched,
+        ) {
+            Ok(()) => return Ok(false),
+            Err(_) => {}
+        }
+        self.numbers.truncate(at);
+        forget(&self.pool, &mut self.standings, at);
+        Err(NoMemory)
     }
 
     /// Keeps the first entries.
@@ -158,8 +187,7 @@ impl Index {
         ensures { self.new.0 ≡ take at self.old.0 }
     {
         self.numbers.truncate(at);
-        clear(&mut self.standings, at);
-        settle(&self.pool, &mut self.standings, 0);
+        forget(&self.pool, &mut self.standings, at);
     }
 }
 
@@ -187,7 +215,7 @@ fn all_stand(ids: &[NodeId], standings: &[Standing]) -> bool
 }
 
 /// Whether a node is built from operands that compose.
-fn is_ready(node: &Node, standings: &[Standing]) -> bool
+pub fn is_ready(node: &Node, standings: &[Standing]) -> bool
     requires over { IsOver (length standings.now) node.now }
     ensures { result ≡ is_ready standings.now node.now }
 {
@@ -224,6 +252,28 @@ fn settle(pool: &Pool, standings: &mut Vec<Standing>, from: usize)
     }
 }
 
+/// Makes room for the new terms, from a number on. After an error there may be more lists.
+fn make_room(
+    alloc: Global,
+    pool: &Pool,
+    parents: &mut Vec<Vec<u32>>,
+    standings: &mut Vec<Standing>,
+    from: usize,
+) -> Result<(), NoMemory>
+    requires longer { length standings.old.items ≤ length pool.now }
+    ensures stay { ListsStay parents.old.items parents.new.items }
+    ensures lists { length parents.old.items ≤ length parents.new.items }
+    ensures long { OnOk result (length pool.now ≤ length parents.new.items) }
+    ensures linked { OnOk result (AreLinked pool.now parents.old.items from
+        → AreLinked pool.now parents.new.items (length pool.now)) }
+    ensures ok { OnOk result (standings.new.items ≡ standings.old.items
+        ++ replicate (length pool.now - length standings.old.items) Nowhere) }
+    ensures err { OnErr result (standings.new.items ≡ standings.old.items) }
+{
+    link(alloc, pool, parents, from)?;
+    pad(standings, pool.len() as usize)
+}
+
 /// Makes the table so long. After an error it is as before.
 fn pad(standings: &mut Vec<Standing>, count: usize) -> Result<(), NoMemory>
     requires longer { length standings.old.items ≤ count }
@@ -245,7 +295,18 @@ fn pad(standings: &mut Vec<Standing>, count: usize) -> Result<(), NoMemory>
     Ok(())
 }
 
-/// Forgets the entries from a place on.
+/// Forgets the entries from a place on, and what rests on them. It looks at all terms.
+fn forget(pool: &Pool, standings: &mut Vec<Standing>, at: usize)
+    requires long { length standings.old.items ≡ length pool.now }
+    ensures { (rs : List (Option Tree))
+        → HavePlaces rs pool.now (map (cleared at) standings.old.items)
+        → standings.new.items ≡ standings_of rs pool.now }
+{
+    clear(standings, at);
+    settle(pool, standings, 0);
+}
+
+/// Clears the places of entries from one on.
 fn clear(standings: &mut Vec<Standing>, at: usize)
     ensures { standings.new.items ≡ map (cleared at) standings.old.items }
 {

@@ -12,6 +12,8 @@ mod growth;
 mod index;
 pub mod laws;
 pub mod made;
+mod parents;
+mod spread;
 pub mod step;
 
 pub use closure::Closure;

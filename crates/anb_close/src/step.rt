@@ -58,9 +58,11 @@ impl Openings {
     }
 }
 
-/// The number of the label's entry, and the openings that came after it.
+/// The number of the label's entry, the openings that came after it, and the entries that came or of
+/// which an operand has come to compose; some may stand there more than once.
 #[derive(Drop)]
 pub struct Step {
     pub label: u32,
     pub opened: Openings,
+    pub touched: Vec<u32>,
 }

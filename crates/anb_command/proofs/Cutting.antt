@@ -9,7 +9,7 @@ use Rattle.anb_base.specs.declared.TheConstants.{ARRIVAL}
 use Rattle.anb_frame.specs.Frames.{frame, frames, length_bytes}
 use Rattle.anb_frame.specs.Cuts.{Tail, Cut}
 
-bytes_left : (xs ys : List ℕ) → IsBytes (xs ++ ys) → IsBytes xs
+pub bytes_left : (xs ys : List ℕ) → IsBytes (xs ++ ys) → IsBytes xs
 bytes_left [] ys bytes i = omega arith
 bytes_left (x ∷ xs) ys bytes zero = bytes 0
 bytes_left (x ∷ xs) ys bytes (suc i) = bytes_left xs ys (λ j. bytes (suc j)) i
@@ -18,7 +18,7 @@ pub bytes_right : (xs ys : List ℕ) → IsBytes (xs ++ ys) → IsBytes ys
 bytes_right [] ys bytes = bytes
 bytes_right (x ∷ xs) ys bytes = bytes_right xs ys (λ i. bytes (suc i))
 
-bytes_in_frames : (bs : List (List ℕ)) → IsBytes (frames bs) → AllByRecursion IsBytes bs
+pub bytes_in_frames : (bs : List (List ℕ)) → IsBytes (frames bs) → AllByRecursion IsBytes bs
 bytes_in_frames [] bytes = tt
 bytes_in_frames (b ∷ bs) bytes =
     (bytes_right (length_bytes (length b)) b (bytes_left (frame b) (frames bs) bytes), bytes_in_frames bs (bytes_right (frame b) (frames bs) bytes))

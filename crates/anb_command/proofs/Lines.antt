@@ -11,7 +11,7 @@ use Rattle.anb_command.specs.Lines.{Tells}
 use Rattle.anb_command.specs.Pieces.{joined}
 use Rattle.anb_command.specs.Statuses.{line_of, text_of}
 use Rattle.anb_command.specs.declared.status.Status.{Status}
-use Rattle.anb_command.specs.declared.status.Status.TheVariants.{Done, Usage, CannotSend}
+use Rattle.anb_command.specs.declared.status.Status.TheVariants.{Done, Usage, CannotSend, ChildCut}
 
 -- what was put, and then a prefix of what comes next, are a prefix of the whole
 pub prefix_within : (a b c : Option (List ℕ)) (front next rest whole : List ℕ) → whole ≡ front ++ (next ++ rest) → Put a b front → PutPrefix b c next → PutPrefix a c whole
@@ -41,14 +41,20 @@ line_of-other Usage other = refl
 line_of-other _ other = refl
 
 -- the line of a status is its pieces
-pub line_is : (status : Status) (a b c d e : List ℕ) → (status ≡ Done → ⊥) → text_of status ≡ a ++ (b ++ (c ++ (d ++ e)))
-    → codes "anb: " ++ (a ++ (b ++ (c ++ (d ++ (e ++ (10 ∷ [])))))) ≡ line_of status
-line_is status a b c d e other text = sym (rw (line_of-other status other, text) (simp append_assoc))
+pub line_is : (status : Status) (a b c d e f g : List ℕ) → (status ≡ Done → ⊥) → text_of status ≡ a ++ (b ++ (c ++ (d ++ (e ++ (f ++ g)))))
+    → codes "anb: " ++ (a ++ (b ++ (c ++ (d ++ (e ++ (f ++ (g ++ (10 ∷ [])))))))) ≡ line_of status
+line_is status a b c d e f g other text = sym (rw (line_of-other status other, text) (simp append_assoc))
 
 -- the text of a message that can't be composed
 pub cannot_send_text : (s : Status) (action : ℕ) (role name digits : List ℕ) → s ≡ CannotSend action role → name ≡ role → digits ≡ decimal action
     → text_of s ≡ name ++ (codes " can't compose the message of action " ++ (digits ++ []))
 cannot_send_text s action role name digits is name_is digits_are = rw (is, name_is, digits_are, append-nil) refl
+
+-- the text of a message that a child's output ends in
+pub child_cut_text : (s : Status) (action have need : ℕ) (a h n : List ℕ) → s ≡ ChildCut action have need
+    → a ≡ decimal action → h ≡ decimal have → n ≡ decimal need
+    → text_of s ≡ codes "message of action " ++ (a ++ (codes " ends after " ++ (h ++ (codes " of " ++ (n ++ codes " bytes")))))
+child_cut_text s action have need a h n is a_is h_is n_is = rw (is, a_is, h_is, n_is) refl
 
 pub on_err : {P : Type 0} (r : Result (Unit {0}) Failed) → P → OnErr r P
 on_err (Ok x) p = tt

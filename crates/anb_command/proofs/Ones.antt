@@ -32,7 +32,7 @@ use Rattle.anb_command.specs.declared.status.Status.{Status}
 use Rattle.anb_command.specs.declared.status.Status.TheVariants.{BadNarration, BadRoleFile, BadValues, CannotSend}
 use Rattle.anb_command.specs.Errands.{ErrandOf, draws}
 use Rattle.anb_command.specs.Files.{CodeInFile, CodeIs, FileIs, NarrationIs, NarrationInFile, ProtocolIs, ProtocolInFile, ValuesAre, ValuesInFile}
-use Rattle.anb_command.specs.Roles.{AllSend, PartInFile, PartOf, RoleIs}
+use Rattle.anb_command.specs.Roles.{AllSend, PartInFile, PartOf, RoleIs, SendableInFile, SendableOf}
 use Rattle.anb_command.specs.Seeds.{SeedIs}
 use Rattle.anb_command.specs.Statuses.{is_fault, phase_of, before_reach}
 use Rattle.anb_command.specs.Steps.{Answer, refused, given, InTurn, AnswersWith, HasOneAnswer}
@@ -126,7 +126,7 @@ role_one p name (refused s) (given role) x y = let never : Some role ≡ None = 
 role_one p name (given role) (refused t) x y = let never : Some role ≡ None = sym x ∙ y.1 in absurd (cc)
 role_one p name (given role) (given other) x y = let same : Some role ≡ Some other = sym x ∙ y in let e : role ≡ other = cc in ap given e
 
-send_one : (p : ProtocolValue) → HasOneAnswer (AllSend p)
+pub send_one : (p : ProtocolValue) → HasOneAnswer (AllSend p)
 send_one p (refused s) (refused t) (role, action, name, first, named, is) (role', action', name', first', named', js) =
     let same = first_one p role role' action action' first first' in
     let names : Some name ≡ Some name' = sym named ∙ ap (λ r. slice_get p.roles r) same.1 ∙ named' in
@@ -271,8 +271,12 @@ module _ (narrations : NarrationsAreUnique) (refusals : RefusalsAreUnique) (none
   pub narration_in_file_one : (name : List ℕ) → HasOneAnswer (NarrationInFile files name)
   narration_in_file_one name = then_one (FileIs files name NARRATION_LIMIT) NarrationIs (file_one files name NARRATION_LIMIT) (narration_one narrations refusals none)
 
-  protocol_in_file_one : (name : List ℕ) → HasOneAnswer (ProtocolInFile files name)
+  pub protocol_in_file_one : (name : List ℕ) → HasOneAnswer (ProtocolInFile files name)
   protocol_in_file_one name = then_one (NarrationInFile files name) ProtocolIs (narration_in_file_one name) protocol_one
+
+  pub sendable_one : (narration : List ℕ) → HasOneAnswer (SendableInFile files narration)
+  sendable_one narration =
+      then_one (ProtocolInFile files narration) SendableOf (protocol_in_file_one narration) (λ p. then_one _ _ (send_one p) (λ u. is_one p))
 
   pub part_one : (narration name : List ℕ) → HasOneAnswer (PartInFile files narration name)
   part_one narration name =
@@ -306,13 +310,13 @@ file_quiet files name limit = record { each = λ s is. quiet_as s _ is.0 (refl, 
 narration_quiet : (text : List ℕ) → RefusesQuietly (NarrationIs text)
 narration_quiet text = record { each = λ s why. quiet_as s _ why.1 (refl, refl) }
 
-protocol_quiet : (n : Narration) → RefusesQuietly (ProtocolIs n)
+pub protocol_quiet : (n : Narration) → RefusesQuietly (ProtocolIs n)
 protocol_quiet n = record { each = λ s why. quiet_as s _ why.1 (refl, refl) }
 
 role_quiet : (p : ProtocolValue) (name : List ℕ) → RefusesQuietly (RoleIs p name)
 role_quiet p name = record { each = λ s why. quiet_as s _ why.0 (refl, refl) }
 
-send_quiet : (p : ProtocolValue) → RefusesQuietly (AllSend p)
+pub send_quiet : (p : ProtocolValue) → RefusesQuietly (AllSend p)
 send_quiet p = record { each = λ s why. quiet_as s _ why.5 (refl, refl) }
 
 code_quiet : (text : List ℕ) → RefusesQuietly (CodeIs text)

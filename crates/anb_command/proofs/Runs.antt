@@ -74,7 +74,7 @@ leaves_once plays.done left arrivals unused tail one other (used, is, leaves) (u
     append_cancel_left (frames used) one other (sym leaves ∙ leaves' ∙ ap (λ (u : List (List ℕ)). frames u ++ other) (sym same))
 
 -- what was read of an input that is told leaves the rest
-reads_leaves : (end : plays.End) (left : List ℕ) (arrivals unused : List (List ℕ)) (tail : Tail) (now : Option (List ℕ)) → Reads end arrivals unused tail (Some left) now
+pub reads_leaves : (end : plays.End) (left : List ℕ) (arrivals unused : List (List ℕ)) (tail : Tail) (now : Option (List ℕ)) → Reads end arrivals unused tail (Some left) now
     → (rest : List ℕ) × (now ≡ Some rest) × LeavesAt end left arrivals unused tail rest
 reads_leaves (plays.waiting e) left arrivals unused End None (taken, took, at_end) = absurd took
 reads_leaves (plays.waiting e) left arrivals unused End (Some rest) (taken, took, at_end) = (rest, refl, at_end)

@@ -4,15 +4,16 @@ use Rattle.anb_base.specs.Moves.{Rose}
 use Rattle.anb_base.specs.Wires.{WireState}
 use Rattle.anb_base.specs.declared.place.Place.{Place}
 use Rattle.anb_command.specs.declared.status.Status.{Status}
-use Rattle.anb_command.specs.declared.status.Status.TheVariants.{Usage, FileFault, Unreached, ReadFault, WriteFault}
+use Rattle.anb_command.specs.declared.status.Status.TheVariants.{Usage, FileFault, Unreached, ReadFault, WriteFault, ChildFault}
 use Rattle.anb_command.specs.Fetches.{IsOneOf}
 
--- of the wire, which is reached at this place; words that fit no command have none
+-- of the wire, which is reached at this place; words that fit no command have none. No child is there
 abbrev pub HasWireCause : Option Place → (old new : WireState) → Status → Type 0
 HasWireCause place old new (Unreached at) = (place ≡ Some at) × Rose old.reach_faults new.reach_faults
 HasWireCause place old new ReadFault = Rose old.read_faults new.read_faults
 HasWireCause place old new WriteFault = Rose old.write_faults new.write_faults
 HasWireCause place old new (FileFault file) = ⊥
+HasWireCause place old new (ChildFault role) = ⊥
 HasWireCause place old new Usage = place ≡ None
 HasWireCause place old new status = Unit {0}
 

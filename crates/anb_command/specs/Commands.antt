@@ -6,7 +6,7 @@ use Rattle.anb_command.specs.declared.words.Command.{Command}
 use Rattle.anb_command.specs.declared.words.Command.TheVariants as command
 use Rattle.anb_command.specs.declared.words.Endpoint.{Endpoint}
 use Rattle.anb_command.specs.declared.words.Endpoint.TheVariants as endpoint
-use Rattle.anb_command.specs.Words.{Asked, fmt, describe, play, enact, replay, host, help}
+use Rattle.anb_command.specs.Words.{Asked, fmt, describe, play, enact, replay, host, rehearse, drill, help, why, park, resume, chart}
 
 abbrev pub place_by : Endpoint → Place
 place_by endpoint.Stdio = place.Stdio
@@ -22,4 +22,12 @@ asked_by (Some (command.Enact file)) = Some (enact file.code.now file.values.now
 asked_by (Some (command.Replay words)) =
     Some (replay words.narration.now words.name.now words.values.now words.transcript.now)
 asked_by (Some (command.Host role)) = Some (host role.narration.now role.name.now role.values.now (place_by role.endpoint))
+asked_by (Some (command.Rehearse words)) = Some (rehearse words.narration.now words.values.now words.schedule.now)
+asked_by (Some (command.Drill exchanges)) = Some (drill exchanges)
 asked_by (Some command.Help) = Some help
+asked_by (Some (command.Why narration)) = Some (why narration.now)
+asked_by (Some (command.Park words)) =
+    Some (park words.play.narration.now words.play.name.now words.play.values.now words.key.now (place_by words.play.endpoint))
+asked_by (Some (command.Resume words)) =
+    Some (resume words.narration.now words.name.now words.parked.now words.key.now (place_by words.endpoint))
+asked_by (Some (command.Chart narration)) = Some (chart narration.now)

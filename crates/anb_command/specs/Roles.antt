@@ -24,6 +24,10 @@ AllSend p (refused status) =
     (role : ℕ) × (action : ℕ) × (name : List ℕ) × IsFirstUnsentOfAll p role action × (slice_get p.roles role ≡ Some name) × (status ≡ CannotSend action name)
 AllSend p (given _) = IsSendable p
 
+-- the protocol, where all its roles can send
+abbrev pub SendableOf : ProtocolValue → Answer ProtocolValue → Type 0
+SendableOf p = InTurn (AllSend p) (λ _. AnswersWith p)
+
 -- a role of a protocol
 pub record Part : Type 0 where
   pub protocol : ProtocolValue
@@ -38,5 +42,8 @@ PartOf p name =
 
 module _ (files : List ℕ → Option (List ℕ)) where
   -- the same, of the protocol in a file
+  abbrev pub SendableInFile : (narration : List ℕ) → Answer ProtocolValue → Type 0
+  SendableInFile narration = InTurn (ProtocolInFile files narration) SendableOf
+
   abbrev pub PartInFile : (narration name : List ℕ) → Answer Part → Type 0
   PartInFile narration name = InTurn (ProtocolInFile files narration) (λ p. PartOf p name)

@@ -22,7 +22,7 @@ use Rattle.anb_values.specs.declared.refusal.ValuesNo.TheVariants as fitting
 use Rattle.anb_command.specs.declared.status.NarrationNo.{NarrationNo}
 use Rattle.anb_command.specs.declared.status.NarrationNo.TheVariants.{Read, Resolve}
 use Rattle.anb_command.specs.declared.status.Status.{Status}
-use Rattle.anb_command.specs.declared.status.Status.TheVariants.{Done, Usage, FileFault, FileLong, BadNarration, NoRole, CannotSend, BadValues, NoSeed, Unreached, Stopped, Waiting, Truncated, TooLarge, ReadFault, WriteFault, BadRoleFile, BadTranscript, Differs, Short, BadKind, Spent, NoMemory}
+use Rattle.anb_command.specs.declared.status.Status.TheVariants.{Done, Usage, FileFault, FileLong, BadNarration, NoRole, CannotSend, BadValues, NoSeed, Unreached, Stopped, Waiting, Truncated, TooLarge, ReadFault, WriteFault, BadRoleFile, BadTranscript, Differs, Short, BadKind, Spent, LongMessage, BadTurn, NotAll, Parked, BadRecord, ChildFault, ChildEnded, ChildCut, ChildLong, ChildBad, NoMemory}
 
 abbrev pub number_of : Status → ℕ
 number_of Done = 0
@@ -47,6 +47,16 @@ number_of (Differs line due) = 18
 number_of (Short event) = 19
 number_of (BadKind kind) = 20
 number_of (Spent frames) = 21
+number_of (LongMessage action len) = 22
+number_of (BadTurn turn) = 23
+number_of (NotAll report) = 24
+number_of (Parked event) = 29
+number_of (BadRecord why) = 30
+number_of (ChildFault role) = 31
+number_of (ChildEnded action) = 32
+number_of (ChildCut action have need) = 33
+number_of (ChildLong action len) = 34
+number_of (ChildBad role status) = 35
 number_of NoMemory = 99
 
 -- why a text is no narration
@@ -153,6 +163,17 @@ text_of (Differs line due) = codes "transcript line " ++ (decimal line ++ codes 
 text_of (Short event) = codes "transcript ends before event " ++ decimal event
 text_of (BadKind kind) = codes "no frame kind " ++ decimal kind
 text_of (Spent frames) = decimal frames ++ codes " frames handled"
+text_of (LongMessage action len) = codes "message of action " ++ (decimal action ++ (codes " has " ++ (decimal len ++ codes " bytes")))
+text_of (BadTurn turn) = codes "turn " ++ (decimal turn ++ codes " names no role")
+text_of (NotAll report) = codes "not all roles are done"
+text_of (Parked event) = codes "parked at event " ++ decimal event
+text_of (BadRecord why) = codes "record refused"
+text_of (ChildFault role) = codes "child " ++ (role ++ codes " failed")
+text_of (ChildEnded action) = codes "no message of action " ++ decimal action
+text_of (ChildCut action have need) =
+    codes "message of action " ++ (decimal action ++ (codes " ends after " ++ (decimal have ++ (codes " of " ++ (decimal need ++ codes " bytes")))))
+text_of (ChildLong action len) = codes "message of action " ++ (decimal action ++ (codes " has " ++ (decimal len ++ codes " bytes")))
+text_of (ChildBad role status) = codes "child " ++ (role ++ (codes " ended with " ++ decimal status))
 text_of NoMemory = codes "no memory"
 
 -- its line; there is none where all was done
@@ -166,6 +187,7 @@ is_fault (FileFault name) = true
 is_fault (Unreached place) = true
 is_fault ReadFault = true
 is_fault WriteFault = true
+is_fault (ChildFault role) = true
 is_fault NoMemory = true
 is_fault status = false
 
@@ -197,6 +219,13 @@ phase_of (BadValues why) = before_reach
 phase_of NoSeed = before_reach
 phase_of (BadRoleFile why) = before_reach
 phase_of (BadTranscript line) = before_reach
+phase_of (BadTurn turn) = before_reach
+phase_of (BadRecord why) = before_reach
+phase_of (ChildFault role) = before_reach
+phase_of (ChildEnded action) = before_reach
+phase_of (ChildCut action have need) = before_reach
+phase_of (ChildLong action len) = before_reach
+phase_of (ChildBad role status) = before_reach
 phase_of (Unreached place) = at_reach
 phase_of NoMemory = at_any_time
 phase_of status = after_reach
@@ -208,6 +237,12 @@ is_untouched at_reach = true
 is_untouched after_reach = false
 is_untouched at_any_time = false
 
+-- neither of the words nor of a child
+abbrev pub IsOfFiles : Status → Type 0
+IsOfFiles Usage = ⊥
+IsOfFiles (ChildFault role) = ⊥
+IsOfFiles status = Unit {0}
+
 -- a refusal of files before the place is reached, or want of memory
 abbrev pub IsEarly : Status → Type 0
-IsEarly status = ((phase_of status ≡ before_reach) × (status ≡ Usage → ⊥)) ⊎ (status ≡ NoMemory)
+IsEarly status = ((phase_of status ≡ before_reach) × IsOfFiles status) ⊎ (status ≡ NoMemory)

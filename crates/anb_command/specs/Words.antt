@@ -15,7 +15,13 @@ pub data Asked : Type 0 where
   enact : (code values : List ℕ) → Place → Asked
   replay : (narration role values transcript : List ℕ) → Asked
   host : (narration role values : List ℕ) → Place → Asked
+  rehearse : (narration values schedule : List ℕ) → Asked
+  drill : (exchanges : ℕ) → Asked
   help : Asked
+  why : (narration : List ℕ) → Asked
+  park : (narration role values key : List ℕ) → Place → Asked
+  resume : (narration role parked key : List ℕ) → Place → Asked
+  chart : (narration : List ℕ) → Asked
 
 -- a name may be any word that isn't empty and doesn't begin with `-`
 abbrev pub is_operand : List ℕ → Bool
@@ -72,6 +78,41 @@ host_in (narration ∷ role ∷ values ∷ place) =
     if is_operand narration && is_operand role && is_operand values then option_map (host narration role values) (place_in place) else None
 host_in words = None
 
+abbrev pub rehearse_in : List (List ℕ) → Option Asked
+rehearse_in (narration ∷ values ∷ schedule ∷ []) =
+    if is_operand narration && is_operand values && is_operand schedule
+    then Some (rehearse narration values schedule) else None
+rehearse_in words = None
+
+-- a drill has 1 to 200 exchanges, in decimal without a sign or leading zeros
+abbrev pub drill_of : Option ℕ → Option Asked
+drill_of None = None
+drill_of (Some exchanges) = if nat_le 1 exchanges && nat_le exchanges 200 then Some (drill exchanges) else None
+
+abbrev pub drill_in : List (List ℕ) → Option Asked
+drill_in (exchanges ∷ []) = drill_of (number_of exchanges)
+drill_in words = None
+
+abbrev pub why_in : List (List ℕ) → Option Asked
+why_in (narration ∷ []) = if is_operand narration then Some (why narration) else None
+why_in words = None
+
+abbrev pub park_in : List (List ℕ) → Option Asked
+park_in (narration ∷ role ∷ values ∷ key ∷ place) =
+    if is_operand narration && is_operand role && is_operand values && is_operand key
+    then option_map (park narration role values key) (place_in place) else None
+park_in words = None
+
+abbrev pub resume_in : List (List ℕ) → Option Asked
+resume_in (narration ∷ role ∷ parked ∷ key ∷ place) =
+    if is_operand narration && is_operand role && is_operand parked && is_operand key
+    then option_map (resume narration role parked key) (place_in place) else None
+resume_in words = None
+
+abbrev pub chart_in : List (List ℕ) → Option Asked
+chart_in (narration ∷ []) = if is_operand narration then Some (chart narration) else None
+chart_in words = None
+
 abbrev pub help_in : List (List ℕ) → Option Asked
 help_in [] = Some help
 help_in words = None
@@ -85,7 +126,13 @@ command_in command words =
     else if bytes_eq command (codes "enact") then enact_in words
     else if bytes_eq command (codes "replay") then replay_in words
     else if bytes_eq command (codes "host") then host_in words
+    else if bytes_eq command (codes "rehearse") then rehearse_in words
+    else if bytes_eq command (codes "drill") then drill_in words
     else if bytes_eq command (codes "help") then help_in words
+    else if bytes_eq command (codes "why") then why_in words
+    else if bytes_eq command (codes "park") then park_in words
+    else if bytes_eq command (codes "resume") then resume_in words
+    else if bytes_eq command (codes "chart") then chart_in words
     else None
 
 abbrev pub asked_of : List (List ℕ) → Option Asked
@@ -101,7 +148,13 @@ files_of (Some (play narration role values place)) = narration ∷ values ∷ []
 files_of (Some (enact code values place)) = code ∷ values ∷ []
 files_of (Some (replay narration role values transcript)) = narration ∷ values ∷ transcript ∷ []
 files_of (Some (host narration role values place)) = narration ∷ values ∷ []
+files_of (Some (rehearse narration values schedule)) = narration ∷ values ∷ schedule ∷ []
+files_of (Some (drill exchanges)) = []
 files_of (Some help) = []
+files_of (Some (why narration)) = narration ∷ []
+files_of (Some (park narration role values key place)) = narration ∷ values ∷ key ∷ []
+files_of (Some (resume narration role parked key place)) = narration ∷ parked ∷ key ∷ []
+files_of (Some (chart narration)) = narration ∷ []
 
 -- the place that is reached
 abbrev pub place_of : Option Asked → Option Place
@@ -112,11 +165,19 @@ place_of (Some (play narration role values place)) = Some place
 place_of (Some (enact code values place)) = Some place
 place_of (Some (replay narration role values transcript)) = Some Stdio
 place_of (Some (host narration role values place)) = Some place
+place_of (Some (rehearse narration values schedule)) = Some Stdio
+place_of (Some (drill exchanges)) = Some Stdio
 place_of (Some help) = Some Stdio
+place_of (Some (why narration)) = Some Stdio
+place_of (Some (park narration role values key place)) = Some place
+place_of (Some (resume narration role parked key place)) = Some place
+place_of (Some (chart narration)) = Some Stdio
 
 -- whether the input is read
 abbrev pub is_reading : Option Asked → Bool
 is_reading (Some (play narration role values place)) = true
 is_reading (Some (enact code values place)) = true
 is_reading (Some (host narration role values place)) = true
+is_reading (Some (park narration role values key place)) = true
+is_reading (Some (resume narration role parked key place)) = true
 is_reading asked = false

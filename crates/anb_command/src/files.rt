@@ -28,7 +28,7 @@ use anb_values::{Fitted, ValuesNo, values};
 use std::alloc::Global;
 
 /// The file of this name, where it has at most `limit` bytes.
-fn fetch_file<F: Shelf>(
+pub fn fetch_file<F: Shelf>(
     alloc: Global,
     shelf: &mut F,
     name: &Text,
@@ -134,7 +134,7 @@ pub fn protocol_in_file<F: Shelf>(
 }
 
 /// The protocol that the narration tells.
-fn protocol_of_narration(alloc: Global, narration: &Narration) -> Result<Protocol, Status>
+pub fn protocol_of_narration(alloc: Global, narration: &Narration) -> Result<Protocol, Status>
     requires spellable { IsSpellable (narration_of narration.now) }
     requires small { size (narration_of narration.now) ≤ NARRATION_LIMIT }
     ensures given { IfOk result (λ p. ProtocolIs (narration_of narration.now) (given p)) }

@@ -13,16 +13,25 @@ mod status;
 mod text;
 mod words;
 
-pub use files::{code_in_file, narration_in_file, transcript_in_file};
-pub use limits::{NARRATION_LIMIT, ROLE_FILE_LIMIT, TRANSCRIPT_LIMIT, VALUES_LIMIT};
+pub use files::{
+    code_in_file, fetch_file, narration_in_file, protocol_in_file, protocol_of_narration,
+    transcript_in_file, values_in_file,
+};
+pub use limits::{
+    KEY_LIMIT, NARRATION_LIMIT, RECORD_LIMIT, ROLE_FILE_LIMIT, SCHEDULE_LIMIT, TRANSCRIPT_LIMIT,
+    VALUES_LIMIT,
+};
 pub use line::tell;
 pub use over::run_over;
-pub use playable::{Playable, playable_in_file};
-pub use prepare::{Prepared, prepare_code};
+pub use playable::{Playable, codes_of, playable_in_file, playable_of, sendable_in_file};
+pub use prepare::{Prepared, prepare_code, seed_of};
 pub use reaching::{reach, reach_stdio};
-pub use status::{Due, Halt, NarrationNo, Status};
+pub use status::{Due, Halt, NarrationNo, ParkNo, Report, Status};
 pub use text::{reach_streams, write_text};
-pub use words::{Command, EnactWords, Endpoint, PlayWords, ReplayWords, RoleText};
+pub use words::{
+    Command, EnactWords, Endpoint, ParkWords, PlayWords, RehearseWords, ReplayWords, ResumeWords,
+    RoleText, is_operand,
+};
 
 #[cfg(test)]
 mod tests;

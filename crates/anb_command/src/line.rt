@@ -24,8 +24,8 @@ pub fn tell<E: Sink>(err: &mut E, status: &Status)
         return;
     }
     let mut digits = Digits::new();
-    let (a, b, c, d, e) = status.pieces(&mut digits);
-    let _ = write_line(err, &["anb: ", a, b, c, d, e, "\n"]);
+    let (a, b, c, d, e, f, g) = status.pieces(&mut digits);
+    let _ = write_line(err, &["anb: ", a, b, c, d, e, f, g, "\n"]);
 }
 
 /// Writes the pieces one after another, at once where they aren't too many bytes.

@@ -1,9 +1,9 @@
 //! A role that can be played: its protocol, its number, and its code.
-ghost use Rattle.std.specs.Prelude.{◌≡◌, ◌⊎◌, ◌<◌, ℕ, List, [], ◌∷◌, length, slice_get, Some, IfOk, IfErr};
+ghost use Rattle.std.specs.Prelude.{◌≡◌, ◌⊎◌, ◌<◌, ℕ, List, [], ◌∷◌, length, slice_get, Some, IfOk, IfErr, OnOk};
 ghost use Rattle.anb_base.specs.Moves.{Rose};
-ghost use Rattle.anb_compile.specs.Fitting.{FitsRole};
+ghost use Rattle.anb_compile.specs.Fitting.{FitRoles, FitsRole};
 ghost use Rattle.anb_command.specs.Fetches.{Fetches, IfTold};
-ghost use Rattle.anb_command.specs.Roles.{AllSend, PartInFile, PartOf, RoleIs};
+ghost use Rattle.anb_command.specs.Roles.{AllSend, PartInFile, PartOf, RoleIs, SendableInFile};
 ghost use Rattle.anb_command.specs.Statuses.{IsEarly};
 ghost use Rattle.anb_command.specs.Steps.{IsFailure, refused, given};
 ghost use Rattle.anb_command.specs.declared.status.Status.TheVariants as status;
@@ -51,7 +51,7 @@ pub fn playable_in_file<F: Shelf>(
 }
 
 /// The protocol's role with this name.
-fn playable_of(alloc: Global, protocol: Protocol, name: &Text) -> Result<Playable, Status>
+pub fn playable_of(alloc: Global, protocol: Protocol, name: &Text) -> Result<Playable, Status>
     ensures given { IfOk result (λ p.
         PartOf protocol name.now (given (record { protocol = p.protocol; role = p.role }))) }
     ensures within { IfOk result (λ p. p.role < length p.protocol.roles) }
@@ -107,12 +107,52 @@ fn code_of(alloc: Global, protocol: &Protocol, role: u32) -> Result<RoleCode, St
         (AllSend protocol.now (refused status))) }
     ensures early { IfErr result IsEarly }
 {
-    match compile_all(alloc, protocol) {
+    match codes_of(alloc, protocol) {
         Ok(mut codes) => Ok(codes.swap_remove(role as usize)),
+        Err(status) => Err(status),
+    }
+}
+
+/// The codes of all roles, in order, where all can send.
+pub fn codes_of(alloc: Global, protocol: &Protocol) -> Result<Vec<RoleCode>, Status>
+    ensures given { OnOk result (AllSend protocol.now (given tt)) }
+    ensures fit { IfOk result (λ codes. FitRoles protocol.now codes.items) }
+    ensures refused { IfErr result (λ status. IsFailure status (λ file. ⊥)
+        (AllSend protocol.now (refused status))) }
+    ensures early { IfErr result IsEarly }
+{
+    match compile_all(alloc, protocol) {
+        Ok(codes) => Ok(codes),
         Err(CompileNo::CannotSend { action, role }) => {
             Err(cannot_send(alloc, protocol, action, role))
         }
         Err(CompileNo::NoMemory) => Err(Status::NoMemory),
+    }
+}
+
+/// The protocol in a narration's file, where all its roles can send.
+pub fn sendable_in_file<F: Shelf>(
+    alloc: Global,
+    shelf: &mut F,
+    narration: &Text,
+) -> Result<Protocol, Status>
+    ensures given { IfOk result (λ p. IfTold (F.files shelf.old) (λ files.
+        SendableInFile files narration.now (given p))) }
+    ensures refused { IfErr result (λ status. IsFailure status
+        (λ file. (file ≡ narration.now) × Rose (F.faults shelf.old file) (F.faults shelf.new file))
+        (IfTold (F.files shelf.old) (λ files.
+        SendableInFile files narration.now (refused status)))) }
+    ensures early { IfErr result IsEarly }
+    ensures fetches { Fetches (narration.now ∷ [])
+        (F.files shelf.old) (F.files shelf.new) (F.faults shelf.old) (F.faults shelf.new) }
+{
+    let protocol = match protocol_in_file(alloc, shelf, narration) {
+        Ok(protocol) => protocol,
+        Err(status) => return Err(status),
+    };
+    match codes_of(alloc, &protocol) {
+        Ok(_) => Ok(protocol),
+        Err(status) => Err(status),
     }
 }
 

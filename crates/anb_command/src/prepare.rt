@@ -90,7 +90,7 @@ fn copy_takes(alloc: Global, code: &RoleCode) -> Result<Vec<Text>, NoMemory>
 }
 
 /// The seed of the draws, where a name is made or where it isn't.
-fn seed_of(
+pub fn seed_of(
     makes: bool,
     file_seed: Option<[u8; 32]>,
     host_seed: Option<[u8; 32]>,

@@ -5,7 +5,9 @@ ghost use Rattle.anb_command.specs.Statuses.{instruction_text, item_text, kind_t
 use anb_base::{NoMemory, Place, Text};
 use anb_code::CodeNo;
 use anb_format::FormatNo;
+pub use anb_honest::Report;
 pub use anb_machine::Halt;
+pub use anb_park::ParkNo;
 use anb_read::ReadNo;
 use anb_resolve::{Item, Kind, ResolveNo};
 use anb_text::LoadNo;
@@ -71,6 +73,28 @@ pub enum Status {
     BadKind(u8),
     /// As many frames of a host were handled as may be.
     Spent(u32),
+    /// The message of this action has this length, which is more than an arrival may have; action 0
+    /// is for an initial value.
+    LongMessage { action: u32, len: u64 },
+    /// This word of the schedule, numbered from 1, names no role, the first such.
+    BadTurn(u32),
+    /// The schedule ends before all roles are done; the report is written.
+    NotAll(Report),
+    /// The role waits for the arrival of this event, and its record was written.
+    Parked(u32),
+    /// The record isn't one to go on from.
+    BadRecord(ParkNo),
+    /// A call for the child of this role failed.
+    ChildFault(Text),
+    /// The output of this action's sender ended in the place of its message.
+    ChildEnded(u32),
+    /// It ended within the message's frame, after `have` of the `need` bytes of this, both with its
+    /// length. Where the length isn't whole, `need` is 4.
+    ChildCut { action: u32, have: u64, need: u64 },
+    /// The message of this action has so many bytes, which is too much.
+    ChildLong { action: u32, len: u32 },
+    /// The child of this role ended with another status than 0.
+    ChildBad { role: Text, status: u8 },
     /// No memory was left.
     NoMemory,
 }
@@ -87,13 +111,22 @@ impl From<NoMemory> for Status {
 }
 
 /// A text in pieces.
-pub type Pieces<'a> = (&'a str, &'a str, &'a str, &'a str, &'a str);
+pub type Pieces<'a> = (
+    &'a str,
+    &'a str,
+    &'a str,
+    &'a str,
+    &'a str,
+    &'a str,
+    &'a str,
+);
 
-/// Room for the digits of the two numbers that a line may have.
+/// Room for the digits of the three numbers that a line may have.
 #[derive(Drop)]
 pub struct Digits {
     first: Buffer,
     second: Buffer,
+    third: Buffer,
 }
 
 impl Digits {
@@ -101,6 +134,7 @@ impl Digits {
         Digits {
             first: Buffer::new(),
             second: Buffer::new(),
+            third: Buffer::new(),
         }
     }
 }
@@ -136,6 +170,16 @@ impl Status {
             Status::Short(_) => 19,
             Status::BadKind(_) => 20,
             Status::Spent(_) => 21,
+            Status::LongMessage { .. } => 22,
+            Status::BadTurn(_) => 23,
+            Status::NotAll(_) => 24,
+            Status::Parked(_) => 29,
+            Status::BadRecord(_) => 30,
+            Status::ChildFault(_) => 31,
+            Status::ChildEnded(_) => 32,
+            Status::ChildCut { .. } => 33,
+            Status::ChildLong { .. } => 34,
+            Status::ChildBad { .. } => 35,
             Status::NoMemory => 99,
         }
     }
@@ -143,32 +187,39 @@ impl Status {
     /// What the status says, in pieces. The digits hold those that are numbers.
     pub fn pieces<'a>(&'a self, digits: &'a mut Digits) -> Pieces<'a>
         ensures { text_of self.now ≡
-            result.0.now ++ (result.1.now ++ (result.2.now ++ (result.3.now ++ result.4.now))) }
+            result.0.now ++ (result.1.now ++ (result.2.now ++ (result.3.now
+            ++ (result.4.now ++ (result.5.now ++ result.6.now))))) }
     {
-        let Digits { first, second } = digits;
+        let Digits {
+            first,
+            second,
+            third,
+        } = digits;
         match self {
-            Status::Done => ("", "", "", "", ""),
-            Status::Usage => ("the words fit no command", "", "", "", ""),
-            Status::FileFault(name) => ("can't read ", name.as_str(), "", "", ""),
-            Status::FileLong(name) => (name.as_str(), " is too long", "", "", ""),
+            Status::Done => ("", "", "", "", "", "", ""),
+            Status::Usage => ("the words fit no command", "", "", "", "", "", ""),
+            Status::FileFault(name) => ("can't read ", name.as_str(), "", "", "", "", ""),
+            Status::FileLong(name) => (name.as_str(), " is too long", "", "", "", "", ""),
             Status::BadNarration(why) => {
                 let (a, b, c, d) = why.pieces(first);
-                ("narration: ", a, b, c, d)
+                ("narration: ", a, b, c, d, "", "")
             }
-            Status::NoRole(name) => ("no role ", name.as_str(), "", "", ""),
+            Status::NoRole(name) => ("no role ", name.as_str(), "", "", "", "", ""),
             Status::CannotSend { action, role } => (
                 role.as_str(),
                 " can't compose the message of action ",
                 first.format(*action),
                 "",
                 "",
+                "",
+                "",
             ),
             Status::BadValues(why) => {
                 let (what, which) = unfit(why, first);
-                ("values: ", what, which, "", "")
+                ("values: ", what, which, "", "", "", "")
             }
-            Status::NoSeed => ("no seed", "", "", "", ""),
-            Status::Unreached(place) => ("can't reach ", where_text(place), "", "", ""),
+            Status::NoSeed => ("no seed", "", "", "", "", "", ""),
+            Status::Unreached(place) => ("can't reach ", where_text(place), "", "", "", "", ""),
             Status::Stopped(halt) => {
                 let (what, which) = instruction(halt.at, second);
                 (
@@ -177,22 +228,34 @@ impl Status {
                     what,
                     which,
                     "",
+                    "",
+                    "",
                 )
             }
-            Status::Waiting(event) => ("waiting at event ", first.format(*event), "", "", ""),
+            Status::Waiting(event) => (
+                "waiting at event ",
+                first.format(*event),
+                "",
+                "",
+                "",
+                "",
+                "",
+            ),
             Status::Truncated { have, need } => (
                 "input ends after ",
                 first.format(*have),
                 " of ",
                 second.format(*need),
                 " bytes",
+                "",
+                "",
             ),
-            Status::TooLarge(len) => ("a frame of ", first.format(*len), " bytes", "", ""),
-            Status::ReadFault => ("read failed", "", "", "", ""),
-            Status::WriteFault => ("write failed", "", "", "", ""),
+            Status::TooLarge(len) => ("a frame of ", first.format(*len), " bytes", "", "", "", ""),
+            Status::ReadFault => ("read failed", "", "", "", "", "", ""),
+            Status::WriteFault => ("write failed", "", "", "", "", "", ""),
             Status::BadRoleFile(why) => {
                 let (what, which, is) = unloaded(*why, first);
-                ("role file: ", what, which, is, "")
+                ("role file: ", what, which, is, "", "", "")
             }
             Status::BadTranscript(line) => (
                 "transcript line ",
@@ -200,9 +263,19 @@ impl Status {
                 " can't be read",
                 "",
                 "",
+                "",
+                "",
             ),
             Status::Differs { line, .. } => {
-                ("transcript line ", first.format(*line), " differs", "", "")
+                (
+                    "transcript line ",
+                    first.format(*line),
+                    " differs",
+                    "",
+                    "",
+                    "",
+                    "",
+                )
             }
             Status::Short(event) => (
                 "transcript ends before event ",
@@ -210,10 +283,70 @@ impl Status {
                 "",
                 "",
                 "",
+                "",
+                "",
             ),
-            Status::BadKind(kind) => ("no frame kind ", first.format(*kind), "", "", ""),
-            Status::Spent(frames) => (first.format(*frames), " frames handled", "", "", ""),
-            Status::NoMemory => ("no memory", "", "", "", ""),
+            Status::BadKind(kind) => ("no frame kind ", first.format(*kind), "", "", "", "", ""),
+            Status::Spent(frames) => (first.format(*frames), " frames handled", "", "", "", "", ""),
+            Status::LongMessage { action, len } => (
+                "message of action ",
+                first.format(*action),
+                " has ",
+                second.format(*len),
+                " bytes",
+                "",
+                "",
+            ),
+            Status::BadTurn(turn) => (
+                "turn ",
+                first.format(*turn),
+                " names no role",
+                "",
+                "",
+                "",
+                "",
+            ),
+            Status::NotAll(_) => ("not all roles are done", "", "", "", "", "", ""),
+            Status::Parked(event) => ("parked at event ", first.format(*event), "", "", "", "", ""),
+            Status::BadRecord(_) => ("record refused", "", "", "", "", "", ""),
+            Status::ChildFault(role) => ("child ", role.as_str(), " failed", "", "", "", ""),
+            Status::ChildEnded(action) => (
+                "no message of action ",
+                first.format(*action),
+                "",
+                "",
+                "",
+                "",
+                "",
+            ),
+            Status::ChildCut { action, have, need } => (
+                "message of action ",
+                first.format(*action),
+                " ends after ",
+                second.format(*have),
+                " of ",
+                third.format(*need),
+                " bytes",
+            ),
+            Status::ChildLong { action, len } => (
+                "message of action ",
+                first.format(*action),
+                " has ",
+                second.format(*len),
+                " bytes",
+                "",
+                "",
+            ),
+            Status::ChildBad { role, status } => (
+                "child ",
+                role.as_str(),
+                " ended with ",
+                first.format(*status),
+                "",
+                "",
+                "",
+            ),
+            Status::NoMemory => ("no memory", "", "", "", "", "", ""),
         }
     }
 }

@@ -1,7 +1,8 @@
 //! The words of a command, and what they ask for.
 ghost use Rattle.std.specs.Prelude.{◌≡◌, ◌<◌, ◌^◌, ℕ, decimal, is_some};
 ghost use Rattle.anb_text.specs.Reading.{number_of};
-ghost use Rattle.anb_command.specs.Words.{are_seconds, is_operand};
+ghost use Rattle.std.specs.Option.{option_map};
+ghost use Rattle.anb_command.specs.Words.{are_seconds, drill, drill_of, is_operand};
 
 use anb_base::{NoMemory, Place, Text};
 use itoa::Buffer;
@@ -21,7 +22,18 @@ pub enum Command<'w> {
     Enact(EnactWords<'w>),
     Replay(ReplayWords<'w>),
     Host(PlayWords<'w>),
+    Rehearse(RehearseWords<'w>),
+    /// The number of exchanges of the drill, from 1 to 200.
+    Drill(u32),
     Help,
+    Why {
+        narration: &'w Text,
+    },
+    Park(ParkWords<'w>),
+    Resume(ResumeWords<'w>),
+    Chart {
+        narration: &'w Text,
+    },
 }
 
 /// What is written of a role.
@@ -59,6 +71,32 @@ pub struct ReplayWords<'w> {
     pub transcript: &'w Text,
 }
 
+/// What is asked of `rehearse`: the names of the files.
+#[derive(Clone, Copy)]
+pub struct RehearseWords<'w> {
+    pub narration: &'w Text,
+    pub values: &'w Text,
+    pub schedule: &'w Text,
+}
+
+/// What is asked of `park`: what is asked of `play`, and the name of the key's file.
+#[derive(Clone, Copy)]
+pub struct ParkWords<'w> {
+    pub play: PlayWords<'w>,
+    pub key: &'w Text,
+}
+
+/// What is asked of `resume`: the names of the files, one of them the record's, and of the role, and
+/// the place.
+#[derive(Clone, Copy)]
+pub struct ResumeWords<'w> {
+    pub narration: &'w Text,
+    pub name: &'w Text,
+    pub parked: &'w Text,
+    pub key: &'w Text,
+    pub endpoint: Endpoint<'w>,
+}
+
 /// The place that the words name, and the most seconds that reaching it or a single wait may take.
 #[derive(Clone, Copy)]
 pub enum Endpoint<'w> {
@@ -71,6 +109,7 @@ impl<'w> Command<'w> {
     ghost use Rattle.std.specs.Prelude.{◌≡◌};
     ghost use Rattle.anb_command.specs.Commands.{asked_by};
     ghost use Rattle.anb_command.specs.Words.{asked_of, command_in, enact_in, fmt_in, help_in, host_in, play_in, describe_in, replay_in};
+    ghost use Rattle.anb_command.specs.Words.{chart_in, drill_in, park_in, rehearse_in, resume_in, why_in};
 
     /// Reads a whole word list.
     pub fn read(words: &'w [Text]) -> Option<Self>
@@ -93,7 +132,13 @@ impl<'w> Command<'w> {
             "enact" => Self::read_enact(words),
             "replay" => Self::read_replay(words),
             "host" => Self::read_host(words),
+            "rehearse" => Self::read_rehearse(words),
+            "drill" => Self::read_drill(words),
             "help" => Self::read_help(words),
+            "why" => Self::read_why(words),
+            "park" => Self::read_park(words),
+            "resume" => Self::read_resume(words),
+            "chart" => Self::read_chart(words),
             _ => None,
         }
     }
@@ -195,6 +240,93 @@ impl<'w> Command<'w> {
         }))
     }
 
+    fn read_rehearse(words: &'w [Text]) -> Option<Self>
+        ensures { asked_by result ≡ rehearse_in words.now }
+    {
+        match words {
+            [narration, values, schedule]
+                if is_operand(narration) && is_operand(values) && is_operand(schedule) => {
+                Some(Command::Rehearse(RehearseWords {
+                    narration,
+                    values,
+                    schedule,
+                }))
+            }
+            _ => None,
+        }
+    }
+
+    fn read_drill(words: &'w [Text]) -> Option<Self>
+        ensures { asked_by result ≡ drill_in words.now }
+    {
+        match words {
+            [exchanges] => Some(Command::Drill(read_exchanges(exchanges)?)),
+            _ => None,
+        }
+    }
+
+    fn read_park(words: &'w [Text]) -> Option<Self>
+        ensures { asked_by result ≡ park_in words.now }
+    {
+        let [narration, name, values, key, place @ ..] = words else {
+            return None;
+        };
+        if !(is_operand(narration) && is_operand(name) && is_operand(values)) {
+            return None;
+        }
+        if !is_operand(key) {
+            return None;
+        }
+        let endpoint = Endpoint::read(place)?;
+        let play = PlayWords {
+            narration,
+            name,
+            values,
+            endpoint,
+        };
+        Some(Command::Park(ParkWords { play, key }))
+    }
+
+    fn read_resume(words: &'w [Text]) -> Option<Self>
+        ensures { asked_by result ≡ resume_in words.now }
+    {
+        let [narration, name, parked, key, place @ ..] = words else {
+            return None;
+        };
+        if !(is_operand(narration) && is_operand(name) && is_operand(parked)) {
+            return None;
+        }
+        if !is_operand(key) {
+            return None;
+        }
+        let endpoint = Endpoint::read(place)?;
+        Some(Command::Resume(ResumeWords {
+            narration,
+            name,
+            parked,
+            key,
+            endpoint,
+        }))
+    }
+
+    fn read_why(words: &'w [Text]) -> Option<Self>
+        ensures { asked_by result ≡ why_in words.now }
+    {
+        match words {
+            [narration] if is_operand(narration) => Some(Command::Why { narration }),
+            _ => None,
+        }
+    }
+
+    fn read_chart(words: &'w [Text]) -> Option<Self>
+        ensures { asked_by result ≡ chart_in words.now }
+    {
+        match words {
+            [narration] if is_operand(narration) => Some(Command::Chart { narration }),
+            _ => None,
+        }
+    }
+
     fn read_help(words: &'w [Text]) -> Option<Self>
         ensures { asked_by result ≡ help_in words.now }
     {
@@ -272,6 +404,18 @@ fn read_seconds(word: &Text) -> Option<u32>
     }
 }
 
+/// The exchanges of a drill that a word spells.
+fn read_exchanges(word: &Text) -> Option<u32>
+    ensures { option_map drill result ≡ drill_of (number_of word.now) }
+{
+    let exchanges = read_number(word.as_str())?;
+    if 1 <= exchanges && exchanges <= 200 {
+        Some(exchanges)
+    } else {
+        None
+    }
+}
+
 /// The number below 2^32 that is written so.
 fn read_number(digits: &str) -> Option<u32>
     ensures { result ≡ number_of digits.now }
@@ -293,7 +437,7 @@ fn parsed(digits: &str) -> Option<u32>
 }
 
 /// Whether a word may stand as a name: it isn't empty and doesn't begin with `-`.
-fn is_operand(word: &Text) -> bool
+pub fn is_operand(word: &Text) -> bool
     ensures { result ≡ is_operand word.now }
 {
     match word.as_str().as_bytes() {

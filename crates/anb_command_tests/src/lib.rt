@@ -7,7 +7,11 @@ mod enact;
 #[cfg(test)]
 mod host;
 #[cfg(test)]
+mod park;
+#[cfg(test)]
 mod play;
+#[cfg(test)]
+mod rehearse;
 #[cfg(test)]
 mod replay;
 #[cfg(test)]

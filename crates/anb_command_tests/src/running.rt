@@ -10,7 +10,7 @@ use std::test::Fail;
 /// The seed of 32 zero bytes.
 pub(crate) const ZERO_SEED: [u8; 32] = [0; 32];
 
-/// What a run finds: the files `n`, `v` and `t`, its input in hexadecimal, which calls of the wire and which
+/// What a run finds: the files `n`, `v`, `t` and, in hexadecimal, `r`, its input in hexadecimal, which calls of the wire and which
 /// fetches fail, numbered from 1, and the seed that is handed in. A wire that is slow moves single
 /// bytes.
 #[derive(Clone, Copy)]
@@ -18,6 +18,7 @@ pub(crate) struct Given<'a> {
     pub(crate) narration: &'a str,
     pub(crate) values: &'a str,
     pub(crate) transcript: &'a str,
+    pub(crate) record: &'a str,
     pub(crate) input: &'a str,
     pub(crate) slow: bool,
     pub(crate) wire_fails: &'a [u32],
@@ -32,6 +33,7 @@ impl<'a> Given<'a> {
             narration,
             values,
             transcript: "",
+            record: "",
             input,
             slow: false,
             wire_fails: &[],
@@ -77,8 +79,8 @@ pub(crate) fn empty_wire(alloc: Global) -> Result<MemWire, NoMemory> {
     MemWire::new(alloc, bytes(alloc, b"")?, 1024, 256, Vec::new(alloc))
 }
 
-/// The shelf with the files `n`, `v` and `t`.
-pub(crate) fn shelf_of(alloc: Global, given: Given) -> Result<MemShelf, NoMemory> {
+/// The shelf with the files `n`, `v`, `t` and `r`.
+pub(crate) fn shelf_of(alloc: Global, given: Given) -> Result<MemShelf, Fail> {
     let mut files = Vec::new(alloc);
     files.push((text(alloc, "n")?, bytes(alloc, given.narration.as_bytes())?))?;
     files.push((text(alloc, "v")?, bytes(alloc, given.values.as_bytes())?))?;
@@ -86,7 +88,10 @@ pub(crate) fn shelf_of(alloc: Global, given: Given) -> Result<MemShelf, NoMemory
         text(alloc, "t")?,
         bytes(alloc, given.transcript.as_bytes())?,
     ))?;
-    MemShelf::new(alloc, files, Vec::from_slice(alloc, given.shelf_fails)?)
+    let record = Bytes::new(hex::decode(alloc, given.record.as_bytes())?);
+    files.push((text(alloc, "r")?, record))?;
+    let fails = Vec::from_slice(alloc, given.shelf_fails)?;
+    Ok(MemShelf::new(alloc, files, fails)?)
 }
 
 fn wire_of(alloc: Global, given: Given) -> Result<MemWire, Fail> {

@@ -145,7 +145,7 @@ module _ (x : List ℕ) (ts : List Tok) (l : Lexes 0 x ts) where
       by_word false = refl
 
   -- the first refusal of the tokens is the text's
-  refusal_of : (y : ReadNo) → narration_at 64 ts ≡ Err y → IsRefusal x y
+  pub refusal_of : (y : ReadNo) → narration_at 64 ts ≡ Err y → IsRefusal x y
   refusal_of y e =
       let k = err_is 64 above ts y e in
       let c = caused k.0 k.1 k.2 k.3.refused in

@@ -22,3 +22,4 @@ pub mod Lexed
 pub mod Literals
 pub mod Leveled
 pub mod Sizing
+pub mod Either

@@ -1,5 +1,5 @@
 -- What holds of texts, whatever they are.
-use Rattle.std.specs.Prelude.{◌≡◌, ℕ, List}
+use Rattle.std.specs.Prelude.{◌≡◌, ◌⊎◌, ℕ, List}
 use Rattle.anb_syntax.specs.Grammar.{Narration}
 use Rattle.anb_syntax.specs.Text.{Text}
 use Rattle.anb_read.specs.Refusals.{IsRefusal}
@@ -16,3 +16,7 @@ RefusalsAreUnique = (x : List ℕ) (why other : ReadNo) → IsRefusal x why → 
 -- no text is a narration's and is refused
 abbrev pub NoneIsBoth : Type 0
 NoneIsBoth = (x : List ℕ) (n : Narration) (why : ReadNo) → Text n x → IsRefusal x why → ⊥
+
+-- each text is a narration's, or is refused
+abbrev pub EachIsEither : Type 0
+EachIsEither = (x : List ℕ) → ((n : Narration) × Text n x) ⊎ ((why : ReadNo) × IsRefusal x why)

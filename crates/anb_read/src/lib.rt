@@ -13,5 +13,5 @@ mod terms;
 #[cfg(test)]
 mod tests;
 
-pub use reader::{narrations_are_unique, none_is_both, read, refusals_are_unique};
+pub use reader::{each_is_either, narrations_are_unique, none_is_both, read, refusals_are_unique};
 pub use refusal::ReadNo;

@@ -5,7 +5,7 @@ ghost use Rattle.anb_base.specs.declared.TheConstants.{SMALL_FILE};
 ghost use Rattle.anb_syntax.specs.Grammar.{Narration as Told, IsSpellable};
 ghost use Rattle.anb_syntax.specs.Views.{narration_of};
 ghost use Rattle.anb_syntax.specs.Text.{Text};
-ghost use Rattle.anb_read.specs.Laws.{NarrationsAreUnique, RefusalsAreUnique, NoneIsBoth};
+ghost use Rattle.anb_read.specs.Laws.{EachIsEither, NarrationsAreUnique, RefusalsAreUnique, NoneIsBoth};
 ghost use Rattle.anb_read.specs.Refusals.{IsRefusal, UnlessNoMemory};
 ghost use Rattle.anb_syntax.specs.Sizes.{size};
 ghost use Rattle.anb_read.specs.declared.refusal.ReadNo.{ReadNo as No};
@@ -51,4 +51,9 @@ pub fn refusals_are_unique()
 /// A law: no text is a narration's and is refused.
 pub fn none_is_both()
     ensures { NoneIsBoth }
+{}
+
+/// A law: each text is a narration's, or is refused.
+pub fn each_is_either()
+    ensures { EachIsEither }
 {}

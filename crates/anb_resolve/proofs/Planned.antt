@@ -4,8 +4,8 @@ use Rattle.std.specs.Prelude.{filter, Bool}
 use Rattle.std.proofs.lemmas.List.{take_more, length-take-le, drop_all}
 use Rattle.anb_resolve.specs.Choices.{each_after}
 use Rattle.anb_resolve.specs.Protocols.{ActionValue, ProtocolValue}
-use Rattle.anb_resolve.specs.Texts.{atoms_in, known_by}
-use Rattle.anb_resolve.specs.Plans.{PlanEvent, events_at, made, names_number_or_key, own_events, plan_of, to_know}
+use Rattle.anb_resolve.specs.Texts.{atom_name, atoms_in, known_by}
+use Rattle.anb_resolve.specs.Plans.{PlanEvent, events_at, made, names_made_at, names_number_or_key, own_events, plan_of, to_know}
 use Rattle.anb_resolve.specs.Seen.{AreSeen, marked, new_among}
 use Rattle.anb_resolve.proofs.Afters.{each_step}
 use Rattle.anb_resolve.proofs.SeenLemmas.{new-made, seen_more}
@@ -33,6 +33,20 @@ plan_next p role acts i x flags names before after total h e seen n a t =
     ap (λ ns. own_events role (i + 1) ns x) (n ∙ new-made p (take i acts) flags seen x.message) ∙ ap (λ k. own_events role (k + 1) (made p (take i acts) x.message) x) long in
     ap (λ l. l ++ rest) (a ∙ ap (λ l. before ++ l) same) ∙ append_assoc before (events_at p role (take i acts) x) rest
     ∙ ap (λ l. before ++ l) (sym (each_step (events_at p role) acts i x h e)) ∙ t
+
+-- what senders make up to the next action
+pub made_next : (p : ProtocolValue) (acts : List ActionValue) (i : ℕ) (x : ActionValue) (flags : List Bool) (atoms : List ℕ) (names : List (List ℕ)) (before after total : List (List (List ℕ)))
+    → i < length acts → x ≡ get_or acts i x → AreSeen p (take i acts) flags
+    → atoms ≡ filter (names_number_or_key p) (new_among flags (atoms_in x.message))
+    → names ≡ map (atom_name p) atoms
+    → after ≡ before ++ names ∷ []
+    → before ++ each_after (names_made_at p) (take i acts) (drop i acts) ≡ total
+    → after ++ each_after (names_made_at p) (take (i + 1) acts) (drop (i + 1) acts) ≡ total
+made_next p acts i x flags atoms names before after total h e seen n m a t =
+    let rest = each_after (names_made_at p) (take (i + 1) acts) (drop (i + 1) acts) in
+    let same : names ∷ [] ≡ names_made_at p (take i acts) x = ap (λ ns. ns ∷ []) (m ∙ ap (map (atom_name p)) (n ∙ new-made p (take i acts) flags seen x.message)) in
+    ap (λ l. l ++ rest) (a ∙ ap (λ l. before ++ l) same) ∙ append_assoc before (names_made_at p (take i acts) x) rest
+    ∙ ap (λ l. before ++ l) (sym (each_step (names_made_at p) acts i x h e)) ∙ t
 
 -- behind the last action
 pub plan_all : (p : ProtocolValue) (role : ℕ) (i : ℕ) (events : List PlanEvent) → length p.actions ≤ i

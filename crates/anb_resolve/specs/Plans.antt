@@ -7,7 +7,7 @@ use Rattle.anb_resolve.specs.declared.parts.Atom.{Atom}
 use Rattle.anb_resolve.specs.Choices.{each_after}
 use Rattle.anb_resolve.specs.Names.{distinct}
 use Rattle.anb_resolve.specs.Protocols.{ActionValue, ProtocolValue}
-use Rattle.anb_resolve.specs.Texts.{atoms_in, atoms_in_each, known_by, known_terms}
+use Rattle.anb_resolve.specs.Texts.{atom_name, atoms_in, atoms_in_each, known_by, known_terms}
 use Rattle.anb_resolve.specs.Checks.{is_agent}
 
 -- a term that a role knows, a name that it makes, a message that it sends or receives with the number
@@ -45,6 +45,13 @@ made p before message = filter (is_made p before) (distinct nat_eq (atoms_in mes
 
 abbrev pub made_at : ProtocolValue → List ActionValue → ActionValue → List ℕ
 made_at p before a = made p before a.message
+
+-- for each action, the names that its sender makes
+abbrev pub names_made_at : ProtocolValue → List ActionValue → ActionValue → List (List (List ℕ))
+names_made_at p before a = map (atom_name p) (made_at p before a) ∷ []
+
+abbrev pub names_made : ProtocolValue → List (List (List ℕ))
+names_made p = each_after (names_made_at p) [] p.actions
 
 -- what a role does at an action with this number, whose sender makes these names
 abbrev pub own_events : ℕ → ℕ → List ℕ → ActionValue → List PlanEvent

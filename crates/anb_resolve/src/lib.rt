@@ -27,8 +27,8 @@ pub use laws::{
     honest_agrees, known_texts_differ, limits_grow, made_is_new, plans_know_first, play_is_one,
     play_is_there, protocols_hold, small_is_countable, terms_of_plans,
 };
-pub use parts::Atom;
-pub use plans::{Event, Plan};
+pub use parts::{Action, Atom};
+pub use plans::{Event, Names, Plan};
 pub use protocol::Protocol;
 pub use refusals::{Item, Kind, ResolveNo};
 pub use resolving::resolve;

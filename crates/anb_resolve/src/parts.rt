@@ -13,10 +13,10 @@ pub struct Atom {
 
 /// A message from one role to another, by their numbers.
 #[derive(Drop)]
-pub(crate) struct Action {
-    pub(crate) from: u32,
-    pub(crate) to: u32,
-    pub(crate) message: Term,
+pub struct Action {
+    pub from: u32,
+    pub to: u32,
+    pub message: Term,
 }
 
 /// What a protocol is made of. An atom's number is its place, and so is a role's. What a role knows

@@ -6,7 +6,7 @@ ghost use Rattle.anb_resolve.specs.Views.{action_value, plan_event};
 use crate::memory::copied;
 use crate::parts::{Action, Parts};
 use crate::seen::{put_all_atoms, put_atoms, take_new};
-use anb_base::NoMemory;
+use anb_base::{NoMemory, Text};
 use anb_syntax::Sort;
 use anb_term::Term;
 use std::alloc::Global;
@@ -69,11 +69,42 @@ impl Plan {
     }
 }
 
+/// Names, in order.
+#[derive(Drop)]
+pub struct Names {
+    items: Vec<Text>,
+}
+
+impl Model for Names {
+    ghost use Rattle.std.specs.Prelude.{ℕ, List};
+
+    ghost Value = { List (List ℕ) };
+
+    ghost view = { λ names. names.items.items };
+}
+
+impl Names {
+    ghost use Rattle.std.specs.Prelude.{◌≡◌};
+
+    /// These names, which keep their memory.
+    fn new(items: Vec<Text>) -> Names
+        ensures { result ≡ items.items }
+    {
+        Names { items }
+    }
+
+    pub fn as_slice(&self) -> &[Text]
+        ensures { result.now ≡ self.now }
+    {
+        self.items.as_slice()
+    }
+}
+
 impl Parts {
     ghost use Rattle.std.specs.Prelude.{◌≡◌, ◌↔◌, ◌<◌, ◌^◌, length, map, filter, replicate, false, IfOk, OnOk, IsTrue};
     ghost use Rattle.std.specs.List.{AllByRecursion};
     ghost use Rattle.anb_term.specs.View.{tree_of};
-    ghost use Rattle.anb_resolve.specs.Plans.{plan_of, names_number_or_key, to_know, MakesNames};
+    ghost use Rattle.anb_resolve.specs.Plans.{plan_of, names_made, names_number_or_key, to_know, MakesNames};
     ghost use Rattle.anb_resolve.specs.Protocols.{ActionValue};
     ghost use Rattle.anb_resolve.specs.Texts.{atoms_in, atoms_in_each, known_by, known_terms};
     ghost use Rattle.anb_resolve.specs.Seen.{marked, new_among};
@@ -196,6 +227,19 @@ impl Parts {
             }
         }
         Ok(false)
+    }
+
+    /// For each action, the names that its sender makes.
+    pub(crate) fn made(&self, alloc: Global) -> Result<Vec<Names>, NoMemory>
+        ensures { IfOk result (λ made. made.items ≡ names_made (value_of self.now)) }
+    {
+        let mut seen = self.known_flags(alloc)?;
+        let mut made = Vec::new(alloc);
+        for action in &self.actions {
+            let atoms = self.made_names(alloc, &mut seen, &action.message)?;
+            made.push(Names::new(self.atom_texts(alloc, &atoms)?))?;
+        }
+        Ok(made)
     }
 
     fn is_number_or_key(&self, a: u32) -> bool

@@ -1,6 +1,6 @@
 //! Protocols.
-use crate::parts::Parts;
-use crate::plans::Plan;
+use crate::parts::{Action, Parts};
+use crate::plans::{Names, Plan};
 use anb_base::{NoMemory, Suite, Text};
 use anb_format::Format;
 use anb_term::Term;
@@ -45,9 +45,9 @@ impl Protocol {
     ghost use Rattle.std.specs.Str.{bytes_eq};
     ghost use Rattle.anb_term.specs.View.{tree_of};
     ghost use Rattle.std.specs.List.{position_from};
-    ghost use Rattle.anb_resolve.specs.Plans.{plan_of, MakesNames};
+    ghost use Rattle.anb_resolve.specs.Plans.{names_made, plan_of, MakesNames};
     ghost use Rattle.anb_resolve.specs.Texts.{IsTermOf, term_text, known_texts, known_names};
-    ghost use Rattle.anb_resolve.specs.Views.{value_of};
+    ghost use Rattle.anb_resolve.specs.Views.{action_value, value_of};
     ghost use Rattle.anb_resolve.specs.WellFormed.{IsProtocol};
 
     /// The protocol that has these parts, in which some role makes a name or not.
@@ -82,6 +82,22 @@ impl Protocol {
         ensures { result.now ≡ self.now.roles }
     {
         self.parts.roles.as_slice()
+    }
+
+    /// The actions, in order.
+    pub fn messages(&self) -> &[Action]
+        ensures actions { map action_value result.now ≡ self.now.actions }
+        ensures protocol { IsProtocol self.now }
+    {
+        self.parts.actions.as_slice()
+    }
+
+    /// For each action, the names that its sender makes, in the order in which they first occur in
+    /// the message.
+    pub fn made(&self, alloc: Global) -> Result<Vec<Names>, NoMemory>
+        ensures { IfOk result (λ made. made.items ≡ names_made self.now) }
+    {
+        self.parts.made(alloc)
     }
 
     /// How many actions there are.

@@ -67,7 +67,7 @@ impl Parts {
     }
 
     /// The names of these atoms.
-    fn atom_texts(&self, alloc: Global, atoms: &[u32]) -> Result<Vec<Text>, NoMemory>
+    pub(crate) fn atom_texts(&self, alloc: Global, atoms: &[u32]) -> Result<Vec<Text>, NoMemory>
         ensures { IfOk result (λ names.
             names.items ≡ map (atom_name (value_of self.now)) atoms.now) }
     {

@@ -4,8 +4,14 @@ use Rattle.std.specs.Prelude.{ℕ, List, Option, Some, None}
 use Rattle.anb_base.specs.Wires.{WireState}
 use Rattle.anb_command.specs.declared.status.Status.{Status}
 use Rattle.anb_command.specs.Fetches.{Files}
-use Rattle.anb_command.specs.Words.{Asked, fmt, describe, play, enact, replay, host, help}
+use Rattle.anb_command.specs.Words.{Asked, fmt, describe, play, enact, replay, host, rehearse, drill, help, why, park, resume, chart}
 use Rattle.anb_many_commands.specs.HostCommand.{CompletesHost, DoesHost}
+use Rattle.anb_park_commands.specs.ParkCommand.{CompletesPark, DoesPark}
+use Rattle.anb_park_commands.specs.ResumeCommand.{CompletesResume, DoesResume}
+use Rattle.anb_rehearsal_commands.specs.DrillCommand.{CompletesDrill, DoesDrill}
+use Rattle.anb_rehearsal_commands.specs.RehearseCommand.{CompletesRehearse, DoesRehearse}
+use Rattle.anb_reason_commands.specs.WhyCommand.{CompletesWhy, DoesWhy}
+use Rattle.anb_report_commands.specs.ReportCommands.{CompletesChart, DoesChart}
 use Rattle.anb_role_commands.specs.EnactCommand.{CompletesEnact, DoesEnact}
 use Rattle.anb_role_commands.specs.PlayCommand.{CompletesPlay, DoesPlay}
 use Rattle.anb_role_commands.specs.ReplayCommand.{CompletesReplay, DoesReplay}
@@ -32,7 +38,16 @@ Does (Some (replay narration role values transcript)) told seed old new status =
     DoesReplay narration role values transcript seed told old new status
 Does (Some (host narration role values place)) told seed old new status =
     DoesHost narration role values told seed old new status
+Does (Some (rehearse narration values schedule)) told seed old new status =
+    DoesRehearse narration values schedule told seed old new status
+Does (Some (drill exchanges)) told seed old new status = DoesDrill exchanges old new status
 Does (Some help) told seed old new status = DoesHelp old new status
+Does (Some (why narration)) told seed old new status = DoesWhy narration told old new status
+Does (Some (park narration role values key place)) told seed old new status =
+    DoesPark narration role values key seed told old new status
+Does (Some (resume narration role parked key place)) told seed old new status =
+    DoesResume narration role parked key told old new status
+Does (Some (chart narration)) told seed old new status = DoesChart narration told old new status
 
 -- where nothing failed
 abbrev pub Completes : Option Asked → Option Files → Option (List ℕ) → (old new : WireState) → Status → Type 0
@@ -48,4 +63,13 @@ Completes (Some (replay narration role values transcript)) told seed old new sta
     CompletesReplay narration role values transcript seed told status
 Completes (Some (host narration role values place)) told seed old new status =
     CompletesHost narration role values told seed old new status
+Completes (Some (rehearse narration values schedule)) told seed old new status =
+    CompletesRehearse narration values schedule told seed old new status
+Completes (Some (drill exchanges)) told seed old new status = CompletesDrill exchanges status
 Completes (Some help) told seed old new status = CompletesHelp status
+Completes (Some (why narration)) told seed old new status = CompletesWhy narration told status
+Completes (Some (park narration role values key place)) told seed old new status =
+    CompletesPark narration role values key seed told old new status
+Completes (Some (resume narration role parked key place)) told seed old new status =
+    CompletesResume narration role parked key told old new status
+Completes (Some (chart narration)) told seed old new status = CompletesChart narration told status

@@ -2,7 +2,8 @@
 //!
 //! [`run`] reads the words, does what they ask for over a shelf of files and a wire, and tells on an
 //! error sink why it didn't. What it does and when it completes are relations by what is asked for,
-//! with a case for each command; the other clauses hold of every command.
+//! with a case for each command; the other clauses hold of every command. [`run_all`] does the same
+//! where child programs may be started, for the one command that does so.
 #![tactic(auto)]
 
 ghost use Rattle.std.specs.Prelude.{◌≡◌, ◌↔◌, None};
@@ -15,11 +16,21 @@ ghost use Rattle.anb_command.specs.Touches.{Touches};
 ghost use Rattle.anb_command.specs.Words.{asked_of, files_of, is_reading, place_of};
 ghost use Rattle.anb_command.specs.declared.status.Status.TheVariants.{Usage};
 ghost use Rattle.anb_run.specs.Commands.{Completes, Does};
+ghost use Rattle.anb_run.specs.Compiled.{CompiledFilesPlay};
 
+mod all;
+mod laws;
+
+use crate::laws::compiled_files_play;
+pub use all::run_all;
 use anb_base::{Shelf, Sink, Text, Wire};
 use anb_command::{Command, tell};
 pub use anb_command::{Due, Halt, NarrationNo, Status};
 use anb_many_commands::host;
+use anb_park_commands::{park, resume};
+use anb_reason_commands::why;
+use anb_rehearsal_commands::{drill, rehearse};
+use anb_report_commands::chart;
 use anb_role_commands::{enact, play, replay};
 use anb_text_commands::{describe, fmt, help};
 use std::alloc::Global;
@@ -42,6 +53,7 @@ pub fn run<F: Shelf, W: Wire, E: Sink>(
         (F.faults shelf.old) (F.faults shelf.new) (W.state wire.old) (W.state wire.new)
         → Completes (asked_of words.now) (F.files shelf.old) seed
         (W.state wire.old) (W.state wire.new) result }
+    ensures compiled { CompiledFilesPlay }
     ensures usage { (result ≡ Usage) ↔ (asked_of words.now ≡ None) }
     ensures faults { HasCause (files_of (asked_of words.now)) (place_of (asked_of words.now))
         (F.faults shelf.old) (F.faults shelf.new) (W.state wire.old) (W.state wire.new) result }
@@ -57,6 +69,7 @@ pub fn run<F: Shelf, W: Wire, E: Sink>(
         (E.written err.old) (E.written err.new) (E.faults err.old) (E.faults err.new) }
     ensures beside_line { E.kept err.new ≡ E.kept err.old }
 {
+    compiled_files_play();
     let status = match Command::read(words) {
         None => Status::Usage,
         Some(Command::Fmt { narration }) => fmt(alloc, shelf, wire, narration),
@@ -71,7 +84,13 @@ pub fn run<F: Shelf, W: Wire, E: Sink>(
         Some(Command::Enact(words)) => enact(alloc, shelf, wire, words, seed),
         Some(Command::Replay(words)) => replay(alloc, shelf, wire, words, seed),
         Some(Command::Host(words)) => host(alloc, shelf, wire, words, seed),
+        Some(Command::Rehearse(words)) => rehearse(alloc, shelf, wire, words, seed),
+        Some(Command::Drill(exchanges)) => drill(alloc, wire, exchanges),
         Some(Command::Help) => help(wire),
+        Some(Command::Why { narration }) => why(alloc, shelf, wire, narration),
+        Some(Command::Park(words)) => park(alloc, shelf, wire, words, seed),
+        Some(Command::Resume(words)) => resume(alloc, shelf, wire, words),
+        Some(Command::Chart { narration }) => chart(alloc, shelf, wire, narration),
     };
     tell(err, &status);
     status

@@ -116,8 +116,8 @@ fn turn<W: Wire>(
     }
 }
 
-/// Sends a message in its frame.
-fn send<W: Wire>(alloc: Global, wire: &mut W, message: &[u8]) -> Result<(), PlayEnd>
+/// Sends a message in its frame, with one write.
+pub fn send<W: Wire>(alloc: Global, wire: &mut W, message: &[u8]) -> Result<(), PlayEnd>
     requires { length message.now ≤ WIDE }
     ensures put { OnOk result (Put (W.written wire.old) (W.written wire.new) (frame message.now)) }
     ensures ends { IfErr result (λ end.
@@ -146,7 +146,7 @@ fn send<W: Wire>(alloc: Global, wire: &mut W, message: &[u8]) -> Result<(), Play
 
 /// Takes the arrival of an event through the buffer, whose length is the most bytes that an
 /// arrival has.
-fn receive<W: Wire>(
+pub fn receive<W: Wire>(
     alloc: Global,
     wire: &mut W,
     buffer: &mut [u8],

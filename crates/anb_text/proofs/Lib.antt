@@ -15,4 +15,6 @@ pub mod Back
 pub mod Loaded
 pub mod Printed
 pub mod Refused
+pub mod Deciding
+pub mod Either
 pub mod Written

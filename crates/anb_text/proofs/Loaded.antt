@@ -78,7 +78,7 @@ no_fault text raw fault s first code verified is =
     let accepted : IsAccepted ARRIVAL WIDE raw = subst (IsAccepted ARRIVAL WIDE) (one_raw text (raw_of code) raw (spelled_by text code is) s) (spelled_code ARRIVAL WIDE code verified).accepted in
     let off : [] ≡ fault ∷ first.0 = sym accepted ∙ first.1 in cc
 
-faulty_code : (text : List ℕ) (raw : RawValue) (fault : CodeNo) → Spells text raw → IsFirstFault ARRIVAL WIDE raw fault → IsFaultyCode text fault
+pub faulty_code : (text : List ℕ) (raw : RawValue) (fault : CodeNo) → Spells text raw → IsFirstFault ARRIVAL WIDE raw fault → IsFaultyCode text fault
 faulty_code text raw fault s first = record { file = file_lines s.v raw; is = file_of text raw s; stands = s.stands; first = first }
 
 -- a fault, or want of memory

@@ -1,7 +1,8 @@
 -- What a role file spells is no longer than its text.
-use Rattle.std.proofs.Common.{◌≡◌, ◌≤◌, ◌<◌, ◌+◌, ℕ, List, [], ◌∷◌, ◌++◌, length, map, refl, sym, ap, ◌∙◌, append_assoc, arith, codes}
+use Rattle.std.proofs.Common.{◌≡◌, ◌≤◌, ◌+◌, ℕ, List, [], ◌∷◌, ◌++◌, length, map, refl, sym, ap, ◌∙◌, append_assoc, arith, codes}
 use Rattle.std.specs.List.{AllByRecursion, flat_map}
 use Rattle.std.proofs.lemmas.List.{length-append}
+use Rattle.anb_lemmas.proofs.Searching.{items_many}
 use Rattle.anb_format.specs.Formats.{FormatValue}
 use Rattle.anb_code.specs.RawValue.{RawInstrValue, RawValue}
 use Rattle.anb_code.specs.Table.{written}
@@ -10,11 +11,6 @@ use Rattle.anb_text.specs.declared.lines.Line.{Line}
 use Rattle.anb_text.specs.declared.lines.Line.TheVariants as line
 use Rattle.anb_text.specs.Lines.{destinations, format_line, instr_line, line_bytes, operands, register, spaced_name, spaced_piece, what_word}
 use Rattle.anb_text.specs.RoleFiles.{ended, file_lines, lines_text, suite_lines}
-
--- each has an item
-items_many : {A : Type 0} (f : A → List ℕ) (xs : List A) → ((x : A) → 0 < length (f x)) → length xs ≤ length (flat_map f xs)
-items_many f [] some = omega arith
-items_many f (x ∷ xs) some = let rest = items_many f xs some in omega (arith, rest, some x, length-append (f x) (flat_map f xs))
 
 few_pieces : (format : FormatValue) → length format.pieces ≤ length (format_line format)
 few_pieces format =

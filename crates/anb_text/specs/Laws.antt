@@ -1,6 +1,6 @@
 -- What holds of role files whatever they say.
-use Rattle.std.specs.Prelude.{◌≡◌, ◌≢◌, ℕ, List}
-use Rattle.anb_base.specs.declared.TheConstants.{ARRIVAL, WIDE}
+use Rattle.std.specs.Prelude.{◌≡◌, ◌≢◌, ◌⊎◌, ◌≤◌, ℕ, List, length}
+use Rattle.anb_base.specs.declared.TheConstants.{ARRIVAL, LARGE_FILE, WIDE}
 use Rattle.anb_code.specs.CodeValue.{CodeValue}
 use Rattle.anb_code.specs.Verified.{IsVerifiedCode}
 use Rattle.anb_text.specs.declared.lines.Line.{Line}
@@ -36,3 +36,8 @@ RefusalsAreUnique = (text : List ℕ) (one other : LoadNo) → one ≢ NoMemory 
 abbrev pub CodesAreNotRefused : Type 0
 CodesAreNotRefused = (text : List ℕ) (code : CodeValue) (no : LoadNo) → IsVerifiedCode ARRIVAL WIDE code → IsTextOf text code
     → no ≢ NoMemory → IsRefusal text no → ⊥
+
+-- each text that isn't too long is that of a verified code, or has a refusal other than want of memory
+abbrev pub EachIsEither : Type 0
+EachIsEither = (text : List ℕ) → length text ≤ LARGE_FILE
+    → ((code : CodeValue) × IsVerifiedCode ARRIVAL WIDE code × IsTextOf text code) ⊎ ((no : LoadNo) × (no ≢ NoMemory) × IsRefusal text no)

@@ -1,5 +1,5 @@
 //! Laws of role files.
-ghost use Rattle.anb_text.specs.Laws.{CodesAreNotRefused, CodesAreUnique, FaultsAreUnique, FilesAreUnique, NoneIsBoth, RefusalsAreUnique};
+ghost use Rattle.anb_text.specs.Laws.{CodesAreNotRefused, CodesAreUnique, EachIsEither, FaultsAreUnique, FilesAreUnique, NoneIsBoth, RefusalsAreUnique};
 
 /// Law: two role files with one text have the same lines and spell the same code.
 pub fn files_are_unique()
@@ -29,4 +29,9 @@ pub fn refusals_are_unique()
 /// Law: no text of a verified code is refused, but for want of memory.
 pub fn codes_are_not_refused()
     ensures { CodesAreNotRefused }
+{}
+
+/// Law: each text that isn't too long is that of a verified code, or is refused.
+pub fn each_is_either()
+    ensures { EachIsEither }
 {}

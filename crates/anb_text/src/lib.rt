@@ -16,8 +16,8 @@ mod stages;
 mod writing;
 
 pub use laws::{
-    codes_are_not_refused, codes_are_unique, faults_are_unique, files_are_unique, none_is_both,
-    refusals_are_unique,
+    codes_are_not_refused, codes_are_unique, each_is_either, faults_are_unique, files_are_unique,
+    none_is_both, refusals_are_unique,
 };
 pub use loading::load;
 pub use page::Page;

@@ -6,9 +6,11 @@ use Rattle.anb_base.specs.declared.TheConstants.{ARRIVAL, WIDE}
 use Rattle.anb_syntax.specs.Canon.{canon}
 use Rattle.anb_syntax.specs.Grammar.{Narration}
 use Rattle.anb_code.specs.CodeValue.{CodeValue}
+use Rattle.anb_code.specs.Spelling.{raw_of}
 use Rattle.anb_code.specs.Verified.{IsVerifiedCode}
 use Rattle.anb_compile.specs.Fitting.{FitsRole}
-use Rattle.anb_text.specs.RoleFiles.{role_text}
+use Rattle.anb_compile.specs.Laws.{FittingCodesPlay}
+use Rattle.anb_text.specs.RoleFiles.{IsSpellable, role_text}
 use Rattle.anb_resolve.specs.Protocols.{ProtocolValue}
 use Rattle.anb_explain.specs.Explained.{IsExplained, explained_by}
 use Rattle.anb_explain.specs.Explanations.{AreOurs, ExplanationValue}
@@ -56,11 +58,14 @@ abbrev pub IsWrittenByLines : List ℕ → Status → (written written_now : Opt
 IsWrittenByLines text NoMemory written written_now = PutPrefix written written_now text
 IsWrittenByLines text status written written_now = IsWritten text status written written_now
 
--- such a text, of a code that fits the role and is accepted
+-- Such a text, of a code that fits the role and is accepted. The code can be written, so its role file is
+-- read as the same code; and the runs of codes that fit are the role's plays.
 pub record IsDescribed (kind : RoleText) (part : Part) (text : List ℕ) : Type 0 where
   pub code : CodeValue
   pub accepted : IsVerifiedCode ARRIVAL WIDE code
+  pub spellable : IsSpellable (raw_of code)
   pub fits : FitsRole part.protocol part.role code
+  pub plays : FittingCodesPlay part.protocol
   pub is : IsTextOf kind part code text
 
 -- `compile` and `explain` write such a text of the role in the narration's file
@@ -87,7 +92,12 @@ help_text =
     ++ codes "anb explain <narration> <role>\n" ++ codes "anb play <narration> <role> <values> [place]\n"
     ++ codes "anb enact <rolefile> <values> [place]\n"
     ++ codes "anb replay <narration> <role> <values> <transcript>\n"
-    ++ codes "anb host <narration> <role> <values> [place]\n" ++ codes "anb help\n"
+    ++ codes "anb host <narration> <role> <values> [place]\n"
+    ++ codes "anb rehearse <narration> <values> <schedule>\n" ++ codes "anb drill <n>\n"
+    ++ codes "anb help\n" ++ codes "anb why <narration>\n"
+    ++ codes "anb park <narration> <role> <values> <key> [place]\n"
+    ++ codes "anb resume <narration> <role> <record> <key> [place]\n"
+    ++ codes "anb stage <narration> <folder>\n" ++ codes "anb chart <narration>\n"
 
 abbrev pub HelpText : Answer (List ℕ) → Type 0
 HelpText answer = answer ≡ given help_text

@@ -6,7 +6,10 @@ ghost use Rattle.anb_base.specs.Moves.{Rose};
 ghost use Rattle.anb_base.specs.declared.TheConstants.{ARRIVAL, WIDE};
 ghost use Rattle.anb_base.specs.declared.place.Place.TheVariants as place;
 ghost use Rattle.anb_code.specs.Verified.{IsVerifiedCode};
+ghost use Rattle.anb_code.specs.Spelling.{raw_of};
 ghost use Rattle.anb_compile.specs.Fitting.{FitsRole};
+ghost use Rattle.anb_compile.specs.Laws.{FittingCodesPlay};
+ghost use Rattle.anb_text.specs.RoleFiles.{IsSpellable};
 ghost use Rattle.anb_command.specs.Causes.{HasCause, NoneRose};
 ghost use Rattle.anb_command.specs.Fetches.{Fetches, IfTold};
 ghost use Rattle.anb_command.specs.OverWire.{OnlyWrites, OverWire};
@@ -24,6 +27,7 @@ use anb_base::{Bytes, Failed, NoMemory, Place, Shelf, Text, Wire};
 use anb_command::{
     Playable, RoleText, Status, narration_in_file, playable_in_file, reach_streams, write_text,
 };
+use anb_compile::fitting_codes_play;
 use anb_explain::{Explanation, explanation_of, write_explanation};
 use anb_read::{narrations_are_unique, none_is_both, refusals_are_unique};
 use anb_syntax::text_of;
@@ -39,7 +43,14 @@ const HELP: &str = concat!(
     "anb enact <rolefile> <values> [place]\n",
     "anb replay <narration> <role> <values> <transcript>\n",
     "anb host <narration> <role> <values> [place]\n",
+    "anb rehearse <narration> <values> <schedule>\n",
+    "anb drill <n>\n",
     "anb help\n",
+    "anb why <narration>\n",
+    "anb park <narration> <role> <values> <key> [place]\n",
+    "anb resume <narration> <role> <record> <key> [place]\n",
+    "anb stage <narration> <folder>\n",
+    "anb chart <narration>\n",
 );
 
 /// The canonical text of the narration in the file.
@@ -116,6 +127,8 @@ fn explanation_for(
         playable.now.code (text_by playable.now.protocol playable.now.code explanation)) }
     ensures ready { IfOk result (CanBeTold playable.now.protocol playable.now.code) }
     ensures accepted { IsVerifiedCode ARRIVAL WIDE playable.now.code }
+    ensures spellable { IsSpellable (raw_of playable.now.code) }
+    ensures plays { FittingCodesPlay playable.now.protocol }
 {
     let Playable {
         protocol,
@@ -123,6 +136,8 @@ fn explanation_for(
         code,
     } = playable;
     let _verified = code.instrs();
+    let _protocol = protocol.name();
+    fitting_codes_play(protocol);
     match kind {
         RoleText::RoleFile => Ok(None),
         RoleText::Explanation => match explanation_of(alloc, protocol, *role, code) {

@@ -3,3 +3,5 @@ pub mod LineLemmas
 pub mod Outcomes
 pub mod Short
 pub mod Sizes
+pub mod Deciding
+pub mod EachFits

@@ -1,5 +1,5 @@
 -- Which values a text gives for some names.
-use Rattle.std.specs.Prelude.{◌≡◌, not, ℕ, nat_lt, Bool, List, [], ◌∷◌, ◌++◌, length, map, filter, find, Option, Some, Result, Ok, Err, if◌then◌else◌}
+use Rattle.std.specs.Prelude.{◌≡◌, ◌≢◌, not, ℕ, nat_lt, Bool, List, [], ◌∷◌, ◌++◌, length, map, filter, find, Option, Some, Result, Ok, Err, if◌then◌else◌}
 use Rattle.std.specs.List.{list_any}
 use Rattle.std.specs.Option.{option_map}
 use Rattle.std.specs.Str.{bytes_eq}
@@ -64,6 +64,10 @@ Fit text names (Err fault) = (entries : List Entry) × AreSaid (lines_of text) e
 -- no text gives two outcomes for some names
 abbrev pub FitIsUnique : Type 0
 FitIsUnique = (text : List ℕ) (names : List (List ℕ)) (one other : Outcome) → Fit text names one → Fit text names other → one ≡ other
+
+-- each text gives an outcome for some names, which is never want of memory
+abbrev pub EachFits : Type 0
+EachFits = (text : List ℕ) (names : List (List ℕ)) → (outcome : Outcome) × Fit text names outcome × (outcome ≢ Err NoMemory)
 
 -- a fact for every refusal but want of memory
 abbrev pub UnlessNoMemory : ValuesNo → Type 0 → Type 0

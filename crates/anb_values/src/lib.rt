@@ -8,7 +8,7 @@
 ghost use Rattle.std.specs.Prelude.{◌≡◌, ◌≢◌, ◌⊎◌, ◌≤◌, ℕ, List, length, sum_by, All, AllPairs, IfOk, IfErr, MatchResult, Ok, Err};
 ghost use Rattle.anb_base.specs.declared.TheConstants.{ARRIVAL, SMALL_FILE};
 ghost use Rattle.anb_values.specs.declared.refusal.ValuesNo.TheVariants as refusal;
-ghost use Rattle.anb_values.specs.Fit.{Fit, FitIsUnique, Outcome, UnlessNoMemory};
+ghost use Rattle.anb_values.specs.Fit.{EachFits, Fit, FitIsUnique, Outcome, UnlessNoMemory};
 
 mod entries;
 mod fitted;
@@ -25,6 +25,11 @@ use std::alloc::Global;
 /// fault.
 pub fn one_fit()
     ensures { FitIsUnique }
+{}
+
+/// Law: each text gives an outcome for some names.
+pub fn each_fits()
+    ensures { EachFits }
 {}
 
 /// Reads the values of these names, and the seed.

@@ -9,7 +9,7 @@ returns-in-Ok-explanation_for-clause-given g c =
     let playable = c.in-Ok.playable in
     let part : Part = record { protocol = playable.protocol; role = playable.role } in
     then_given (λ files. PartInFile files c.args.narration.now c.args.role.now) (Describes c.args.kind) (g.F.Shelf.files c.args.shelf.now) part (text_by playable.protocol playable.code c.in-Ok-explanation_for.explanation)
-    c.in-Ok.ensures.given (record { code = playable.code; accepted = c.explanation_for.ensures.accepted; fits = c.in-Ok.ensures.fits; is = c.in-Ok-explanation_for.ensures.text })
+    c.in-Ok.ensures.given (record { code = playable.code; accepted = c.explanation_for.ensures.accepted; spellable = c.explanation_for.ensures.spellable; fits = c.in-Ok.ensures.fits; plays = c.explanation_for.ensures.plays; is = c.in-Ok-explanation_for.ensures.text })
 
 pub returns-in-Err-clause-refused : goal.returns-in-Err-clause-refused
 returns-in-Err-clause-refused g c =

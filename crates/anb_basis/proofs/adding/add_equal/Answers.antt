@@ -1,8 +1,7 @@
-use Rattle.std.proofs.Common.{◌≡◌, ◌<◌, length, get_or, Some, None, true, false, arith, ap, sym, ◌∙◌}
-use Rattle.std.specs.Prelude.{slice_get}
+use Rattle.std.proofs.Common.{true, false, arith}
 use Rattle.anb_basis.proofs.Comparing.{term_here}
 use Rattle.anb_basis.proofs.Marks.{mark_is}
-use Rattle.anb_basis.proofs.Ordering.{no_equals, one_more_equal}
+use Rattle.anb_basis.proofs.Ordering.{no_equals}
 use Rattle.anb_basis.proofs.adding.add_equal.Goals as goal
 
 pub returns-then-index-clause-marked : goal.returns-then-index-clause-marked

@@ -12,6 +12,7 @@ pub loop-f-init : goal.loop-f-init
 loop-f-init c = record {
   more = after_none c.args.given.now.items;
   stay = λ k h. h;
+  long = refl;
   given = c.requires.given;
   opens = c.requires.marked;
   fresh = c.requires.fresh;
@@ -24,6 +25,7 @@ loop-f-preserved-in-Label c =
     record {
       more = i.more;
       stay = i.stay;
+      long = i.long;
       given = i.given;
       opens = opens_next c.args.entries.now c.loop-f.marks.items c.loop-f.marks.items c.loop-f.f i.opens (λ k e. e) (λ e o ks k at is. absurd (not_first c.args.entries.now c.loop-f.f c.index-entries-f.result e c.in-Label.field-0 o ks k (omega arith) c.index-entries-f.is (ap (λ (y : Entry). y.origin) c.index-entries-f.is ∙ c.in-Label.is) at is));
       fresh = λ g e o ks k h. i.fresh g e o ks k (omega arith);
@@ -36,6 +38,7 @@ loop-f-preserved-then-part-ne0 c =
     record {
       more = i.more;
       stay = i.stay;
+      long = i.long;
       given = i.given;
       opens = opens_next c.args.entries.now c.loop-f.marks.items c.loop-f.marks.items c.loop-f.f i.opens (λ k e. e) (λ e o ks k at is. absurd (c.if-part-ne0.true (first_here c.args.entries.now c.loop-f.f c.index-entries-f.result e c.in-Part.op c.in-Part.part c.in-Part.keys c.in-Part.of o ks k (omega arith) c.index-entries-f.is (ap (λ (y : Entry). y.origin) c.index-entries-f.is ∙ c.in-Part.is) at is).0));
       fresh = λ g e o ks k h. i.fresh g e o ks k (omega arith);
@@ -62,6 +65,7 @@ loop-f-preserved c =
     record {
       more = after_more c.args.given.now.items c.loop-f.given.items _ i.more e.more;
       stay = λ k h. e.stay k (i.stay k h);
+      long = e.long ∙ i.long;
       given = e.ok c.args.entries.now i.given (fits_here c.args.entries.now c.loop-f.f c.index-entries-f.result c.in-Part.op c.in-Part.part c.in-Part.keys c.in_ok-copy-in-Part.field-0 c.in-Part.of (omega arith) c.index-entries-f.is (ap (λ (y : Entry). y.origin) c.index-entries-f.is ∙ c.in-Part.is) c.if-part-ne0.false c.in_ok-copy-in-Part.ensures);
       opens = opens_next c.args.entries.now c.loop-f.marks.items _ c.loop-f.f i.opens e.stay (λ x o ks k at is. let s = (first_here c.args.entries.now c.loop-f.f c.index-entries-f.result x c.in-Part.op c.in-Part.part c.in-Part.keys c.in-Part.of o ks k (omega arith) c.index-entries-f.is (ap (λ (y : Entry). y.origin) c.index-entries-f.is ∙ c.in-Part.is) at is).1 in subst (λ n. slice_get c.add_check.new.marks.items n ≡ Some true) s e.marked);
       fresh = λ g x o ks k h at is mark. ⊎_elim

@@ -1,4 +1,4 @@
-use Rattle.std.proofs.Common.{◌≡◌, ◌++◌, map, drop}
+use Rattle.std.proofs.Common.{◌≡◌, ◌++◌, length, map, drop}
 use Rattle.anb_close.specs.Entries.{openings_from}
 use Rattle.anb_basis.specs.declared.check.Check.TheVariants.{Open}
 use Rattle.anb_basis.specs.Checks.{IsGiven, OpensMarked, OpensUnmarked, MarksStay, After}
@@ -8,6 +8,7 @@ abbrev pub invariant-loop-f : goal.invariant-loop-f
 invariant-loop-f l = record {
   more : After l.initial.given.items l.given.items;
   stay : MarksStay l.initial.marks.items l.marks.items;
+  long : length l.marks.items ≡ length l.initial.marks.items;
   given : IsGiven l.entries l.given.items l.marks.items;
   opens : OpensMarked l.entries l.marks.items l.f;
   fresh : OpensUnmarked l.entries l.marks.items l.f;

@@ -1,5 +1,4 @@
-use Rattle.std.proofs.Common.{arith, ap, ◌∙◌, length, length-append, length-take, length-drop}
-use Rattle.std.proofs.lemmas.List.{length-map}
+use Rattle.std.proofs.Common.{arith, ap, ◌∙◌}
 use Rattle.anb_close.specs.Standings.{cleared}
 use Rattle.anb_close.proofs.Keeping.{set_next}
 use Rattle.anb_close.proofs.index.clear.Goals as goal

@@ -4,7 +4,7 @@ use Rattle.anb_close.proofs.Keeping.{kept_back, taken_back}
 use Rattle.anb_close.proofs.closure.Closure.take_back.Goals as goal
 
 pub invariant_of-self : goal.invariant_of-self
-invariant_of-self c = (kept_back _ _ _ _ _ _ c.last_label-at.result c.self.invariant.0 c.last_label-at.ensures c.cut.ensures.entries c.cut.ensures.firsts c.cut.ensures.doubles, c.cut.ensures.indexed, c.cut.ensures.listed)
+invariant_of-self c = (kept_back _ _ _ _ _ _ c.last_label-at.result c.self.invariant.0 c.last_label-at.ensures c.cut.ensures.entries c.cut.ensures.firsts c.cut.ensures.doubles, c.cut.ensures.indexed)
 
 pub returns-clause-undoes : goal.returns-clause-undoes
 returns-clause-undoes c es t added =

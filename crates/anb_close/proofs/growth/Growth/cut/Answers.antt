@@ -4,7 +4,6 @@ use Rattle.anb_close.specs.declared.entry.Entry.{Entry}
 use Rattle.anb_term.specs.View.{tree_of}
 use Rattle.anb_term.proofs.Lists.{map-take}
 use Rattle.anb_close.proofs.Growing.{doubles_take}
-use Rattle.anb_close.proofs.Listing.{cut_listed}
 use Rattle.anb_close.proofs.growth.Growth.cut.Goals as goal
 
 pub returns-clause-doubles : goal.returns-clause-doubles
@@ -13,6 +12,3 @@ returns-clause-doubles c = c.truncate-2.ensures.items ∙ doubles_take c.args.se
 pub returns-clause-indexed : goal.returns-clause-indexed
 returns-clause-indexed c =
     c.cut.ensures ∙ ap (take c.args.at) c.requires.indexed ∙ sym (map-take (λ (e : Entry). tree_of e.term) c.args.at c.args.self.now.entries.items) ∙ sym (ap terms_of c.truncate.ensures.items)
-
-pub returns-clause-listed : goal.returns-clause-listed
-returns-clause-listed c = cut_listed c.args.self.now.entries.items c.truncate.new.self.items c.args.self.now.kept.items c.drop_from.new.kept.items c.args.at c.requires.listed c.requires.within c.truncate.ensures.items c.drop_from.ensures

@@ -1,13 +1,14 @@
-use Rattle.std.proofs.Common.{arith, length}
-use Rattle.anb_term.proofs.Lists.{slice_get-within, slice_get-at}
-use Rattle.anb_close.proofs.Listing.{none_next}
+use Rattle.std.proofs.Common.{arith}
+use Rattle.std.proofs.lemmas.Option.{slice_get-get_or}
+use Rattle.anb_term.proofs.Lists.{slice_get-within}
+use Rattle.anb_close.proofs.Due.{none_next, found_next}
 use Rattle.anb_close.proofs.growth.Growth.next.Goals as goal
 
-pub returns : goal.returns
-returns c k i h at = c.loop-k.invariant k i h (omega (arith, slice_get-within c.args.self.now.kept.items k i at, c.args.self.now.kept.ok.0)) at
-
 pub loop-k-preserved : goal.loop-k-preserved
-loop-k-preserved c =
-    let ks = c.args.self.now.kept.items in
-    let here = slice_get-at ks c.loop-k.k c.index-i.result.now (omega (arith, c.args.self.now.kept.ok.0)) c.index-i.ensures in
-    none_next _ _ ks c.args.from c.loop-k.k c.index-i.result.now c.loop-k.invariant here (rw c.in-None.is at c.in_ok-opens.ensures)
+loop-k-preserved c = none_next _ _ c.args.touched.now c.args.from c.loop-k.k _ c.loop-k.invariant (slice_get-get_or c.args.touched.now c.loop-k.k 0 (omega arith)) (rw c.in-None.is at c.in_ok-opens.ensures)
+
+pub returns-in-Some-clause-passed : goal.returns-in-Some-clause-passed
+returns-in-Some-clause-passed c = found_next c.args.self.now.entries.items c.args.self.now.firsts.items c.args.touched.now c.args.from c.loop-k.k _ c.loop-k.invariant (slice_get-get_or c.args.touched.now c.loop-k.k 0 (omega arith))
+
+pub returns-clause-passed : goal.returns-clause-passed
+returns-clause-passed c k i h at = c.loop-k.invariant k i h (omega (arith, slice_get-within c.args.touched.now k i at)) at

@@ -2,6 +2,7 @@ use Rattle.std.proofs.Common.{◌-◌, ◌++◌, ◌∷◌, [], arith, length-ap
 use Rattle.anb_close.specs.declared.entry.Entry.{Entry}
 use Rattle.anb_close.specs.declared.entry.Origin.TheVariants.{Part}
 use Rattle.anb_close.proofs.Pushing.{extends_more, extended_length, next_part}
+use Rattle.anb_close.proofs.Due.{touched_more, where_err}
 use Rattle.anb_close.proofs.growth.Growth.push_parts.Goals as goal
 
 pub push-requires-clause-few : goal.push-requires-clause-few
@@ -14,9 +15,14 @@ loop-j-preserved c =
     record {
       doubles = c.in_ok-push.ensures.doubles;
       indexed = c.in_ok-push.ensures.indexed;
-      listed = c.in_ok-push.ensures.listed;
+      touched = touched_more _ _ _ _ _ _ i.touched c.in_ok-push.ensures.touched;
       more = i.more ++ e ∷ [];
       count = omega (arith, i.count, length-append i.more (e ∷ []));
       so_far = next_part c.args.op c.args.keys.now c.in_ok-copy.field-0 c.args.of c.loop-j.j _ c.keys-start.result c.args.operands.now c.index-operands-j.result c.in_ok-copy-2.field-0 i.more _ (omega arith) (omega arith) c.index-operands-j.is c.keys-start.ensures c.in_ok-copy.ensures c.in_ok-copy-2.ensures i.so_far;
       extends = extends_more _ _ _ _ _ _ i.more (e ∷ []) i.extends c.in_ok-push.ensures.ok;
     }
+
+pub returns-in_err-push-clause-err : goal.returns-in_err-push-clause-err
+returns-in_err-push-clause-err c =
+    let i = c.loop-j.invariant in
+    where_err c.from_residual-in_err-push.result (i.more ++ [], extends_more _ _ _ _ _ _ i.more [] i.extends c.in_err-push.ensures.err)

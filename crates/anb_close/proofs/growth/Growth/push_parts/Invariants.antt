@@ -2,8 +2,7 @@ use Rattle.std.proofs.Common.{◌≡◌, ◌+◌, ◌++◌, length, ◌-◌, Lis
 use Rattle.anb_term.specs.View.{tree_of}
 use Rattle.anb_term.specs.Operator.{keys}
 use Rattle.anb_close.specs.declared.entry.Entry.{Entry}
-use Rattle.anb_close.specs.Entries.{rows, terms_of, is_double, part_entries, Extends}
-use Rattle.anb_close.specs.Listed.{AreListed, HasParts}
+use Rattle.anb_close.specs.Entries.{rows, terms_of, is_double, part_entries, Extends, HasTouched}
 use Rattle.anb_close.proofs.growth.Growth.push_parts.Given as goal
 
 abbrev pub invariant-loop-j : goal.invariant-loop-j
@@ -12,7 +11,7 @@ invariant-loop-j l =
     record {
       doubles : l.self.doubles.items ≡ map is_double (rows l.self.entries.items);
       indexed : l.self.index.0 ≡ terms_of l.self.entries.items;
-      listed : AreListed HasParts (terms_of l.self.entries.items) l.self.kept.items (length l.self.entries.items);
+      touched : HasTouched l.initial.self.entries.items l.initial.touched.items l.self.entries.items l.touched.items;
       more : List Entry;
       count : k + length more ≡ l.j;
       so_far : more ++ part_entries l.op l.keys l.of (l.j - k) (drop l.j (map tree_of l.operands)) ≡ part_entries l.op l.keys l.of 0 (drop k (map tree_of l.operands));

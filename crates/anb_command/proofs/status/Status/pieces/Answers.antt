@@ -1,5 +1,9 @@
-use Rattle.anb_command.proofs.Lines.{cannot_send_text}
+use Rattle.anb_command.proofs.Lines.{cannot_send_text, child_cut_text}
 use Rattle.anb_command.proofs.status.Status.pieces.Goals as goal
 
 pub returns-in-CannotSend : goal.returns-in-CannotSend
 returns-in-CannotSend c = cannot_send_text _ _ _ _ _ c.in-CannotSend.is c.as_str-in-CannotSend.ensures c.format.ensures.text
+
+pub returns-in-ChildCut : goal.returns-in-ChildCut
+returns-in-ChildCut c =
+    child_cut_text _ _ _ _ _ _ _ c.in-ChildCut.is c.format-in-ChildCut.ensures.text c.format-in-ChildCut-2.ensures.text c.format-in-ChildCut-3.ensures.text

@@ -1,0 +1,9 @@
+pub mod Tied
+pub mod Fitting
+pub mod Shutting
+pub mod Deciding
+pub mod Flagging
+pub mod Reaching
+pub mod Finding
+pub mod Refusing
+pub mod Classing

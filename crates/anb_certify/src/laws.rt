@@ -1,0 +1,29 @@
+//! What a certificate is worth, and what a shut list shows: laws, each a function that does nothing.
+ghost use Rattle.anb_certify.specs.Classes.{ClassesAreTied, RulesAreDecided, RulesTie};
+ghost use Rattle.anb_certify.specs.Shut.{ShutHasNone};
+ghost use Rattle.anb_certify.specs.Statements.{CertifiedFits};
+
+use anb_close::laws::every_recipe_composes;
+use anb_term::Algebra;
+
+/// A law: a verified code of which nothing is found fits its plan, in every lawful algebra.
+pub fn certified_fits<A: Algebra>(a: &A)
+    ensures { CertifiedFits (A.meaning a.now) }
+{
+    let _ = a;
+}
+
+/// A law: where a list is shut for labels and a term, no recipe over the labels has the term.
+pub fn shut_has_none()
+    ensures { ShutHasNone }
+{
+    every_recipe_composes();
+}
+
+/// A law: classes of registers that only join what the rules tie, with nothing left to tie, tell
+/// exactly what is tied, and decide whether a register keeps the rules.
+pub fn classes_are_tied()
+    ensures exact { ClassesAreTied }
+    ensures rules { RulesTie }
+    ensures decided { RulesAreDecided }
+{}

@@ -1,0 +1,17 @@
+//! Certifying role codes that came from elsewhere, and reasons for a refusal.
+#![tactic(auto)]
+
+mod found;
+mod laws;
+mod numbers;
+mod reasons;
+mod refusal;
+mod shut_lists;
+
+pub use laws::{certified_fits, classes_are_tied, shut_has_none};
+pub use reasons::{Refusal, reason};
+pub use refusal::CertifyNo;
+pub use shut_lists::shut;
+
+#[cfg(test)]
+mod tests;

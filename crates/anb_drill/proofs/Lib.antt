@@ -1,0 +1,9 @@
+pub mod Lists
+pub mod Names
+pub mod WellFormed
+pub mod Numbered
+pub mod Scheduled
+pub mod Sending
+pub mod Walking
+pub mod Drawing
+pub mod Drilled

@@ -1,0 +1,20 @@
+use Rattle.std.proofs.Common.{◌≡◌, List, subst, ◌∙◌}
+use Rattle.anb_base.specs.declared.content.Suite.{Suite}
+use Rattle.anb_format.specs.Formats.{FormatValue}
+use Rattle.anb_algebra.specs.ByteMeaning.{byte_meaning}
+use Rattle.anb_plays.specs.Statements.{HonestPlays}
+use Rattle.anb_honest.specs.Joint.{cast}
+use Rattle.anb_honest.proofs.Rehearsed.{play_honest}
+use Rattle.anb_honest.proofs.laws.plays_are_honest.Goals as goal
+
+pub returns : goal.returns
+returns c =
+    let p = c.args.p.now in
+    let formats : c.new.result.formats ≡ p.formats = c.new.ensures.formats ∙ c.formats.ensures in
+    let suite : c.new.result.suite ≡ p.suite = c.new.ensures.suite ∙ c.suite.ensures in
+    let P : List FormatValue → Type 0 = λ f. HonestPlays (byte_meaning f c.new.result.suite) in
+    let Q : Suite → Type 0 = λ s. HonestPlays (byte_meaning p.formats s) in
+    let plays = subst Q suite (subst P formats c.honest_plays.ensures) in
+    let holds = c.protocols_hold.ensures p c.name.ensures.protocol in
+    λ codes values seed atoms turns role sendable are within.
+    play_honest (cast p codes values seed) atoms are sendable holds plays role turns within

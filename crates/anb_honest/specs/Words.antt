@@ -1,0 +1,23 @@
+-- The text of a schedule.
+use Rattle.std.specs.Prelude.{ℕ, List, length, Bool, not, ◌==◌, ◌||◌, Option, filter, is_none}
+use Rattle.std.specs.List.{position_from, slice_split}
+use Rattle.std.specs.Str.{bytes_eq}
+use Rattle.anb_resolve.specs.Protocols.{ProtocolValue}
+
+-- a space, a tab, and the bytes 0A and 0D
+abbrev pub is_blank : ℕ → Bool
+is_blank b = (b == 32) || (b == 9) || (b == 10) || (b == 13)
+
+abbrev pub is_word : List ℕ → Bool
+is_word part = not (length part == 0)
+
+-- the parts between blanks, without those that are empty
+abbrev pub words_of : List ℕ → List (List ℕ)
+words_of text = filter is_word (slice_split is_blank text)
+
+-- the number of the role with this name
+abbrev pub role_of : ProtocolValue → List ℕ → Option ℕ
+role_of p name = position_from (λ role. bytes_eq role name) 0 p.roles
+
+abbrev pub names_none : ProtocolValue → List ℕ → Bool
+names_none p name = is_none (role_of p name)

@@ -1,0 +1,4 @@
+pub mod Framed
+pub mod Bodies
+pub mod Following
+pub mod Standing

@@ -1,0 +1,253 @@
+-- What a session under way stands for, from call to call.
+use Rattle.std.proofs.Common.{◌≡◌, ◌≢◌, ◌⊎◌, inl, inr, ◌<◌, ◌≤◌, ◌^◌, ℕ, List, [], ◌∷◌, ◌++◌, length, take, drop, All, Bool, true, false, Option, refl, sym, ap, ◌∙◌, subst, append_assoc}
+use Rattle.std.proofs.lemmas.List.{append-nil, take-append-drop, length-take-le}
+use Rattle.std.proofs.lemmas.List.Elements.{All-nil, All-take, All-drop}
+use Rattle.std.proofs.lemmas.Grind.{flat_map-append}
+use Rattle.anb_base.specs.declared.content.Suite.TheVariants.{One}
+use Rattle.anb_base.specs.Moves.{Put}
+use Rattle.anb_base.specs.declared.TheConstants.{ARRIVAL}
+use Rattle.anb_seal.specs.Primitives.{sealed}
+use Rattle.anb_frame.specs.Frames.{length_bytes, frame, frames}
+use Rattle.anb_frame.specs.Cuts.{Tail, CutLeft}
+use Rattle.anb_plays.specs.Plays.{Played, waiting, done, ends}
+use Rattle.anb_code.specs.CodeValue.{CodeValue}
+use Rattle.anb_machine.specs.ByteRuns.{run_bytes}
+use Rattle.anb_machine.specs.Machines.{MachineValue, gives, waits, turn_of, Turned}
+use Rattle.anb_machine.specs.declared.turn.Turn.{Turn}
+use Rattle.anb_machine.specs.declared.turn.Turn.TheVariants as turn
+use Rattle.anb_session.specs.declared.PlayEnd.{PlayEnd}
+use Rattle.anb_session.specs.declared.PlayEnd.TheVariants.{Done, Stopped, Waiting, Truncated, TooLarge, ReadFault, WriteFault, NoMemory}
+use Rattle.anb_session.specs.Sessions.{end_at}
+use Rattle.anb_session.specs.Turns.{Ends, EndsWaiting, Receives}
+use Rattle.anb_session.proofs.Written.{put_nothing}
+use Rattle.anb_park.specs.declared.body.Head.{Head}
+use Rattle.anb_park.specs.Records.{Parked, marker, body_of, record_of, after, count_takes, HasSizes, play_of, IsWaiting, RefusesBody, AcceptsBody, Accepts}
+use Rattle.anb_park.specs.declared.resuming.ParkNo.{ParkNo}
+use Rattle.anb_park.specs.declared.resuming.ParkNo.TheVariants as cause
+use Rattle.anb_park.specs.declared.live.Live.TheInside.{Inside}
+use Rattle.anb_park.specs.Inside.{live_of}
+use Rattle.anb_park.specs.Lives.{LiveValue, Follows, Stands, IsParked, started, sent_after}
+use Rattle.anb_park.specs.Going.{AreFrames, HasHead, RunsTo, RunsElsewhere, GoesOnFrom, StandsOn, StandsStill}
+use Rattle.anb_park.proofs.Framed.{all_more, not_so}
+use Rattle.anb_park.proofs.Following.{follows_saying, follows_on, follows_ended}
+
+-- ---- the body
+
+pub body_more : (p : Parked) (more : List (List ℕ)) → body_of p ++ frames more ≡ body_of (after p more)
+body_more p more =
+    append_assoc (marker ++ p.id ++ p.seed ++ length_bytes p.session ++ frames p.init) (frames p.arrivals) (frames more)
+    ∙ ap (λ t. marker ++ p.id ++ p.seed ++ length_bytes p.session ++ frames p.init ++ t) (sym (flat_map-append frame p.arrivals more))
+
+pub after_nothing : (p : Parked) → after p [] ≡ p
+after_nothing p = ap (λ (l : List (List ℕ)). record p { arrivals = l }) (append-nil p.arrivals)
+
+pub after_both : (p : Parked) (xs ys : List (List ℕ)) → after (after p xs) ys ≡ after p (xs ++ ys)
+after_both p xs ys = ap (λ (l : List (List ℕ)). record p { arrivals = l }) (append_assoc p.arrivals xs ys)
+
+-- ---- what contracts see of a session
+
+pub waits_sound : (l : Inside) (v : LiveValue) → live_of l ≡ v → waits v.machine ≡ true → l.failed ≡ false
+waits_sound l v is w = by l.failed refl (ap (λ (x : LiveValue). waits x.machine) is ∙ w) where
+  by : (b : Bool) → l.failed ≡ b → waits (live_of l).machine ≡ true → l.failed ≡ false
+  by false e h = e
+  by true e h = absurd (not_so (rw e at h))
+
+pub sound_machine : (l : Inside) (v : LiveValue) → live_of l ≡ v → l.failed ≡ false → l.machine ≡ v.machine
+sound_machine l v is sound = sym (seen l sound) ∙ ap (λ (x : LiveValue). x.machine) is where
+  seen : (l : Inside) → l.failed ≡ false → (live_of l).machine ≡ l.machine
+  seen l sound = rw sound refl
+
+pub sound_body : (l : Inside) (v : LiveValue) → live_of l ≡ v → l.body.items ≡ v.body
+sound_body l v is = ap (λ (x : LiveValue). x.body) is
+
+-- ---- calls of a session
+
+pub stands_at_start : (code : CodeValue) (id init_seed : List ℕ) (session : ℕ) (init : List (List ℕ)) (live : LiveValue) → length id ≡ 32 → length init_seed ≡ 32 → session < 2 ^ 32
+    → length init ≡ count_takes code → All (λ b. length b ≤ ARRIVAL) init → live.body ≡ marker ++ id ++ init_seed ++ length_bytes session ++ frames init
+    → ((xs : List (List ℕ)) → gives live.machine xs ≡ run_bytes code init init_seed session xs) → Stands code (started id init init_seed session) [] live
+stands_at_start code id init_seed session init live li ls small count short body run = record {
+  sizes = record { id = li; seed = ls; session = small; init = count; values = short; arrivals = All-nil (λ b. length b ≤ ARRIVAL) };
+  body = body ∙ sym (append-nil (marker ++ id ++ init_seed ++ length_bytes session ++ frames init));
+  comes = λ more. sym (run more);
+}
+
+stands_same : (code : CodeValue) (p : Parked) (sent : List (List ℕ)) (old new : LiveValue) → new.body ≡ old.body → ((xs : List (List ℕ)) → gives old.machine xs ≡ gives new.machine xs) → Stands code p sent old → Stands code p sent new
+stands_same code p sent old new body same s = record {
+  sizes = s.sizes;
+  body = body ∙ s.body;
+  comes = λ more. follows_on (play_of code (after p more)) (gives old.machine more) (gives new.machine more) sent (s.comes more) (same more);
+}
+
+pub stands_turning : (code : CodeValue) (p : Parked) (sent : List (List ℕ)) (old new : LiveValue) (t : Turn) → Turned old.machine new.machine t → new.body ≡ old.body → t ≢ turn.NoMemory → Stands code p sent old → Stands code p (sent_after sent t) new
+stands_turning code p sent old new (turn.Message b) turned body some s = record {
+  sizes = s.sizes;
+  body = body ∙ s.body;
+  comes = λ more. follows_saying (play_of code (after p more)) (gives old.machine more) (gives new.machine more) sent b (s.comes more) (turned.0 more);
+}
+stands_turning code p sent old new (turn.Wants e) turned body some s = stands_same code p sent old new body turned.0 s
+stands_turning code p sent old new turn.Done turned body some s = stands_same code p sent old new body turned.0 s
+stands_turning code p sent old new (turn.Stopped halt) turned body some s = stands_same code p sent old new body turned.0 s
+stands_turning code p sent old new turn.NoMemory turned body some s = absurd (some refl)
+
+pub stands_receiving : (code : CodeValue) (p : Parked) (sent : List (List ℕ)) (old new : LiveValue) (b : List ℕ) → length b ≤ ARRIVAL → ((xs : List (List ℕ)) → gives old.machine (b ∷ xs) ≡ gives new.machine xs)
+    → new.body ≡ old.body ++ frame b → Stands code p sent old → Stands code (after p (b ∷ [])) sent new
+stands_receiving code p sent old new b fits comes body s = record {
+  sizes = record { id = s.sizes.id; seed = s.sizes.seed; session = s.sizes.session; init = s.sizes.init; values = s.sizes.values; arrivals = all_more p.arrivals b s.sizes.arrivals fits };
+  body = body ∙ ap (λ t. t ++ frame b) s.body ∙ ap (λ t. body_of p ++ t) (sym (append-nil (frame b))) ∙ body_more p (b ∷ []);
+  comes = λ more.
+      subst (λ (q : Parked). Follows (play_of code q) sent (gives new.machine more)) (sym (after_both p (b ∷ []) more))
+      (follows_on (play_of code (after p (b ∷ more))) (gives old.machine (b ∷ more)) (gives new.machine more) sent (s.comes (b ∷ more)) (comes more));
+}
+
+pub recorded : (code : CodeValue) (p : Parked) (sent : List (List ℕ)) (live : LiveValue) (key parked : List ℕ) → parked ≡ sealed One key live.body → Stands code p sent live → parked ≡ record_of key p
+recorded code p sent live key parked is s = is ∙ ap (sealed One key) s.body
+
+-- it waits with nothing before the next arrival
+pub parked_here : (code : CodeValue) (p : Parked) (sent : List (List ℕ)) (live : LiveValue) (event : ℕ) → Stands code p sent live → gives live.machine [] ≡ ends (waiting event) [] → waits live.machine ≡ true → IsParked code p live
+parked_here code p sent live event s waits_now waits_too =
+    let f : Follows (play_of code p) sent (ends (waiting event) []) =
+    subst (λ (q : Parked). Follows (play_of code q) sent (ends (waiting event) [])) (after_nothing p) (follows_on (play_of code (after p [])) (gives live.machine []) (ends (waiting event) []) sent (s.comes []) waits_now) in
+    let e = follows_ended (play_of code p) sent [] (waiting event) f in
+    record {
+      stands = subst (λ (l : List (List ℕ)). Stands code p l live) (sym e.0) s;
+      waiting = (event, e.1, e.2);
+      waits = waits_too;
+      next = (event, ap turn_of waits_now);
+    }
+
+pub accepted_again : (code : CodeValue) (p : Parked) (live : LiveValue) (key parked : List ℕ) → parked ≡ sealed One key live.body → IsParked code p live → Accepts (count_takes code) (IsWaiting code) p.id key parked p
+accepted_again code p live key parked is h = record {
+  whole = recorded code p (play_of code p).sent live key parked is h.stands;
+  body = record { whole = refl; sizes = h.stands.sizes; own = refl; waits = h.waiting };
+}
+
+-- ---- going on from a body
+
+module _ (code : CodeValue) (p : Parked) (first now : MachineValue) (same : (xs : List (List ℕ)) → gives first xs ≡ run_bytes code p.init p.seed p.session xs) where
+  pub goes_on_from : RunsTo first p.arrivals now → GoesOnFrom code p now
+  goes_on_from r = record {
+    waits = r.waits;
+    next = (r.event, r.waiting);
+    comes = λ more. sym (same (p.arrivals ++ more)) ∙ r.comes more ∙ ap (λ (q : Played (List ℕ)). record (gives now more) { sent = q.sent ++ (gives now more).sent }) (same p.arrivals);
+  }
+
+  pub waiting_from : RunsTo first p.arrivals now → IsWaiting code p
+  waiting_from r =
+      let f : Follows (gives first p.arrivals) (gives first p.arrivals).sent (ends (waiting r.event) []) =
+      subst (λ l. Follows (gives first l) (gives first p.arrivals).sent (ends (waiting r.event) [])) (append-nil p.arrivals)
+      (follows_on (gives first (p.arrivals ++ [])) (gives now []) (ends (waiting r.event) []) (gives first p.arrivals).sent (r.comes []) r.waiting) in
+      let e = follows_ended (gives first p.arrivals) (gives first p.arrivals).sent [] (waiting r.event) f in
+      (r.event, ap (λ (q : Played (List ℕ)). q.end) (sym (same p.arrivals)) ∙ e.1, ap (λ (q : Played (List ℕ)). q.left) (sym (same p.arrivals)) ∙ e.2)
+
+  pub elsewhere_from : RunsElsewhere first p.arrivals → IsWaiting code p → ⊥
+  elsewhere_from other (e, end, left) = other e (ap (λ (q : Played (List ℕ)). q.end) (same p.arrivals) ∙ end) (ap (λ (q : Played (List ℕ)). q.left) (same p.arrivals) ∙ left)
+
+-- the session of a body, by its head and its frames
+abbrev pub session_of : Head → List (List ℕ) → ℕ → Parked
+session_of head bs takes = record { id = head.id; seed = head.seed; session = head.session; init = take takes bs; arrivals = drop takes bs }
+
+pub whole_of : (m : List ℕ) (head : Head) (rest : List ℕ) (bs : List (List ℕ)) (takes : ℕ) → HasHead m head rest → AreFrames rest bs → m ≡ body_of (session_of head bs takes)
+whole_of m head rest bs takes h a =
+    let parts : rest ≡ frames (take takes bs) ++ frames (drop takes bs) = a.whole ∙ ap frames (sym (take-append-drop takes bs)) ∙ flat_map-append frame (take takes bs) (drop takes bs) in
+    h.whole ∙ ap (λ t. marker ++ head.id ++ head.seed ++ length_bytes head.session ++ t) parts
+    ∙ sym (append_assoc (marker ++ head.id ++ head.seed ++ length_bytes head.session) (frames (take takes bs)) (frames (drop takes bs)))
+
+pub sizes_of : (code : CodeValue) (m : List ℕ) (head : Head) (rest : List ℕ) (bs : List (List ℕ)) (takes : ℕ) → HasHead m head rest → AreFrames rest bs → takes ≡ count_takes code → takes ≤ length bs → HasSizes (count_takes code) (session_of head bs takes)
+sizes_of code m head rest bs takes h a is enough = record {
+  id = h.id;
+  seed = h.seed;
+  session = h.session;
+  init = length-take-le takes bs enough ∙ is;
+  values = All-take (λ b. length b ≤ ARRIVAL) takes bs a.short;
+  arrivals = All-drop (λ b. length b ≤ ARRIVAL) takes bs a.short;
+}
+
+pub parked_from : (code : CodeValue) (id : List ℕ) (p : Parked) (live : LiveValue) → AcceptsBody (count_takes code) (IsWaiting code) id live.body p → GoesOnFrom code p live.machine → IsParked code p live
+parked_from code id p live a g = record {
+  stands = record { sizes = a.sizes; body = a.whole; comes = g.comes };
+  waiting = a.waits;
+  waits = g.waits;
+  next = (g.next.0, ap turn_of g.next.1);
+}
+
+pub accepted : (code : CodeValue) (id key parked m : List ℕ) (p : Parked) → sealed One key m ≡ parked → AcceptsBody (count_takes code) (IsWaiting code) id m p → Accepts (count_takes code) (IsWaiting code) id key parked p
+accepted code id key parked m p is a = record {
+  whole = sym is ∙ ap (sealed One key) a.whole;
+  body = record { whole = refl; sizes = a.sizes; own = a.own; waits = a.waits };
+}
+
+pub refused_from : (code : CodeValue) (id m : List ℕ) (p : Parked) (first : MachineValue) (x : List ℕ) (why : ParkNo) → m ≡ body_of p → HasSizes (count_takes code) p → p.id ≡ id → AreFrames x p.arrivals
+    → ((xs : List (List ℕ)) → gives first xs ≡ run_bytes code p.init p.seed p.session xs)
+    → (why ≡ cause.NoMemory) ⊎ ((why ≡ cause.NotWaiting) × ((bs : List (List ℕ)) → AreFrames x bs → RunsElsewhere first bs)) → RefusesBody (count_takes code) (IsWaiting code) id m why
+refused_from code id m p first x why e s own a same by = elim by [
+  | inl is ↦ subst (RefusesBody (count_takes code) (IsWaiting code) id m) (sym is) tt
+  | inr r ↦ subst (RefusesBody (count_takes code) (IsWaiting code) id m) (sym r.0) (p, e, s, own, elsewhere_from code p first first same (r.1 p.arrivals a))
+]
+
+-- ---- over a wire
+
+pub on_nowhere : (live : LiveValue) (left : Option (List ℕ)) → StandsOn live live left left
+on_nowhere live left = record {
+  each = λ code p sent arrivals tail s cut. ([], arrivals, sent, refl, cut, subst (λ (q : Parked). Stands code q sent live) (sym (after_nothing p)) s);
+}
+
+pub on_saying : (old new : LiveValue) (left : Option (List ℕ)) (b : List ℕ) → ((code : CodeValue) (p : Parked) (sent : List (List ℕ)) → Stands code p sent old → Stands code p (sent ++ b ∷ []) new) → StandsOn old new left left
+on_saying old new left b stands = record {
+  each = λ code p sent arrivals tail s cut.
+      ([], arrivals, sent ++ b ∷ [], refl, cut, subst (λ (q : Parked). Stands code q (sent ++ b ∷ []) new) (sym (after_nothing p)) (stands code p sent s));
+}
+
+pub on_receiving : (old mid new : LiveValue) (left now : Option (List ℕ)) (b : List ℕ) → Receives b left now → ((code : CodeValue) (p : Parked) (sent : List (List ℕ)) → Stands code p sent old → Stands code p sent mid)
+    → ((code : CodeValue) (p : Parked) (sent : List (List ℕ)) → Stands code p sent mid → Stands code (after p (b ∷ [])) sent new) → StandsOn old new left now
+on_receiving old mid new left now b receives stays goes = record {
+  each = λ code p sent arrivals tail s cut.
+      let f = receives.first arrivals tail cut in (b ∷ [], f.0, sent, f.1, f.2, goes code p sent (stays code p sent s));
+}
+
+pub on_joined : (old mid new : LiveValue) (left between now : Option (List ℕ)) → StandsOn old mid left between → StandsOn mid new between now → StandsOn old new left now
+on_joined old mid new left between now first second = record {
+  each = λ code p sent arrivals tail s cut.
+      let f = first.each code p sent arrivals tail s cut in
+      let g = second.each code (after p f.0) f.2 f.1 tail f.5 f.4 in (
+        f.0 ++ g.0,
+        g.1,
+        g.2,
+        f.3 ∙ ap (λ l. f.0 ++ l) g.3 ∙ sym (append_assoc f.0 g.0 g.1),
+        g.4,
+        subst (λ (q : Parked). Stands code q g.2 new) (after_both p f.0 g.0) g.5,
+      );
+}
+
+-- a run that waits with nothing before, and is done after any arrival
+abbrev by_arrivals : ℕ → List (List ℕ) → Played (List ℕ)
+by_arrivals event [] = ends (waiting event) []
+by_arrivals event (b ∷ bs) = ends done (b ∷ bs)
+
+not_done : (e : ℕ) → Waiting e ≡ Done → ⊥
+not_done e is = cc
+
+pub still_waiting : (old new : LiveValue) (event : ℕ) (left now written written_now : Option (List ℕ)) (end : PlayEnd) → EndsWaiting event left now written written_now end
+    → ((code : CodeValue) (p : Parked) (sent : List (List ℕ)) → Stands code p sent old → Stands code p sent new) → gives new.machine [] ≡ ends (waiting event) [] → waits new.machine ≡ true → StandsStill old new left end
+still_waiting old new event left now written written_now (Waiting e) waiting_so stays waits_now waits_too = λ code p sent arrivals tail s cut. by code p sent arrivals tail s (waiting_so (by_arrivals event) refl arrivals tail cut).0 where
+  by : (code : CodeValue) (p : Parked) (sent arrivals : List (List ℕ)) (tail : Tail) → Stands code p sent old → Waiting e ≡ end_at (by_arrivals event arrivals).end tail → (arrivals ≡ []) × IsParked code p new
+  by code p sent [] tail s is = (refl, parked_here code p sent new event (stays code p sent s) waits_now waits_too)
+  by code p sent (b ∷ bs) tail s is = absurd (not_done e is)
+still_waiting old new event left now written written_now Done w stays a b = tt
+still_waiting old new event left now written written_now (Stopped halt) w stays a b = tt
+still_waiting old new event left now written written_now (Truncated have need) w stays a b = tt
+still_waiting old new event left now written written_now (TooLarge len) w stays a b = tt
+still_waiting old new event left now written written_now ReadFault w stays a b = tt
+still_waiting old new event left now written written_now WriteFault w stays a b = tt
+still_waiting old new event left now written written_now NoMemory w stays a b = tt
+
+-- there was no room for an arrival that was taken
+pub no_room : (R : List (List ℕ) → Played (List ℕ)) (left now written written_now : Option (List ℕ)) → written_now ≡ written → Ends R left now written written_now NoMemory
+no_room R left now written written_now same = λ arrivals tail cut. (0, subst (λ o. Put written o []) (sym same) (put_nothing written))
+
+pub parked_at_last : (old mid new : LiveValue) (left now : Option (List ℕ)) (end : PlayEnd) (e : ℕ) → StandsOn old mid left now → StandsStill mid new now end → end ≡ Waiting e
+    → (code : CodeValue) (p : Parked) (sent arrivals : List (List ℕ)) (tail : Tail) → Stands code p sent old → CutLeft ARRIVAL left arrivals tail → IsParked code (after p arrivals) new
+parked_at_last old mid new left now end e on still is code p sent arrivals tail s cut =
+    let w = on.each code p sent arrivals tail s cut in
+    let here : StandsStill mid new now (Waiting e) = subst (StandsStill mid new now) is still in
+    let h = here code (after p w.0) w.2 w.1 tail w.5 w.4 in
+    subst (λ l. IsParked code (after p l) new) (sym (w.3 ∙ ap (λ l. w.0 ++ l) h.0 ∙ append-nil w.0)) h.1

@@ -1,0 +1,5 @@
+pub mod Lives
+pub mod Records
+-- for proofs alone
+pub mod Going
+pub mod Inside

@@ -1,0 +1,10 @@
+pub mod Answering
+pub mod Chains
+pub mod Completing
+pub mod Ending
+pub mod Reached
+pub mod Ready
+pub mod Records
+pub mod Roles
+pub mod Tasks
+pub mod Written

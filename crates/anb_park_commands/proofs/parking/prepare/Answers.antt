@@ -1,0 +1,64 @@
+use Rattle.std.proofs.Common.{Option, ◌∙◌, subst, inl, inr}
+use Rattle.anb_command.specs.declared.limits.TheConstants.{KEY_LIMIT}
+use Rattle.anb_command.specs.Errands.{ErrandOf}
+use Rattle.anb_command.specs.Fetches.{Files, IfTold}
+use Rattle.anb_command.specs.Files.{HasFile}
+use Rattle.anb_command.specs.Steps.{given}
+use Rattle.anb_command.proofs.Failing.{IsFailure-map, Rose-later}
+use Rattle.anb_park_commands.proofs.Chains.{begun_given, begun_no_key, begun_no_part, begun_no_values, file_refused, key_read, narration_read, values_read}
+use Rattle.anb_park_commands.proofs.parking.prepare.Goals as goal
+
+pub returns-in-Ok-fetch_file-clause-ready : goal.returns-in-Ok-fetch_file-clause-ready
+returns-in-Ok-fetch_file-clause-ready g c =
+    let told = g.F.Shelf.files c.args.shelf.now in
+    let play = c.args.words.play in
+    let role = c.in-Ok.owner.playable in
+    let p = c.in-Ok-prepare_code.prepared in
+    let first = c.owner_in_file.ensures.fetches.same_files in
+    let next = c.prepare_code.ensures.fetches.same_files in
+    begun_given told play.narration.now play.name.now play.values.now c.args.words.key.now c.args.host_seed role.protocol role.role role.code c.in-Ok.ensures.fits
+    p.code p.initial p.seed c.in-Ok-prepare_code.ensures.same c.in-Ok.ensures.given (subst (λ (t : Option Files). IfTold t (λ files. ErrandOf files play.values.now c.args.host_seed role.code (given (record { code = p.code; initial = p.initial; seed = p.seed })))) first c.in-Ok-prepare_code.ensures.given)
+    c.in-Ok.owner.id c.in-Ok-fetch_file.key c.in-Ok.ensures.runs c.in-Ok-prepare_code.ensures.bytes c.in-Ok.ensures.identity (subst (λ (t : Option Files). IfTold t (λ files. HasFile files c.args.words.key.now KEY_LIMIT c.in-Ok-fetch_file.key)) (next ∙ first) c.in-Ok-fetch_file.ensures.file)
+
+pub returns-in-Err-clause-refused : goal.returns-in-Err-clause-refused
+returns-in-Err-clause-refused g c =
+    let told = g.F.Shelf.files c.args.shelf.now in
+    let play = c.args.words.play in
+    IsFailure-map c.in-Err.status _ _ _ _
+    (λ file at. (inl at.0, at.1, narration_read told play.narration.now play.name.now play.values.now c.args.words.key.now c.args.host_seed file at.0))
+    (λ is. begun_no_part told play.narration.now play.name.now play.values.now c.args.words.key.now c.args.host_seed c.in-Err.status is) c.in-Err.ensures.refused
+
+pub returns-in-Err-prepare_code-clause-refused : goal.returns-in-Err-prepare_code-clause-refused
+returns-in-Err-prepare_code-clause-refused g c =
+    let told = g.F.Shelf.files c.args.shelf.now in
+    let play = c.args.words.play in
+    let role = c.in-Ok.owner.playable in
+    let kept = c.owner_in_file.ensures.fetches in
+    IsFailure-map c.in-Err-prepare_code.status _ _ _ _
+    (λ file at. (
+      inr (inl at.0),
+      Rose-later _ _ _ (kept.never_falls file) at.1,
+      values_read told play.narration.now play.name.now play.values.now c.args.words.key.now c.args.host_seed role.protocol role.role role.code c.in-Ok.ensures.fits file at.0 c.in-Ok.ensures.given,
+    ))
+    (λ is. begun_no_values told play.narration.now play.name.now play.values.now c.args.words.key.now c.args.host_seed role.protocol role.role role.code c.in-Ok.ensures.fits c.in-Err-prepare_code.status c.in-Ok.ensures.given is)
+    (rw kept.same_files at c.in-Err-prepare_code.ensures.refused)
+
+pub returns-clause-refused : goal.returns-clause-refused
+returns-clause-refused g c =
+    let told = g.F.Shelf.files c.args.shelf.now in
+    let play = c.args.words.play in
+    let role = c.in-Ok.owner.playable in
+    let p = c.in-Ok-prepare_code.prepared in
+    let kept = c.owner_in_file.ensures.fetches in
+    let next = c.prepare_code.ensures.fetches in
+    let s = c.in-Err-fetch_file.status in
+    IsFailure-map s _ _ _ _
+    (λ file at. (
+      inr (inr (inl at.0)),
+      Rose-later _ _ _ (kept.never_falls file) (Rose-later _ _ _ (next.never_falls file) at.1),
+      key_read told play.narration.now play.name.now play.values.now c.args.words.key.now c.args.host_seed role.protocol role.role role.code c.in-Ok.ensures.fits
+          p.code p.initial p.seed c.in-Ok-prepare_code.ensures.same c.in-Ok.ensures.given (subst (λ (t : Option Files). IfTold t (λ files. ErrandOf files play.values.now c.args.host_seed role.code (given (record { code = p.code; initial = p.initial; seed = p.seed })))) kept.same_files c.in-Ok-prepare_code.ensures.given) file at.0,
+    ))
+    (λ is. begun_no_key told play.narration.now play.name.now play.values.now c.args.words.key.now c.args.host_seed role.protocol role.role role.code c.in-Ok.ensures.fits
+    p.code p.initial p.seed c.in-Ok-prepare_code.ensures.same c.in-Ok.ensures.given (subst (λ (t : Option Files). IfTold t (λ files. ErrandOf files play.values.now c.args.host_seed role.code (given (record { code = p.code; initial = p.initial; seed = p.seed })))) kept.same_files c.in-Ok-prepare_code.ensures.given) s (file_refused told c.args.words.key.now _ s is))
+    (rw kept.same_files at (rw next.same_files at c.in-Err-fetch_file.ensures.err))

@@ -1,0 +1,9 @@
+pub mod Identities
+pub mod Laws
+pub mod ParkCommand
+pub mod Parking
+pub mod Records
+pub mod ResumeCommand
+pub mod Sessions
+-- for proofs alone
+pub mod Going

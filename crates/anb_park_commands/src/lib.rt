@@ -1,0 +1,15 @@
+//! Commands of sessions that are parked: `park` begins one, and `resume` goes on from its record.
+//!
+//! A session costs what `play` costs, and one sealing of its record where it is parked. Who goes on
+//! from a record unseals it and runs the role's code over it again.
+#![tactic(auto)]
+
+mod going;
+mod laws;
+mod owning;
+mod parking;
+mod resuming;
+
+pub use laws::accepted_records_go_on;
+pub use parking::park;
+pub use resuming::resume;

@@ -1,0 +1,163 @@
+//! A session of a role that goes on from its record, over a wire.
+ghost use Rattle.std.specs.Prelude.{◌≡◌, ◌⊎◌, ℕ, List, [], ◌∷◌, IfOk, IfErr, Some, true};
+ghost use Rattle.anb_base.specs.Bytes.{IsBytes};
+ghost use Rattle.anb_base.specs.Moves.{Rose};
+ghost use Rattle.anb_command.specs.declared.limits.TheConstants.{RECORD_LIMIT};
+ghost use Rattle.anb_command.specs.Causes.{HasCause, NoneRose};
+ghost use Rattle.anb_command.specs.Commands.{place_by};
+ghost use Rattle.anb_command.specs.Fetches.{Fetches, Files, IfTold};
+ghost use Rattle.anb_command.specs.Files.{FileIs};
+ghost use Rattle.anb_command.specs.Reaches.{Reaches};
+ghost use Rattle.anb_command.specs.Statuses.{IsEarly, phase_of};
+ghost use Rattle.anb_command.specs.Steps.{IsFailure, refused, given};
+ghost use Rattle.anb_command.specs.Touches.{Touches};
+ghost use Rattle.anb_park.specs.Lives.{IsParked};
+ghost use Rattle.anb_park.specs.Records.{Parked};
+ghost use Rattle.anb_park_commands.specs.Going.{HaveBytes, IsAwake, RefusesAwake, RunsRole, status_of};
+ghost use Rattle.anb_park_commands.specs.Records.{RecordIs};
+ghost use Rattle.anb_park_commands.specs.ResumeCommand.{CompletesResume, DoesResume};
+
+use crate::going::go_over;
+use crate::owning::{Owner, owner_in_file};
+use anb_base::{Bytes, Shelf, Wire};
+use anb_command::{KEY_LIMIT, RECORD_LIMIT, ResumeWords, Status, fetch_file};
+use anb_park::{Live, ParkNo};
+use anb_read::{narrations_are_unique, none_is_both, refusals_are_unique};
+use anb_seal::{gives_bytes, unseals_exactly};
+use std::alloc::Global;
+
+/// A session that goes on, and the key of its records.
+#[derive(Drop)]
+struct Awake<'c> {
+    live: Live<'c>,
+    key: Bytes,
+}
+
+/// Goes on with the role's session from its record, over the wire. What it has sent before isn't
+/// sent again. Where it waits and the input ended at the border of a frame, its record is written anew.
+/// Nothing keeps a record from being used twice.
+pub fn resume<F: Shelf, W: Wire>(
+    alloc: Global,
+    shelf: &mut F,
+    wire: &mut W,
+    words: ResumeWords,
+) -> Status
+    ensures does { DoesResume words.entry.narration.now words.entry.name.now words.entry.parked.now
+        words.entry.key.now (F.files shelf.old) (W.state wire.old) (W.state wire.new) result }
+    ensures completes { NoneRose (words.entry.narration.now ∷ words.entry.parked.now
+        ∷ words.entry.key.now ∷ [])
+        (F.faults shelf.old) (F.faults shelf.new) (W.state wire.old) (W.state wire.new)
+        → CompletesResume words.entry.narration.now words.entry.name.now words.entry.parked.now
+        words.entry.key.now (F.files shelf.old) (W.state wire.old) (W.state wire.new) result }
+    ensures faults { HasCause (words.entry.narration.now ∷ words.entry.parked.now
+        ∷ words.entry.key.now ∷ [])
+        (Some (place_by words.entry.endpoint)) (F.faults shelf.old) (F.faults shelf.new)
+        (W.state wire.old) (W.state wire.new) result }
+    ensures fetches { Fetches (words.entry.narration.now ∷ words.entry.parked.now
+        ∷ words.entry.key.now ∷ [])
+        (F.files shelf.old) (F.files shelf.new) (F.faults shelf.old) (F.faults shelf.new) }
+    ensures reached { Reaches (Some (place_by words.entry.endpoint)) (phase_of result)
+        (W.state wire.old).reached (W.state wire.new).reached }
+    ensures touches { Touches true (phase_of result) (W.state wire.old) (W.state wire.new) }
+{
+    narrations_are_unique();
+    refusals_are_unique();
+    none_is_both();
+    let owner = match owner_in_file(alloc, shelf, words.narration, words.name) {
+        Ok(owner) => owner,
+        Err(status) => return status,
+    };
+    match wake(alloc, shelf, words, &owner) {
+        Ok(mut awake) => {
+            let Awake { live, key } = &mut awake;
+            go_over(alloc, wire, words.endpoint, live, key.as_slice())
+        }
+        Err(status) => status,
+    }
+}
+
+/// The session of the role that the record in the file holds. Once the session is under way, the
+/// file's bytes are let go.
+fn wake<'c, F: Shelf>(
+    alloc: Global,
+    shelf: &mut F,
+    words: ResumeWords,
+    owner: &'c Owner,
+) -> Result<Awake<'c>, Status>
+    requires { RunsRole owner.now.playable.protocol owner.now.playable.role
+        owner.now.playable.code }
+    ensures awake { IfOk result (λ awake. (s : Parked)
+        × IsParked owner.now.playable.code s awake.live × HaveBytes s
+        × IfTold (F.files shelf.old) (λ files.
+        IsAwake files owner.now.playable.protocol owner.now.playable.role owner.now.id
+        words.entry.parked.now words.entry.key.now s awake.key)) }
+    ensures refused { IfErr result (λ status. IsFailure status
+        (λ file. ((file ≡ words.entry.parked.now) ⊎ ((file ≡ words.entry.key.now)
+        × IfTold (F.files shelf.old) (λ files.
+        (bytes : List ℕ) × FileIs files words.entry.parked.now RECORD_LIMIT (given bytes))))
+        × Rose (F.faults shelf.old file) (F.faults shelf.new file))
+        (IfTold (F.files shelf.old) (λ files.
+        RefusesAwake files owner.now.playable.protocol owner.now.playable.role owner.now.id
+        words.entry.parked.now words.entry.key.now status))) }
+    ensures early { IfErr result IsEarly }
+    ensures fetches { Fetches (words.entry.parked.now ∷ words.entry.key.now ∷ [])
+        (F.files shelf.old) (F.files shelf.new) (F.faults shelf.old) (F.faults shelf.new) }
+{
+    let parked = match fetch_file(alloc, shelf, words.parked, RECORD_LIMIT) {
+        Ok(parked) => parked,
+        Err(status) => return Err(status),
+    };
+    let key = match fetch_file(alloc, shelf, words.key, KEY_LIMIT) {
+        Ok(key) => key,
+        Err(status) => return Err(status),
+    };
+    match live_in(alloc, owner, key.as_slice(), parked.as_slice()) {
+        Ok(live) => Ok(Awake { live, key }),
+        Err(status) => Err(status),
+    }
+}
+
+/// The session of the role that the record holds.
+fn live_in<'c>(
+    alloc: Global,
+    owner: &'c Owner,
+    key: &[u8],
+    parked: &[u8],
+) -> Result<Live<'c>, Status>
+    requires { RunsRole owner.now.playable.protocol owner.now.playable.role
+        owner.now.playable.code }
+    ensures live { IfOk result (λ live. (s : Parked)
+        × IsParked owner.now.playable.code s live × HaveBytes s
+        × RecordIs owner.now.playable.protocol owner.now.playable.role owner.now.id
+        key.now parked.now (given s)) }
+    ensures refused { IfErr result (λ status. IsFailure status (λ _. ⊥)
+        (RecordIs owner.now.playable.protocol owner.now.playable.role owner.now.id
+        key.now parked.now (refused status))) }
+    ensures early { IfErr result IsEarly }
+{
+    gives_bytes();
+    unseals_exactly();
+    are_bytes(parked);
+    match anb_park::resume(alloc, &owner.playable.code, owner.id, key, parked) {
+        Ok(live) => Ok(live),
+        Err(why) => Err(status_of(why)),
+    }
+}
+
+/// The status of a record that isn't gone on from.
+fn status_of(why: ParkNo) -> Status
+    ensures status { result ≡ status_of why }
+    ensures early { IsEarly result }
+{
+    match why {
+        ParkNo::NoMemory => Status::NoMemory,
+        why => Status::BadRecord(why),
+    }
+}
+
+/// A law: a slice of bytes is a string of bytes.
+fn are_bytes(bytes: &[u8])
+    ensures { IsBytes bytes.now }
+{
+    let _ = bytes;
+}

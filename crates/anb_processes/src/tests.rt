@@ -1,0 +1,81 @@
+//! Children of the machine: what they write and take, and how they end.
+
+ghost use Rattle.std.specs.Prelude.{◌≡◌, ◌≢◌, ◌<◌, ℕ, get_or, IfOk, OnOk};
+ghost use Rattle.anb_stage.specs.declared.TheConstants.{ROLES};
+
+use crate::RealSpawner;
+use anb_base::{Failed, Text};
+use anb_stage::Spawner;
+use std::alloc::{AllocError, Global};
+use std::test::Fail;
+
+/// The words of a shell that runs this line.
+fn words(alloc: Global, line: &str) -> Result<Vec<Text>, AllocError> {
+    let mut words = Vec::new(alloc);
+    for word in ["-c", line] {
+        words.push(Text::new(String::from_str(alloc, word)?))?;
+    }
+    Ok(words)
+}
+
+/// A spawner of this program.
+fn spawner(rt: HostRuntime, program: &str) -> Result<RealSpawner, AllocError>
+    ensures { IfOk result (λ s. (role : ℕ) → get_or s.phases role 0 ≡ 0) }
+{
+    let program = String::from_str(rt.alloc(), program)?;
+    Ok(RealSpawner::new(rt, Text::new(program)))
+}
+
+fn start(children: &mut RealSpawner, role: u32, words: &[Text]) -> Result<(), Fail>
+    requires { role < ROLES }
+    ensures started { OnOk result (get_or children.new.phases role 0 ≡ 1) }
+    ensures others { (other : ℕ) → other ≢ role
+        → get_or children.new.phases other 0 ≡ get_or children.old.phases other 0 }
+{
+    match children.start(role, words) {
+        Ok(()) => Ok(()),
+        Err(Failed) => Err("not started".into()),
+    }
+}
+
+/// What becomes of a shell that runs this line.
+fn ends(rt: HostRuntime, line: &str) -> Result<Result<u8, Failed>, Fail> {
+    let mut shells = spawner(rt, "/bin/sh")?;
+    start(&mut shells, 1, &words(rt.alloc(), line)?)?;
+    let ended = shells.finish(1);
+    shells.end();
+    Ok(ended)
+}
+
+#[test]
+fn children_say_back_what_they_hear(rt: HostRuntime) -> Result<(), Fail> {
+    let mut cats = spawner(rt, "/bin/cat")?;
+    let none = Vec::new(rt.alloc());
+    start(&mut cats, 0, &none)?;
+    start(&mut cats, 1, &none)?;
+    let mut buf = [0u8; 3];
+    assert_eq!(rt; cats.write(0, b"ab"), Ok(2));
+    assert_eq!(rt; cats.read(0, &mut buf), Ok(2));
+    assert_eq!(rt; buf, *b"ab\0");
+    assert_eq!(rt; cats.finish(0), Ok(0));
+    assert_eq!(rt; cats.finish(1), Ok(0));
+    cats.end();
+    Ok(())
+}
+
+#[test]
+fn a_child_ends_with_its_status(rt: HostRuntime) -> Result<(), Fail> {
+    assert_eq!(rt; ends(rt, "exit 7")?, Ok(7));
+    assert_eq!(rt; ends(rt, "cat; head -c 1000000 /dev/zero")?, Ok(0));
+    assert_eq!(rt; ends(rt, "kill -9 $$")?, Err(Failed));
+    Ok(())
+}
+
+/// The test ends long before the child would.
+#[test]
+fn a_child_that_runs_on_is_killed(rt: HostRuntime) -> Result<(), Fail> {
+    let mut shells = spawner(rt, "/bin/sh")?;
+    start(&mut shells, 0, &words(rt.alloc(), "exec sleep 1000")?)?;
+    shells.end();
+    Ok(())
+}

@@ -1,0 +1,5 @@
+mod Sending
+mod Ordered
+mod Reasons
+mod Telling
+mod Lines

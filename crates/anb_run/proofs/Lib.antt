@@ -1,0 +1,4 @@
+pub mod Compiled
+pub mod Given
+mod Usage
+mod Idle

@@ -1,0 +1,18 @@
+//! A law on what commands do with each other's files.
+ghost use Rattle.anb_run.specs.Compiled.{CompiledFilesPlay};
+
+use anb_text::{codes_are_unique, faults_are_unique, files_are_unique};
+
+/// A law: a file that `compile` wrote is loaded as the code that was written, and `enact` of it does
+/// what `play` does, with the same values.
+pub(crate) fn compiled_files_play()
+    ensures { CompiledFilesPlay }
+{
+    anb_read::narrations_are_unique();
+    anb_read::refusals_are_unique();
+    anb_read::none_is_both();
+    files_are_unique();
+    codes_are_unique();
+    anb_text::none_is_both();
+    faults_are_unique();
+}

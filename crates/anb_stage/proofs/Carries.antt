@@ -1,0 +1,190 @@
+-- One message more is carried, or isn't.
+use Rattle.std.proofs.Common.{◌≡◌, ◌≢◌, ◌<◌, ◌≤◌, ◌+◌, ◌==◌, ℕ, zero, suc, List, [], ◌∷◌, ◌++◌, length, map, filter, drop, Bool, Option, Some, None, false, refl, sym, ap, ◌∙◌, subst, arith, inl, inr, length-append}
+use Rattle.std.specs.List.{slice_get}
+use Rattle.std.proofs.lemmas.Bool.{cases_Bool, eq-eqb, eqb-true}
+use Rattle.std.proofs.lemmas.List.{append-nil, map-append}
+use Rattle.std.proofs.lemmas.List.Elements.{filter-append}
+use Rattle.std.proofs.lemmas.Grind.{flat_map-append}
+use Rattle.anb_base.specs.Moves.{Put, PutPrefix}
+use Rattle.anb_base.specs.declared.TheConstants.{ARRIVAL}
+use Rattle.anb_base.proofs.Joined.{Put-joined}
+use Rattle.anb_base.specs.declared.content.Sent.{Sent}
+use Rattle.anb_frame.specs.Frames.{frame, frames}
+use Rattle.anb_frame.specs.Cuts.{Tail, CutLeft}
+use Rattle.anb_resolve.specs.Choices.{each_after}
+use Rattle.anb_stage.specs.Children.{Child}
+use Rattle.anb_stage.specs.Relays.{Message, sends_of, bytes_of, message_of, messages, bytes_to, report, refusal_of, refusal_at, missing, AreCut, SomeWritten}
+use Rattle.anb_stage.specs.Steps.{CarryKeeps, Carries, CarriesPart, FailsCarrying, Carried, FailsCarryingSome}
+use Rattle.anb_stage.specs.declared.ends.Ends.{Ends}
+use Rattle.anb_stage.specs.declared.refusal.RelayNo.{RelayNo}
+use Rattle.anb_stage.specs.declared.refusal.RelayNo.TheVariants as no
+use Rattle.anb_stage.proofs.Messages.{each_after-at, first_after-at, first_after-none, put_prefix, put_prefix-more}
+use Rattle.anb_stage.proofs.Roles.{one_or_other}
+
+-- what stands first behind so many stands at that place
+drop_first : {X : Type 0} (xs : List X) (n : ℕ) (x : X) (rest : List X) → drop n xs ≡ x ∷ rest → (slice_get xs n ≡ Some x) × (drop (suc n) xs ≡ rest)
+drop_first [] zero x rest e = absurd cc
+drop_first [] (suc n) x rest e = absurd cc
+drop_first (y ∷ ys) zero x rest e = let h : y ≡ x = cc in let t : ys ≡ rest = cc in (ap Some h, t)
+drop_first (y ∷ ys) (suc n) x rest e = drop_first ys n x rest e
+
+drop_none : {X : Type 0} (xs : List X) (n : ℕ) → drop n xs ≡ [] → slice_get xs n ≡ None
+drop_none [] zero e = refl
+drop_none [] (suc n) e = refl
+drop_none (y ∷ ys) zero e = absurd cc
+drop_none (y ∷ ys) (suc n) e = drop_none ys n e
+
+test_no : (a b : ℕ) → a ≢ b → (a == b) ≡ false
+test_no a b differ = elim (cases_Bool (a == b)) [
+  | inl same ↦ absurd (differ (eqb-true a b same))
+  | inr other ↦ other
+]
+
+-- a role's actions, where one comes more
+sends_more-own : (role : ℕ) (before : List Ends) (a : Ends) → a.from ≡ role → sends_of role (before ++ a ∷ []) ≡ suc (sends_of role before)
+sends_more-own role before a own =
+    let test = eq-eqb a.from role own in
+    let one : length (filter (λ (x : Ends). x.from == role) (a ∷ [])) ≡ 1 = rw test refl in
+    let all = ap length (filter-append (λ (x : Ends). x.from == role) before (a ∷ [])) ∙ length-append (filter (λ (x : Ends). x.from == role) before) (filter (λ (x : Ends). x.from == role) (a ∷ [])) in
+    all ∙ omega (arith, one)
+
+sends_more-other : (role : ℕ) (before : List Ends) (a : Ends) → a.from ≢ role → sends_of role (before ++ a ∷ []) ≡ sends_of role before
+sends_more-other role before a other =
+    let test = test_no a.from role other in
+    let none : length (filter (λ (x : Ends). x.from == role) (a ∷ [])) ≡ 0 = rw test refl in
+    let all = ap length (filter-append (λ (x : Ends). x.from == role) before (a ∷ [])) ∙ length-append (filter (λ (x : Ends). x.from == role) before) (filter (λ (x : Ends). x.from == role) (a ∷ [])) in
+    all ∙ omega (arith, none)
+
+-- the frames of the messages to a role
+abbrev pub frames_for : ℕ → List Message → List ℕ
+frames_for role ms = frames (map (λ (m : Message). m.bytes) (filter (λ (m : Message). m.to == role) ms))
+
+frames_for-append : (role : ℕ) (xs ys : List Message) → frames_for role (xs ++ ys) ≡ frames_for role xs ++ frames_for role ys
+frames_for-append role xs ys =
+    let test : Message → Bool = λ m. m.to == role in
+    let own : Message → List ℕ = λ m. m.bytes in
+    ap (λ ms. frames (map own ms)) (filter-append test xs ys)
+    ∙ ap frames (map-append own (filter test xs) (filter test ys))
+    ∙ flat_map-append frame (map own (filter test xs)) (map own (filter test ys))
+
+module _ (outputs : ℕ → List (List ℕ)) (before : List Ends) (a : Ends) where
+  -- the messages behind these
+  pub after_of : List Ends → List Message
+  after_of after = each_after (message_of outputs) (before ++ a ∷ []) after
+
+  pub frames_at : (role : ℕ) (after : List Ends) → frames (bytes_to outputs role (before ++ a ∷ after))
+      ≡ frames (bytes_to outputs role before) ++ (frames_for role (message_of outputs before a) ++ frames_for role (after_of after))
+  unfolding after_of
+  frames_at role after =
+      ap (frames_for role) (each_after-at (message_of outputs) [] before a after)
+      ∙ frames_for-append role (messages outputs before) (message_of outputs before a ++ each_after (message_of outputs) (before ++ a ∷ []) after)
+      ∙ ap (λ t. frames (bytes_to outputs role before) ++ t) (frames_for-append role (message_of outputs before a) (each_after (message_of outputs) (before ++ a ∷ []) after))
+
+  one_more : messages outputs (before ++ a ∷ []) ≡ messages outputs before ++ message_of outputs before a
+  one_more = each_after-at (message_of outputs) [] before a [] ∙ ap (λ t. messages outputs before ++ t) (append-nil (message_of outputs before a))
+
+  frames_more : (role : ℕ) → frames (bytes_to outputs role (before ++ a ∷ [])) ≡ frames (bytes_to outputs role before) ++ frames_for role (message_of outputs before a)
+  frames_more role = ap (frames_for role) one_more ∙ frames_for-append role (messages outputs before) (message_of outputs before a)
+
+  module _ (bytes : List ℕ) (there : bytes_of outputs before a ≡ Some bytes) where
+    message_is : message_of outputs before a ≡ record { action = length before + 1; to = a.to; bytes = bytes } ∷ []
+    message_is = rw there refl
+
+    frames_own : (role : ℕ) → a.to ≡ role → frames_for role (message_of outputs before a) ≡ frame bytes
+    frames_own role own = rw (message_is, eq-eqb a.to role own) (append-nil (frame bytes))
+
+    frames_other : (role : ℕ) → a.to ≢ role → frames_for role (message_of outputs before a) ≡ []
+    frames_other role other = rw (message_is, test_no a.to role other) refl
+
+    pub report_more : report outputs (before ++ a ∷ []) ≡ report outputs before ++ record { action = length before + 1; bytes = bytes } ∷ []
+    report_more =
+        let sent : Message → Sent = λ m. record { action = m.action; bytes = m.bytes } in
+        ap (map sent) one_more ∙ map-append sent (messages outputs before) (message_of outputs before a) ∙ ap (λ t. map sent (messages outputs before) ++ map sent t) message_is
+
+pub put_none : (o : Option (List ℕ)) → Put o o []
+put_none None = refl
+put_none (Some x) = ap Some (sym (append-nil x))
+
+pub none_carried : (a : ℕ → Child) (roles : ℕ) (outputs : ℕ → List (List ℕ)) (tails : ℕ → Tail) → AreCut roles a outputs tails → Carried a a roles outputs tails []
+none_carried a roles outputs tails cut = record { none = refl; cuts = cut; written = λ role below. put_none (a role).written }
+
+module _ (a b c : ℕ → Child) (roles : ℕ) (few : roles ≤ 32) (outputs : ℕ → List (List ℕ)) (tails : ℕ → Tail)
+    (before : List Ends) (e : Ends) (from : e.from < roles) (to : e.to < roles) (p : Carried a b roles outputs tails before)
+    (k : CarryKeeps b c e.from e.to) where
+  pub one_carried : (bytes : List ℕ) → Carries b c (drop (sends_of e.from before) (outputs e.from)) (tails e.from) e.from e.to bytes
+      → Carried a c roles outputs tails (before ++ e ∷ []) × (report outputs (before ++ e ∷ []) ≡ report outputs before ++ record { action = length before + 1; bytes = bytes } ∷ [])
+  one_carried bytes x =
+      let first = drop_first (outputs e.from) (sends_of e.from before) bytes x.rest x.is in
+      let there : bytes_of outputs before e ≡ Some bytes = first.0 in
+      let not_missing : refusal_of outputs tails before e ≡ None = rw there refl in (
+        record {
+          none = first_after-none (refusal_of outputs tails) [] before e p.none not_missing;
+          cuts = λ role below. elim (one_or_other e.from role) [
+            | inl own ↦
+                let cut : CutLeft ARRIVAL (c e.from).left (drop (suc (sends_of e.from before)) (outputs e.from)) (tails e.from) =
+                subst (λ (bs : List (List ℕ)). CutLeft ARRIVAL (c e.from).left bs (tails e.from)) (sym first.1) x.cut in
+                subst (λ (n : ℕ). CutLeft ARRIVAL (c role).left (drop n (outputs role)) (tails role)) (sym (sends_more-own role before e own))
+                (subst (λ (r : ℕ). CutLeft ARRIVAL (c r).left (drop (suc (sends_of r before)) (outputs r)) (tails r)) own cut)
+            | inr other ↦
+                subst (λ (n : ℕ). CutLeft ARRIVAL (c role).left (drop n (outputs role)) (tails role)) (sym (sends_more-other role before e other))
+                (subst (λ (l : Option (List ℕ)). CutLeft ARRIVAL l (drop (sends_of role before) (outputs role)) (tails role)) (sym (k.left role (omega (arith, below, few)) (λ same. other (sym same)))) (p.cuts role below))
+          ];
+          written = λ role below. elim (one_or_other e.to role) [
+            | inl own ↦
+                let put : Put (b role).written (c role).written (frame bytes) = subst (λ (r : ℕ). Put (b r).written (c r).written (frame bytes)) own x.put in
+                subst (Put (a role).written (c role).written) (sym (frames_more outputs before e role ∙ ap (λ t. frames (bytes_to outputs role before) ++ t) (frames_own outputs before e bytes there role own)))
+                (Put-joined (a role).written (b role).written (c role).written (frames (bytes_to outputs role before)) (frame bytes) (p.written role below) put)
+            | inr other ↦
+                subst (Put (a role).written (c role).written) (sym (frames_more outputs before e role ∙ ap (λ t. frames (bytes_to outputs role before) ++ t) (frames_other outputs before e bytes there role other) ∙ append-nil (frames (bytes_to outputs role before))))
+                (subst (λ (w : Option (List ℕ)). Put (a role).written w (frames (bytes_to outputs role before))) (sym (k.written role (omega (arith, below, few)) (λ same. other (sym same)))) (p.written role below))
+          ];
+        },
+        report_more outputs before e bytes there,
+      )
+
+  -- where nothing was written to the receiver
+  some_same : (after : List Ends) → (c e.to).written ≡ (b e.to).written → SomeWritten roles a c outputs (before ++ e ∷ after)
+  some_same after same role below =
+      let kept : (c role).written ≡ (b role).written = elim (one_or_other role e.to) [
+        | inl own ↦ subst (λ (r : ℕ). (c r).written ≡ (b r).written) (sym own) same
+        | inr other ↦ k.written role (omega (arith, below, few)) other
+      ] in
+      let put : Put (a role).written (c role).written (frames (bytes_to outputs role before)) =
+      subst (λ (w : Option (List ℕ)). Put (a role).written w (frames (bytes_to outputs role before))) (sym kept) (p.written role below) in
+      subst (PutPrefix (a role).written (c role).written) (sym (frames_at outputs before e role after)) (put_prefix (a role).written (c role).written (frames (bytes_to outputs role before)) _ put)
+
+  -- where a prefix was
+  some_part : (after : List Ends) → CarriesPart b c (drop (sends_of e.from before) (outputs e.from)) (tails e.from) e.to → SomeWritten roles a c outputs (before ++ e ∷ after)
+  some_part after x role below =
+      let first = drop_first (outputs e.from) (sends_of e.from before) x.b x.rest x.is in
+      let there : bytes_of outputs before e ≡ Some x.b = first.0 in
+      elim (one_or_other e.to role) [
+        | inl own ↦
+            let more : PutPrefix (b role).written (c role).written (frame x.b) = subst (λ (r : ℕ). PutPrefix (b r).written (c r).written (frame x.b)) own x.put in
+            let whole : frames (bytes_to outputs role (before ++ e ∷ after)) ≡ frames (bytes_to outputs role before) ++ (frame x.b ++ frames_for role (after_of outputs before e after)) =
+            frames_at outputs before e role after ∙ ap (λ t. frames (bytes_to outputs role before) ++ (t ++ frames_for role (after_of outputs before e after))) (frames_own outputs before e x.b there role own) in
+            subst (PutPrefix (a role).written (c role).written) (sym whole)
+            (put_prefix-more (a role).written (b role).written (c role).written (frames (bytes_to outputs role before)) (frame x.b) (frames_for role (after_of outputs before e after)) (p.written role below) more)
+        | inr other ↦
+            let kept : (c role).written ≡ (b role).written = k.written role (omega (arith, below, few)) (λ same. other (sym same)) in
+            let put : Put (a role).written (c role).written (frames (bytes_to outputs role before)) =
+            subst (λ (w : Option (List ℕ)). Put (a role).written w (frames (bytes_to outputs role before))) (sym kept) (p.written role below) in
+            subst (PutPrefix (a role).written (c role).written) (sym (frames_at outputs before e role after)) (put_prefix (a role).written (c role).written (frames (bytes_to outputs role before)) _ put)
+      ]
+
+  -- where the message is missing
+  is_missing : (after : List Ends) (refusal : RelayNo) → drop (sends_of e.from before) (outputs e.from) ≡ [] → refusal ≡ refusal_at (length before + 1) (tails e.from)
+      → missing outputs tails (before ++ e ∷ after) ≡ Some refusal
+  is_missing after refusal none is =
+      let not_there : bytes_of outputs before e ≡ None = drop_none (outputs e.from) (sends_of e.from before) none in
+      let refused : refusal_of outputs tails before e ≡ Some refusal = rw not_there (ap Some (sym is)) in
+      first_after-at (refusal_of outputs tails) [] before e after p.none refusal refused
+
+  pub one_uncarried : (after : List Ends) (refusal : RelayNo) → FailsCarrying b c (drop (sends_of e.from before) (outputs e.from)) (tails e.from) (length before + 1) e.to refusal
+      → FailsCarryingSome a c roles outputs tails (before ++ e ∷ after) refusal
+  one_uncarried after (no.Fault role) f = elim f [ inl same ↦ some_same after same | inr part ↦ some_part after part ]
+  one_uncarried after no.NoMemory same = some_same after same
+  one_uncarried after (no.Ended action) f = (is_missing after (no.Ended action) f.0 f.1, some_same after f.2)
+  one_uncarried after (no.Cut action have need) f = (is_missing after (no.Cut action have need) f.0 f.1, some_same after f.2)
+  one_uncarried after (no.Long action len) f = (is_missing after (no.Long action len) f.0 f.1, some_same after f.2)
+  one_uncarried after (no.Bad role status) f = (is_missing after (no.Bad role status) f.0 f.1, some_same after f.2)

@@ -1,0 +1,16 @@
+pub mod Beside
+pub mod Carries
+pub mod Complete
+pub mod Events
+pub mod Finishes
+pub mod Fresh
+pub mod HonestSends
+pub mod HonestStage
+pub mod Lines
+pub mod Messages
+pub mod PlanParts
+pub mod PlaysGrow
+pub mod Roles
+pub mod Starts
+pub mod Steps
+pub mod Whole

@@ -1,0 +1,9 @@
+pub mod Children
+pub mod Words
+pub mod Relays
+pub mod Memory
+pub mod Honest
+-- for proofs alone
+pub mod Sides
+pub mod Steps
+pub mod Parts

@@ -1,0 +1,115 @@
+-- A spawner in memory: what it holds, and which of its calls fail.
+use Rattle.std.specs.Prelude.{ℕ, ◌+◌, ◌<◌, ◌≤◌, IsTrue, List, [], ◌∷◌, ◌++◌, length, drop, get_or, slice_set, Some}
+use Rattle.anb_base.specs.Memory.{raised, fails_after}
+use Rattle.anb_base.specs.Moves.{last_count}
+use Rattle.anb_stage.specs.Children.{Child, lines}
+
+-- a child: what is left of its output, what was written to it, what was asked of it, its status, how
+-- many bytes can be written to it, and asked of it, in all, its count of faults and its phase
+pub record MemoryChild : Type 0 where
+  pub left : List ℕ
+  pub written : List ℕ
+  pub asked : List ℕ
+  pub status : ℕ
+  pub room : ℕ
+  pub faults : ℕ
+  pub phase : ℕ
+
+pub record MemorySpawner : Type 0 where
+  pub children : List MemoryChild
+  -- how many calls came, and the numbers from 1 of those that fail
+  pub calls : ℕ
+  pub fails : List ℕ
+
+-- what is there for a role without an output
+abbrev pub absent : MemoryChild
+absent = record {
+  left = [];
+  written = [];
+  asked = [];
+  status = 0;
+  room = 0;
+  faults = last_count;
+  phase = 0;
+}
+
+abbrev pub child_at : MemorySpawner → ℕ → MemoryChild
+child_at spawner role = get_or spawner.children role absent
+
+-- all of it is told
+abbrev pub told : MemoryChild → Child
+told c = record {
+  left = Some c.left;
+  written = Some c.written;
+  asked = Some c.asked;
+  status = Some c.status;
+  faults = c.faults;
+  phase = c.phase;
+}
+
+-- a child of which nothing was asked
+abbrev pub fresh_child : ℕ → List ℕ → ℕ → MemoryChild
+fresh_child room output status = record {
+  left = output;
+  written = [];
+  asked = [];
+  status = status;
+  room = room;
+  faults = 0;
+  phase = 0;
+}
+
+-- one of each output and its status
+abbrev pub fresh_children : ℕ → List (List ℕ) → List ℕ → List MemoryChild
+fresh_children room [] statuses = []
+fresh_children room (output ∷ outputs) [] = []
+fresh_children room (output ∷ outputs) (status ∷ statuses) =
+    fresh_child room output status ∷ fresh_children room outputs statuses
+
+abbrev pub fresh_spawner : List (List ℕ) → List ℕ → ℕ → List ℕ → MemorySpawner
+fresh_spawner outputs statuses room fails = record {
+  children = fresh_children room outputs statuses;
+  calls = 0;
+  fails = fails;
+}
+
+-- the number of the next call is one of those that fail
+abbrev pub IsDueToFail : MemorySpawner → Type 0
+IsDueToFail spawner = IsTrue (fails_after spawner.calls spawner.fails)
+
+-- the role has no output
+abbrev pub HasNoOutput : MemorySpawner → ℕ → Type 0
+HasNoOutput spawner role = length spawner.children ≤ role
+
+-- bytes are to be written, and none can be
+abbrev pub HasNoRoom : MemoryChild → List ℕ → Type 0
+HasNoRoom c piece = (0 < length piece) × (c.room ≤ length c.written)
+
+-- the words can't be asked whole
+abbrev pub HasNoRoomForWords : MemoryChild → List (List ℕ) → Type 0
+HasNoRoomForWords c words = c.room < length c.asked + length (lines words)
+
+-- the spawner after one more call, by which the child of this role became this one
+abbrev pub with_child : MemorySpawner → ℕ → MemoryChild → MemorySpawner
+with_child spawner role c = record spawner {
+  children = slice_set spawner.children role c;
+  calls = raised spawner.calls;
+}
+
+-- a child after a call that failed
+abbrev pub failed : MemoryChild → MemoryChild
+failed c = record c { faults = raised c.faults }
+
+-- after so many bytes were read, after bytes were written, after it was started with these words, and
+-- after it was finished
+abbrev pub after_read : MemoryChild → ℕ → MemoryChild
+after_read c n = record c { left = drop n c.left }
+
+abbrev pub after_write : MemoryChild → List ℕ → MemoryChild
+after_write c bytes = record c { written = c.written ++ bytes }
+
+abbrev pub after_start : MemoryChild → List (List ℕ) → MemoryChild
+after_start c words = record c { asked = c.asked ++ lines words; phase = 1 }
+
+abbrev pub after_finish : MemoryChild → MemoryChild
+after_finish c = record c { phase = 2 }

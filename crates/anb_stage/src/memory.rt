@@ -1,0 +1,352 @@
+//! Children in memory.
+
+ghost use Rattle.std.specs.Prelude.{◌≡◌, ◌<◌, ◌≤◌, ◌+◌, ◌-◌, ◌↔◌, ◌⊎◌, ℕ, List, [], ◌++◌, length, take, drop, min, IsTrue, IsErr, IfOk, OnOk, OnErr, vec_len, vec_capacity};
+ghost use Rattle.anb_base.specs.Memory.{raised, fails_after};
+ghost use Rattle.anb_base.specs.Moves.{Rose};
+ghost use Rattle.anb_stage.specs.Children.{lines};
+ghost use Rattle.anb_stage.specs.Memory.{fresh_child, fresh_spawner, child_at, failed, after_read, after_write, after_start, after_finish, told, IsDueToFail, HasNoOutput, HasNoRoom, HasNoRoomForWords, with_child};
+
+use crate::Spawner;
+use anb_base::{Bytes, Failed, NoMemory, Text};
+use std::alloc::Global;
+use std::marker::Model;
+
+/// A buffer that never takes memory after it is made.
+#[derive(Debug, Drop)]
+struct Room {
+    bytes: Vec<u8>,
+    limit: u32,
+    ghost within: { vec_len bytes ≤ limit },
+    ghost reserved: { limit ≤ vec_capacity bytes },
+}
+
+impl Room {
+    fn new(alloc: Global, limit: u32) -> Result<Self, NoMemory>
+        ensures empty { IfOk result (λ room. room.bytes.items ≡ []) }
+        ensures limit { IfOk result (λ room. room.limit ≡ limit) }
+    {
+        Ok(Room {
+            bytes: Vec::with_capacity(alloc, limit as usize)?,
+            limit,
+        })
+    }
+
+    fn left(&self) -> usize
+        ensures { result ≡ self.now.limit - length self.now.bytes.items }
+    {
+        self.limit as usize - self.bytes.len()
+    }
+
+    fn put(&mut self, bytes: &[u8])
+        requires { length bytes.now ≤ self.old.limit - length self.old.bytes.items }
+        ensures put { self.new.bytes.items ≡ self.old.bytes.items ++ bytes.now }
+        ensures limit { self.new.limit ≡ self.old.limit }
+    {
+        self.bytes.extend_from_slice(bytes).unwrap();
+    }
+
+    /// Puts the words, each with a line feed.
+    fn put_lines(&mut self, words: &[Text])
+        requires { length self.old.bytes.items + length (lines words.now) ≤ self.old.limit }
+        ensures put { self.new.bytes.items ≡ self.old.bytes.items ++ lines words.now }
+        ensures limit { self.new.limit ≡ self.old.limit }
+    {
+        for word in words {
+            self.put(word.as_str().as_bytes());
+            self.put(b"\n");
+        }
+    }
+}
+
+/// A child whose output stands from the start.
+#[derive(Debug, Drop)]
+pub(crate) struct MemChild {
+    output: Bytes,
+    read: usize,
+    written: Room,
+    asked: Room,
+    status: u8,
+    faults: u64,
+    phase: u8,
+}
+
+impl Model for MemChild {
+    ghost use Rattle.std.specs.Prelude.{◌≡◌, ◌≤◌, length, drop};
+    ghost use Rattle.anb_stage.specs.Memory.{MemoryChild};
+
+    ghost Value = { MemoryChild };
+
+    ghost view = { λ c. record {
+      left = drop c.read c.output;
+      written = c.written.bytes.items;
+      asked = c.asked.bytes.items;
+      status = c.status;
+      room = c.written.limit;
+      faults = c.faults;
+      phase = c.phase;
+    } };
+
+    ghost invariant = { λ c. (c.read ≤ length c.output) × (c.asked.limit ≡ c.written.limit) };
+}
+
+impl MemChild {
+    fn new(alloc: Global, output: Bytes, status: u8, room: u32) -> Result<Self, NoMemory>
+        ensures { IfOk result (λ child. child ≡ fresh_child room output status) }
+    {
+        Ok(MemChild {
+            output,
+            read: 0,
+            written: Room::new(alloc, room)?,
+            asked: Room::new(alloc, room)?,
+            status,
+            faults: 0,
+            phase: 0,
+        })
+    }
+
+    /// Counts a call that failed.
+    fn fail(&mut self) -> Failed
+        ensures failed { self.new ≡ failed self.old }
+        ensures rose { Rose self.old.faults self.new.faults }
+        ensures never_falls { self.old.faults ≤ self.new.faults }
+    {
+        self.faults = self.faults.saturating_add(1);
+        Failed
+    }
+
+    /// Takes as many bytes as the buffer has room for.
+    fn read(&mut self, buf: &mut [u8]) -> usize
+        ensures count { result ≡ min (length buf.old) (length self.old.left) }
+        ensures bytes { buf.new ≡ take result self.old.left ++ drop result buf.old }
+        ensures moved { self.new ≡ after_read self.old result }
+    {
+        let left = &self.output.as_slice()[self.read..];
+        let n = buf.len().min(left.len());
+        buf[..n].copy_from_slice(&left[..n]);
+        self.read += n;
+        n
+    }
+
+    fn has_no_room(&self, piece: &[u8]) -> bool
+        ensures { IsTrue result ↔ HasNoRoom self.now piece.now }
+    {
+        !piece.is_empty() && self.written.left() == 0
+    }
+
+    /// Puts as many bytes as there is room for.
+    fn write(&mut self, piece: &[u8]) -> usize
+        ensures count { result ≡ min (length piece.now) (self.old.room - length self.old.written) }
+        ensures moved { self.new ≡ after_write self.old (take result piece.now) }
+    {
+        let n = piece.len().min(self.written.left());
+        self.written.put(&piece[..n]);
+        n
+    }
+
+    /// Whether the words, each with a line feed, fit.
+    fn has_room_for(&self, words: &[Text]) -> bool
+        ensures { IsTrue result ↔ (length self.now.asked + length (lines words.now) ≤ self.now.room) }
+    {
+        let mut left = self.asked.left();
+        for word in words {
+            let size = word.as_str().len();
+            if size >= left {
+                return false;
+            }
+            left -= size + 1;
+        }
+        true
+    }
+
+    /// Keeps the words.
+    fn ask(&mut self, words: &[Text])
+        requires { length self.old.asked + length (lines words.now) ≤ self.old.room }
+        ensures { self.new ≡ after_start self.old words.now }
+    {
+        self.asked.put_lines(words);
+        self.phase = 1;
+    }
+
+    fn finish(&mut self) -> u8
+        ensures status { result ≡ self.old.status }
+        ensures finished { self.new ≡ after_finish self.old }
+    {
+        self.phase = 2;
+        self.status
+    }
+}
+
+/// A spawner in memory. Each child's output and status stand from the start, and calls fail by their
+/// numbers, which count over all roles. Starting a role without an output is always a fault.
+#[derive(Debug, Drop)]
+pub struct MemSpawner {
+    children: Vec<MemChild>,
+    calls: u64,
+    fails: Vec<u32>,
+}
+
+impl Model for MemSpawner {
+    ghost use Rattle.anb_stage.specs.Memory.{MemorySpawner};
+
+    ghost Value = { MemorySpawner };
+
+    ghost view = { λ s. record {
+      children = s.children.items;
+      calls = s.calls;
+      fails = s.fails.items;
+    } };
+}
+
+impl MemSpawner {
+    /// A spawner that has started nothing. Each child has room for `room` bytes written and for as
+    /// many bytes of words, each with a line feed; the memory is taken here. The calls whose numbers
+    /// from 1 stand in `fails` answer `Failed`.
+    pub fn new(
+        alloc: Global,
+        outputs: Vec<Bytes>,
+        statuses: Vec<u8>,
+        room: u32,
+        fails: Vec<u32>,
+    ) -> Result<Self, NoMemory>
+        requires each { length statuses.items ≡ length outputs.items }
+        requires few { length outputs.items ≤ 32 }
+        ensures fresh { IfOk result (λ spawner.
+            spawner ≡ fresh_spawner outputs.items statuses.items room fails.items) }
+        ensures unstarted { IfOk result (λ spawner.
+            (role : ℕ) → (child_at spawner role).phase ≡ 0) }
+    {
+        let mut children = Vec::new(alloc);
+        for output in outputs {
+            let status = statuses[children.len()];
+            children.push(MemChild::new(alloc, output, status, room)?)?;
+        }
+        Ok(MemSpawner {
+            children,
+            calls: 0,
+            fails,
+        })
+    }
+
+    /// How many roles have an output.
+    pub fn roles(&self) -> usize
+        ensures { result ≡ length self.now.children }
+    {
+        self.children.len()
+    }
+
+    /// What was written to a role's child.
+    pub fn written(&self, role: u32) -> &[u8]
+        requires { role < length self.now.children }
+        ensures { result.now ≡ (child_at self.now role).written }
+    {
+        let child = &self.children[role as usize];
+        child.written.bytes.as_slice()
+    }
+
+    /// The words that were asked of a role's child, each with a line feed.
+    pub fn asked(&self, role: u32) -> &[u8]
+        requires { role < length self.now.children }
+        ensures { result.now ≡ (child_at self.now role).asked }
+    {
+        let child = &self.children[role as usize];
+        child.asked.bytes.as_slice()
+    }
+
+    /// Counts the call that comes now, and says whether it fails.
+    fn next_fails(&mut self) -> bool
+        ensures fails { result ≡ fails_after self.old.calls self.old.fails }
+        ensures counted { self.new ≡ record self.old { calls = raised self.old.calls } }
+    {
+        self.calls = self.calls.saturating_add(1);
+        let number = self.calls;
+        self.fails.iter().any(|fails| u64::from(*fails) == number)
+    }
+}
+
+impl Spawner for MemSpawner {
+    ghost child = { λ spawner role. told (child_at spawner role) };
+
+    fn start(&mut self, role: u32, words: &[Text]) -> Result<(), Failed>
+        ensures fails { IsErr result ↔ (IsDueToFail self.old ⊎ HasNoOutput self.old role
+            ⊎ HasNoRoomForWords (child_at self.old role) words.now) }
+        ensures failed { OnErr result
+            (self.new ≡ with_child self.old role (failed (child_at self.old role))) }
+        ensures started { OnOk result
+            (self.new ≡ with_child self.old role (after_start (child_at self.old role) words.now)) }
+        ensures never_falls { (child_at self.old role).faults ≤ (child_at self.new role).faults }
+    {
+        let fails = self.next_fails();
+        if role as usize >= self.children.len() {
+            return Err(Failed);
+        }
+        let child = &mut self.children[role as usize];
+        if fails || !child.has_room_for(words) {
+            return Err(child.fail());
+        }
+        child.ask(words);
+        Ok(())
+    }
+
+    fn read(&mut self, role: u32, buf: &mut [u8]) -> Result<usize, Failed>
+        requires running { (child_at self.old role).phase ≡ 1 }
+        ensures fails { IsErr result ↔ IsDueToFail self.old }
+        ensures failed { OnErr result
+            (self.new ≡ with_child self.old role (failed (child_at self.old role))) }
+        ensures count { IfOk result (λ n.
+            n ≡ min (length buf.old) (length (child_at self.old role).left)) }
+        ensures bytes { IfOk result (λ n.
+            buf.new ≡ take n (child_at self.old role).left ++ drop n buf.old) }
+        ensures moved { IfOk result (λ n.
+            self.new ≡ with_child self.old role (after_read (child_at self.old role) n)) }
+        ensures end { IfOk result (λ n.
+            0 < length buf.new → n ≡ 0 → (child_at self.old role).left ≡ []) }
+        ensures never_falls { (child_at self.old role).faults ≤ (child_at self.new role).faults }
+    {
+        let fails = self.next_fails();
+        let child = &mut self.children[role as usize];
+        if fails {
+            return Err(child.fail());
+        }
+        Ok(child.read(buf))
+    }
+
+    fn write(&mut self, role: u32, piece: &[u8]) -> Result<usize, Failed>
+        requires running { (child_at self.old role).phase ≡ 1 }
+        ensures fails { IsErr result
+            ↔ (IsDueToFail self.old ⊎ HasNoRoom (child_at self.old role) piece.now) }
+        ensures failed { OnErr result
+            (self.new ≡ with_child self.old role (failed (child_at self.old role))) }
+        ensures count { IfOk result (λ n.
+            let child = child_at self.old role in
+            n ≡ min (length piece.now) (child.room - length child.written)) }
+        ensures moved { IfOk result (λ n. self.new
+            ≡ with_child self.old role (after_write (child_at self.old role) (take n piece.now))) }
+        ensures some { IfOk result (λ n. 0 < length piece.now → 0 < n) }
+        ensures never_falls { (child_at self.old role).faults ≤ (child_at self.new role).faults }
+    {
+        let fails = self.next_fails();
+        let child = &mut self.children[role as usize];
+        if fails || child.has_no_room(piece) {
+            return Err(child.fail());
+        }
+        Ok(child.write(piece))
+    }
+
+    fn finish(&mut self, role: u32) -> Result<u8, Failed>
+        requires running { (child_at self.old role).phase ≡ 1 }
+        ensures fails { IsErr result ↔ IsDueToFail self.old }
+        ensures failed { OnErr result
+            (self.new ≡ with_child self.old role (failed (child_at self.old role))) }
+        ensures status { IfOk result (λ n. n ≡ (child_at self.old role).status) }
+        ensures finished { OnOk result
+            (self.new ≡ with_child self.old role (after_finish (child_at self.old role))) }
+        ensures never_falls { (child_at self.old role).faults ≤ (child_at self.new role).faults }
+    {
+        let fails = self.next_fails();
+        let child = &mut self.children[role as usize];
+        if fails {
+            return Err(child.fail());
+        }
+        Ok(child.finish())
+    }
+}

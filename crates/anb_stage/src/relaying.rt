@@ -1,0 +1,53 @@
+//! All messages of a list of actions.
+
+ghost use Rattle.std.specs.Prelude.{◌≡◌, ◌<◌, ◌≤◌, ◌+◌, ◌^◌, ℕ, List, length, IfErr, IfOk, OnOk};
+ghost use Rattle.anb_base.specs.declared.TheConstants.{ARRIVAL};
+ghost use Rattle.anb_frame.specs.Cuts.{Tail};
+ghost use Rattle.anb_stage.specs.Words.{asked_lists};
+ghost use Rattle.anb_stage.specs.Relays.{AreCut, report, IsRelayed, IsRefused};
+ghost use Rattle.anb_stage.specs.Steps.{AreWithin};
+ghost use Rattle.anb_stage.specs.declared.TheConstants.{ROLES};
+
+use crate::carrying::carry_all;
+use crate::ends::Ends;
+use crate::finishing::finish_all;
+use crate::starting::start_all;
+use crate::{RelayNo, Spawner};
+use anb_base::{Sent, Text};
+use std::alloc::Global;
+
+/// Starts all children, carries the messages of all actions, and finishes all children.
+pub(crate) fn relay_all<P: Spawner>(
+    alloc: Global,
+    words: &[Vec<Text>],
+    actions: &[Ends],
+    spawner: &mut P,
+    buffer: &mut [u8],
+) -> Result<Vec<Sent>, RelayNo>
+    requires roles { length words.now ≤ ROLES }
+    requires unstarted { (role : ℕ) → role < length words.now
+        → (P.child spawner.old role).phase ≡ 0 }
+    requires within { AreWithin (length words.now) actions.now }
+    requires few { length actions.now + 1 < 2 ^ 32 }
+    requires buffer { length buffer.old ≡ ARRIVAL }
+    ensures report { (outputs : ℕ → List (List ℕ)) (tails : ℕ → Tail)
+        → AreCut (length words.now) (P.child spawner.old) outputs tails
+        → IfOk result (λ sent. sent.items ≡ report outputs actions.now) }
+    ensures relayed { OnOk result (IsRelayed (length words.now) (P.child spawner.old)
+        (P.child spawner.new) (asked_lists words.now) actions.now) }
+    ensures refused { IfErr result (IsRefused (length words.now) (P.child spawner.old)
+        (P.child spawner.new) (asked_lists words.now) actions.now) }
+{
+    match start_all(spawner, words) {
+        Ok(()) => {}
+        Err(no) => return Err(no),
+    }
+    let sent = match carry_all(alloc, spawner, actions, buffer) {
+        Ok(sent) => sent,
+        Err(no) => return Err(no),
+    };
+    match finish_all(spawner, words.len() as u32) {
+        Ok(()) => Ok(sent),
+        Err(no) => Err(no),
+    }
+}

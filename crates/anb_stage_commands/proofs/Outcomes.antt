@@ -1,0 +1,235 @@
+-- What the relay of a protocol comes to, as a command.
+use Rattle.std.specs.Prelude.{Vec}
+use Rattle.std.specs.Global.{Global}
+use Rattle.std.proofs.lemmas.List.{length-map}
+use Rattle.anb_stage.specs.Words.{asked_lists, words_of}
+use Rattle.std.proofs.Common.{◌≡◌, ℕ, ◌<◌, ◌≤◌, ◌⊎◌, List, [], ◌∷◌, length, map, true, false, Option, Some, None, IfSome, refl, sym, ap, ◌∙◌, subst, inl, inr, arith}
+use Rattle.anb_base.specs.Moves.{Rose}
+use Rattle.anb_base.specs.Wires.{WireState}
+use Rattle.anb_base.specs.declared.place.Place.TheVariants.{Stdio}
+use Rattle.anb_base.specs.declared.content.Sent.{Sent}
+use Rattle.anb_frame.specs.Cuts.{Tail}
+use Rattle.anb_read.specs.Laws.{NarrationsAreUnique, RefusalsAreUnique, NoneIsBoth}
+use Rattle.anb_resolve.specs.Protocols.{ProtocolValue}
+use Rattle.anb_stage.specs.Children.{Child}
+use Rattle.anb_stage.specs.Relays.{AreCut, IsRefused, IsRelayed, ends_in, missing, report}
+use Rattle.anb_stage.specs.declared.refusal.RelayNo.{RelayNo}
+use Rattle.anb_stage.specs.declared.refusal.RelayNo.TheVariants as no
+use Rattle.anb_command.specs.declared.status.Status.{Status}
+use Rattle.anb_command.specs.declared.status.Status.TheVariants.{Done, Usage, FileFault, Unreached, ReadFault, WriteFault, ChildFault, ChildEnded, ChildCut, ChildLong, ChildBad, NoMemory}
+use Rattle.anb_command.specs.Causes.{HasCause, HasWireCause, NoneRose}
+use Rattle.anb_command.specs.Fetches.{Files, IfTold}
+use Rattle.anb_command.specs.Reaches.{Reaches}
+use Rattle.anb_command.specs.Roles.{SendableInFile}
+use Rattle.anb_command.specs.Statuses.{Phase, before_reach, phase_of}
+use Rattle.anb_command.specs.Steps.{HasOneAnswer, IsFailure, given, refused}
+use Rattle.anb_command.specs.Writing.{IsWritten}
+use Rattle.anb_command.proofs.Chains.{told_map}
+use Rattle.anb_command.proofs.Causes.{wire_cause}
+use Rattle.anb_command.proofs.Ones.{not_both, same_given, sendable_one}
+use Rattle.anb_stage_commands.specs.Reports.{report_text}
+use Rattle.anb_stage_commands.specs.Words.{Staged, child_words, words_for}
+use Rattle.anb_stage_commands.specs.StageCommand.{AllGoWell, CompletesStage, DoesStage, HasStageCause, IsIdle, IsRefusedAs, IsRelayedAs, IsReport, NoChildRose, status_of}
+use Rattle.anb_stage_commands.specs.Relaying.{FailsInFile, FailsRelaying, HasCauseBefore, HasChildCause, IsBefore, IsNamed, RefusesAs, Relays, RelaysInFile, Stay}
+
+-- ---- a refusal
+
+pub named_by : (p : ProtocolValue) (n : ℕ) (old new : ℕ → Child) (words : List (List (List ℕ))) (r : RelayNo) → n ≡ length p.roles
+    → IsRefused n old new words (ends_in p) r → IsNamed p r
+named_by p n old new words (no.Fault role) count is = subst (λ (m : ℕ). role < m) count is.cause.0
+named_by p n old new words (no.Bad role status) count is = subst (λ (m : ℕ). role < m) count is.bad.0
+named_by p n old new words (no.Ended action) count is = tt
+named_by p n old new words (no.Cut action have need) count is = tt
+named_by p n old new words (no.Long action len) count is = tt
+named_by p n old new words no.NoMemory count is = tt
+
+before_of : (p : ProtocolValue) (r : RelayNo) → IsBefore (status_of p r)
+before_of p (no.Fault role) = inl (refl, λ e. cc)
+before_of p (no.Bad role status) = inl (refl, λ e. cc)
+before_of p (no.Ended action) = inl (refl, λ e. cc)
+before_of p (no.Cut action have need) = inl (refl, λ e. cc)
+before_of p (no.Long action len) = inl (refl, λ e. cc)
+before_of p no.NoMemory = inr refl
+
+pub refusal_before : (p : ProtocolValue) (r : RelayNo) (status : Status) → (status ≡ status_of p r) ⊎ (status ≡ NoMemory) → IsBefore status
+refusal_before p r status (inl is) = subst IsBefore (sym is) (before_of p r)
+refusal_before p r status (inr is) = inr is
+
+cause_of : (p : ProtocolValue) (n : ℕ) (old new : ℕ → Child) (words : List (List (List ℕ))) (r : RelayNo) → n ≤ 32
+    → IsRefused n old new words (ends_in p) r → HasChildCause old new (status_of p r)
+cause_of p n old new words (no.Fault role) few is = (role, omega (arith, is.cause.0, few), is.cause.1)
+cause_of p n old new words (no.Bad role status) few is = tt
+cause_of p n old new words (no.Ended action) few is = tt
+cause_of p n old new words (no.Cut action have need) few is = tt
+cause_of p n old new words (no.Long action len) few is = tt
+cause_of p n old new words no.NoMemory few is = tt
+
+pub refusal_cause : (p : ProtocolValue) (n : ℕ) (old new : ℕ → Child) (words : List (List (List ℕ))) (r : RelayNo) (status : Status) → n ≤ 32
+    → IsRefused n old new words (ends_in p) r → (status ≡ status_of p r) ⊎ (status ≡ NoMemory) → HasChildCause old new status
+refusal_cause p n old new words r status few is (inl same) = subst (HasChildCause old new) (sym same) (cause_of p n old new words r few is)
+refusal_cause p n old new words r status few is (inr same) = subst (HasChildCause old new) (sym same) tt
+
+module _ (s : Staged) (old new : ℕ → Child) (p : ProtocolValue) (n : ℕ) (words : List (List (List ℕ))) (count : n ≡ length p.roles) (asked : words ≡ words_for s p.roles) where
+  pub refuses_as : (r : RelayNo) (status : Status) → IsRefused n old new words (ends_in p) r → (status ≡ status_of p r) ⊎ (status ≡ NoMemory) → FailsRelaying s old new p status
+  refuses_as r status is same = inl (record {
+    refusal = r;
+    is = same;
+    refuses = subst (λ (m : ℕ). IsRefused m old new (words_for s p.roles) (ends_in p) r) count (subst (λ (ws : List (List (List ℕ))). IsRefused n old new ws (ends_in p) r) asked is);
+  })
+
+  pub relays_by : (text : List ℕ) (sent : List Sent) → IsRelayed n old new words (ends_in p)
+      → ((outputs : ℕ → List (List ℕ)) (tails : ℕ → Tail) → AreCut n old outputs tails → sent ≡ report outputs (ends_in p))
+      → text ≡ report_text sent → Relays s old new p text
+  relays_by text sent is tells written = record {
+    relays = subst (λ (m : ℕ). IsRelayed m old new (words_for s p.roles) (ends_in p)) count (subst (λ (ws : List (List (List ℕ))). IsRelayed n old new ws (ends_in p)) asked is);
+    tells = λ outputs tails cut. written ∙ ap report_text (tells outputs tails (subst (λ (m : ℕ). AreCut m old outputs tails) (sym count) cut));
+  }
+
+-- as many roles as lists of words
+pub count_words : (s : Staged) (p : ProtocolValue) (all : List (Vec (List ℕ) Global)) → asked_lists all ≡ words_for s p.roles → length all ≡ length p.roles
+count_words s p all asked = sym (length-map all words_of) ∙ ap length asked ∙ length-map p.roles (child_words s)
+
+-- ---- a file
+
+module _ (s : Staged) (told : Option Files) (old new : ℕ → Child) where
+  pub in_file : (p : ProtocolValue) (text : List ℕ) → IfTold told (λ files. SendableInFile files s.narration (given p)) → Relays s old new p text → RelaysInFile s old new told text
+  in_file p text is relays = told_map told (λ files f. (p, f, relays)) is
+
+  pub fails_in_file : (p : ProtocolValue) (status : Status) → IfTold told (λ files. SendableInFile files s.narration (given p)) → FailsRelaying s old new p status
+      → FailsInFile s old new told status
+  fails_in_file p status is fails = told_map told (λ files f. inr (p, f, fails)) is
+
+pub refused_file : (s : Staged) (told : Option Files) (children : ℕ → Child) (status : Status) (P : List ℕ → Type 0)
+    → IsFailure status P (IfTold told (λ files. SendableInFile files s.narration (refused status))) → FailsInFile s children children told status
+refused_file s None children status P fails = tt
+refused_file s (Some files) children (FileFault file) P fails = inl (tt, λ role within. refl)
+refused_file s (Some files) children NoMemory P fails = inl (tt, λ role within. refl)
+refused_file s (Some files) children status P fails = inl (fails, λ role within. refl)
+
+-- ---- what is written
+
+module _ (s : Staged) (old new : ℕ → Child) (told : Option Files) where
+  report_of : (text : List ℕ) (status : Status) (w now : Option (List ℕ)) → IsWritten text status w now → IsReport s old new w now text status
+  report_of text NoMemory w now never = absurd never
+  report_of text _ w now is = is
+
+  pub does_text : (text : List ℕ) (status : Status) (w now : Option (List ℕ)) → RelaysInFile s old new told text → IsWritten text status w now → DoesStage s old new w now told status
+  does_text text status w now relays is = told_map told (λ files r. inr (
+    r.0,
+    r.1,
+    inr (record {
+      relays = r.2.relays;
+      text = text;
+      tells = r.2.tells;
+      writes = report_of text status w now is;
+    }),
+  )) relays
+
+  pub does_refused : (status : Status) (w : Option (List ℕ)) → FailsInFile s old new told status → DoesStage s old new w w told status
+  does_refused status w fails = told_map told (λ files f. by files f) fails where
+    by : (files : Files)
+        → (IsFailure status (λ file. Unit {0}) (SendableInFile files s.narration (refused status)) × Stay s old new)
+        ⊎ ((p : ProtocolValue) × SendableInFile files s.narration (given p) × FailsRelaying s old new p status)
+        → (IsFailure status (λ file. Unit {0}) (SendableInFile files s.narration (refused status)) × IsIdle s old new w w)
+        ⊎ ((p : ProtocolValue) × SendableInFile files s.narration (given p) × (IsRefusedAs s old new w w p status ⊎ IsRelayedAs s old new w w p status))
+    by files (inl x) = inl (x.0, record { children = x.1; unwritten = refl })
+    by files (inr (p, f, inl r)) = inr (p, f, inl (record { refusal = r.refusal; is = r.is; refuses = r.refuses; unwritten = refl }))
+    by files (inr (p, f, inr (is, (text, relays)))) = inr (
+      p,
+      f,
+      inr (record {
+        relays = relays.relays;
+        text = text;
+        tells = relays.tells;
+        writes = subst (IsReport s old new w w text) (sym is) refl;
+      }),
+    )
+
+-- ---- causes
+
+module _ (narration : List ℕ) (faults faults_now : List ℕ → ℕ) (old new : ℕ → Child) (S : WireState) where
+  pub stage_cause : (T : WireState) (status : Status) → HasWireCause (Some Stdio) S T status → HasStageCause (narration ∷ []) faults faults_now old new S T status
+  stage_cause T (ChildFault name) never = absurd never
+  stage_cause T (FileFault file) never = absurd never
+  stage_cause T _ cause = cause
+
+  pub before_cause : (s : Staged) → s.narration ≡ narration → (status : Status) → IsBefore status → HasCauseBefore s old new faults faults_now status
+      → HasStageCause (narration ∷ []) faults faults_now old new S S status
+  before_cause s named (FileFault file) before cause = (inl (cause.0 ∙ named), cause.1)
+  before_cause s named (ChildFault name) before cause = cause
+  before_cause s named (Unreached at) (inl before) cause = absurd (let never = before.0 in cc)
+  before_cause s named (Unreached at) (inr never) cause = absurd (cc)
+  before_cause s named ReadFault (inl before) cause = absurd (let never = before.0 in cc)
+  before_cause s named ReadFault (inr never) cause = absurd (cc)
+  before_cause s named WriteFault (inl before) cause = absurd (let never = before.0 in cc)
+  before_cause s named WriteFault (inr never) cause = absurd (cc)
+  before_cause s named Usage (inl before) cause = absurd (before.1 refl)
+  before_cause s named Usage (inr never) cause = absurd (cc)
+  before_cause s named _ before cause = tt
+
+pub before_reaches : (status : Status) (r : Option (List ℕ)) → IsBefore status → Reaches (Some Stdio) (phase_of status) r r
+before_reaches status r (inl before) = subst (λ (p : Phase). Reaches (Some Stdio) p r r) (sym before.0) refl
+before_reaches status r (inr is) = subst (λ (t : Status). Reaches (Some Stdio) (phase_of t) r r) (sym is) (inl refl)
+
+-- a cause in a file before the place is reached
+pub file_cause : (s : Staged) (old new : ℕ → Child) (faults faults_now : List ℕ → ℕ) (status : Status) (Refused : Type 0)
+    → IsFailure status (λ file. (file ≡ s.narration) × Rose (faults file) (faults_now file)) Refused → IsBefore status → HasChildCause old new status → HasCauseBefore s old new faults faults_now status
+file_cause s old new faults faults_now (FileFault file) Refused fails before cause = fails
+file_cause s old new faults faults_now (ChildFault name) Refused fails before cause = cause
+file_cause s old new faults faults_now _ Refused fails before cause = tt
+
+-- ---- where nothing failed
+
+module _ (narrations : NarrationsAreUnique) (refusals : RefusalsAreUnique) (none : NoneIsBoth) (s : Staged) (told : Option Files) (old new : ℕ → Child) (faults faults_now : List ℕ → ℕ) (S T : WireState)
+    (quiet : NoneRose (s.narration ∷ []) faults faults_now S T) (calm : NoChildRose old new) where
+  Cause : Status → Type 0
+  Cause = HasStageCause (s.narration ∷ []) faults faults_now old new S T
+
+  AnswersAs : Status → Type 0
+  AnswersAs status = (status ≡ Done) ⊎ (status ≡ NoMemory)
+
+  not_missing : (r : RelayNo) → None ≡ Some r → ⊥
+  not_missing r e = cc
+
+  idle : (files : Files) (p : ProtocolValue) (status : Status) → SendableInFile files s.narration (given p) → Cause status
+      → IsFailure status (λ file. Unit {0}) (SendableInFile files s.narration (refused status)) → AnswersAs status
+  unfolding Cause AnswersAs
+  idle files p (FileFault file) f cause fails = absurd (quiet.files file cause.0 cause.1)
+  idle files p NoMemory f cause fails = inr refl
+  idle files p status f cause fails = not_both status p (sendable_one narrations refusals none files s.narration (refused status) (given p) fails f)
+
+  refused_as : (p : ProtocolValue) (status : Status) → AllGoWell p old → Cause status → (r : RelayNo) → (status ≡ status_of p r) ⊎ (status ≡ NoMemory)
+      → IsRefused (length p.roles) old new (words_for s p.roles) (ends_in p) r → AnswersAs status
+  unfolding Cause AnswersAs
+  refused_as p status well cause r (inr is) refuses = inr is
+  refused_as p status well cause no.NoMemory (inl is) refuses = inr is
+  refused_as p status well cause (no.Fault role) (inl is) refuses =
+      let c = subst (HasStageCause (s.narration ∷ []) faults faults_now old new S T) is cause in absurd (calm c.0 c.1 c.2)
+  refused_as p status well cause (no.Bad role n) (inl is) refuses =
+      absurd (refuses.bad.1 (sym (subst (λ (o : Option ℕ). IfSome o (λ t. t ≡ n)) (well.good role refuses.bad.0) refuses.bad.2)))
+  refused_as p status well cause (no.Ended action) (inl is) refuses = absurd (not_missing _ (sym well.none ∙ (refuses.writes well.outputs well.tails well.cut).0))
+  refused_as p status well cause (no.Cut action have need) (inl is) refuses = absurd (not_missing _ (sym well.none ∙ (refuses.writes well.outputs well.tails well.cut).0))
+  refused_as p status well cause (no.Long action len) (inl is) refuses = absurd (not_missing _ (sym well.none ∙ (refuses.writes well.outputs well.tails well.cut).0))
+
+  reported : (text : List ℕ) (status : Status) (w now : Option (List ℕ)) → Cause status → IsReport s old new w now text status → AnswersAs status
+  unfolding Cause AnswersAs
+  reported text Done w now cause is = inl refl
+  reported text NoMemory w now cause is = inr refl
+  reported text WriteFault w now cause is = absurd (quiet.writes cause)
+  reported text (Unreached at) w now cause is = absurd (quiet.reaches cause.1)
+  reported text _ w now cause never = absurd never
+
+  pub completes : (status : Status) (w now : Option (List ℕ)) → HasStageCause (s.narration ∷ []) faults faults_now old new S T status
+      → DoesStage s old new w now told status → CompletesStage s old told status
+  unfolding Cause AnswersAs
+  completes status w now cause does = told_map told by does where
+    same : (files : Files) (p q : ProtocolValue) → SendableInFile files s.narration (given p) → SendableInFile files s.narration (given q) → p ≡ q
+    same files p q f g = same_given p q (sendable_one narrations refusals none files s.narration (given p) (given q) f g)
+
+    by : (files : Files)
+        → (IsFailure status (λ file. Unit {0}) (SendableInFile files s.narration (refused status)) × IsIdle s old new w now)
+        ⊎ ((p : ProtocolValue) × SendableInFile files s.narration (given p) × (IsRefusedAs s old new w now p status ⊎ IsRelayedAs s old new w now p status))
+        → (p : ProtocolValue) → SendableInFile files s.narration (given p) → AllGoWell p old → (status ≡ Done) ⊎ (status ≡ NoMemory)
+    by files (inl x) p f well = idle files p status f cause x.0
+    by files (inr (q, g, inl r)) p f well = refused_as q status (subst (λ (z : ProtocolValue). AllGoWell z old) (same files p q f g) well) cause r.refusal r.is r.refuses
+    by files (inr (q, g, inr r)) p f well = reported r.text status w now cause r.writes

@@ -1,0 +1,39 @@
+use Rattle.std.proofs.Common.{◌∙◌, ap, length, refl, inr}
+use Rattle.anb_stage.specs.Words.{asked_lists}
+use Rattle.anb_stage_commands.specs.Asking.{staged}
+use Rattle.anb_stage_commands.specs.Reports.{report_text}
+use Rattle.anb_stage_commands.specs.Words.{words_for}
+use Rattle.anb_stage_commands.proofs.Outcomes.{count_words, refuses_as, relays_by}
+use Rattle.anb_stage_commands.proofs.staging.relayed.Goals as goal
+
+pub returns-in-Err-clause-failed : goal.returns-in-Err-clause-failed
+returns-in-Err-clause-failed g c =
+    let s = staged c.args.words in
+    let all = c.deref.result.now in
+    let asked = ap asked_lists c.deref.ensures.value ∙ c.in-Ok.ensures ∙ ap (words_for s) c.roles.ensures in
+    refuses_as s (g.P.Spawner.child c.args.spawner.now) (g.P.Spawner.child c.relay.new.spawner) c.args.protocol.now (length all) (asked_lists all)
+    (count_words s c.args.protocol.now all asked) asked c.in-Err.no c.refusal.result c.in-Err.ensures.refused c.refusal.ensures
+
+pub returns-in-Ok-report_text-clause-relayed : goal.returns-in-Ok-report_text-clause-relayed
+returns-in-Ok-report_text-clause-relayed g c =
+    let s = staged c.args.words in
+    let all = c.deref.result.now in
+    let asked = ap asked_lists c.deref.ensures.value ∙ c.in-Ok.ensures ∙ ap (words_for s) c.roles.ensures in
+    relays_by s (g.P.Spawner.child c.args.spawner.now) (g.P.Spawner.child c.relay.new.spawner) c.args.protocol.now (length all) (asked_lists all)
+    (count_words s c.args.protocol.now all asked) asked c.in-Ok-report_text.text.items c.in-Ok-relay.sent.items c.in-Ok-relay.ensures.relayed
+    (λ outputs tails cut. c.in-Ok-relay.ensures.report outputs tails cut) (c.in-Ok-report_text.ensures ∙ ap report_text c.deref-2.ensures.value)
+
+pub returns-clause-failed : goal.returns-clause-failed
+returns-clause-failed g c =
+    let s = staged c.args.words in
+    let all = c.deref.result.now in
+    let asked = ap asked_lists c.deref.ensures.value ∙ c.in-Ok.ensures ∙ ap (words_for s) c.roles.ensures in
+    inr (
+      refl,
+      (
+        report_text c.in-Ok-relay.sent.items,
+        relays_by s (g.P.Spawner.child c.args.spawner.now) (g.P.Spawner.child c.relay.new.spawner) c.args.protocol.now (length all) (asked_lists all)
+            (count_words s c.args.protocol.now all asked) asked (report_text c.in-Ok-relay.sent.items) c.in-Ok-relay.sent.items c.in-Ok-relay.ensures.relayed
+            (λ outputs tails cut. c.in-Ok-relay.ensures.report outputs tails cut) refl,
+      ),
+    )

@@ -1,0 +1,16 @@
+use Rattle.anb_command.proofs.Preparing.{if_err_map, if_ok_map}
+use Rattle.anb_stage_commands.specs.Asking.{staged}
+use Rattle.anb_stage_commands.proofs.Outcomes.{fails_in_file, in_file}
+use Rattle.anb_stage_commands.proofs.staging.relayed_in_file.Goals as goal
+
+pub returns-in-Ok-clause-relayed : goal.returns-in-Ok-clause-relayed
+returns-in-Ok-clause-relayed g c =
+    if_ok_map c.relayed.result _ _ (λ text relays.
+    in_file (staged c.args.words) (g.F.Shelf.files c.args.shelf.now) (g.P.Spawner.child c.args.spawner.now) (g.P.Spawner.child c.relayed.new.spawner)
+    c.in-Ok.protocol text.items c.in-Ok.ensures.given relays) c.relayed.ensures.relayed
+
+pub returns-in-Ok-clause-failed : goal.returns-in-Ok-clause-failed
+returns-in-Ok-clause-failed g c =
+    if_err_map c.relayed.result _ _ (λ status fails.
+    fails_in_file (staged c.args.words) (g.F.Shelf.files c.args.shelf.now) (g.P.Spawner.child c.args.spawner.now) (g.P.Spawner.child c.relayed.new.spawner)
+    c.in-Ok.protocol status c.in-Ok.ensures.given fails) c.relayed.ensures.failed

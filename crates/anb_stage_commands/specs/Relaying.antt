@@ -1,0 +1,73 @@
+-- What the relay of a protocol comes to, before anything is written.
+use Rattle.std.specs.Prelude.{◌≡◌, ◌⊎◌, ℕ, ◌<◌, List, length, Option}
+use Rattle.anb_base.specs.Moves.{Rose}
+use Rattle.anb_frame.specs.Cuts.{Tail}
+use Rattle.anb_resolve.specs.Protocols.{ProtocolValue}
+use Rattle.anb_stage.specs.Children.{Child}
+use Rattle.anb_stage.specs.Relays.{AreCut, IsRefused, IsRelayed, ends_in, report}
+use Rattle.anb_stage.specs.declared.refusal.RelayNo.{RelayNo}
+use Rattle.anb_stage.specs.declared.refusal.RelayNo.TheVariants as no
+use Rattle.anb_command.specs.declared.status.Status.{Status}
+use Rattle.anb_command.specs.declared.status.Status.TheVariants.{Usage, FileFault, ChildFault, NoMemory}
+use Rattle.anb_command.specs.Fetches.{Files, IfTold}
+use Rattle.anb_command.specs.Roles.{SendableInFile}
+use Rattle.anb_command.specs.Statuses.{before_reach, phase_of}
+use Rattle.anb_command.specs.Steps.{IsFailure, given, refused}
+use Rattle.anb_stage_commands.specs.Reports.{report_text}
+use Rattle.anb_stage_commands.specs.StageCommand.{status_of}
+use Rattle.anb_stage_commands.specs.Words.{Staged, words_for}
+
+-- the roles of a refusal are the protocol's
+abbrev pub IsNamed : ProtocolValue → RelayNo → Type 0
+IsNamed p (no.Fault role) = role < length p.roles
+IsNamed p (no.Bad role status) = role < length p.roles
+IsNamed p refusal = Unit {0}
+
+-- a refusal before the place is reached, or want of memory
+abbrev pub IsBefore : Status → Type 0
+IsBefore status = ((phase_of status ≡ before_reach) × (status ≡ Usage → ⊥)) ⊎ (status ≡ NoMemory)
+
+-- a fault of a child
+abbrev pub HasChildCause : (old new : ℕ → Child) → Status → Type 0
+HasChildCause old new (ChildFault name) =
+    (role : ℕ) × (role < 32) × Rose (old role).faults (new role).faults
+HasChildCause old new (FileFault file) = ⊥
+HasChildCause old new status = Unit {0}
+
+module _ (s : Staged) (old new : ℕ → Child) where
+  pub record Relays (p : ProtocolValue) (text : List ℕ) : Type 0 where
+    pub relays : IsRelayed (length p.roles) old new (words_for s p.roles) (ends_in p)
+    pub tells : (outputs : ℕ → List (List ℕ)) (tails : ℕ → Tail)
+        → AreCut (length p.roles) old outputs tails
+        → text ≡ report_text (report outputs (ends_in p))
+
+  pub record RefusesAs (p : ProtocolValue) (status : Status) : Type 0 where
+    pub refusal : RelayNo
+    pub is : (status ≡ status_of p refusal) ⊎ (status ≡ NoMemory)
+    pub refuses : IsRefused (length p.roles) old new (words_for s p.roles) (ends_in p) refusal
+
+  -- it is refused, or there is no memory for the report
+  abbrev pub FailsRelaying : ProtocolValue → Status → Type 0
+  FailsRelaying p status =
+      RefusesAs p status ⊎ ((status ≡ NoMemory) × ((text : List ℕ) × Relays p text))
+
+  abbrev pub Stay : Type 0
+  Stay = (role : ℕ) → role < 32 → new role ≡ old role
+
+  module _ (told : Option Files) where
+    abbrev pub RelaysInFile : List ℕ → Type 0
+    RelaysInFile text = IfTold told (λ files.
+        (p : ProtocolValue) × SendableInFile files s.narration (given p) × Relays p text)
+
+    abbrev pub FailsInFile : Status → Type 0
+    FailsInFile status = IfTold told (λ files.
+        (IsFailure status (λ file. Unit {0}) (SendableInFile files s.narration (refused status)) × Stay)
+        ⊎ ((p : ProtocolValue) × SendableInFile files s.narration (given p) × FailsRelaying p status))
+
+  -- a fault of the narration's file, or of a child
+  abbrev pub HasCauseBefore : (faults faults_now : List ℕ → ℕ) → Status → Type 0
+  HasCauseBefore faults faults_now (FileFault file) =
+      (file ≡ s.narration) × Rose (faults file) (faults_now file)
+  HasCauseBefore faults faults_now (ChildFault name) =
+      (role : ℕ) × (role < 32) × Rose (old role).faults (new role).faults
+  HasCauseBefore faults faults_now status = Unit {0}

@@ -1,0 +1,94 @@
+-- What `stage` does: it relays among child programs, one for each role, and writes a report.
+use Rattle.std.specs.Prelude.{◌≡◌, ◌⊎◌, ℕ, ◌<◌, List, [], ◌∷◌, length, get_or, Option, Some, None}
+use Rattle.anb_base.specs.Moves.{Rose}
+use Rattle.anb_base.specs.Wires.{WireState}
+use Rattle.anb_base.specs.declared.place.Place.TheVariants.{Stdio}
+use Rattle.anb_frame.specs.Cuts.{Tail}
+use Rattle.anb_resolve.specs.Protocols.{ProtocolValue}
+use Rattle.anb_stage.specs.Children.{Child}
+use Rattle.anb_stage.specs.Relays.{AreCut, IsRefused, IsRelayed, ends_in, missing, report}
+use Rattle.anb_stage.specs.declared.refusal.RelayNo.{RelayNo}
+use Rattle.anb_stage.specs.declared.refusal.RelayNo.TheVariants as no
+use Rattle.anb_command.specs.declared.status.Status.{Status}
+use Rattle.anb_command.specs.declared.status.Status.TheVariants.{Done, ChildFault, ChildEnded, ChildCut, ChildLong, ChildBad, NoMemory}
+use Rattle.anb_command.specs.Causes.{HasCause}
+use Rattle.anb_command.specs.Fetches.{Files, IfTold}
+use Rattle.anb_command.specs.Roles.{SendableInFile}
+use Rattle.anb_command.specs.Steps.{IsFailure, given, refused}
+use Rattle.anb_command.specs.Writing.{IsWritten}
+use Rattle.anb_stage_commands.specs.Reports.{report_text}
+use Rattle.anb_stage_commands.specs.Words.{Staged, words_for}
+
+-- the status of a relay that was refused
+abbrev pub status_of : ProtocolValue → RelayNo → Status
+status_of p (no.Fault role) = ChildFault (get_or p.roles role [])
+status_of p (no.Ended action) = ChildEnded action
+status_of p (no.Cut action have need) = ChildCut action have need
+status_of p (no.Long action len) = ChildLong action len
+status_of p (no.Bad role status) = ChildBad (get_or p.roles role []) status
+status_of p no.NoMemory = NoMemory
+
+-- between these children, and these bytes that are written
+module _ (s : Staged) (old new : ℕ → Child) (written written_now : Option (List ℕ)) where
+  -- nothing is asked of a child, and nothing is written
+  pub record IsIdle : Type 0 where
+    pub children : (role : ℕ) → role < 32 → new role ≡ old role
+    pub unwritten : written_now ≡ written
+
+  -- The relay is refused, and nothing is written. There may be no memory for the name of a role.
+  pub record IsRefusedAs (p : ProtocolValue) (status : Status) : Type 0 where
+    pub refusal : RelayNo
+    pub is : (status ≡ status_of p refusal) ⊎ (status ≡ NoMemory)
+    pub refuses : IsRefused (length p.roles) old new (words_for s p.roles) (ends_in p) refusal
+    pub unwritten : written_now ≡ written
+
+  -- what writing the report leaves; there may be no memory for it
+  abbrev pub IsReport : List ℕ → Status → Type 0
+  IsReport text NoMemory = written_now ≡ written
+  IsReport text status = IsWritten text status written written_now
+
+  -- all is relayed, and the report is that of the messages, wherever the children's outputs are told
+  pub record IsRelayedAs (p : ProtocolValue) (status : Status) : Type 0 where
+    pub relays : IsRelayed (length p.roles) old new (words_for s p.roles) (ends_in p)
+    pub text : List ℕ
+    pub tells : (outputs : ℕ → List (List ℕ)) (tails : ℕ → Tail)
+        → AreCut (length p.roles) old outputs tails
+        → text ≡ report_text (report outputs (ends_in p))
+    pub writes : IsReport text status
+
+  -- The narration's file is refused; or it tells a protocol whose roles can all send, and the
+  -- relay among their children is refused, or is whole and reported.
+  abbrev pub DoesStage : Option Files → Status → Type 0
+  DoesStage told status = IfTold told (λ files.
+      (IsFailure status (λ file. Unit {0}) (SendableInFile files s.narration (refused status))
+      × IsIdle)
+      ⊎ ((p : ProtocolValue) × SendableInFile files s.narration (given p)
+      × (IsRefusedAs p status ⊎ IsRelayedAs p status)))
+
+-- no message is missing, and each child ends with status 0
+pub record AllGoWell (p : ProtocolValue) (children : ℕ → Child) : Type 0 where
+  pub outputs : ℕ → List (List ℕ)
+  pub tails : ℕ → Tail
+  pub cut : AreCut (length p.roles) children outputs tails
+  pub none : missing outputs tails (ends_in p) ≡ None
+  pub good : (role : ℕ) → role < length p.roles → (children role).status ≡ Some 0
+
+-- then all is done, where nothing failed and memory wasn't wanting
+abbrev pub CompletesStage : Staged → (ℕ → Child) → Option Files → Status → Type 0
+CompletesStage s children told status = IfTold told (λ files.
+    (p : ProtocolValue) → SendableInFile files s.narration (given p) → AllGoWell p children
+    → (status ≡ Done) ⊎ (status ≡ NoMemory))
+
+-- A fault of a child is answered only where the count of a role's child rose, and all else as by the
+-- other commands.
+abbrev pub HasStageCause : (names : List (List ℕ)) → (faults faults_now : List ℕ → ℕ)
+    → (children children_now : ℕ → Child) → (old new : WireState) → Status → Type 0
+HasStageCause names faults faults_now children children_now old new (ChildFault name) =
+    (role : ℕ) × (role < 32) × Rose (children role).faults (children_now role).faults
+HasStageCause names faults faults_now children children_now old new status =
+    HasCause names (Some Stdio) faults faults_now old new status
+
+-- no count of a child rose
+abbrev pub NoChildRose : (children children_now : ℕ → Child) → Type 0
+NoChildRose children children_now =
+    (role : ℕ) → role < 32 → Rose (children role).faults (children_now role).faults → ⊥

@@ -1,0 +1,26 @@
+-- The words of `stage`, and those of the children that it starts.
+use Rattle.std.specs.Prelude.{ℕ, List, [], ◌∷◌, ◌++◌, codes, bytes_eq, map, ◌&&◌, Option, Some, None, if◌then◌else◌}
+use Rattle.anb_command.specs.Words.{is_operand}
+
+-- the names of the narration's file and of the folder with the values of its roles
+pub record Staged : Type 0 where
+  pub narration : List ℕ
+  pub folder : List ℕ
+
+abbrev pub stage_in : List (List ℕ) → Option Staged
+stage_in (narration ∷ folder ∷ []) =
+    if is_operand narration && is_operand folder
+    then Some (record { narration = narration; folder = folder }) else None
+stage_in words = None
+
+abbrev pub staged_of : List (List ℕ) → Option Staged
+staged_of [] = None
+staged_of (command ∷ words) = if bytes_eq command (codes "stage") then stage_in words else None
+
+-- the words of a role's child: it plays the role, with the values in the folder's file of its name
+abbrev pub child_words : Staged → (role : List ℕ) → List (List ℕ)
+child_words s role =
+    codes "play" ∷ s.narration ∷ role ∷ (s.folder ++ (47 ∷ (role ++ codes ".values"))) ∷ []
+
+abbrev pub words_for : Staged → (roles : List (List ℕ)) → List (List (List ℕ))
+words_for s roles = map (child_words s) roles

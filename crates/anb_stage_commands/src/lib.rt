@@ -1,0 +1,9 @@
+//! The command that relays among child programs.
+#![tactic(auto)]
+
+mod report;
+mod staging;
+mod words;
+
+pub use staging::stage;
+pub use words::StageWords;

@@ -1,0 +1,156 @@
+//! The relay of a narration's file among child programs.
+ghost use Rattle.std.specs.Prelude.{◌≡◌, ◌⊎◌, ◌<◌, ◌≤◌, ℕ, [], ◌∷◌, length, get_or, Some, IfOk, IfErr, false};
+ghost use Rattle.anb_base.specs.Moves.{Rose};
+ghost use Rattle.anb_base.specs.declared.place.Place.TheVariants as place;
+ghost use Rattle.anb_stage.specs.declared.TheConstants.{ROLES};
+ghost use Rattle.anb_command.specs.Causes.{NoneRose};
+ghost use Rattle.anb_command.specs.Fetches.{Fetches, IfTold};
+ghost use Rattle.anb_command.specs.Reaches.{Reaches};
+ghost use Rattle.anb_command.specs.Statuses.{phase_of};
+ghost use Rattle.anb_command.specs.Touches.{Touches};
+ghost use Rattle.anb_stage_commands.specs.Asking.{staged};
+ghost use Rattle.anb_stage_commands.specs.StageCommand.{CompletesStage, DoesStage, HasStageCause, NoChildRose};
+ghost use Rattle.anb_stage_commands.specs.StageCommand.{status_of};
+ghost use Rattle.anb_stage_commands.specs.Relaying.{FailsInFile, FailsRelaying, HasCauseBefore, HasChildCause, IsBefore, IsNamed, Relays, RelaysInFile};
+ghost use Rattle.anb_command.specs.declared.status.Status.TheVariants as status;
+
+use crate::StageWords;
+use crate::report::report_text;
+use crate::words::words_for;
+use anb_base::{NoMemory, Shelf, Text, Wire};
+use anb_command::{Status, sendable_in_file, write_text};
+use anb_read::{narrations_are_unique, none_is_both, refusals_are_unique};
+use anb_resolve::{Protocol, protocols_hold};
+use anb_stage::{RelayNo, Spawner, relay};
+use std::alloc::Global;
+
+/// Relays among the children of all roles of the narration in a file, and writes the report to the
+/// standard streams.
+pub fn stage<F: Shelf, P: Spawner, W: Wire>(
+    alloc: Global,
+    shelf: &mut F,
+    spawner: &mut P,
+    wire: &mut W,
+    words: StageWords,
+) -> Status
+    requires new { (role : ℕ) → role < ROLES → (P.child spawner.old role).phase ≡ 0 }
+    ensures does { DoesStage (staged words.entry) (P.child spawner.old) (P.child spawner.new)
+        (W.state wire.old).written (W.state wire.new).written (F.files shelf.old) result }
+    ensures completes { NoneRose (words.entry.narration.now ∷ [])
+        (F.faults shelf.old) (F.faults shelf.new) (W.state wire.old) (W.state wire.new)
+        → NoChildRose (P.child spawner.old) (P.child spawner.new)
+        → CompletesStage (staged words.entry) (P.child spawner.old) (F.files shelf.old) result }
+    ensures faults { HasStageCause (words.entry.narration.now ∷ [])
+        (F.faults shelf.old) (F.faults shelf.new) (P.child spawner.old) (P.child spawner.new)
+        (W.state wire.old) (W.state wire.new) result }
+    ensures fetches { Fetches (words.entry.narration.now ∷ [])
+        (F.files shelf.old) (F.files shelf.new) (F.faults shelf.old) (F.faults shelf.new) }
+    ensures reached { Reaches (Some place.Stdio) (phase_of result)
+        (W.state wire.old).reached (W.state wire.new).reached }
+    ensures touches { Touches false (phase_of result) (W.state wire.old) (W.state wire.new) }
+{
+    narrations_are_unique();
+    refusals_are_unique();
+    none_is_both();
+    match relayed_in_file(alloc, shelf, spawner, words) {
+        Ok(text) => write_text(wire, &text),
+        Err(status) => status,
+    }
+}
+
+/// Relays among the children of all roles of the narration in a file, and gives the report.
+fn relayed_in_file<F: Shelf, P: Spawner>(
+    alloc: Global,
+    shelf: &mut F,
+    spawner: &mut P,
+    words: StageWords,
+) -> Result<Vec<u8>, Status>
+    requires new { (role : ℕ) → role < ROLES → (P.child spawner.old role).phase ≡ 0 }
+    ensures relayed { IfOk result (λ text. RelaysInFile (staged words.entry)
+        (P.child spawner.old) (P.child spawner.new) (F.files shelf.old) text.items) }
+    ensures failed { IfErr result (FailsInFile (staged words.entry)
+        (P.child spawner.old) (P.child spawner.new) (F.files shelf.old)) }
+    ensures before { IfErr result IsBefore }
+    ensures cause { IfErr result (HasCauseBefore (staged words.entry)
+        (P.child spawner.old) (P.child spawner.new) (F.faults shelf.old) (F.faults shelf.new)) }
+    ensures fetches { Fetches (words.entry.narration.now ∷ [])
+        (F.files shelf.old) (F.files shelf.new) (F.faults shelf.old) (F.faults shelf.new) }
+{
+    match sendable_in_file(alloc, shelf, words.narration) {
+        Ok(protocol) => relayed(alloc, spawner, &protocol, words),
+        Err(status) => Err(status),
+    }
+}
+
+/// Relays among the children of all roles of a protocol, and gives the report.
+fn relayed<P: Spawner>(
+    alloc: Global,
+    spawner: &mut P,
+    protocol: &Protocol,
+    words: StageWords,
+) -> Result<Vec<u8>, Status>
+    requires new { (role : ℕ) → role < ROLES → (P.child spawner.old role).phase ≡ 0 }
+    ensures relayed { IfOk result (λ text. Relays (staged words.entry)
+        (P.child spawner.old) (P.child spawner.new) protocol.now text.items) }
+    ensures failed { IfErr result (FailsRelaying (staged words.entry)
+        (P.child spawner.old) (P.child spawner.new) protocol.now) }
+    ensures before { IfErr result IsBefore }
+    ensures cause { IfErr result
+        (HasChildCause (P.child spawner.old) (P.child spawner.new)) }
+{
+    protocols_hold();
+    let _ = protocol.name();
+    let Ok(all) = words_for(alloc, words, protocol.roles()) else {
+        return Err(Status::NoMemory);
+    };
+    let sent = match relay(alloc, protocol, &all, spawner) {
+        Ok(sent) => sent,
+        Err(no) => return Err(refusal(alloc, protocol, no)),
+    };
+    match report_text(alloc, &sent) {
+        Ok(text) => Ok(text),
+        Err(NoMemory) => Err(Status::NoMemory),
+    }
+}
+
+/// The status of a relay that was refused.
+fn refusal(alloc: Global, protocol: &Protocol, no: RelayNo) -> Status
+    requires { IsNamed protocol.now no }
+    ensures { (result ≡ status_of protocol.now no) ⊎ (result ≡ status.NoMemory) }
+{
+    match no {
+        RelayNo::Fault(role) => child_fault(alloc, protocol, role),
+        RelayNo::Ended(action) => Status::ChildEnded(action),
+        RelayNo::Cut { action, have, need } => Status::ChildCut { action, have, need },
+        RelayNo::Long { action, len } => Status::ChildLong { action, len },
+        RelayNo::Bad { role, status } => child_bad(alloc, protocol, role, status),
+        RelayNo::NoMemory => Status::NoMemory,
+    }
+}
+
+/// The status of a call for a role's child that failed.
+fn child_fault(alloc: Global, protocol: &Protocol, role: u32) -> Status
+    requires { role < length protocol.now.roles }
+    ensures { (result ≡ status.ChildFault (get_or protocol.now.roles role []))
+        ⊎ (result ≡ status.NoMemory) }
+{
+    match protocol.roles()[role as usize].copy(alloc) {
+        Ok(name) => Status::ChildFault(name),
+        Err(NoMemory) => Status::NoMemory,
+    }
+}
+
+/// The status of a role's child that ended with another status than 0.
+fn child_bad(alloc: Global, protocol: &Protocol, role: u32, ended: u8) -> Status
+    requires { role < length protocol.now.roles }
+    ensures { (result ≡ status.ChildBad (get_or protocol.now.roles role []) ended)
+        ⊎ (result ≡ status.NoMemory) }
+{
+    match protocol.roles()[role as usize].copy(alloc) {
+        Ok(role) => Status::ChildBad {
+            role,
+            status: ended,
+        },
+        Err(NoMemory) => Status::NoMemory,
+    }
+}
