@@ -6,7 +6,7 @@ use Rattle.anb_command.specs.declared.words.Command.{Command}
 use Rattle.anb_command.specs.declared.words.Command.TheVariants as command
 use Rattle.anb_command.specs.declared.words.Endpoint.{Endpoint}
 use Rattle.anb_command.specs.declared.words.Endpoint.TheVariants as endpoint
-use Rattle.anb_command.specs.Words.{Asked, fmt, describe, play, enact, replay, host, rehearse, drill, help, why, park, resume, chart}
+use Rattle.anb_command.specs.Words.{Asked, fmt, describe, play, enact, replay, host, rehearse, drill, help, certify, why, park, resume, chart}
 
 abbrev pub place_by : Endpoint → Place
 place_by endpoint.Stdio = place.Stdio
@@ -25,6 +25,7 @@ asked_by (Some (command.Host role)) = Some (host role.narration.now role.name.no
 asked_by (Some (command.Rehearse words)) = Some (rehearse words.narration.now words.values.now words.schedule.now)
 asked_by (Some (command.Drill exchanges)) = Some (drill exchanges)
 asked_by (Some command.Help) = Some help
+asked_by (Some (command.Certify words)) = Some (certify words.narration.now words.name.now words.code.now)
 asked_by (Some (command.Why narration)) = Some (why narration.now)
 asked_by (Some (command.Park words)) =
     Some (park words.play.narration.now words.play.name.now words.play.values.now words.key.now (place_by words.play.endpoint))

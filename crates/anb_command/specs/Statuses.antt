@@ -7,6 +7,9 @@ use Rattle.anb_format.specs.declared.pieces.FormatNo.TheVariants.{NoHead, RestNo
 use Rattle.anb_read.specs.declared.refusal.ReadNo.{ReadNo}
 use Rattle.anb_read.specs.declared.refusal.ReadNo.TheVariants.{Token, Grammar, Deep}
 use Rattle.anb_read.specs.declared.refusal.ReadNo.TheVariants as reading
+use Rattle.anb_certify.specs.declared.refusal.CertifyNo.{CertifyNo}
+use Rattle.anb_certify.specs.declared.refusal.CertifyNo.TheVariants.{Frame, Untrue, Sent, Loose}
+use Rattle.anb_certify.specs.declared.refusal.CertifyNo.TheVariants as certifying
 use Rattle.anb_code.specs.declared.refusal.CodeNo.{CodeNo}
 use Rattle.anb_code.specs.declared.refusal.CodeNo.TheVariants as verifying
 use Rattle.anb_text.specs.declared.refusal.LoadNo.{LoadNo}
@@ -22,7 +25,7 @@ use Rattle.anb_values.specs.declared.refusal.ValuesNo.TheVariants as fitting
 use Rattle.anb_command.specs.declared.status.NarrationNo.{NarrationNo}
 use Rattle.anb_command.specs.declared.status.NarrationNo.TheVariants.{Read, Resolve}
 use Rattle.anb_command.specs.declared.status.Status.{Status}
-use Rattle.anb_command.specs.declared.status.Status.TheVariants.{Done, Usage, FileFault, FileLong, BadNarration, NoRole, CannotSend, BadValues, NoSeed, Unreached, Stopped, Waiting, Truncated, TooLarge, ReadFault, WriteFault, BadRoleFile, BadTranscript, Differs, Short, BadKind, Spent, LongMessage, BadTurn, NotAll, Parked, BadRecord, ChildFault, ChildEnded, ChildCut, ChildLong, ChildBad, NoMemory}
+use Rattle.anb_command.specs.declared.status.Status.TheVariants.{Done, Usage, FileFault, FileLong, BadNarration, NoRole, CannotSend, BadValues, NoSeed, Unreached, Stopped, Waiting, Truncated, TooLarge, ReadFault, WriteFault, BadRoleFile, BadTranscript, Differs, Short, BadKind, Spent, LongMessage, BadTurn, NotAll, NotCertified, Parked, BadRecord, ChildFault, ChildEnded, ChildCut, ChildLong, ChildBad, NoMemory}
 
 abbrev pub number_of : Status → ℕ
 number_of Done = 0
@@ -50,6 +53,7 @@ number_of (Spent frames) = 21
 number_of (LongMessage action len) = 22
 number_of (BadTurn turn) = 23
 number_of (NotAll report) = 24
+number_of (NotCertified why) = 28
 number_of (Parked event) = 29
 number_of (BadRecord why) = 30
 number_of (ChildFault role) = 31
@@ -130,6 +134,14 @@ why_unloaded (loading.Line n) = codes "line " ++ decimal n
 why_unloaded (loading.Code why) = why_unaccepted why
 why_unloaded loading.NoMemory = codes "no memory"
 
+-- the instruction at which a code isn't certified; 0 where the names differ
+abbrev pub uncertified_at : CertifyNo → ℕ
+uncertified_at (Frame n) = n
+uncertified_at (Untrue n) = n
+uncertified_at (Sent n) = n
+uncertified_at (Loose n register) = n
+uncertified_at certifying.NoMemory = 0
+
 -- the instruction of a stop, where one is told
 abbrev pub instruction_text : ℕ → List ℕ
 instruction_text at = if at == 0 then [] else codes ", instruction " ++ decimal at
@@ -166,6 +178,7 @@ text_of (Spent frames) = decimal frames ++ codes " frames handled"
 text_of (LongMessage action len) = codes "message of action " ++ (decimal action ++ (codes " has " ++ (decimal len ++ codes " bytes")))
 text_of (BadTurn turn) = codes "turn " ++ (decimal turn ++ codes " names no role")
 text_of (NotAll report) = codes "not all roles are done"
+text_of (NotCertified why) = codes "not certified at instruction " ++ decimal (uncertified_at why)
 text_of (Parked event) = codes "parked at event " ++ decimal event
 text_of (BadRecord why) = codes "record refused"
 text_of (ChildFault role) = codes "child " ++ (role ++ codes " failed")
@@ -220,6 +233,7 @@ phase_of NoSeed = before_reach
 phase_of (BadRoleFile why) = before_reach
 phase_of (BadTranscript line) = before_reach
 phase_of (BadTurn turn) = before_reach
+phase_of (NotCertified why) = before_reach
 phase_of (BadRecord why) = before_reach
 phase_of (ChildFault role) = before_reach
 phase_of (ChildEnded action) = before_reach

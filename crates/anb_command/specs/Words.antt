@@ -18,6 +18,7 @@ pub data Asked : Type 0 where
   rehearse : (narration values schedule : List ℕ) → Asked
   drill : (exchanges : ℕ) → Asked
   help : Asked
+  certify : (narration role code : List ℕ) → Asked
   why : (narration : List ℕ) → Asked
   park : (narration role values key : List ℕ) → Place → Asked
   resume : (narration role parked key : List ℕ) → Place → Asked
@@ -93,6 +94,11 @@ abbrev pub drill_in : List (List ℕ) → Option Asked
 drill_in (exchanges ∷ []) = drill_of (number_of exchanges)
 drill_in words = None
 
+abbrev pub certify_in : List (List ℕ) → Option Asked
+certify_in (narration ∷ role ∷ code ∷ []) =
+    if is_operand narration && is_operand role && is_operand code then Some (certify narration role code) else None
+certify_in words = None
+
 abbrev pub why_in : List (List ℕ) → Option Asked
 why_in (narration ∷ []) = if is_operand narration then Some (why narration) else None
 why_in words = None
@@ -129,6 +135,7 @@ command_in command words =
     else if bytes_eq command (codes "rehearse") then rehearse_in words
     else if bytes_eq command (codes "drill") then drill_in words
     else if bytes_eq command (codes "help") then help_in words
+    else if bytes_eq command (codes "certify") then certify_in words
     else if bytes_eq command (codes "why") then why_in words
     else if bytes_eq command (codes "park") then park_in words
     else if bytes_eq command (codes "resume") then resume_in words
@@ -151,6 +158,7 @@ files_of (Some (host narration role values place)) = narration ∷ values ∷ []
 files_of (Some (rehearse narration values schedule)) = narration ∷ values ∷ schedule ∷ []
 files_of (Some (drill exchanges)) = []
 files_of (Some help) = []
+files_of (Some (certify narration role code)) = narration ∷ code ∷ []
 files_of (Some (why narration)) = narration ∷ []
 files_of (Some (park narration role values key place)) = narration ∷ values ∷ key ∷ []
 files_of (Some (resume narration role parked key place)) = narration ∷ parked ∷ key ∷ []
@@ -168,6 +176,7 @@ place_of (Some (host narration role values place)) = Some place
 place_of (Some (rehearse narration values schedule)) = Some Stdio
 place_of (Some (drill exchanges)) = Some Stdio
 place_of (Some help) = Some Stdio
+place_of (Some (certify narration role code)) = Some Stdio
 place_of (Some (why narration)) = Some Stdio
 place_of (Some (park narration role values key place)) = Some place
 place_of (Some (resume narration role parked key place)) = Some place

@@ -26,11 +26,11 @@ pub use over::run_over;
 pub use playable::{Playable, codes_of, playable_in_file, playable_of, sendable_in_file};
 pub use prepare::{Prepared, prepare_code, seed_of};
 pub use reaching::{reach, reach_stdio};
-pub use status::{Due, Halt, NarrationNo, ParkNo, Report, Status};
+pub use status::{CertifyNo, Due, Halt, NarrationNo, ParkNo, Report, Status};
 pub use text::{reach_streams, write_text};
 pub use words::{
-    Command, EnactWords, Endpoint, ParkWords, PlayWords, RehearseWords, ReplayWords, ResumeWords,
-    RoleText, is_operand,
+    CertifyWords, Command, EnactWords, Endpoint, ParkWords, PlayWords, RehearseWords, ReplayWords,
+    ResumeWords, RoleText, is_operand,
 };
 
 #[cfg(test)]

@@ -1,8 +1,9 @@
 //! Statuses: why a command did its work or didn't, their numbers and their lines.
 ghost use Rattle.std.specs.Prelude.{◌≡◌, ◌++◌};
-ghost use Rattle.anb_command.specs.Statuses.{instruction_text, item_text, kind_text, where_text, why_ill_formed, why_misshapen, why_unaccepted, why_unfit, why_unloaded, why_unread};
+ghost use Rattle.anb_command.specs.Statuses.{instruction_text, item_text, kind_text, uncertified_at, where_text, why_ill_formed, why_misshapen, why_unaccepted, why_unfit, why_unloaded, why_unread};
 
 use anb_base::{NoMemory, Place, Text};
+pub use anb_certify::CertifyNo;
 use anb_code::CodeNo;
 use anb_format::FormatNo;
 pub use anb_honest::Report;
@@ -80,6 +81,8 @@ pub enum Status {
     BadTurn(u32),
     /// The schedule ends before all roles are done; the report is written.
     NotAll(Report),
+    /// The role file's code isn't certified.
+    NotCertified(CertifyNo),
     /// The role waits for the arrival of this event, and its record was written.
     Parked(u32),
     /// The record isn't one to go on from.
@@ -173,6 +176,7 @@ impl Status {
             Status::LongMessage { .. } => 22,
             Status::BadTurn(_) => 23,
             Status::NotAll(_) => 24,
+            Status::NotCertified(_) => 28,
             Status::Parked(_) => 29,
             Status::BadRecord(_) => 30,
             Status::ChildFault(_) => 31,
@@ -307,6 +311,15 @@ impl Status {
                 "",
             ),
             Status::NotAll(_) => ("not all roles are done", "", "", "", "", "", ""),
+            Status::NotCertified(why) => (
+                "not certified at instruction ",
+                first.format(uncertified(*why)),
+                "",
+                "",
+                "",
+                "",
+                "",
+            ),
             Status::Parked(event) => ("parked at event ", first.format(*event), "", "", "", "", ""),
             Status::BadRecord(_) => ("record refused", "", "", "", "", "", ""),
             Status::ChildFault(role) => ("child ", role.as_str(), " failed", "", "", "", ""),
@@ -489,6 +502,19 @@ fn unaccepted(why: CodeNo, digits: &mut Buffer) -> (&str, &str, &str)
         CodeNo::Order(at) => ("instruction ", digits.format(at), ": out of order"),
         CodeNo::Wide(at) => ("instruction ", digits.format(at), ": too wide"),
         CodeNo::NoMemory => ("no memory", "", ""),
+    }
+}
+
+/// At which instruction a code isn't certified.
+fn uncertified(why: CertifyNo) -> u32
+    ensures { result ≡ uncertified_at why }
+{
+    match why {
+        CertifyNo::Frame(n) => n,
+        CertifyNo::Untrue(n) => n,
+        CertifyNo::Sent(n) => n,
+        CertifyNo::Loose { at, .. } => at,
+        CertifyNo::NoMemory => 0,
     }
 }
 

@@ -26,6 +26,7 @@ pub enum Command<'w> {
     /// The number of exchanges of the drill, from 1 to 200.
     Drill(u32),
     Help,
+    Certify(CertifyWords<'w>),
     Why {
         narration: &'w Text,
     },
@@ -79,6 +80,14 @@ pub struct RehearseWords<'w> {
     pub schedule: &'w Text,
 }
 
+/// What is asked of `certify`: the names of the files and of the role.
+#[derive(Clone, Copy)]
+pub struct CertifyWords<'w> {
+    pub narration: &'w Text,
+    pub name: &'w Text,
+    pub code: &'w Text,
+}
+
 /// What is asked of `park`: what is asked of `play`, and the name of the key's file.
 #[derive(Clone, Copy)]
 pub struct ParkWords<'w> {
@@ -109,7 +118,7 @@ impl<'w> Command<'w> {
     ghost use Rattle.std.specs.Prelude.{◌≡◌};
     ghost use Rattle.anb_command.specs.Commands.{asked_by};
     ghost use Rattle.anb_command.specs.Words.{asked_of, command_in, enact_in, fmt_in, help_in, host_in, play_in, describe_in, replay_in};
-    ghost use Rattle.anb_command.specs.Words.{chart_in, drill_in, park_in, rehearse_in, resume_in, why_in};
+    ghost use Rattle.anb_command.specs.Words.{certify_in, chart_in, drill_in, park_in, rehearse_in, resume_in, why_in};
 
     /// Reads a whole word list.
     pub fn read(words: &'w [Text]) -> Option<Self>
@@ -135,6 +144,7 @@ impl<'w> Command<'w> {
             "rehearse" => Self::read_rehearse(words),
             "drill" => Self::read_drill(words),
             "help" => Self::read_help(words),
+            "certify" => Self::read_certify(words),
             "why" => Self::read_why(words),
             "park" => Self::read_park(words),
             "resume" => Self::read_resume(words),
@@ -306,6 +316,22 @@ impl<'w> Command<'w> {
             parked,
             key,
             endpoint,
+        }))
+    }
+
+    fn read_certify(words: &'w [Text]) -> Option<Self>
+        ensures { asked_by result ≡ certify_in words.now }
+    {
+        let [narration, name, code] = words else {
+            return None;
+        };
+        if !(is_operand(narration) && is_operand(name) && is_operand(code)) {
+            return None;
+        }
+        Some(Command::Certify(CertifyWords {
+            narration,
+            name,
+            code,
         }))
     }
 
