@@ -32,6 +32,3 @@ pub use words::{
     Command, EnactWords, Endpoint, ParkWords, PlayWords, RehearseWords, ReplayWords, ResumeWords,
     RoleText, is_operand,
 };
-
-#[cfg(test)]
-mod tests;
