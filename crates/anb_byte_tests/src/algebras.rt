@@ -1,5 +1,5 @@
-// Values from outside: all were computed in Python, with hashlib, hmac and the ChaCha20 of the
-// package cryptography.
+//! Values from outside: all were computed in Python, with hashlib, hmac and the ChaCha20 of the
+//! package cryptography.
 ghost use Rattle.std.specs.Prelude.{◌≡◌, IfOk, vec_len};
 ghost use Rattle.anb_format.specs.Formats.{field_count};
 

@@ -1,5 +1,5 @@
 //! Formats by published encodings and by worked examples.
-ghost use Rattle.std.specs.Prelude.{◌≡◌, IfOk, length, vec_len};
+ghost use Rattle.std.specs.Prelude.{◌≡◌, ◌<◌, ◌^◌, All, IfOk, length, vec_len};
 ghost use Rattle.anb_format.specs.Formats.{field_count};
 
 use anb_base::{Bytes, Text};
@@ -62,6 +62,19 @@ fn table(alloc: Global, arguments: &[&[u8]]) -> Result<Vec<Bytes>, Fail>
         table.push(bytes(alloc, argument)?)?;
     }
     Ok(table)
+}
+
+/// The numbers of all places of the table, in order.
+fn every_place(alloc: Global, table: &Vec<Bytes>) -> Result<Vec<u32>, Fail>
+    requires { vec_len table.now < 2 ^ 32 }
+    ensures within { IfOk result (λ places. All (λ i. i < vec_len table.now) places.items) }
+    ensures count { IfOk result (λ places. length places.items ≡ vec_len table.now) }
+{
+    let mut places = Vec::new(alloc);
+    for i in 0..table.len() as u32 {
+        places.push(i)?;
+    }
+    Ok(places)
 }
 
 /// That the arguments build these bytes, and that these have them as their parts.

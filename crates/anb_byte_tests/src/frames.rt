@@ -1,6 +1,6 @@
 //! Frames over a wire in memory.
 
-use anb_base::{Bytes, MemWire, NoMemory};
+use anb_base::{Bytes, Failed, MemWire, NoMemory, read_full};
 use anb_frame::*;
 use std::alloc::Global;
 use std::test::Fail;

@@ -1,6 +1,9 @@
-// Values from outside. The seals, the wraps, the macs under keys of a block's length and the draws
-// that no standard shows were computed in Python, with hashlib, hmac and the ChaCha20 of the
-// package cryptography, from the description of sealing in this crate's root.
+//! Hashes, macs, seals and draws by published values, and by values that were computed elsewhere.
+//!
+//! Values from outside. The seals, the wraps, the macs under keys of a block's length and the draws
+//! that no standard shows were computed in Python, with hashlib, hmac and the ChaCha20 of the
+//! package cryptography, from the description of sealing in the root of anb_seal.
+use anb_base::Bytes;
 use anb_seal::*;
 use std::alloc::{AllocError, Global};
 use std::test::Fail;

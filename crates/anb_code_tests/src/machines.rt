@@ -1,6 +1,6 @@
-// Values from outside: the bytes of hashes, macs, seals and wraps were computed in Python, with
-// hashlib, hmac and the ChaCha20 of the package cryptography; the first nonce under a zero seed is
-// the first 32 bytes of ChaCha20 under a zero key.
+//! Values from outside: the bytes of hashes, macs, seals and wraps were computed in Python, with
+//! hashlib, hmac and the ChaCha20 of the package cryptography; the first nonce under a zero seed is
+//! the first 32 bytes of ChaCha20 under a zero key.
 use anb_base::Suite;
 use anb_code::RoleCode;
 use anb_machine::{Halt, Machine, Turn};

@@ -1,4 +1,4 @@
-// A closure by example.
+//! A closure by example.
 
 ghost use Rattle.std.specs.Prelude.{◌≡◌, true, IfOk};
 ghost use Rattle.anb_term.specs.Tree.{tree_size, IsFormed};

@@ -1,4 +1,4 @@
-// Recipes and terms by example.
+//! Recipes and terms by example.
 
 ghost use Rattle.std.specs.Prelude.{◌≡◌, length, IfOk};
 

@@ -2,7 +2,7 @@ use Rattle.std.proofs.Common.{◌∷◌, [], map, take, true, arith, ap}
 use Rattle.anb_term.specs.Tree.{nodes}
 use Rattle.anb_term.specs.View.{tree_of}
 use Rattle.anb_close.proofs.Growing.{formed_append, nodes_append}
-use Rattle.anb_basis.proofs.Counting.{if_any, one_more, node_formed, node_sized, taken}
+use Rattle.anb_term_tests.proofs.Counting.{if_any, one_more, node_formed, node_sized, taken}
 use Rattle.anb_term_tests.proofs.checks.+count.Goals as goal
 
 pub node_count-returns-in-Some-clause-formed : goal.node_count-returns-in-Some-clause-formed
