@@ -1,12 +1,13 @@
 """Seconds, growth and memory of the program on files that are hard for it.
 
-    python3 bench/measure.py [--program FILE] [--limit SECONDS] [ROW ..]
+    python3 bench/measure.py [--program FILE] [--limit SECONDS] [--runs N] [ROW ..]
 
 The rows are those of narrations.py, which are compiled; `explained`, where such a narration is
 explained; and role files that are run, `takes` with a value for each of its takes, `most_takes` up to
 the size that a role file may have, with as many values as fit into theirs. The program is
 crates/anb/out/anb unless another is named. A size that takes longer than the limit is cut off, and the
-larger ones of its row are left out.
+larger ones of its row are left out. With several runs of each size the least time and the most memory
+stand; more than a few tell what the program takes, and not what else the machine does.
 """
 import argparse
 import os
@@ -79,10 +80,19 @@ def run(program, folder, case, limit):
     return seconds, usage.ru_maxrss / 1024
 
 
+def best(program, folder, case, limit, runs):
+    """The least seconds and the most megabytes of so many runs, or None where one was cut off."""
+    found = [run(program, folder, case, limit) for _ in range(runs)]
+    if None in found:
+        return None
+    return min(seconds for seconds, _ in found), max(memory for _, memory in found)
+
+
 def main():
     words = argparse.ArgumentParser()
     words.add_argument("--program", default=PROGRAM)
     words.add_argument("--limit", type=float, default=60)
+    words.add_argument("--runs", type=int, default=1)
     words.add_argument("rows", nargs="*")
     asked = words.parse_args()
     program = os.path.abspath(asked.program)
@@ -92,7 +102,7 @@ def main():
             make, sizes = CASES[row]
             before = None
             for size in sizes:
-                found = run(program, folder, make(size), asked.limit)
+                found = best(program, folder, make(size), asked.limit, asked.runs)
                 if found is None:
                     print(f"{row:<20}{size:>8}{'over ' + format(asked.limit, 'g'):>10}", flush=True)
                     break

@@ -5,6 +5,3 @@ mod bytes;
 mod suites;
 
 pub use bytes::ByteAlgebra;
-
-#[cfg(test)]
-mod tests;

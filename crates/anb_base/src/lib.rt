@@ -30,6 +30,3 @@ pub const SMALL_FILE: u32 = 1_048_576;
 
 /// The most bytes of a file that programs write: a role file, or a transcript.
 pub const LARGE_FILE: u32 = 16_777_216;
-
-#[cfg(test)]
-mod tests;

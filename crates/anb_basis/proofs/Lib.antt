@@ -10,6 +10,5 @@ mod All
 mod Ordering
 mod Frames
 pub mod Exact
-mod Counting
 mod Listing
 mod Again

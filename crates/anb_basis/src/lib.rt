@@ -14,6 +14,3 @@ pub mod laws;
 
 pub use basis::{Basis, all_checks};
 pub use check::Check;
-
-#[cfg(test)]
-mod tests;

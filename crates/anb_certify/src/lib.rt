@@ -12,6 +12,3 @@ pub use laws::{certified_fits, classes_are_tied, shut_has_none};
 pub use reasons::{Refusal, reason};
 pub use refusal::CertifyNo;
 pub use shut_lists::shut;
-
-#[cfg(test)]
-mod tests;

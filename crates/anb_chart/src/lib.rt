@@ -5,11 +5,10 @@
 #![tactic(auto)]
 
 mod charting;
+mod examples;
 mod laws;
 mod participants;
 
 pub use charting::write_chart;
+pub use examples::{ending_is_charted, mutual_is_charted};
 pub use laws::{participants_are_no_words, participants_are_told_apart};
-
-#[cfg(test)]
-mod tests;

@@ -20,6 +20,3 @@ pub use closure::Closure;
 pub use entry::{Entry, Opening, Origin};
 pub use made::{Compositions, Made};
 pub use step::{Openings, Step};
-
-#[cfg(test)]
-mod tests;

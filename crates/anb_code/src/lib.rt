@@ -19,6 +19,3 @@ pub use instr::{Instr, Registers};
 pub use laws::{verified_is_runnable, verified_is_spelled, wider_limits_accept};
 pub use raw::{RawCode, RawFormat, RawInstr, What};
 pub use refusal::CodeNo;
-
-#[cfg(test)]
-mod tests;

@@ -32,6 +32,3 @@ pub use words::{
     CertifyWords, Command, EnactWords, Endpoint, ParkWords, PlayWords, RehearseWords, ReplayWords,
     ResumeWords, RoleText, is_operand,
 };
-
-#[cfg(test)]
-mod tests;

@@ -3,6 +3,8 @@
 #![tactic(auto)]
 
 #[cfg(test)]
+mod charts;
+#[cfg(test)]
 mod enact;
 #[cfg(test)]
 mod host;
@@ -18,5 +20,9 @@ mod replay;
 mod role_texts;
 #[cfg(test)]
 mod running;
+#[cfg(test)]
+mod telling;
+#[cfg(test)]
+mod why;
 #[cfg(test)]
 mod words;

@@ -6,11 +6,10 @@
 #![tactic(auto)]
 
 mod code;
+mod examples;
 mod explaining;
 mod plan;
 mod writing;
 
+pub use examples::{needham_schroeder_is_explained, ping_is_explained};
 pub use explaining::{Explanation, explain, explanation_of, write_explanation};
-
-#[cfg(test)]
-mod tests;

@@ -368,6 +368,3 @@ fn every_place(alloc: Global, table: &Vec<Bytes>) -> Result<Vec<u32>, NoMemory>
     }
     Ok(places)
 }
-
-#[cfg(test)]
-mod tests;

@@ -117,6 +117,3 @@ pub fn put<K: Sink>(snk: &mut K, bytes: &[u8]) -> Result<(), Failed>
     write_whole(snk, bytes)?;
     Ok(())
 }
-
-#[cfg(test)]
-mod tests;

@@ -12,6 +12,3 @@ mod turns;
 pub use drill::generate;
 pub use laws::{generated_is_read, turns_alternate};
 pub use turns::drill_turns;
-
-#[cfg(test)]
-mod tests;

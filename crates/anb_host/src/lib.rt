@@ -15,6 +15,3 @@ pub use event::{Cause, HostEvent, Notice};
 pub use host::Host;
 pub use laws::{inputs_have_one_reading, sessions_are_isolated};
 pub use serving::{HostEnd, serve};
-
-#[cfg(test)]
-mod tests;

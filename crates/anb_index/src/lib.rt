@@ -81,6 +81,3 @@ impl<'a> TextIndex<'a> {
         self.places.contains_key(text)
     }
 }
-
-#[cfg(test)]
-mod tests;

@@ -15,6 +15,3 @@ pub mod pool;
 
 pub use node::{Node, NodeId};
 pub use pool::Pool;
-
-#[cfg(test)]
-mod tests;

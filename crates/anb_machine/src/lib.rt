@@ -12,6 +12,3 @@ mod work;
 
 pub use machine::Machine;
 pub use turn::{Halt, Turn};
-
-#[cfg(test)]
-mod tests;

@@ -21,6 +21,3 @@ pub use laws::{accepted_is_not_refused, has_one_cause, records_are_apart};
 pub use live::Live;
 pub use playing::play_on;
 pub use resuming::{ParkNo, resume};
-
-#[cfg(test)]
-mod tests;

@@ -10,8 +10,6 @@ mod refusal;
 mod sections;
 mod single;
 mod terms;
-#[cfg(test)]
-mod tests;
 
 pub use reader::{each_is_either, narrations_are_unique, none_is_both, read, refusals_are_unique};
 pub use refusal::ReadNo;

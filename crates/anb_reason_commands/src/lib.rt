@@ -135,6 +135,3 @@ fn put(out: &mut Vec<u8>, text: &str) -> Result<(), NoMemory>
     out.extend_from_slice(text.as_bytes())?;
     Ok(())
 }
-
-#[cfg(test)]
-mod tests;

@@ -77,6 +77,3 @@ fn write_lines<W: Wire>(alloc: Global, wire: &mut W, protocol: &Protocol) -> Res
 {
     write_chart(alloc, wire, protocol)
 }
-
-#[cfg(test)]
-mod tests;

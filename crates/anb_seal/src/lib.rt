@@ -132,6 +132,3 @@ pub fn draw(seed: &[u8; 32], session: u32, i: u32) -> [u8; 32]
     stream::fill(&mut words, &mut bytes);
     bytes
 }
-
-#[cfg(test)]
-mod tests;

@@ -182,6 +182,3 @@ pub fn receive<W: Wire>(
         Err(FrameNo::Failed) => Err(PlayEnd::ReadFault),
     }
 }
-
-#[cfg(test)]
-mod tests;

@@ -15,6 +15,3 @@ pub use narration::{ActionItem, FormatItem, KnowItem, Narration, Sort, Tree, Typ
 pub use tokens::{Next, Token, TokenKind, next_token};
 pub use words::{is_name, kind_of_word, name_text, suite_of_word};
 pub use writing::{put_piece, text_of};
-
-#[cfg(test)]
-mod tests;

@@ -18,6 +18,3 @@ pub use memory::NoMemory;
 pub use recipe::{Recipe, eval};
 pub use term::{Op, Term, Terms};
 pub use trees::TermAlgebra;
-
-#[cfg(test)]
-mod tests;

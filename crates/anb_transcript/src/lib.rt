@@ -24,6 +24,3 @@ pub fn one_reading()
 pub fn one_replay()
     ensures { ReplaysOne }
 {}
-
-#[cfg(test)]
-mod tests;

@@ -53,6 +53,3 @@ pub fn values(alloc: Global, text: &[u8], names: &[Text]) -> Result<Fitted, Valu
         seed,
     })
 }
-
-#[cfg(test)]
-mod tests;

@@ -1,7 +1,0 @@
-use Rattle.std.proofs.Common.{refl}
-use Rattle.std.specs.Fmt.{digits}
-use Rattle.anb_chart.proofs.tests.mutual_is_charted.Goals as goal
-
-pub returns : goal.returns
-unfolding digits
-returns c = refl

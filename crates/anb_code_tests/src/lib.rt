@@ -1,0 +1,16 @@
+//! Worked examples of role codes: codes that are verified, machines, sessions, transcripts, hosts and
+//! parked sessions. The tests are the examples.
+#![tactic(auto)]
+
+#[cfg(test)]
+mod codes;
+#[cfg(test)]
+mod hosts;
+#[cfg(test)]
+mod machines;
+#[cfg(test)]
+mod parked;
+#[cfg(test)]
+mod sessions;
+#[cfg(test)]
+mod transcripts;

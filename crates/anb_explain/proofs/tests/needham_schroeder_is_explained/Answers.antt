@@ -1,8 +1,0 @@
-use Rattle.std.proofs.Common.{refl}
-use Rattle.std.specs.Fmt.{digits}
-use Rattle.anb_resolve.specs.Plans.{plan_of}
-use Rattle.anb_explain.proofs.tests.needham_schroeder_is_explained.Goals as goal
-
-pub returns : goal.returns
-unfolding plan_of digits
-returns c = refl

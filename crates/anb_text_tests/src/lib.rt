@@ -1,0 +1,11 @@
+//! Worked examples of texts: tokens, narrations, values files and drills. The tests are the examples.
+#![tactic(auto)]
+
+#[cfg(test)]
+mod drills;
+#[cfg(test)]
+mod narrations;
+#[cfg(test)]
+mod tokens;
+#[cfg(test)]
+mod values;
