@@ -24,7 +24,7 @@ OPENING = """# Examples
 
 {count} narrations, most of them protocols of the literature over symmetric keys and hashes. This page is written by `docs/charts.py`; `docs/check.py` plays each example and compares each byte.
 
-A folder has the narration, `ROLE.values` for each role, `all.values` with a value for each name that some role knows, and `schedule`, the roles in the order in which they take their turns. [expected](expected) has what comes of playing all roles against each other, with the SHA-256 of all frames in a row. Seeds are fixed, so that each run gives the same bytes.
+A folder has the narration, `ROLE.values` for each role, `all.values` with a value for each name that some role knows, and `schedule`, the roles in the order in which they take their turns; `nssk/eager.schedule` has turns that come too soon and are passed over. [expected](expected) has what comes of playing all roles against each other, with the SHA-256 of all frames in a row. Seeds are fixed, so that each run gives the same bytes.
 
 Under each chart stands what a role **takes as it comes**: the received terms on which none of its checks depends, then or later, by the code that `anb explain` shows. A nonce of the partner is often among them, and rightly; a key or a ticket there deserves a thought. What came out of a seal is still from someone who had the seal's key. Nothing here is a claim that a protocol is secure, and some of these are known not to be.
 

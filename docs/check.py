@@ -5,10 +5,11 @@
     python3 docs/check.py crates/anb/out/anb --write   writes what the program gives into the pages
 
 Examples: `fmt` gives the narration's text, each role compiles, all roles play to their ends over pipes, the codes that
-`compile` wrote send the same under `enact`, and each message has the bytes that docs/narration.py computes apart. What came of it is compared with examples/expected, and the index
-of the examples with what docs/charts.py writes. Where the program has `rehearse`, all roles are rehearsed too, and where it
-has `chart`, the charts are those of docs/charts.py. A role's transcript
-stands beside its values. What the gate runs of each example is a copy, in crates/anb_examples.
+`compile` wrote send the same under `enact`, and each message has the bytes that docs/narration.py computes apart. What
+came of it is compared with examples/expected, and the index of the examples with what docs/charts.py writes. Where the
+program has `rehearse`, all roles are rehearsed too, by `schedule` and by each other file `*.schedule`, which has turns
+that are passed over; and where it has `chart`, the charts are those of docs/charts.py. A role's transcript stands beside
+its values. What the gate runs of each example is a copy, in crates/anb_examples.
 
 Pages: in a fenced block that begins with a line `$ ...` each such line is a command for sh, and what follows is what
 it writes, errors too. The commands run in a folder of their own with a copy of examples/, block by block, with `anb` on
@@ -108,26 +109,52 @@ def enacted(program, story, folder, codes):
         return relay(program, story, lambda role: ["enact", pathlib.Path(scratch) / role, values_file(folder, role)])
 
 
-def rehearsal(story, folder, turns):
+def played(story, words):
+    """The actions that are sent by these turns, and how many turns are taken: a role's turn is taken where its next
+    action is one that it sends, or one that was sent to it."""
+    left = {role: [n for n, action in enumerate(story.actions) if role in action[:2]] for role in story.roles}
+    sent, taken = set(), 0
+    for role in words:
+        if not left[role]:
+            continue
+        number = left[role][0]
+        if story.actions[number][0] == role:
+            sent.add(number)
+        elif number not in sent:
+            continue
+        left[role].pop(0)
+        taken += 1
+    return sorted(sent), taken
+
+
+def rehearsal(story, folder, words):
     """What `rehearse` writes: each message, with the draws of a role in the session of its number."""
     names = narration.read_values((folder / "all.values").read_text())
     for session, role in enumerate(story.roles):
         for number, name in enumerate(story.fresh_names(role)):
             names[name] = narration.anbwire.draw(names["@seed"], session, number)
-    messages = [story.bytes_of(message, names) for _, _, message in story.actions]
-    lines = [f"{number} {message.hex()}\n" for number, message in enumerate(messages, 1)]
-    return "".join(lines) + f"turns {turns}, taken {turns}, passed 0\n"
+    sent, taken = played(story, words)
+    lines = [f"{number + 1} {story.bytes_of(story.actions[number][2], names).hex()}\n" for number in sent]
+    return "".join(lines) + f"turns {len(words)}, taken {taken}, passed {len(words) - taken}\n"
 
 
-def check_schedule(program, story, folder, commands):
-    words = (folder / "schedule").read_text().split()
-    if words != [role for sender, receiver, _ in story.actions for role in (sender, receiver)]:
-        raise ValueError("the schedule isn't the actions' senders and receivers")
-    expected = rehearsal(story, folder, len(words))
-    if "rehearse" in commands:
-        report = run(program, "rehearse", folder / f"{folder.name}.anb", folder / "all.values", folder / "schedule")
-        if report != expected:
-            raise ValueError(f"rehearse: {report.splitlines()[-1]}")
+def schedules(folder):
+    """The schedule in order, and those with turns that are passed over."""
+    return [folder / "schedule", *sorted(folder.glob("*.schedule"))]
+
+
+def check_schedules(program, story, folder, commands):
+    for path in schedules(folder):
+        words = path.read_text().split()
+        if path.suffix == "" and words != [role for action in story.actions for role in action[:2]]:
+            raise ValueError("the schedule isn't the actions' senders and receivers")
+        expected = rehearsal(story, folder, words)
+        if path.suffix and expected.endswith(" passed 0\n"):
+            raise ValueError(f"{path.name} has no turn that is passed over")
+        if "rehearse" in commands:
+            report = run(program, "rehearse", folder / f"{folder.name}.anb", folder / "all.values", path)
+            if report != expected:
+                raise ValueError(f"rehearse by {path.name}: {report.splitlines()[-1]}")
 
 
 def transcript(story, role, messages):
@@ -155,6 +182,8 @@ def gate_commands(folder, roles):
     for role in roles:
         values = values_file(folder, role)
         yield f"replay {whole} {role} {folder.name}/{values.name} {folder.name}/{values.stem}.transcript"
+    for path in schedules(folder):
+        yield f"rehearse {whole} {folder.name}/all.values {folder.name}/{path.name}"
 
 
 def gate_files():
@@ -201,7 +230,7 @@ def check_example(program, folder, commands, write):
     for role, code in codes.items():
         if not re.fullmatch(r"anb-role 2\n.*\nend\n", code, re.S):
             raise ValueError(f"no role file for {role}")
-    check_schedule(program, story, folder, commands)
+    check_schedules(program, story, folder, commands)
     names = names_of(story, folder)
     carried = relay(program, story, lambda role: ["play", path, role, values_file(folder, role)])
     if enacted(program, story, folder, codes) != carried:

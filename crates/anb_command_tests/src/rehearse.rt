@@ -104,3 +104,30 @@ fn a_drill_tells_its_numbers(rt: HostRuntime) -> Result<(), Fail> {
     }
     Ok(())
 }
+
+/// X is 262,144 bytes, and what stands in a format is a byte longer.
+#[test]
+fn what_is_too_long_is_told(rt: HostRuntime) -> Result<(), Fail> {
+    let alloc = rt.alloc();
+    let digits = String::from_utf8(vec![in alloc; b'5'; 524_288]?)?;
+    let values = format!(in alloc; "X = x{}\n", digits.as_str())?;
+    let head = "Protocol: P; Types: Agent A, B; Number X; Formats: r = \"R\" rest; Knowledge:";
+    let cases = [
+        (
+            "A: X; B: X; Actions: A -> B: r(X);",
+            "anb: message of action 1 has 262145 bytes\n",
+        ),
+        (
+            "A: r(X); B: X; Actions: A -> B: X;",
+            "anb: message of action 0 has 262145 bytes\n",
+        ),
+    ];
+    for (rest, line) in cases {
+        let narration = format!(in alloc; "{head} {rest}")?;
+        let mut given = Given::new(&narration, &values, "");
+        given.transcript = "A B";
+        let ran = run_words(alloc, &["rehearse", "n", "v", "t"], given)?;
+        check_text(&rt, &ran, 22, line, "");
+    }
+    Ok(())
+}

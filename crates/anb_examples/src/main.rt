@@ -1,5 +1,5 @@
 //! Runs the commands that a file lists, a line each, and prints the status of each with its line. So
-//! the gate reads, compiles and replays every example.
+//! the gate reads, compiles, replays and rehearses every example.
 #![tactic(auto)]
 
 use anb_base::{Bytes, MemWire, NoMemory, Text};

@@ -3,3 +3,4 @@ pub mod Spellable
 pub mod Growing
 pub mod Alternating
 pub mod Small
+pub mod Short

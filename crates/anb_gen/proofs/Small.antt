@@ -15,7 +15,7 @@ all_within f g most a (suc n) h =
     let all = sum_by-cons f (g a) (map g (range_with_len (a + 1) n)) in
     grind arith
 
-number_len : (i : ℕ) → i ≤ 200 → length (number_name i) ≤ 4
+pub number_len : (i : ℕ) → i ≤ 200 → length (number_name i) ≤ 4
 number_len i h = omega (arith, length-decimal-le 3 i (omega arith) (omega arith) (omega arith))
 
 exchange_size : (i : ℕ) → i ≤ 200 → action_size (exchange i) ≤ 15

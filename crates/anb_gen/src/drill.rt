@@ -1,6 +1,8 @@
 //! The narration of a drill.
-ghost use Rattle.std.specs.Prelude.{◌≡◌, ◌+◌, ◌%◌, ◌≤◌, ◌==◌, map, IfOk};
+ghost use Rattle.std.specs.Prelude.{◌≡◌, ◌+◌, ◌%◌, ◌<◌, ◌≤◌, ◌==◌, length, map, IfOk};
 ghost use Rattle.std.specs.List.{range_with_len};
+ghost use Rattle.anb_base.specs.declared.TheConstants.{SMALL_FILE};
+ghost use Rattle.anb_syntax.specs.Canon.{canon};
 ghost use Rattle.anb_syntax.specs.Grammar.{atom, seal, IsSpellable};
 ghost use Rattle.anb_syntax.specs.Sizes.{size};
 ghost use Rattle.anb_syntax.specs.Views.{tree_of, type_of, format_of, know_of, action_of, narration_of};
@@ -19,6 +21,9 @@ pub fn generate(alloc: Global, n: u32) -> Result<Narration, NoMemory>
     // It can be spelled and is small, which calls on narrations ask for.
     ensures spellable { IfOk result (λ narration. IsSpellable (narration_of narration)) }
     ensures size { IfOk result (λ narration. size (narration_of narration) ≤ 4096) }
+    // Its canonical text is short enough to be read.
+    ensures short { IfOk result (λ narration.
+        length (canon (narration_of narration)) < SMALL_FILE) }
 {
     Ok(Narration {
         name: text(alloc, "Drill")?,

@@ -1,6 +1,7 @@
 pub mod Beside
 pub mod Carries
 pub mod Complete
+pub mod Due
 pub mod Events
 pub mod Finishes
 pub mod Fresh

@@ -2,6 +2,7 @@ pub mod Children
 pub mod Words
 pub mod Relays
 pub mod Memory
+pub mod Due
 pub mod Honest
 -- for proofs alone
 pub mod Sides

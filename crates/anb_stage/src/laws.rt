@@ -1,4 +1,5 @@
-//! What holds of stages of honest children.
+//! What holds of relays, and of stages of honest children.
+ghost use Rattle.anb_stage.specs.Due.{RelaysAreDue};
 ghost use Rattle.anb_stage.specs.Honest.{RelaysAreComplete, StagesAreHonest};
 
 use anb_algebra::ByteAlgebra;
@@ -21,3 +22,10 @@ pub fn stages_are_honest(p: &Protocol)
     plays_are_one(&algebra);
     one_cut(ARRIVAL);
 }
+
+/// A law: where the children's outputs and statuses are told, a relay is refused by the first message
+/// that is missing, or else by the first child that ended badly, and is whole where there is neither.
+/// So it has one outcome, but for faults of children and want of memory.
+pub fn relays_are_due()
+    ensures { RelaysAreDue }
+{}

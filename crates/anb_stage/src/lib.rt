@@ -14,7 +14,7 @@ mod spawner;
 mod stage;
 mod starting;
 
-pub use laws::stages_are_honest;
+pub use laws::{relays_are_due, stages_are_honest};
 pub use memory::MemSpawner;
 pub use refusal::RelayNo;
 pub use spawner::Spawner;

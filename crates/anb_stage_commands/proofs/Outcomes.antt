@@ -29,7 +29,7 @@ use Rattle.anb_command.proofs.Causes.{wire_cause}
 use Rattle.anb_command.proofs.Ones.{not_both, same_given, sendable_one}
 use Rattle.anb_stage_commands.specs.Reports.{report_text}
 use Rattle.anb_stage_commands.specs.Words.{Staged, child_words, words_for}
-use Rattle.anb_stage_commands.specs.StageCommand.{AllGoWell, CompletesStage, DoesStage, HasStageCause, IsIdle, IsRefusedAs, IsRelayedAs, IsReport, NoChildRose, status_of}
+use Rattle.anb_stage_commands.specs.StageCommand.{AllGoWell, CompletesStage, HasStageCause, IsIdle, IsRefusedAs, IsRelayedAs, IsReport, IsStaged, NoChildRose, status_of}
 use Rattle.anb_stage_commands.specs.Relaying.{FailsInFile, FailsRelaying, HasCauseBefore, HasChildCause, IsBefore, IsNamed, RefusesAs, Relays, RelaysInFile, Stay}
 
 -- ---- a refusal
@@ -113,8 +113,9 @@ module _ (s : Staged) (old new : ℕ → Child) (told : Option Files) where
   report_of text NoMemory w now never = absurd never
   report_of text _ w now is = is
 
-  pub does_text : (text : List ℕ) (status : Status) (w now : Option (List ℕ)) → RelaysInFile s old new told text → IsWritten text status w now → DoesStage s old new w now told status
-  does_text text status w now relays is = told_map told (λ files r. inr (
+  pub staged_text : (text : List ℕ) (status : Status) (w now : Option (List ℕ)) → RelaysInFile s old new told text → IsWritten text status w now
+      → IfTold told (λ files. IsStaged s old new w now files status)
+  staged_text text status w now relays is = told_map told (λ files r. inr (
     r.0,
     r.1,
     inr (record {
@@ -125,8 +126,8 @@ module _ (s : Staged) (old new : ℕ → Child) (told : Option Files) where
     }),
   )) relays
 
-  pub does_refused : (status : Status) (w : Option (List ℕ)) → FailsInFile s old new told status → DoesStage s old new w w told status
-  does_refused status w fails = told_map told (λ files f. by files f) fails where
+  pub staged_refused : (status : Status) (w : Option (List ℕ)) → FailsInFile s old new told status → IfTold told (λ files. IsStaged s old new w w files status)
+  staged_refused status w fails = told_map told (λ files f. by files f) fails where
     by : (files : Files)
         → (IsFailure status (λ file. Unit {0}) (SendableInFile files s.narration (refused status)) × Stay s old new)
         ⊎ ((p : ProtocolValue) × SendableInFile files s.narration (given p) × FailsRelaying s old new p status)
@@ -220,7 +221,7 @@ module _ (narrations : NarrationsAreUnique) (refusals : RefusalsAreUnique) (none
   reported text _ w now cause never = absurd never
 
   pub completes : (status : Status) (w now : Option (List ℕ)) → HasStageCause (s.narration ∷ []) faults faults_now old new S T status
-      → DoesStage s old new w now told status → CompletesStage s old told status
+      → IfTold told (λ files. IsStaged s old new w now files status) → CompletesStage s old told status
   unfolding Cause AnswersAs
   completes status w now cause does = told_map told by does where
     same : (files : Files) (p q : ProtocolValue) → SendableInFile files s.narration (given p) → SendableInFile files s.narration (given q) → p ≡ q

@@ -6,6 +6,7 @@ use Rattle.anb_base.specs.declared.place.Place.TheVariants.{Stdio}
 use Rattle.anb_frame.specs.Cuts.{Tail}
 use Rattle.anb_resolve.specs.Protocols.{ProtocolValue}
 use Rattle.anb_stage.specs.Children.{Child}
+use Rattle.anb_stage.specs.Due.{AreTold, due_of}
 use Rattle.anb_stage.specs.Relays.{AreCut, IsRefused, IsRelayed, ends_in, missing, report}
 use Rattle.anb_stage.specs.declared.refusal.RelayNo.{RelayNo}
 use Rattle.anb_stage.specs.declared.refusal.RelayNo.TheVariants as no
@@ -14,8 +15,8 @@ use Rattle.anb_command.specs.declared.status.Status.TheVariants.{Done, ChildFaul
 use Rattle.anb_command.specs.Causes.{HasCause}
 use Rattle.anb_command.specs.Fetches.{Files, IfTold}
 use Rattle.anb_command.specs.Roles.{SendableInFile}
-use Rattle.anb_command.specs.Steps.{IsFailure, given, refused}
-use Rattle.anb_command.specs.Writing.{IsWritten}
+use Rattle.anb_command.specs.Steps.{Answer, InTurn, IsFailure, given, refused}
+use Rattle.anb_command.specs.Writing.{IsWritingOne, IsWritten}
 use Rattle.anb_stage_commands.specs.Reports.{report_text}
 use Rattle.anb_stage_commands.specs.Words.{Staged, words_for}
 
@@ -27,6 +28,28 @@ status_of p (no.Cut action have need) = ChildCut action have need
 status_of p (no.Long action len) = ChildLong action len
 status_of p (no.Bad role status) = ChildBad (get_or p.roles role []) status
 status_of p no.NoMemory = NoMemory
+
+module _ (s : Staged) (files : Files) where
+  -- for the frames in the output of each role's child, how it ends behind them, and its status
+  module _ (outputs : ℕ → List (List ℕ)) (tails : ℕ → Tail) (statuses : ℕ → ℕ) where
+    -- they are those of the children of the protocol's roles
+    abbrev pub AreToldOf : (ℕ → Child) → Type 0
+    AreToldOf children =
+        (p : ProtocolValue) → SendableInFile files s.narration (given p)
+        → AreTold outputs tails statuses (length p.roles) children
+
+    -- what is due of a protocol: the refusal of its relay, or the report of it
+    abbrev pub answer_of : ProtocolValue → Option RelayNo → Answer (List ℕ)
+    answer_of p (Some refusal) = refused (status_of p refusal)
+    answer_of p None = given (report_text (report outputs (ends_in p)))
+
+    abbrev pub StageOf : ProtocolValue → Answer (List ℕ) → Type 0
+    StageOf p answer =
+        answer ≡ answer_of p (due_of outputs tails statuses (length p.roles) (ends_in p))
+
+    -- the refusal of the narration's file, or what is due of its protocol
+    abbrev pub StageText : Answer (List ℕ) → Type 0
+    StageText = InTurn (SendableInFile files s.narration) StageOf
 
 -- between these children, and these bytes that are written
 module _ (s : Staged) (old new : ℕ → Child) (written written_now : Option (List ℕ)) where
@@ -58,12 +81,24 @@ module _ (s : Staged) (old new : ℕ → Child) (written written_now : Option (L
 
   -- The narration's file is refused; or it tells a protocol whose roles can all send, and the
   -- relay among their children is refused, or is whole and reported.
-  abbrev pub DoesStage : Option Files → Status → Type 0
-  DoesStage told status = IfTold told (λ files.
+  abbrev pub IsStaged : Files → Status → Type 0
+  IsStaged files status =
       (IsFailure status (λ file. Unit {0}) (SendableInFile files s.narration (refused status))
       × IsIdle)
       ⊎ ((p : ProtocolValue) × SendableInFile files s.narration (given p)
-      × (IsRefusedAs p status ⊎ IsRelayedAs p status)))
+      × (IsRefusedAs p status ⊎ IsRelayedAs p status))
+
+  -- Where the children are told too, the status and what is written are those that are due, in both
+  -- directions: no other refusal, and no other report, could come.
+  abbrev pub IsAnswered : Files → Status → Type 0
+  IsAnswered files status =
+      (outputs : ℕ → List (List ℕ)) (tails : ℕ → Tail) (statuses : ℕ → ℕ)
+      → AreToldOf s files outputs tails statuses old
+      → IsWritingOne (StageText s files outputs tails statuses) status written written_now
+
+  pub record DoesStage (told : Option Files) (status : Status) : Type 0 where
+    pub stages : IfTold told (λ files. IsStaged files status)
+    pub answers : IfTold told (λ files. IsAnswered files status)
 
 -- no message is missing, and each child ends with status 0
 pub record AllGoWell (p : ProtocolValue) (children : ℕ → Child) : Type 0 where

@@ -21,7 +21,7 @@ use anb_base::{NoMemory, Shelf, Text, Wire};
 use anb_command::{Status, sendable_in_file, write_text};
 use anb_read::{narrations_are_unique, none_is_both, refusals_are_unique};
 use anb_resolve::{Protocol, protocols_hold};
-use anb_stage::{RelayNo, Spawner, relay};
+use anb_stage::{RelayNo, Spawner, relay, relays_are_due};
 use std::alloc::Global;
 
 /// Relays among the children of all roles of the narration in a file, and writes the report to the
@@ -52,6 +52,7 @@ pub fn stage<F: Shelf, P: Spawner, W: Wire>(
     narrations_are_unique();
     refusals_are_unique();
     none_is_both();
+    relays_are_due();
     match relayed_in_file(alloc, shelf, spawner, words) {
         Ok(text) => write_text(wire, &text),
         Err(status) => status,

@@ -148,15 +148,17 @@ fn refused(
 fn a_stage_is_refused(rt: HostRuntime) -> Result<(), Fail> {
     let alloc = rt.alloc();
     let cut = "anb: message of action 2 ends after 2 of 4 bytes\n";
+    let cut_later = "anb: message of action 2 ends after 5 of 6 bytes\n";
     let long = "anb: message of action 2 has 262145 bytes\n";
     refused(&rt, alloc, b"", 0, 32, "anb: no message of action 2\n")?;
     refused(&rt, alloc, b"\0\0", 0, 33, cut)?;
+    refused(&rt, alloc, b"\0\0\0\x02a", 0, 33, cut_later)?;
     refused(&rt, alloc, b"\0\x04\0\x01", 0, 34, long)?;
     refused(&rt, alloc, FRAME, 10, 35, "anb: child B ended with 10\n")
 }
 
 /// Two starts, two reads and two writes for each message, and two finishes: the letters name the
-/// roles for whose children they are.
+/// roles for whose children they are. There is no further call.
 #[test]
 fn each_call_may_fail(rt: HostRuntime) -> Result<(), Fail> {
     let alloc = rt.alloc();
@@ -180,6 +182,7 @@ fn each_call_may_fail(rt: HostRuntime) -> Result<(), Fail> {
         assert_eq!(&rt; staged.number, 31);
         assert_eq!(&rt; staged.err.written(), line.as_bytes());
     }
+    assert_eq!(&rt; ping(&rt, alloc, FRAME, 0, 13)?.number, 0);
     Ok(())
 }
 
