@@ -7,3 +7,4 @@ pub mod Reaching
 pub mod Finding
 pub mod Refusing
 pub mod Classing
+pub mod Unique

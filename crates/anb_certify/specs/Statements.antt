@@ -1,13 +1,28 @@
 -- Laws on what is certified.
-use Rattle.std.specs.Prelude.{List, [], length, None}
+use Rattle.std.specs.Prelude.{◌≡◌, ◌≢◌, ℕ, List, [], length, None}
 use Rattle.anb_term.specs.Value.{Meaning}
 use Rattle.anb_plays.specs.Plans.{Event, known}
 use Rattle.anb_plays.specs.Codes.{Act}
 use Rattle.anb_plays.specs.Fits.{start, Fits}
 use Rattle.anb_plays.specs.Exec.{HasTakes}
+use Rattle.anb_code.specs.CodeValue.{CodeValue}
+use Rattle.anb_resolve.specs.Protocols.{ProtocolValue}
+use Rattle.anb_certify.specs.declared.refusal.CertifyNo.{CertifyNo}
+use Rattle.anb_certify.specs.declared.refusal.CertifyNo.TheVariants.{NoMemory}
 use Rattle.anb_certify.specs.Along.{Finds}
+use Rattle.anb_certify.specs.Certified.{IsCertified, Refuses}
 
 -- a verified code of which nothing is found fits its plan, in all four parts
 abbrev pub CertifiedFits : {A : Type 0} → Meaning A → Type 0
 CertifiedFits m = (code : List Act) (plan : List Event) → HasTakes m.has code 0 (length (known plan))
     → Finds m code plan (start plan) [] 1 None → Fits m code plan
+
+-- nothing is certified and refused
+abbrev pub NoneIsBoth : Type 0
+NoneIsBoth = (p : ProtocolValue) (role : ℕ) (code : CodeValue) (no : CertifyNo)
+    → IsCertified p role code → Refuses p role code no → no ≡ NoMemory
+
+-- a code has one refusal at most
+abbrev pub RefusalsAreUnique : Type 0
+RefusalsAreUnique = (p : ProtocolValue) (role : ℕ) (code : CodeValue) (one other : CertifyNo)
+    → one ≢ NoMemory → other ≢ NoMemory → Refuses p role code one → Refuses p role code other → one ≡ other

@@ -1,7 +1,7 @@
 //! What a certificate is worth, and what a shut list shows: laws, each a function that does nothing.
 ghost use Rattle.anb_certify.specs.Classes.{ClassesAreTied, RulesAreDecided, RulesTie};
 ghost use Rattle.anb_certify.specs.Shut.{ShutHasNone};
-ghost use Rattle.anb_certify.specs.Statements.{CertifiedFits};
+ghost use Rattle.anb_certify.specs.Statements.{CertifiedFits, NoneIsBoth, RefusalsAreUnique};
 
 use anb_close::laws::every_recipe_composes;
 use anb_term::Algebra;
@@ -26,4 +26,14 @@ pub fn classes_are_tied()
     ensures exact { ClassesAreTied }
     ensures rules { RulesTie }
     ensures decided { RulesAreDecided }
+{}
+
+/// A law: no code is both certified and refused.
+pub fn none_is_both()
+    ensures { NoneIsBoth }
+{}
+
+/// A law: a code has one refusal at most.
+pub fn refusals_are_unique()
+    ensures { RefusalsAreUnique }
 {}

@@ -8,7 +8,9 @@ mod reasons;
 mod refusal;
 mod shut_lists;
 
-pub use laws::{certified_fits, classes_are_tied, shut_has_none};
+pub use laws::{
+    certified_fits, classes_are_tied, none_is_both, refusals_are_unique, shut_has_none,
+};
 pub use reasons::{Refusal, reason};
 pub use refusal::CertifyNo;
 pub use shut_lists::shut;

@@ -120,7 +120,7 @@ protocol_one n (refused s) (given p) (why, is, x) y = let never : Some why ≡ N
 protocol_one n (given p) (refused t) x (why, is, y) = let never : Some why ≡ None = sym y ∙ x.0 in absurd (cc)
 protocol_one n (given p) (given q) x y = ap given (x.1 ∙ sym y.1)
 
-role_one : (p : ProtocolValue) (name : List ℕ) → HasOneAnswer (RoleIs p name)
+pub role_one : (p : ProtocolValue) (name : List ℕ) → HasOneAnswer (RoleIs p name)
 role_one p name (refused s) (refused t) x y = ap refused (x.0 ∙ sym y.0)
 role_one p name (refused s) (given role) x y = let never : Some role ≡ None = sym y ∙ x.1 in absurd (cc)
 role_one p name (given role) (refused t) x y = let never : Some role ≡ None = sym x ∙ y.1 in absurd (cc)
@@ -313,7 +313,7 @@ narration_quiet text = record { each = λ s why. quiet_as s _ why.1 (refl, refl)
 pub protocol_quiet : (n : Narration) → RefusesQuietly (ProtocolIs n)
 protocol_quiet n = record { each = λ s why. quiet_as s _ why.1 (refl, refl) }
 
-role_quiet : (p : ProtocolValue) (name : List ℕ) → RefusesQuietly (RoleIs p name)
+pub role_quiet : (p : ProtocolValue) (name : List ℕ) → RefusesQuietly (RoleIs p name)
 role_quiet p name = record { each = λ s why. quiet_as s _ why.0 (refl, refl) }
 
 pub send_quiet : (p : ProtocolValue) → RefusesQuietly (AllSend p)

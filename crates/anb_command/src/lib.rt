@@ -23,7 +23,9 @@ pub use limits::{
 };
 pub use line::tell;
 pub use over::run_over;
-pub use playable::{Playable, codes_of, playable_in_file, playable_of, sendable_in_file};
+pub use playable::{
+    Playable, codes_of, playable_in_file, playable_of, role_named, sendable_in_file,
+};
 pub use prepare::{Prepared, prepare_code, seed_of};
 pub use reaching::{reach, reach_stdio};
 pub use status::{CertifyNo, Due, Halt, NarrationNo, ParkNo, Report, Status};

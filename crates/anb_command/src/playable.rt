@@ -75,7 +75,7 @@ pub fn playable_of(alloc: Global, protocol: Protocol, name: &Text) -> Result<Pla
 }
 
 /// The number of the role with this name.
-fn role_named(alloc: Global, protocol: &Protocol, name: &Text) -> Result<u32, Status>
+pub fn role_named(alloc: Global, protocol: &Protocol, name: &Text) -> Result<u32, Status>
     ensures given { IfOk result (λ role. RoleIs protocol.now name.now (given role)) }
     ensures within { IfOk result (λ role. role < length protocol.now.roles) }
     ensures refused { IfErr result (λ status. IsFailure status (λ file. ⊥)

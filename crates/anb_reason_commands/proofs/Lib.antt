@@ -2,4 +2,6 @@ mod Sending
 mod Ordered
 mod Reasons
 mod Telling
+mod WhyWritten
 mod Lines
+mod Certificates

@@ -1,1 +1,2 @@
+pub mod CertifyCommand
 pub mod WhyCommand

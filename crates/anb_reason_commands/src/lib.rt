@@ -1,4 +1,5 @@
-//! Commands that say why a narration is refused, and read nothing from the wire.
+//! Commands that say why a narration is refused, or that a role file's code fits a role. They read
+//! nothing from the wire.
 #![tactic(auto)]
 
 ghost use Rattle.std.specs.Prelude.{◌≡◌, ◌++◌, [], ◌∷◌, map, decimal, IfOk, IfErr, OnOk, Some, false};
@@ -17,12 +18,15 @@ ghost use Rattle.anb_command.specs.Touches.{Touches};
 ghost use Rattle.anb_reason_commands.specs.WhyCommand.{CompletesWhy, DoesWhy};
 ghost use Rattle.anb_reason_commands.specs.WhyCommand.{IsReasonText, IsRefusalText, WhyText, term_lines};
 
+mod certifying;
+
 use anb_base::{Bytes, NoMemory, Shelf, Text, Wire};
 use anb_certify::{Refusal, reason};
 use anb_command::{Status, protocol_in_file, write_text};
 use anb_read::{narrations_are_unique, none_is_both, refusals_are_unique};
 use anb_resolve::Protocol;
 use anb_term::Term;
+pub use certifying::certify;
 use itoa::Buffer;
 use std::alloc::Global;
 
