@@ -1,5 +1,6 @@
 -- What `certify` writes of a role file.
-use Rattle.std.proofs.Common.{◌≡◌, ◌≢◌, ◌≤◌, ℕ, List, Option, refl, sym, ap, ◌∙◌, inl, inr}
+use Rattle.std.proofs.Common.{◌≡◌, ℕ, List, Option, Some, None, Result, Ok, Err, refl, sym, ap, ◌∙◌, inl, inr}
+use Rattle.std.specs.Prelude.{OnOk}
 use Rattle.anb_certify.specs.Statements.{NoneIsBoth, RefusalsAreUnique}
 use Rattle.anb_code.specs.CodeValue.{CodeValue}
 use Rattle.anb_read.specs.Laws as reading
@@ -12,6 +13,7 @@ use Rattle.anb_command.specs.Files.{CodeInFile, ProtocolInFile}
 use Rattle.anb_command.specs.Roles.{RoleIs}
 use Rattle.anb_command.specs.Statuses.{OnFileFault}
 use Rattle.anb_command.specs.Steps.{Answer, given, refused, HasOneAnswer, IsFailure}
+use Rattle.anb_command.specs.Writing.{IsWritten}
 use Rattle.anb_command.proofs.Chains.{told_map}
 use Rattle.anb_command.proofs.Ones.{RefusesQuietly, code_in_file_one, code_in_file_quiet, narration_in_file_quiet, protocol_in_file_one, protocol_quiet, quiet_as, role_one, role_quiet, then_one, then_quiet}
 use Rattle.anb_command.proofs.Preparing.{told_both}
@@ -75,10 +77,26 @@ module _ (told : Option Files) (narration name file : List ℕ) where
       pub code_answers : (code : CodeValue) (answer : Answer (List ℕ)) → IfTold told (λ files. CodeInFile files file (given code)) → CertificateIs p role code answer → Due answer
       code_answers code answer next last = told_both told (λ files f is. inr (p, f, inr (role, named, inr (code, is, last)))) first next
 
--- a fault of a file comes where that file is read
-pub reads : (told : Option Files) (narration name file : List ℕ) (s : Status) (Cause : List ℕ → Type 0) (Refused : Type 0)
-    → IsFailure s (λ each. Cause each × IfTold told (λ files. IsReadToCertify files narration name file each)) Refused
-    → IfTold told (λ files. OnFileFault s (IsReadToCertify files narration name file))
-reads None narration name file s Cause Refused fails = tt
-reads (Some files) narration name file (FileFault each) Cause Refused fails = fails.1
-reads (Some files) narration name file _ Cause Refused fails = tt
+-- ---- faults of files
+
+module _ (told : Option Files) (narration name file : List ℕ) where
+  -- a fault of a file comes where that file is read
+  pub reads_failed : (s : Status) (Refused : Type 0) → IsFailure s (λ each. IfTold told (λ files. IsReadToCertify files narration name file each)) Refused
+      → IfTold told (λ files. OnFileFault s (IsReadToCertify files narration name file))
+  reads_failed s Refused fails = by told s fails where
+    by : (t : Option Files) (s : Status) → IsFailure s (λ each. IfTold t (λ files. IsReadToCertify files narration name file each)) Refused → IfTold t (λ files. OnFileFault s (IsReadToCertify files narration name file))
+    by None s fails = tt
+    by (Some files) (FileFault each) fails = fails
+    by (Some files) s fails = tt
+
+  -- and none comes where the text is written
+  pub reads_written : (text : List ℕ) (s : Status) (w now : Option (List ℕ)) → IsWritten text s w now → IfTold told (λ files. OnFileFault s (IsReadToCertify files narration name file))
+  reads_written text s w now is = by told s is where
+    by : (t : Option Files) (s : Status) → IsWritten text s w now → IfTold t (λ files. OnFileFault s (IsReadToCertify files narration name file))
+    by None s is = tt
+    by (Some files) (FileFault each) is = absurd is
+    by (Some files) s is = tt
+
+pub on_ok_map : {V E : Type 0} (r : Result V E) (P Q : Type 0) → (P → Q) → OnOk r P → OnOk r Q
+on_ok_map (Ok v) P Q f p = f p
+on_ok_map (Err e) P Q f p = tt
