@@ -7,3 +7,7 @@ pub mod Reaching
 pub mod Finding
 pub mod Refusing
 pub mod Classing
+pub mod Telling
+pub mod Walking
+pub mod Linking
+pub mod Placing
