@@ -11,3 +11,9 @@ pub mod Telling
 pub mod Walking
 pub mod Linking
 pub mod Placing
+pub mod Signing
+pub mod Grouping
+pub mod Ruling
+pub mod Framing
+pub mod Tabling
+pub mod Results

@@ -21,7 +21,7 @@ use Rattle.anb_certify.proofs.Fitting.{did_cases, picked_length, wider}
 use Rattle.anb_certify.proofs.Tied.{node_is}
 
 -- one class, by the registers' names
-same_name : (cs : List ℕ) (a b : ℕ) → in_class cs a b ≡ true → slice_get cs a ≡ slice_get cs b
+pub same_name : (cs : List ℕ) (a b : ℕ) → in_class cs a b ≡ true → slice_get cs a ≡ slice_get cs b
 same_name cs a b e = go (classed cs a b e) where
   go : Classed cs a b → slice_get cs a ≡ slice_get cs b
   go (inl s) = ap (slice_get cs) s
@@ -289,3 +289,60 @@ module _ (did seen : List (ℕ × Work)) (cs : List ℕ) where
     not_undo : (bt : ℕ) (w : Work) → Did seen bt w ⊎ ((at ≡ bt) × (undo o ks n ≡ w)) → (undo o ks n ≡ w → ⊥) → Did seen bt w
     not_undo bt w (inl d) m = d
     not_undo bt w (inr e) m = absurd (m e.1)
+
+  -- ---- what a look-up needs
+
+  pub equal_bounds : (at a b : ℕ) → IsToLink did cs at (equal a b) → ((j : ℕ) → j < 1 → a + j < length cs) × ((j : ℕ) → j < 1 → b + j < length cs)
+  equal_bounds at a b g =
+      let t = g.told at (equal a b) g.done in (
+        λ j l. omega (arith, l, slice_get-within g.terms a t.0 t.1, g.long),
+        λ j l. omega (arith, l, slice_get-within g.terms b t.0 t.2, g.long),
+      )
+
+  pub make_within : (at : ℕ) (o : Op) (ns : List ℕ) → IsToLink did cs at (make o ns) → AllByRecursion (λ k. k < length cs) ns
+  make_within at o ns g = let t = g.told at (make o ns) g.done in subst (λ n. AllByRecursion (λ k. k < n) ns) g.long t.1
+
+  pub make_bounds : (at : ℕ) (o : Op) (ns : List ℕ) (x : ℕ) (made made2 undone : SignsValue) (old : List Pair) → IsToLink did cs at (make o ns) → AreLinked did seen cs made undone old
+      → HasSigned made (sign_of made.classes o ns) at made2 x → ((j : ℕ) → j < 1 → x + j < length cs) × ((j : ℕ) → j < 1 → at + j < length cs)
+  make_bounds at o ns x made made2 undone old g h sg =
+      let u = g.told at (make o ns) g.done in
+      let below_at : at < length cs = omega (arith, slice_get-within g.terms at _ u.2, g.long) in
+      let below_x : x < length cs = ⊎_elim (λ a. (let b = h.builders (sign_of made.classes o ns) x a in let t = g.told x (make b.0 b.1) b.2 in omega (arith, slice_get-within g.terms x _ t.2, g.long))) (λ b. omega (arith, b.1, below_at))
+          (sg.only (sign_of made.classes o ns) x sg.owns) in
+      (λ j l. omega (arith, l, below_x), λ j l. omega (arith, l, below_at))
+
+  pub undo_within : (at : ℕ) (o : Op) (ks : List ℕ) (n : ℕ) → IsToLink did cs at (undo o ks n) → AllByRecursion (λ i. i < length cs) (ks ++ n ∷ [])
+  undo_within at o ks n g =
+      let t = g.told at (undo o ks n) g.done in
+      all_append (λ i. i < length cs) ks (n ∷ []) (subst (λ m. AllByRecursion (λ i. i < m) ks) g.long t.2) (omega (arith, slice_get-within g.terms n _ t.5, g.long), tt)
+
+  pub undo_bounds : (at : ℕ) (o : Op) (ks : List ℕ) (n x : ℕ) (made undone undone2 : SignsValue) (old : List Pair) → IsToLink did cs at (undo o ks n) → AreLinked did seen cs made undone old
+      → HasSigned undone (sign_of undone.classes o (ks ++ n ∷ [])) at undone2 x → ((j : ℕ) → j < arity o - keys o → x + j < length cs) × ((j : ℕ) → j < arity o - keys o → at + j < length cs)
+  undo_bounds at o ks n x made undone undone2 old g h sg = (λ j l. first j l, λ j l. part_there at ks n j g.done l) where
+    part_there : (y : ℕ) (ls : List ℕ) (k j : ℕ) → Did did y (undo o ls k) → j < arity o - keys o → y + j < length cs
+    part_there y ls k j d less =
+        let t = g.told y (undo o ls k) d in
+        let q = slice_get-there t.3 j (omega (arith, less, t.4)) in
+        omega (arith, slice_get-within g.terms (y + j) q.0 (t.6 j (omega (arith, less, t.4)) ∙ q.1), g.long)
+
+    first : (j : ℕ) → j < arity o - keys o → x + j < length cs
+    first j l = ⊎_elim (λ a. old_one j l a) (λ b. omega (arith, b.1, part_there at ks n j g.done l)) (sg.only (sign_of undone.classes o (ks ++ n ∷ [])) x sg.owns) where
+      old_one : (j : ℕ) → j < arity o - keys o → Owns undone (sign_of undone.classes o (ks ++ n ∷ [])) x → x + j < length cs
+      old_one j l a =
+          let b = h.openers (sign_of undone.classes o (ks ++ n ∷ [])) x a in
+          let e = sign_is (map leaf cs) o b.0 (ks ++ n ∷ []) (b.1 ++ b.2 ∷ []) (sym (ap (λ c. sign_of c o (ks ++ n ∷ [])) h.undone_classes) ∙ b.4) in
+          part_there x b.1 b.2 j (subst (λ q. Did did x (undo q b.1 b.2)) (sym e.0) b.3) l
+
+pub start_linked : (did : List (ℕ × Work)) (cs : List ℕ) (made undone : SignsValue) → made.classes ≡ map leaf cs → undone.classes ≡ map leaf cs → ((s : Tree) (x : ℕ) → Owns made s x → ⊥) → ((s : Tree) (x : ℕ) → Owns undone s x → ⊥) → AreLinked did [] cs made undone []
+start_linked did cs made undone e f none nought = record {
+  made_classes = e;
+  undone_classes = f;
+  tied = tt;
+  compared = λ at a b d. absurd d;
+  built = λ at o ns d. absurd d;
+  builders = λ s x own. absurd (none s x own);
+  one_builder = λ s x y own h. absurd (none s x own);
+  opened = λ at o ks n d. absurd d;
+  openers = λ s x own. absurd (nought s x own);
+  one_opener = λ s x y own h. absurd (nought s x own);
+}

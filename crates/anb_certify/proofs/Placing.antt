@@ -12,10 +12,10 @@ use Rattle.anb_certify.proofs.Classing.{in_one}
 
 pub picked_last : {A : Type 0} (xs : List A) (ns : List ℕ) (n : ℕ) (x : A) → slice_get xs n ≡ Some x → picked xs (ns ++ n ∷ []) ≡ picked xs ns ++ x ∷ []
 picked_last xs [] n x e = rw e refl
-picked_last {A} xs (k ∷ ns) n x e = go (slice_get xs k) refl where
-  go : (o : Option A) → slice_get xs k ≡ o → picked xs ((k ∷ ns) ++ n ∷ []) ≡ picked xs (k ∷ ns) ++ x ∷ []
-  go None f = rw f (picked_last xs ns n x e)
-  go (Some y) f = rw f (ap (λ l. y ∷ l) (picked_last xs ns n x e))
+picked_last {A} xs (k ∷ ns) n x e = go (slice_get xs k) refl (picked_last xs ns n x e) where
+  go : (o : Option A) → slice_get xs k ≡ o → picked xs (ns ++ n ∷ []) ≡ picked xs ns ++ x ∷ [] → picked xs ((k ∷ ns) ++ n ∷ []) ≡ picked xs (k ∷ ns) ++ x ∷ []
+  go None f h = rw f h
+  go (Some y) f h = rw f (ap (λ l. y ∷ l) h)
 
 -- one place more
 pub picked_next : {A : Type 0} (xs : List A) (at : List ℕ) (i : ℕ) (d : ℕ) (x y : A) → i < length at → get_or at i d < length xs → x ≡ get_or xs (get_or at i d) y → picked xs (take (i + 1) at) ≡ picked xs (take i at) ++ x ∷ []

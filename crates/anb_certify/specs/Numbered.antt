@@ -1,5 +1,6 @@
 -- The terms of registers and what was done on them; a register that is loose.
-use Rattle.std.specs.Prelude.{◌≡◌, ℕ, suc, ◌<◌, List, [], ◌∷◌, ◌++◌, length, map, Bool, true, Option, Some, None, slice_get, ◌⊎◌, ◌↔◌}
+use Rattle.std.specs.Prelude.{◌≡◌, ℕ, suc, ◌<◌, List, [], ◌∷◌, ◌++◌, length, map, take, Bool, true, false, Option, Some, None, slice_get, ◌⊎◌, ◌↔◌}
+use Rattle.anb_term.specs.Operator.{arity, undoable}
 use Rattle.anb_term.specs.Tree.{Tree}
 use Rattle.anb_term.specs.FreeAlgebra.{terms}
 use Rattle.anb_term.specs.declared.term.Op.{Op}
@@ -28,6 +29,15 @@ value_of table = record { terms = terms_in table; did = did_in table }
 -- its numbers are the pool's
 abbrev pub IsTable : Table → Type 0
 IsTable table = AreUnder (length table.pool) table.ids.items
+
+-- what a work writes stands in new registers, where its demand is true
+abbrev pub IsWritten : TableValue → Work → Bool → TableValue → Type 0
+IsWritten old w works new = (works ≡ false → worked terms old.terms w ≡ None)
+    × (works ≡ true → (wrote : List Tree) × (worked terms old.terms w ≡ Some wrote) × (new.terms ≡ old.terms ++ wrote) × (new.did ≡ old.did))
+
+-- an operator with these keys undoes what an operator built from these operands
+abbrev pub Opens : Op → List NodeId → Op → List NodeId → Type 0
+Opens o ks built ids = (undoable o ≡ true) × (o ≡ built) × (length ids ≡ arity o) × (take (length ks) ids ≡ ks)
 
 -- a work was done
 pub record HasWorked (old : TableValue) (w : Work) (new : TableValue) : Type 0 where

@@ -35,3 +35,9 @@ pub record HasSigned (old : SignsValue) (s : Tree) (at : ℕ) (new : SignsValue)
   pub kept : (t : Tree) (y : ℕ) → Owns old t y → Owns new t y
   pub only : (t : Tree) (y : ℕ) → Owns new t y → Owns old t y ⊎ ((t ≡ s) × (y ≡ at))
   pub one : (t : Tree) (y z : ℕ) → Owns new t y → Owns new t z → y ≡ z
+
+-- what becomes of the owners
+pub record Owned (old : List (Option ℕ)) (id at : ℕ) (new : List (Option ℕ)) (x : ℕ) : Type 0 where
+  pub here : slice_get new id ≡ Some (Some x)
+  pub kept : (k y : ℕ) → slice_get old k ≡ Some (Some y) → slice_get new k ≡ Some (Some y)
+  pub only : (k y : ℕ) → slice_get new k ≡ Some (Some y) → slice_get old k ≡ Some (Some y) ⊎ ((k ≡ id) × (y ≡ at))

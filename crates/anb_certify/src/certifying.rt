@@ -64,6 +64,7 @@ fn walk(
     ensures certified { OnOk result (IsCertified p.now role code.now) }
     ensures refused { IfErr result (Refuses p.now role code.now) }
 {
+    verified_is_runnable();
     let mut table = Table::new(alloc);
     let mut next = 0;
     let count = code.instrs().len();
@@ -156,10 +157,10 @@ fn meet(
     match event {
         Event::Know(term) => hear(alloc, term, table),
         Event::Fresh(term) => hear(alloc, term, table),
-        Event::Recv { term, .. } => {
-            border(alloc, table, at)?;
-            hear(alloc, term, table)
-        }
+        Event::Recv { term, .. } => match border(alloc, table, at) {
+            Ok(()) => hear(alloc, term, table),
+            Err(no) => Err(no),
+        },
         Event::Send { term, .. } => {
             let Instr::Send(r) = instr else {
                 unreachable!()

@@ -55,13 +55,13 @@ pub(crate) fn settled(
 }
 
 /// Where two registers are compared, one of which is flagged, flags both.
-fn settle(job: &Job, flags: &mut [bool])
-    requires { (ts : List Tree) × (at : ℕ) × (length ts ≡ length flags.old)
+fn settle(job: &Job, flags: &mut Vec<bool>)
+    requires { (ts : List Tree) × (at : ℕ) × (length ts ≡ length flags.old.items)
         × TellsTerms ts at (work_of job.now) }
-    ensures long { length flags.new ≡ length flags.old }
+    ensures long { length flags.new.items ≡ length flags.old.items }
     ensures settled { (did : List (ℕ × Work)) (ts : List Tree) (firsts : List ℕ) (at : ℕ)
         → AreGrouped ts did firsts → Did did at (work_of job.now)
-        → AreSettled did firsts flags.old → AreSettled did firsts flags.new }
+        → AreSettled did firsts flags.old.items → AreSettled did firsts flags.new.items }
 {
     if let Job::Equal(a, b) = job {
         if flags[*a as usize] || flags[*b as usize] {

@@ -1,5 +1,5 @@
 //! The frame of a code: its names, and the order of its takes, draws, receives and sends.
-ghost use Rattle.std.specs.Prelude.{◌≡◌, ◌↔◌, ◌+◌, ◌<◌, length, map, true, IsTrue, IfOk};
+ghost use Rattle.std.specs.Prelude.{◌≡◌, ◌↔◌, ◌+◌, ◌<◌, ◌≤◌, ◌∷◌, ℕ, List, Some, drop, length, map, IsTrue, IfOk, MatchOption};
 ghost use Rattle.std.specs.List.{AllByRecursion};
 ghost use Rattle.anb_resolve.specs.Plans.{term_in};
 ghost use Rattle.anb_resolve.specs.Texts.{IsTermOf};
@@ -87,15 +87,43 @@ pub(crate) fn stray(
 {
     let mut next = 0;
     for i in 0..instrs.len() {
-        if !is_work(&instrs[i]) {
-            if next == events.len() || !does_event(alloc, p, &instrs[i], &events[next])? {
-                return Ok(Some(i as u32 + 1));
-            }
-            next += 1;
+        match after(alloc, p, &instrs[i], events, next)? {
+            Some(further) => next = further,
+            None => return Ok(Some(i as u32 + 1)),
         }
     }
     if next < events.len() {
         return Ok(Some(instrs.len() as u32 + 1));
+    }
+    Ok(None)
+}
+
+/// How many events are done behind an instruction, or None where it isn't the plan's next.
+fn after(
+    alloc: Global,
+    p: &Protocol,
+    instr: &Instr,
+    events: &[Event],
+    next: usize,
+) -> Result<Option<usize>, NoMemory>
+    requires within { next ≤ length events.now }
+    requires terms { AllByRecursion (λ e. IsTermOf p.now (term_in e)) (map plan_event events.now) }
+    ensures { IfOk result (λ after. MatchOption after
+        ((is : List Instr) (n : ℕ) → stray p.now (instr.now ∷ is)
+        (drop next (map plan_event events.now)) n ≡ Some n)
+        (λ k. (k ≤ length events.now) × ((is : List Instr) (n : ℕ) → stray p.now (instr.now ∷ is)
+        (drop next (map plan_event events.now)) n
+        ≡ stray p.now is (drop k (map plan_event events.now)) (n + 1)))) }
+{
+    if is_work(instr) {
+        return Ok(Some(next));
+    }
+    if next == events.len() {
+        return Ok(None);
+    }
+    let event = &events[next];
+    if does_event(alloc, p, instr, event)? {
+        return Ok(Some(next + 1));
     }
     Ok(None)
 }

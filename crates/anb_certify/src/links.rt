@@ -1,5 +1,5 @@
 //! What the rules tie, over classes of registers.
-ghost use Rattle.std.specs.Prelude.{◌≡◌, ◌+◌, ◌<◌, ◌≤◌, ◌++◌, ◌∷◌, [], ℕ, List, length, map, IfOk, OnOk};
+ghost use Rattle.std.specs.Prelude.{◌≡◌, ◌+◌, ◌<◌, ◌++◌, ◌∷◌, [], ℕ, List, length, map, IfOk, OnOk};
 ghost use Rattle.anb_term.specs.Tree.{Tree};
 ghost use Rattle.anb_plays.specs.Codes.{Work};
 ghost use Rattle.anb_certify.specs.Classes.{AreNamed, Saturated};
@@ -53,7 +53,9 @@ fn link(
     requires few { length names.now < 4294967296 }
     requires made { IsSigns made.old × (length (classes_in made.old) ≡ length names.now) }
     requires undone { IsSigns undone.old × (length (classes_in undone.old) ≡ length names.now) }
-    requires to_link { (did : List (ℕ × Work)) × IsToLink did names.now d.now.at (work_of d.now.job) }
+    requires to_link { (did : List (ℕ × Work)) × (seen : List (ℕ × Work))
+        × IsToLink did names.now d.now.at (work_of d.now.job)
+        × AreLinked did seen names.now (signs_in made.old) (signs_in undone.old) links.old.items }
     ensures made { OnOk result (IsSigns made.new
         × (length (classes_in made.new) ≡ length names.now)) }
     ensures undone { OnOk result (IsSigns undone.new
@@ -96,8 +98,8 @@ fn link_all(
     count: u16,
     links: &mut Vec<Pair>,
 ) -> Result<(), NoMemory>
-    requires first { a + count ≤ length names.now }
-    requires second { b + count ≤ length names.now }
+    requires first { (j : ℕ) → j < count → a + j < length names.now }
+    requires second { (j : ℕ) → j < count → b + j < length names.now }
     requires few { length names.now < 4294967296 }
     ensures { OnOk result (HasLinked names.now a b count links.old.items links.new.items) }
 {

@@ -1,7 +1,7 @@
 //! What was done on which classes of registers, each with the first that did it.
-ghost use Rattle.std.specs.Prelude.{◌≡◌, ◌<◌, ℕ, length, map, All, IfOk, OnOk};
+ghost use Rattle.std.specs.Prelude.{◌≡◌, ◌+◌, ◌<◌, ◌≤◌, ℕ, None, length, map, replicate, All, IfOk, OnOk};
 ghost use Rattle.anb_term.specs.Tree.{leaf, Tree};
-ghost use Rattle.anb_certify.specs.Signs.{classes_in, sign_of, signs_in, HasSigned, IsSigns, Owns};
+ghost use Rattle.anb_certify.specs.Signs.{classes_in, sign_of, signs_in, HasSigned, IsSigns, Owned, Owns};
 
 use crate::numbers::put_all;
 use crate::table::numbers_at;
@@ -30,7 +30,7 @@ impl Signs {
         }
         let mut pool = Pool::new(alloc);
         let classes = put_all(alloc, &mut pool, &atoms)?;
-        let owners = vec![in alloc; None; pool.len() as usize]?;
+        let owners = no_owners(alloc, pool.len())?;
         Ok(Signs {
             pool,
             classes,
@@ -57,15 +57,41 @@ impl Signs {
         if self.pool.len() == u32::MAX {
             return Err(NoMemory);
         }
-        let id = self.pool.put(Node::Apply(op, operands))?.0 as usize;
-        if id == self.owners.len() {
-            self.owners.push(Some(at))?;
-            return Ok(at);
-        }
-        if let Some(first) = self.owners[id] {
-            return Ok(first);
-        }
-        self.owners[id] = Some(at);
-        Ok(at)
+        let id = self.pool.put(Node::Apply(op, operands))?;
+        let _ = self.pool.len();
+        let owner = owner(&mut self.owners, id.0, at)?;
+        Ok(owner)
     }
+}
+
+/// Places of so many signs that nothing owns.
+fn no_owners(alloc: Global, count: u32) -> Result<Vec<Option<u32>>, NoMemory>
+    ensures { IfOk result (λ owners. owners.items ≡ replicate count None) }
+{
+    let mut owners = Vec::new(alloc);
+    for i in 0..count {
+        let _ = i;
+        owners.push(None)?;
+    }
+    Ok(owners)
+}
+
+/// The owner of a sign, which is this one where there is none yet.
+fn owner(owners: &mut Vec<Option<u32>>, id: u32, at: u32) -> Result<u32, NoMemory>
+    requires { id ≤ length owners.old.items }
+    ensures long { OnOk result ((id < length owners.old.items
+        → length owners.new.items ≡ length owners.old.items)
+        × (id ≡ length owners.old.items
+        → length owners.new.items ≡ length owners.old.items + 1)) }
+    ensures owned { IfOk result (Owned owners.old.items id at owners.new.items) }
+{
+    if id as usize == owners.len() {
+        owners.push(Some(at))?;
+        return Ok(at);
+    }
+    if let Some(first) = owners[id as usize] {
+        return Ok(first);
+    }
+    owners[id as usize] = Some(at);
+    Ok(at)
 }

@@ -2,7 +2,7 @@
 //!
 //! A term is a number of a pool, so one that is far larger than its code takes a node for each
 //! instruction. Registers of equal terms have equal numbers.
-ghost use Rattle.std.specs.Prelude.{◌≡◌, ◌↔◌, ◌<◌, ◌++◌, ◌∷◌, [], Bool, List, length, map, true, false, None, Some, option_map, slice_get, All, IsTrue, IfOk, OnOk, MatchOption};
+ghost use Rattle.std.specs.Prelude.{◌≡◌, ◌↔◌, ◌<◌, ◌++◌, ◌∷◌, [], Bool, ℕ, List, length, map, true, false, None, Some, option_map, slice_get, All, IsTrue, IfOk, IfSome, OnOk, MatchOption};
 ghost use Rattle.anb_term.specs.declared.term.Op.{Op as operator};
 ghost use Rattle.anb_term.specs.Lawful.{picked};
 ghost use Rattle.anb_term.specs.Operator.{keys as keys_of};
@@ -13,7 +13,7 @@ ghost use Rattle.anb_intern.specs.Nodes.{operands_at, tree_at, AreDistinct, AreU
 ghost use Rattle.anb_plays.specs.Codes.{make, undo};
 ghost use Rattle.anb_plays.specs.Exec.{worked, IsReady};
 ghost use Rattle.anb_certify.specs.Works.{work_of, AreTold};
-ghost use Rattle.anb_certify.specs.Numbered.{terms_in, did_in, value_of, HasWorked, IsLoose, IsTable};
+ghost use Rattle.anb_certify.specs.Numbered.{terms_in, did_in, value_of, HasWorked, IsLoose, IsTable, IsWritten, Opens};
 ghost use Rattle.anb_certify.specs.Tied.{AreEnough};
 
 use crate::numbers::{back, front};
@@ -63,8 +63,9 @@ impl Table {
         ensures { IfOk result (λ holds. IsTrue holds
             ↔ (slice_get (terms_in self.now) r ≡ Some (tree_of term.now))) }
     {
+        let _ = self.pool.len();
         match self.pool.find_term(alloc, term)? {
-            Some(id) => Ok(id == self.ids[r as usize]),
+            Some(id) => Ok(id.0 == self.ids[r as usize].0),
             None => Ok(false),
         }
     }
@@ -85,13 +86,31 @@ impl Table {
             return Err(NoMemory);
         }
         let at = self.ids.len() as u32;
-        let works = match &job {
-            Job::Make(op, operands) => self.make(alloc, *op, operands)?,
-            Job::Undo(op, keys, of) => self.undo(alloc, *op, keys, *of)?,
-            Job::Equal(a, b) => self.ids[*a as usize] == self.ids[*b as usize],
-        };
+        let works = self.write(alloc, &job)?;
         self.done.push(Done { at, job })?;
         Ok(works)
+    }
+
+    /// Writes what a job writes, where its demand is true, and says whether it is.
+    fn write(&mut self, alloc: Global, job: &Job) -> Result<bool, NoMemory>
+        requires table { IsTable self.old }
+        requires ready { (has : operator → Bool)
+            × IsReady has (length (terms_in self.old)) (work_of job.now) }
+        ensures table { OnOk result (IsTable self.new) }
+        ensures written { IfOk result (λ works.
+            IsWritten (value_of self.old) (work_of job.now) works (value_of self.new)) }
+    {
+        match job {
+            Job::Make(op, operands) => self.make(alloc, *op, operands),
+            Job::Undo(op, keys, of) => self.undo(alloc, *op, keys, *of),
+            Job::Equal(a, b) => {
+                let _ = self.pool.len();
+                if self.ids[*a as usize].0 == self.ids[*b as usize].0 {
+                    return Ok(true);
+                }
+                Ok(false)
+            }
+        }
     }
 
     /// Writes what an operator makes of registers, which is always defined.
@@ -100,9 +119,8 @@ impl Table {
         requires ready { (has : operator → Bool)
             × IsReady has (length (terms_in self.old)) (make op operands.now) }
         ensures table { OnOk result (IsTable self.new) }
-        ensures made { IfOk result (λ works. (works ≡ true) × (ts : List Tree)
-            × (worked terms (terms_in self.old) (make op operands.now) ≡ Some ts)
-            × (terms_in self.new ≡ terms_in self.old ++ ts) × (did_in self.new ≡ did_in self.old)) }
+        ensures written { IfOk result (λ works.
+            IsWritten (value_of self.old) (make op operands.now) works (value_of self.new)) }
     {
         let operands = numbers_at(alloc, &self.ids, operands)?;
         if self.pool.len() == u32::MAX {
@@ -120,12 +138,10 @@ impl Table {
         requires ready { (has : operator → Bool)
             × IsReady has (length (terms_in self.old)) (undo op keys.now of) }
         ensures table { OnOk result (IsTable self.new) }
-        ensures undefined { IfOk result (λ works. works ≡ false
-            → worked terms (terms_in self.old) (undo op keys.now of) ≡ None) }
-        ensures parts { IfOk result (λ works. works ≡ true → (ts : List Tree)
-            × (worked terms (terms_in self.old) (undo op keys.now of) ≡ Some ts)
-            × (terms_in self.new ≡ terms_in self.old ++ ts) × (did_in self.new ≡ did_in self.old)) }
+        ensures written { IfOk result (λ works.
+            IsWritten (value_of self.old) (undo op keys.now of) works (value_of self.new)) }
     {
+        let _ = self.pool.len();
         let keys = numbers_at(alloc, &self.ids, keys)?;
         match parts(alloc, self.pool.get(self.ids[of as usize]), op, &keys)? {
             Some(ids) => {
@@ -167,7 +183,9 @@ fn parts(
     keys: &[NodeId],
 ) -> Result<Option<Vec<NodeId>>, NoMemory>
     requires { length keys.now ≡ keys_of op }
-    ensures { IfOk result (λ parts. (ts : List Tree) → AreDistinct ts → IsOver (length ts) node.now
+    ensures under { IfOk result (λ parts. IfSome parts (λ ids. (n : ℕ) → IsOver n node.now
+        → AreUnder n ids.items)) }
+    ensures parts { IfOk result (λ parts. (ts : List Tree) → AreDistinct ts → IsOver (length ts) node.now
         → AreUnder (length ts) keys.now
         → parts_of op (operands_at ts keys.now) (tree_at ts node.now)
         ≡ option_map (λ ids. operands_at ts ids.items) parts) }
@@ -175,13 +193,34 @@ fn parts(
     let Node::Apply(built, operands) = node else {
         return Ok(None);
     };
-    if !op.undoes() || op != *built || operands.len() != op.arity() as usize {
-        return Ok(None);
-    }
-    if front(operands, keys.len()) != keys {
+    if !opens(op, keys, *built, operands) {
         return Ok(None);
     }
     let mut parts = Vec::new(alloc);
     parts.extend_from_slice(back(operands, keys.len()))?;
     Ok(Some(parts))
+}
+
+/// Whether an operator with keys undoes what an operator built from operands.
+fn opens(op: Op, keys: &[NodeId], built: Op, operands: &[NodeId]) -> bool
+    ensures { IsTrue result ↔ Opens op keys.now built operands.now }
+{
+    if !op.undoes() || op != built {
+        return false;
+    }
+    operands.len() == op.arity() as usize && same_ids(front(operands, keys.len()), keys)
+}
+
+fn same_ids(a: &[NodeId], b: &[NodeId]) -> bool
+    ensures { IsTrue result ↔ (a.now ≡ b.now) }
+{
+    if a.len() != b.len() {
+        return false;
+    }
+    for i in 0..a.len() {
+        if a[i].0 != b[i].0 {
+            return false;
+        }
+    }
+    true
 }

@@ -1,14 +1,9 @@
-use Rattle.std.proofs.Common.{rules, ◌≡◌, ◌↔◌, ◌<◌, ℕ, List, length, map, true, All, IfOk, ◌+◌, ◌-◌, ◌*◌, ◌≤◌, ◌/◌, ◌%◌, Bool, false, nat_eq, nat_lt, [], ◌∷◌, ◌++◌, slice_index_or, slice_set, bit_and, bit_or, Fits, w8, w32, w64, Bor, MutBor}
-use Rattle.std.specs.List.{AllByRecursion}
-use Rattle.anb_term.specs.Tree.{Tree}
-use Rattle.anb_plays.specs.Codes.{Work}
-use Rattle.anb_certify.specs.Classes.{in_class, AreNamed, Saturated}
-use Rattle.anb_certify.specs.Links.{AreTiedLinks}
-use Rattle.anb_certify.specs.Numbered.{AreBelow, AreGrouped, AreSettled}
-use Rattle.anb_certify.specs.Tied.{Tied}
-use Rattle.anb_certify.specs.Works.{did_of, AreTold}
+use Rattle.std.proofs.Common.{length, arith, ◌∙◌, sym}
+use Rattle.std.proofs.lemmas.List.Elements.{recursion_from_All}
+use Rattle.anb_certify.proofs.Grouping.{lists_same, flag_set}
 use Rattle.anb_certify.proofs.classes.begun.Goals as goal
 
--- src/classes.rt:56:1
 pub returns-clause-all : goal.returns-clause-all
-returns-clause-all c = ?
+returns-clause-all c all =
+    lists_same c.loop-i.names.items c.args.firsts.now (omega (arith, c.loop-i.invariant.count, c.loop-i.auto.i-end, c.loop-i-test.false))
+    (λ i n e. c.loop-i.invariant.begun.flagged i n e (flag_set c.args.flags.now c.loop-i.names.items i n (recursion_from_All _ c.args.flags.now all) (omega (arith, c.requires.long, c.loop-i.invariant.count, c.loop-i.auto.i-end, c.loop-i-test.false)) e))

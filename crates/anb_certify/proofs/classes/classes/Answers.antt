@@ -1,14 +1,18 @@
-use Rattle.std.proofs.Common.{rules, ◌≡◌, ◌↔◌, ◌<◌, ℕ, List, length, map, true, All, IfOk, ◌+◌, ◌-◌, ◌*◌, ◌≤◌, ◌/◌, ◌%◌, Bool, false, nat_eq, nat_lt, [], ◌∷◌, ◌++◌, slice_index_or, slice_set, bit_and, bit_or, Fits, w8, w32, w64, Bor, MutBor}
-use Rattle.std.specs.List.{AllByRecursion}
-use Rattle.anb_term.specs.Tree.{Tree}
-use Rattle.anb_plays.specs.Codes.{Work}
-use Rattle.anb_certify.specs.Classes.{in_class, AreNamed, Saturated}
-use Rattle.anb_certify.specs.Links.{AreTiedLinks}
-use Rattle.anb_certify.specs.Numbered.{AreBelow, AreGrouped, AreSettled}
-use Rattle.anb_certify.specs.Tied.{Tied}
-use Rattle.anb_certify.specs.Works.{did_of, AreTold}
+use Rattle.std.proofs.Common.{◌≡◌, List, Bool, true, map, sym, ap, ◌∙◌, subst}
+use Rattle.std.specs.Prelude.{All, ◌↔◌}
+use Rattle.anb_certify.specs.Classes.{AreNamed, Saturated}
+use Rattle.anb_certify.specs.Numbered.{AreSettled}
+use Rattle.anb_certify.specs.Works.{did_of}
+use Rattle.anb_certify.proofs.Ruling.{firsts_saturated}
 use Rattle.anb_certify.proofs.classes.classes.Goals as goal
 
--- src/classes.rt:38:9
 pub returns-then-all_set-clause-exact : goal.returns-then-all_set-clause-exact
-returns-then-all_set-clause-exact c = ?
+returns-then-all_set-clause-exact c =
+    let did = map did_of c.args.done.now in
+    let names = c.in_ok-names.names.items in
+    let A : List Bool → Type 0 = λ l. All (λ flag. flag ≡ true) l in
+    let all = c.all_set.ensures c.if-all_set.true in
+    let same = c.in_ok-names.ensures.all (subst A (c.deref-2.ensures.value ∙ sym c.deref.ensures.value) all) in
+    let S : List Bool → Type 0 = λ l. AreSettled did c.args.firsts.now l in
+    let named = c.in_ok-names.ensures.named did (subst S (sym c.deref.ensures.value) c.in_ok-flags.ensures.tied) in
+    c.classes_are_tied.ensures.exact did names (subst (Saturated did) (sym same) (firsts_saturated did c.requires.grouped.0 c.args.firsts.now c.requires.grouped.1)) named

@@ -1,16 +1,21 @@
-use Rattle.std.proofs.Common.{rules, ◌≡◌, ◌<◌, ℕ, List, length, map, IfOk, ◌+◌, ◌-◌, ◌*◌, ◌≤◌, ◌/◌, ◌%◌, Bool, true, false, nat_eq, nat_lt, [], ◌∷◌, ◌++◌, slice_index_or, slice_set, bit_and, bit_or, Fits, w8, w32, w64, Bor, MutBor}
-use Rattle.anb_term.specs.Tree.{Tree}
-use Rattle.anb_intern.specs.Nodes.{AreUnder}
-use Rattle.anb_plays.specs.Codes.{Work}
-use Rattle.anb_certify.specs.Tied.{Did}
-use Rattle.anb_certify.specs.Works.{did_of, work_of, TellsTerms}
-use Rattle.anb_certify.specs.Numbered.{AreFirsts, AreGrouped, AreSettled}
+use Rattle.std.proofs.Common.{◌≡◌, length, map, sym, ◌∙◌, arith}
+use Rattle.anb_term.proofs.Lists.{slice_get-at}
+use Rattle.anb_certify.specs.Works.{did_of, work_of}
+use Rattle.anb_certify.proofs.Grouping.{did_there}
 use Rattle.anb_certify.proofs.firsts.settled.Goals as goal
 
--- src/firsts.rt:52:9
 pub settle-requires : goal.settle-requires
-settle-requires c = ?
+settle-requires c =
+    let d = c.d-item.result in
+    let g = c.requires.1 in
+    let there = did_there c.args.done.now c.loop-d.d-index d (slice_get-at c.args.done.now c.loop-d.d-index d c.loop-d-test.true c.d-item.is) in
+    (c.requires.0, d.at, sym g.long ∙ sym c.loop-d.invariant.long, g.told d.at (work_of d.job) there)
 
--- src/firsts.rt:51:5
 pub loop-d-preserved : goal.loop-d-preserved
-loop-d-preserved c = ?
+loop-d-preserved c =
+    let d = c.d-item.result in
+    let there = did_there c.args.done.now c.loop-d.d-index d (slice_get-at c.args.done.now c.loop-d.d-index d c.loop-d-test.true c.d-item.is) in
+    record {
+      long = c.settle.ensures.long ∙ c.loop-d.invariant.long;
+      settled = c.settle.ensures.settled (map did_of c.args.done.now) c.requires.0 c.args.firsts.now d.at c.requires.1 there c.loop-d.invariant.settled;
+    }

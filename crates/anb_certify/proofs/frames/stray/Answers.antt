@@ -1,23 +1,10 @@
-use Rattle.std.proofs.Common.{rules, ◌≡◌, ◌↔◌, ◌+◌, ◌<◌, length, map, true, IsTrue, IfOk, ℕ, ◌-◌, ◌*◌, ◌≤◌, ◌/◌, ◌%◌, Bool, false, nat_eq, nat_lt, List, [], ◌∷◌, ◌++◌, slice_index_or, slice_set, bit_and, bit_or, Fits, w8, w32, w64, Bor, MutBor}
-use Rattle.std.specs.List.{AllByRecursion}
-use Rattle.anb_resolve.specs.Plans.{term_in}
-use Rattle.anb_resolve.specs.Texts.{IsTermOf}
+use Rattle.std.proofs.Common.{◌≡◌, ◌+◌, Some, map, drop, sym, ap, ◌∙◌, arith, subst, ℕ}
+use Rattle.std.proofs.lemmas.List.{length-map}
 use Rattle.anb_resolve.specs.Views.{plan_event}
-use Rattle.anb_certify.specs.Certified.{does_event, is_work, stray, HasNames}
+use Rattle.anb_certify.specs.Certified.{stray}
+use Rattle.anb_certify.proofs.Framing.{stray_end}
 use Rattle.anb_certify.proofs.frames.stray.Goals as goal
 
--- src/frames.rt:91:41
-pub does_event-requires : goal.does_event-requires
-does_event-requires c = ?
-
--- src/frames.rt:92:17
 pub returns-then-next-events : goal.returns-then-next-events
-returns-then-next-events c = ?
-
--- src/frames.rt:89:5
-pub loop-i-preserved : goal.loop-i-preserved
-loop-i-preserved c = ?
-
--- src/frames.rt:98:9
-pub returns-then-next-events-2 : goal.returns-then-next-events-2
-returns-then-next-events-2 c = ?
+returns-then-next-events c =
+    sym (c.loop-i.invariant.same ∙ stray_end c.args.p.now c.args.instrs.now (map plan_event c.args.events.now) c.loop-i.i c.loop-i.next (omega (arith, c.loop-i.auto.i-end, c.loop-i-test.false)) (omega (arith, c.if-next-events.true, length-map c.args.events.now plan_event)))

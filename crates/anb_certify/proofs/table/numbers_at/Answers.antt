@@ -1,18 +1,15 @@
-use Rattle.std.proofs.Common.{rules, ◌≡◌, ◌↔◌, ◌<◌, ◌++◌, ◌∷◌, [], Bool, List, length, map, true, false, None, Some, option_map, slice_get, All, IsTrue, IfOk, OnOk, MatchOption, ℕ, ◌+◌, ◌-◌, ◌*◌, ◌≤◌, ◌/◌, ◌%◌, nat_eq, nat_lt, slice_index_or, slice_set, bit_and, bit_or, Fits, w8, w32, w64, Bor, MutBor}
-use Rattle.anb_term.specs.declared.term.Op.{Op as op}
-use Rattle.anb_term.specs.Lawful.{picked}
-use Rattle.anb_term.specs.Operator.{keys as keys_of}
-use Rattle.anb_term.specs.Tree.{Tree}
-use Rattle.anb_term.specs.FreeAlgebra.{parts_of, terms}
-use Rattle.anb_term.specs.View.{tree_of}
-use Rattle.anb_intern.specs.Nodes.{operands_at, tree_at, AreDistinct, AreUnder, IsOver}
-use Rattle.anb_plays.specs.Codes.{make, undo}
-use Rattle.anb_plays.specs.Exec.{worked, IsReady}
-use Rattle.anb_certify.specs.Works.{work_of, AreTold}
-use Rattle.anb_certify.specs.Numbered.{terms_in, did_in, value_of, HasWorked, IsLoose, IsTable}
-use Rattle.anb_certify.specs.Tied.{AreEnough}
+use Rattle.std.proofs.Common.{◌≡◌, ◌<◌, ◌++◌, ◌∷◌, [], length, refl, sym, ap, ◌∙◌, arith}
+use Rattle.std.specs.Prelude.{get_or}
+use Rattle.std.proofs.lemmas.List.Elements.{recursion_from_All}
+use Rattle.anb_intern.specs.declared.node.NodeId.{NodeId}
+use Rattle.anb_certify.proofs.Placing.{picked_next}
 use Rattle.anb_certify.proofs.table.numbers_at.Goals as goal
 
--- src/table.rt:156:5
 pub loop-r-preserved : goal.loop-r-preserved
-loop-r-preserved c = ?
+loop-r-preserved c =
+    let ids = c.args.ids.now in
+    let at = c.args.at.now in
+    let i = c.loop-r.r-index in
+    let d : NodeId = record { 0 = 0 } in
+    c.in_ok-push.ensures.items ∙ ap (λ l. l ++ get_or ids (get_or at i 0) d ∷ []) c.loop-r.invariant
+    ∙ sym (picked_next ids at i 0 (get_or ids (get_or at i 0) d) d c.loop-r-test.true (c.requires i 0 c.loop-r-test.true) refl)

@@ -1,26 +1,44 @@
-use Rattle.std.proofs.Common.{rules, ◌≡◌, ◌↔◌, ◌<◌, ◌++◌, ◌∷◌, [], Bool, List, length, map, true, false, None, Some, option_map, slice_get, All, IsTrue, IfOk, OnOk, MatchOption, ℕ, ◌+◌, ◌-◌, ◌*◌, ◌≤◌, ◌/◌, ◌%◌, nat_eq, nat_lt, slice_index_or, slice_set, bit_and, bit_or, Fits, w8, w32, w64, Bor, MutBor}
-use Rattle.anb_term.specs.declared.term.Op.{Op as op}
-use Rattle.anb_term.specs.Lawful.{picked}
-use Rattle.anb_term.specs.Operator.{keys as keys_of}
+use Rattle.std.proofs.Common.{◌≡◌, ◌∷◌, [], ◌++◌, ℕ, List, Option, Some, None, length, drop, sym, ap, ◌∙◌, subst}
 use Rattle.anb_term.specs.Tree.{Tree}
-use Rattle.anb_term.specs.FreeAlgebra.{parts_of, terms}
-use Rattle.anb_term.specs.View.{tree_of}
-use Rattle.anb_intern.specs.Nodes.{operands_at, tree_at, AreDistinct, AreUnder, IsOver}
-use Rattle.anb_plays.specs.Codes.{make, undo}
-use Rattle.anb_plays.specs.Exec.{worked, IsReady}
-use Rattle.anb_certify.specs.Works.{work_of, AreTold}
-use Rattle.anb_certify.specs.Numbered.{terms_in, did_in, value_of, HasWorked, IsLoose, IsTable}
-use Rattle.anb_certify.specs.Tied.{AreEnough}
+use Rattle.anb_term.specs.FreeAlgebra.{parts_of}
+use Rattle.anb_intern.specs.declared.node.NodeId.{NodeId}
+use Rattle.anb_intern.specs.declared.node.Node.{Node}
+use Rattle.anb_intern.specs.Nodes.{operands_at, tree_at, IsOver, AreUnder}
+use Rattle.anb_certify.specs.Numbered.{Opens}
+use Rattle.anb_certify.proofs.Tabling.{parts_there, parts_not, under_rest}
 use Rattle.anb_certify.proofs.table.parts.Goals as goal
 
--- src/table.rt:179:9
-pub returns-then-not-undoes : goal.returns-then-not-undoes
-returns-then-not-undoes c = ?
+pub returns-then-not-opens : goal.returns-then-not-opens
+returns-then-not-opens c =
+    let o = c.args.op in
+    let ks = c.args.keys.now in
+    let ids = c.in-Apply.operands.items in
+    let shut : Opens o ks c.in-Apply.built ids → ⊥ = λ h.
+        let P : List NodeId → Type 0 = λ l. Opens o ks c.in-Apply.built l in
+        let yes = c.opens.ensures.1 (subst P (sym c.deref.ensures.value) h) in
+        let no = c.if-not-opens.true in cc in
+    record {
+      under = tt;
+      parts = λ ts d u v.
+          let N : Node → Type 0 = λ k. IsOver (length ts) k in
+          let R : Node → Type 0 = λ k. parts_of o (operands_at ts ks) (tree_at ts k) ≡ None in
+          subst R (sym c.in-Apply.is) (parts_not ts o ks c.in-Apply.built ids d (subst N c.in-Apply.is u) v shut);
+    }
 
--- src/table.rt:182:9
-pub returns-then-ne-2 : goal.returns-then-ne-2
-returns-then-ne-2 c = ?
+pub returns-clause-under : goal.returns-clause-under
+returns-clause-under c n u =
+    let N : Node → Type 0 = λ k. IsOver n k in
+    let P : List NodeId → Type 0 = λ l. AreUnder n l in
+    let is = c.in_ok-extend_from_slice.ensures.items ∙ ap (λ l. l ++ c.back.result.now) c.new-parts.ensures.items ∙ c.back.ensures ∙ ap (drop (length c.args.keys.now)) c.deref-2.ensures.value in
+    subst P (sym is) (under_rest n (length c.args.keys.now) c.in-Apply.operands.items (subst N c.in-Apply.is u))
 
--- src/table.rt:163:1
-pub returns : goal.returns
-returns c = ?
+pub returns-clause-parts : goal.returns-clause-parts
+returns-clause-parts c ts d u v =
+    let o = c.args.op in
+    let ks = c.args.keys.now in
+    let ids = c.in-Apply.operands.items in
+    let P : List NodeId → Type 0 = λ l. Opens o ks c.in-Apply.built l in
+    let opens : Opens o ks c.in-Apply.built ids = subst P c.deref.ensures.value (c.opens.ensures.0 c.if-not-opens.false) in
+    let is = c.in_ok-extend_from_slice.ensures.items ∙ ap (λ l. l ++ c.back.result.now) c.new-parts.ensures.items ∙ c.back.ensures ∙ ap (drop (length ks)) c.deref-2.ensures.value in
+    let R : Node → Type 0 = λ k. parts_of o (operands_at ts ks) (tree_at ts k) ≡ Some (operands_at ts (drop (length ks) ids)) in
+    subst R (sym c.in-Apply.is) (parts_there ts o ks c.in-Apply.built ids c.requires opens) ∙ ap (λ l. Some (operands_at ts l)) (sym is)

@@ -1,22 +1,16 @@
-use Rattle.std.proofs.Common.{rules, ◌≡◌, ◌↔◌, ◌<◌, ◌++◌, ◌∷◌, [], Bool, List, length, map, true, false, None, Some, option_map, slice_get, All, IsTrue, IfOk, OnOk, MatchOption, ℕ, ◌+◌, ◌-◌, ◌*◌, ◌≤◌, ◌/◌, ◌%◌, nat_eq, nat_lt, slice_index_or, slice_set, bit_and, bit_or, Fits, w8, w32, w64, Bor, MutBor}
-use Rattle.anb_term.specs.declared.term.Op.{Op as op}
-use Rattle.anb_term.specs.Lawful.{picked}
-use Rattle.anb_term.specs.Operator.{keys as keys_of}
-use Rattle.anb_term.specs.Tree.{Tree}
-use Rattle.anb_term.specs.FreeAlgebra.{parts_of, terms}
+use Rattle.std.proofs.Common.{◌≡◌, length, sym, ◌∙◌}
 use Rattle.anb_term.specs.View.{tree_of}
-use Rattle.anb_intern.specs.Nodes.{operands_at, tree_at, AreDistinct, AreUnder, IsOver}
-use Rattle.anb_plays.specs.Codes.{make, undo}
-use Rattle.anb_plays.specs.Exec.{worked, IsReady}
-use Rattle.anb_certify.specs.Works.{work_of, AreTold}
-use Rattle.anb_certify.specs.Numbered.{terms_in, did_in, value_of, HasWorked, IsLoose, IsTable}
-use Rattle.anb_certify.specs.Tied.{AreEnough}
+use Rattle.anb_certify.proofs.Tabling.{one_more}
 use Rattle.anb_certify.proofs.table.Table.hear.Goals as goal
 
--- src/table.rt:48:5
 pub returns-clause-table : goal.returns-clause-table
-returns-clause-table c = ?
+returns-clause-table c =
+    let s = c.args.self.now in
+    let m = c.in_ok-id.ensures.more in
+    (one_more s.pool c.put_term.new.self m.more s.ids.items c.push.new.self.items c.in_ok-id.id (tree_of c.args.term.now) m.is c.requires c.in_ok-id.ensures.stored c.in_ok-push.ensures.items).0
 
--- src/table.rt:48:5
 pub returns-clause-terms : goal.returns-clause-terms
-returns-clause-terms c = ?
+returns-clause-terms c =
+    let s = c.args.self.now in
+    let m = c.in_ok-id.ensures.more in
+    (one_more s.pool c.put_term.new.self m.more s.ids.items c.push.new.self.items c.in_ok-id.id (tree_of c.args.term.now) m.is c.requires c.in_ok-id.ensures.stored c.in_ok-push.ensures.items).1
