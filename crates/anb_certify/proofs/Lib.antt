@@ -17,3 +17,4 @@ pub mod Ruling
 pub mod Framing
 pub mod Tabling
 pub mod Results
+pub mod Ending

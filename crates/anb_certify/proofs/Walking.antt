@@ -56,13 +56,13 @@ next_item (z ∷ xs) (suc n) x ys e =
     (i.0, ap (λ k. drop k (z ∷ xs)) m ∙ i.1)
 
 -- a term more, and what was done is the same
-pub heard : TableValue → Tree → TableValue
+abbrev pub heard : TableValue → Tree → TableValue
 heard v t = record { terms = v.terms ++ t ∷ []; did = v.did }
 
 abbrev worked_on : TableValue → List Tree → Work → TableValue
 worked_on v ws w = record { terms = v.terms ++ ws; did = v.did ++ (length v.terms, w) ∷ [] }
 
-value_is : (v u : TableValue) → v.terms ≡ u.terms → v.did ≡ u.did → v ≡ u
+pub value_is : (v u : TableValue) → v.terms ≡ u.terms → v.did ≡ u.did → v ≡ u
 value_is v u e f =
     let T : List Tree → TableValue = λ l. record { terms = l; did = v.did } in
     let D : List (ℕ × Work) → TableValue = λ l. record { terms = u.terms; did = l } in
@@ -128,7 +128,6 @@ module _ (p : ProtocolValue) (role : ℕ) (code : CodeValue) where
   -- ---- events
 
   take_on : (acts : List Act) (t : Tree) (es : List Event) (n : ℕ) (v : TableValue) → At (takes ∷ acts) (know t ∷ es) n v → At acts es (n + 1) (heard v t)
-  unfolding heard
   take_on acts t es n v s =
       let regs : length v.terms ≡ length s.place.regs = values_length (terms_over has) s.place.frame s.place.regs v.terms s.have in
       let next = next_item s.place.frame (length v.terms) t (known es) (s.takes_next acts refl) in
@@ -151,7 +150,6 @@ module _ (p : ProtocolValue) (role : ℕ) (code : CodeValue) where
   label_comes : (act : Act) (acts : List Act) (e : Event) (t : Tree) (es : List Event) (n : ℕ) (v : TableValue) (s : At (act ∷ acts) (e ∷ es) n v)
       → Along AnySend AnyWork AnyBorder acts es (after_label s.place t) → IsVerified has acts (length v.terms + 1) → NoTakes has acts
       → ((found : Option CertifyNo) → Finds (meaning_of p) acts es (after_label s.place t) v.did (n + 1) found → FindsOf p role code found) → At acts es (n + 1) (heard v t)
-  unfolding heard
   label_comes act acts e t es n v s order verified none on =
       let frame = s.place.frame ++ t ∷ [] in
       let long : length (v.terms ++ t ∷ []) ≡ length v.terms + 1 = length-append v.terms (t ∷ []) in

@@ -100,8 +100,9 @@ fn step(
     match job_of(alloc, code.formats(), instr)? {
         Some(job) => work(alloc, job, i as u32 + 1, table),
         None => {
-            let event = &events[*next];
-            *next += 1;
+            let at = *next;
+            let event = &events[at];
+            *next = at + 1;
             meet(alloc, instr, event, i as u32 + 1, table)
         }
     }

@@ -1,22 +1,16 @@
-use Rattle.std.proofs.Common.{rules, ◌≡◌, ◌≢◌, ◌<◌, ◌+◌, ◌++◌, ◌∷◌, [], ℕ, List, false, length, map, IfErr, OnOk, ◌-◌, ◌*◌, ◌≤◌, ◌/◌, ◌%◌, Bool, true, nat_eq, nat_lt, slice_index_or, slice_set, bit_and, bit_or, Fits, w8, w32, w64, Bor, MutBor}
-use Rattle.anb_code.specs.CodeValue.{CodeValue}
-use Rattle.anb_code.specs.Meaning.{act_of}
-use Rattle.anb_compile.specs.Fitting.{FitsRole}
-use Rattle.anb_resolve.specs.Plans.{plan_of}
-use Rattle.anb_resolve.specs.Views.{plan_event}
-use Rattle.anb_plays.specs.Plans as plays
-use Rattle.anb_plays.specs.Codes.{Act, works}
-use Rattle.anb_resolve.specs.Plays.{event_of}
-use Rattle.anb_resolve.specs.Protocols.{ProtocolValue}
-use Rattle.anb_term.specs.View.{tree_of}
-use Rattle.anb_certify.specs.Certified.{is_work, IsCertified, Refuses, HasFrame}
-use Rattle.anb_certify.specs.declared.refusal.CertifyNo.TheVariants as refusal
-use Rattle.anb_certify.specs.Numbered.{did_in, terms_in, value_of, IsLoose, IsTable}
-use Rattle.anb_certify.specs.Tied.{AreEnough}
-use Rattle.anb_certify.specs.Walking.{IsAt, Stands}
-use Rattle.anb_certify.specs.Works.{work_of, AreTold}
+use Rattle.std.proofs.Common.{◌≡◌, List, sym, ap, ◌∙◌, subst}
+use Rattle.anb_base.specs.declared.content.Suite.{Suite}
+use Rattle.anb_format.specs.Formats.{FormatValue}
+use Rattle.anb_algebra.specs.ByteMeaning.{byte_meaning}
+use Rattle.anb_certify.specs.Statements.{CertifiedFits}
+use Rattle.anb_certify.proofs.Ending.{fits}
+use Rattle.anb_certify.proofs.Results.{on_ok}
 use Rattle.anb_certify.proofs.certifying.certify.Goals as goal
 
--- src/certifying.rt:34:1
 pub returns-clause-fits : goal.returns-clause-fits
-returns-clause-fits c = ?
+returns-clause-fits c =
+    let p = c.args.p.now in
+    let F : List FormatValue → Type 0 = λ l. CertifiedFits (byte_meaning l c.new.result.suite) in
+    let S : Suite → Type 0 = λ x. CertifiedFits (byte_meaning p.formats x) in
+    let law = subst S (c.new.ensures.suite ∙ c.suite.ensures) (subst F (c.new.ensures.formats ∙ c.formats.ensures) c.certified_fits.ensures) in
+    on_ok c.walk.result (λ certified. fits p c.args.role c.args.code.now certified c.verified_is_runnable.ensures c.instrs.ensures.verified law) c.walk.ensures.certified

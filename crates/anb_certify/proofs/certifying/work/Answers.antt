@@ -1,30 +1,19 @@
-use Rattle.std.proofs.Common.{rules, ◌≡◌, ◌≢◌, ◌<◌, ◌+◌, ◌++◌, ◌∷◌, [], ℕ, List, false, length, map, IfErr, OnOk, ◌-◌, ◌*◌, ◌≤◌, ◌/◌, ◌%◌, Bool, true, nat_eq, nat_lt, slice_index_or, slice_set, bit_and, bit_or, Fits, w8, w32, w64, Bor, MutBor}
-use Rattle.anb_code.specs.CodeValue.{CodeValue}
-use Rattle.anb_code.specs.Meaning.{act_of}
-use Rattle.anb_compile.specs.Fitting.{FitsRole}
-use Rattle.anb_resolve.specs.Plans.{plan_of}
-use Rattle.anb_resolve.specs.Views.{plan_event}
-use Rattle.anb_plays.specs.Plans as plays
-use Rattle.anb_plays.specs.Codes.{Act, works}
-use Rattle.anb_resolve.specs.Plays.{event_of}
-use Rattle.anb_resolve.specs.Protocols.{ProtocolValue}
-use Rattle.anb_term.specs.View.{tree_of}
-use Rattle.anb_certify.specs.Certified.{is_work, IsCertified, Refuses, HasFrame}
-use Rattle.anb_certify.specs.declared.refusal.CertifyNo.TheVariants as refusal
-use Rattle.anb_certify.specs.Numbered.{did_in, terms_in, value_of, IsLoose, IsTable}
-use Rattle.anb_certify.specs.Tied.{AreEnough}
-use Rattle.anb_certify.specs.Walking.{IsAt, Stands}
-use Rattle.anb_certify.specs.Works.{work_of, AreTold}
+use Rattle.std.proofs.Common.{◌∷◌, sym, ◌∙◌}
+use Rattle.anb_algebra.specs.ByteMeaning.{has_operator}
+use Rattle.anb_certify.specs.Numbered.{value_of}
+use Rattle.anb_certify.specs.Works.{work_of}
+use Rattle.anb_certify.proofs.Walking.{work_ready, untrue, done_work}
 use Rattle.anb_certify.proofs.certifying.work.Goals as goal
 
--- src/certifying.rt:125:8
 pub work-requires-clause-ready : goal.work-requires-clause-ready
-work-requires-clause-ready c = ?
+work-requires-clause-ready c =
+    let s = c.requires.stands in
+    (has_operator s.0.formats, work_ready s.0 s.1 s.2 s.3 s.4 c.args.at (value_of c.args.table.now) (work_of c.args.job) s.5)
 
--- src/certifying.rt:126:9
 pub returns-then-branch-clause-stands : goal.returns-then-branch-clause-stands
-returns-then-branch-clause-stands c = ?
+returns-then-branch-clause-stands c p role code acts es s =
+    done_work p role code acts es c.args.at (value_of c.args.table.now) (value_of c.work.new.self) (work_of c.args.job) (c.in_ok-work.ensures.works c.if-branch.true) s
 
--- src/certifying.rt:110:1
 pub returns-clause-refused : goal.returns-clause-refused
-returns-clause-refused c = ?
+returns-clause-refused c p role code acts es s =
+    untrue p role code acts es c.args.at (value_of c.args.table.now) (work_of c.args.job) s (c.in_ok-work.ensures.untrue c.if-branch.false)

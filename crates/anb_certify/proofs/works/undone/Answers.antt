@@ -1,1 +1,1 @@
-use Rattle.anb_certify.proofs.Tabling.{parts_not}
+use Rattle.anb_certify.proofs.Ending.{starts}
