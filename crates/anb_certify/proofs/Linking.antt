@@ -308,7 +308,7 @@ module _ (did seen : List (ℕ × Work)) (cs : List ℕ) where
       let u = g.told at (make o ns) g.done in
       let below_at : at < length cs = omega (arith, slice_get-within g.terms at _ u.2, g.long) in
       let below_x : x < length cs = ⊎_elim (λ a. (let b = h.builders (sign_of made.classes o ns) x a in let t = g.told x (make b.0 b.1) b.2 in omega (arith, slice_get-within g.terms x _ t.2, g.long))) (λ b. omega (arith, b.1, below_at))
-          (sg.only (sign_of made.classes o ns) x sg.owns) in
+      (sg.only (sign_of made.classes o ns) x sg.owns) in
       (λ j l. omega (arith, l, below_x), λ j l. omega (arith, l, below_at))
 
   pub undo_within : (at : ℕ) (o : Op) (ks : List ℕ) (n : ℕ) → IsToLink did cs at (undo o ks n) → AllByRecursion (λ i. i < length cs) (ks ++ n ∷ [])

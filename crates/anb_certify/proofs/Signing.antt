@@ -55,10 +55,10 @@ under_picked m ids (n ∷ ns) u = go (slice_get ids n) refl (under_picked m ids 
 
 pub owner_pushed : (old new : List (Option ℕ)) (id at : ℕ) → id ≡ length old → new ≡ old ++ Some at ∷ [] → Owned old id at new at
 owner_pushed old new id at e f = subst (λ l. Owned old id at l at) (sym f) (record {
-    here = subst (λ k. slice_get (old ++ Some at ∷ []) k ≡ Some (Some at)) (sym e) (get_last old (Some at));
-    kept = λ k y h. slice_get-append old (Some at ∷ []) k (Some y) h;
-    only = λ k y h. ⊎_elim (λ a. inl a) (λ b. inr (b.0 ∙ sym e, let s : Some at ≡ Some y = b.1 in cc)) (slice_get-last old (Some at) (Some y) k h);
-  })
+  here = subst (λ k. slice_get (old ++ Some at ∷ []) k ≡ Some (Some at)) (sym e) (get_last old (Some at));
+  kept = λ k y h. slice_get-append old (Some at ∷ []) k (Some y) h;
+  only = λ k y h. ⊎_elim (λ a. inl a) (λ b. inr (b.0 ∙ sym e, let s : Some at ≡ Some y = b.1 in cc)) (slice_get-last old (Some at) (Some y) k h);
+})
 
 pub owner_found : (old : List (Option ℕ)) (id at x : ℕ) → slice_get old id ≡ Some (Some x) → Owned old id at old x
 owner_found old id at x e = record { here = e; kept = λ k y h. h; only = λ k y h. inl h }

@@ -119,7 +119,7 @@ module _ (p : ProtocolValue) (role : ℕ) (code : CodeValue) where
                   let P : ℕ → Type 0 = λ j. Finds (meaning_of p) acts es (after_work s.place w) (v.did ++ (j, w) ∷ []) (n + 1) found in
                   s.goes_on found (inl (k.1, subst P regs f));
             }
-          )
+            )
       ]
 
   pub done_work : (acts : List Act) (es : List Event) (n : ℕ) (v u : TableValue) (w : Work) → HasWorked v w u → At (works w ∷ acts) es n v → At acts es (n + 1) u

@@ -1,5 +1,5 @@
 //! Certifying a role's code.
-ghost use Rattle.std.specs.Prelude.{◌≡◌, ◌≢◌, ◌<◌, ◌+◌, ◌++◌, ◌∷◌, [], ℕ, List, false, length, map, IfErr, OnOk};
+ghost use Rattle.std.specs.Prelude.{◌≡◌, ◌≢◌, ◌<◌, ◌+◌, ◌++◌, ◌∷◌, [], ℕ, List, Some, false, length, map, slice_get, IfErr, OnOk};
 ghost use Rattle.anb_code.specs.CodeValue.{CodeValue};
 ghost use Rattle.anb_code.specs.Meaning.{act_of};
 ghost use Rattle.anb_compile.specs.Fitting.{FitsRole};
@@ -99,13 +99,19 @@ fn step(
     let instr = &code.instrs()[i];
     match job_of(alloc, code.formats(), instr)? {
         Some(job) => work(alloc, job, i as u32 + 1, table),
-        None => {
-            let at = *next;
-            let event = &events[at];
-            *next = at + 1;
-            meet(alloc, instr, event, i as u32 + 1, table)
-        }
+        None => meet(alloc, instr, next_event(events, next), i as u32 + 1, table),
     }
+}
+
+/// The next event, behind which `next` then stands.
+fn next_event<'a>(events: &'a [Event], next: &mut usize) -> &'a Event
+    requires { next.old < length events.now }
+    ensures next { next.new ≡ next.old + 1 }
+    ensures event { slice_get events.now next.old ≡ Some result.now }
+{
+    let at = *next;
+    *next = at + 1;
+    &events[at]
 }
 
 /// A job, where its demand is true.

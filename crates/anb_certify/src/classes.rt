@@ -19,11 +19,7 @@ use std::alloc::Global;
 /// For each register, the register that its class is named by: two are tied exactly where these are
 /// equal. Where comparisons tie each register to the first of its term, that takes one look at each;
 /// else each round of looks ties what the round before makes the rules tie.
-pub(crate) fn classes(
-    alloc: Global,
-    firsts: &[u32],
-    done: &[Done],
-) -> Result<Vec<u32>, NoMemory>
+pub(crate) fn classes(alloc: Global, firsts: &[u32], done: &[Done]) -> Result<Vec<u32>, NoMemory>
     requires few { length firsts.now < 4294967296 }
     requires grouped { (ts : List Tree) × AreGrouped ts (map did_of done.now) firsts.now }
     ensures long { IfOk result (λ names. length names.items ≡ length firsts.now) }

@@ -34,11 +34,7 @@ pub(crate) fn firsts(alloc: Global, numbers: u32, ids: &[NodeId]) -> Result<Vec<
 
 /// Flags of registers that comparisons, one after another, tie to the first of their term. There may
 /// be more that are tied to it.
-pub(crate) fn settled(
-    alloc: Global,
-    firsts: &[u32],
-    done: &[Done],
-) -> Result<Vec<bool>, NoMemory>
+pub(crate) fn settled(alloc: Global, firsts: &[u32], done: &[Done]) -> Result<Vec<bool>, NoMemory>
     requires { (ts : List Tree) × AreGrouped ts (map did_of done.now) firsts.now }
     ensures long { IfOk result (λ flags. length flags.items ≡ length firsts.now) }
     ensures tied { IfOk result (λ flags.

@@ -132,16 +132,14 @@ fn after(
 fn is_work(instr: &Instr) -> bool
     ensures { result ≡ is_work instr.now }
 {
-    !matches!(instr, Instr::Take(_) | Instr::Fresh | Instr::Recv | Instr::Send(_))
+    !matches!(
+        instr,
+        Instr::Take(_) | Instr::Fresh | Instr::Recv | Instr::Send(_)
+    )
 }
 
 /// Whether an instruction does an event; a take has the text of what is known.
-fn does_event(
-    alloc: Global,
-    p: &Protocol,
-    instr: &Instr,
-    event: &Event,
-) -> Result<bool, NoMemory>
+fn does_event(alloc: Global, p: &Protocol, instr: &Instr, event: &Event) -> Result<bool, NoMemory>
     requires { IsTermOf p.now (term_in (plan_event event.now)) }
     ensures { IfOk result (λ does. does ≡ does_event p.now instr.now (plan_event event.now)) }
 {

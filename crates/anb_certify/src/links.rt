@@ -18,11 +18,7 @@ pub(crate) struct Pair(pub(crate) u32, pub(crate) u32);
 
 /// Pairs of registers of two classes that the rules tie. Where there are none, nothing is left to
 /// tie. Each job is looked up once.
-pub(crate) fn links(
-    alloc: Global,
-    names: &[u32],
-    done: &[Done],
-) -> Result<Vec<Pair>, NoMemory>
+pub(crate) fn links(alloc: Global, names: &[u32], done: &[Done]) -> Result<Vec<Pair>, NoMemory>
     requires few { length names.now < 4294967296 }
     requires told { (ts : List Tree) × (length ts ≡ length names.now)
         × AreTold ts (map did_of done.now) }

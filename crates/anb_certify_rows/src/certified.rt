@@ -14,10 +14,12 @@ use std::test::Fail;
 const NAMES: &str = "Protocol: P; Types: Agent A, B, S; Number N, NA, NB, M, X, D; Key K, L; ";
 
 /// What the narration declares whose code is the first example.
-const PING: &str = "Protocol: P; Types: Agent A, B; Number N; Knowledge: A: N; B: N; Actions: A -> B: N; B -> A: N;";
+const PING: &str =
+    "Protocol: P; Types: Agent A, B; Number N; Knowledge: A: N; B: N; Actions: A -> B: N; B -> A: N;";
 
 /// A hash comes before what it is of.
-const LATE_HASH: &str = "Protocol: P; Types: Agent A, B; Number N; Formats: ok = \"OK\"; Actions: A -> B: h(N); A -> B: N; B -> A: ok();";
+const LATE_HASH: &str =
+    "Protocol: P; Types: Agent A, B; Number N; Formats: ok = \"OK\"; Actions: A -> B: h(N); A -> B: N; B -> A: ok();";
 
 #[test]
 fn codes_are_certified_or_refused(rt: HostRuntime) -> Result<(), Fail> {

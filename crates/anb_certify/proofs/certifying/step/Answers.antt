@@ -15,7 +15,7 @@ use Rattle.anb_compile.proofs.Valuing.{few_fields, its_format}
 use Rattle.anb_certify.specs.declared.works.Job.{Job}
 use Rattle.anb_certify.specs.Certified.{is_work}
 use Rattle.anb_certify.specs.Numbered.{value_of}
-use Rattle.anb_certify.specs.Walking.{Stands}
+use Rattle.anb_certify.specs.Walking.{IsAt, Stands}
 use Rattle.anb_certify.specs.Works.{work_of}
 use Rattle.anb_certify.proofs.Ending.{at_act, events_at, next_there}
 use Rattle.anb_certify.proofs.Framing.{does_an_event}
@@ -94,8 +94,8 @@ returns-in-Some-clause-refused c =
     let s = subst W (subst F c.formats.ensures.formats act) (at_act p role code i next v x here c.requires.at) in
     if_err c.work.result (λ e f. f p role code (drop (i + 1) (acts_of code)) (drop next (events_of p role)) s) c.work.ensures.refused
 
-pub bounds-events-at : goal.bounds-events-at
-bounds-events-at c =
+pub next_event-requires : goal.next_event-requires
+next_event-requires c =
     let p = c.args.p.now in
     let role = c.args.role in
     let code = c.args.code.now in
@@ -130,8 +130,8 @@ meet-requires-clause-stands c =
     let kind : is_work x ≡ false = subst M c.in-None.is c.in_ok-job.ensures in
     let s = at_act p role code i next v x here c.requires.at in
     let below = next_there p role code (act_of code.formats x) (drop (i + 1) (acts_of code)) events next (i + 1) v c.requires.plan (does_an_event code.formats x kind) s in
-    let e = c.index-events-at.result in
-    let left = events_at p role events next e c.requires.plan (slice_get-at events next e below c.index-events-at.is) in
+    let e = c.next_event.result.now in
+    let left = events_at p role events next e c.requires.plan c.next_event.ensures.event in
     let E : List plays.Event → Type 0 = λ l. Stands p role code (act_of code.formats x ∷ drop (i + 1) (acts_of code)) l (i + 1) v in
     let t = subst E left s in
     (p, role, code, drop (i + 1) (acts_of code), drop (next + 1) (events_of p role), t)
@@ -153,11 +153,12 @@ returns-in-None-clause-at c =
     let kind : is_work x ≡ false = subst M c.in-None.is c.in_ok-job.ensures in
     let s = at_act p role code i next v x here c.requires.at in
     let below = next_there p role code (act_of code.formats x) (drop (i + 1) (acts_of code)) events next (i + 1) v c.requires.plan (does_an_event code.formats x kind) s in
-    let e = c.index-events-at.result in
-    let left = events_at p role events next e c.requires.plan (slice_get-at events next e below c.index-events-at.is) in
+    let e = c.next_event.result.now in
+    let left = events_at p role events next e c.requires.plan c.next_event.ensures.event in
     let E : List plays.Event → Type 0 = λ l. Stands p role code (act_of code.formats x ∷ drop (i + 1) (acts_of code)) l (i + 1) v in
     let t = subst E left s in
-    on_ok c.meet.result (λ f. f p role code (drop (i + 1) (acts_of code)) (drop (next + 1) (events_of p role)) t) c.meet.ensures.stands
+    let N : ℕ → Type 0 = λ k. IsAt p role code (i + 1) k (value_of c.meet.new.table) in
+    on_ok c.meet.result (λ f. subst N (sym c.next_event.ensures.next) (f p role code (drop (i + 1) (acts_of code)) (drop (next + 1) (events_of p role)) t)) c.meet.ensures.stands
 
 pub returns-in-None-clause-refused : goal.returns-in-None-clause-refused
 returns-in-None-clause-refused c =
@@ -176,8 +177,8 @@ returns-in-None-clause-refused c =
     let kind : is_work x ≡ false = subst M c.in-None.is c.in_ok-job.ensures in
     let s = at_act p role code i next v x here c.requires.at in
     let below = next_there p role code (act_of code.formats x) (drop (i + 1) (acts_of code)) events next (i + 1) v c.requires.plan (does_an_event code.formats x kind) s in
-    let e = c.index-events-at.result in
-    let left = events_at p role events next e c.requires.plan (slice_get-at events next e below c.index-events-at.is) in
+    let e = c.next_event.result.now in
+    let left = events_at p role events next e c.requires.plan c.next_event.ensures.event in
     let E : List plays.Event → Type 0 = λ l. Stands p role code (act_of code.formats x ∷ drop (i + 1) (acts_of code)) l (i + 1) v in
     let t = subst E left s in
     if_err c.meet.result (λ r f. f p role code (drop (i + 1) (acts_of code)) (drop (next + 1) (events_of p role)) t) c.meet.ensures.refused

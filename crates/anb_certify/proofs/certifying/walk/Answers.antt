@@ -35,5 +35,5 @@ returns-clause-refused c =
     let s = all_past p role code i c.loop-i.next v (omega (arith, ap length c.instrs-count.ensures.instrs, c.loop-i-test.false)) c.loop-i.invariant.at in
     let at : i + 1 ≡ length c.instrs-count.result.now + 1 = omega (arith, c.loop-i.auto.i-end, c.loop-i-test.false) in
     let loose : (r : ℕ) → IsLoose v.did v.terms r → Refuses p role code (Loose (length c.instrs-count.result.now + 1) r) = λ r l.
-        subst (λ n. Refuses p role code (Loose n r)) at (ends_loose p role code (drop c.loop-i.next (events_of p role)) (i + 1) v r l s) in
+    subst (λ n. Refuses p role code (Loose n r)) at (ends_loose p role code (drop c.loop-i.next (events_of p role)) (i + 1) v r l s) in
     if_err c.border.result (λ e h. refused_by p role code (length c.instrs-count.result.now + 1) v loose e h) c.border.ensures.loose

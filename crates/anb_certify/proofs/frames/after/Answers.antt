@@ -39,4 +39,4 @@ returns c is k =
     let within : c.args.next < length events = omega (arith, c.requires.within, c.if-next-events.false) in
     let left = events_left events n x (slice_get-at events n x within c.index-events-next.is) in
     ap (λ es. stray p (i ∷ is) es k) left
-        ∙ strays p i is (plan_event x) (drop (n + 1) (map plan_event events)) k (sym c.is_work.ensures ∙ c.if-is_work.false) (sym c.in_ok-does_event.ensures ∙ c.if-branch.false)
+    ∙ strays p i is (plan_event x) (drop (n + 1) (map plan_event events)) k (sym c.is_work.ensures ∙ c.if-is_work.false) (sym c.in_ok-does_event.ensures ∙ c.if-branch.false)

@@ -73,11 +73,11 @@ returns-in-Equal-clause-linked c =
     let made = signs_in c.args.made.now in
     let undone = signs_in c.args.undone.now in
     on_ok c.link_all.result
-        (λ l did seen g h.
-        let G : Job → Type 0 = λ j. IsToLink did cs d.at (work_of j) in
-        let R : Job → Type 0 = λ j. AreLinked did (seen ++ (d.at, work_of j) ∷ []) cs made undone c.link_all.new.links.items in
-        subst R (sym c.in-Equal.is) (equal_linked did seen cs d.at c.in-Equal.a c.in-Equal.b made undone c.args.links.now.items c.link_all.new.links.items (subst G c.in-Equal.is g) h l))
-        c.link_all.ensures
+    (λ l did seen g h.
+    let G : Job → Type 0 = λ j. IsToLink did cs d.at (work_of j) in
+    let R : Job → Type 0 = λ j. AreLinked did (seen ++ (d.at, work_of j) ∷ []) cs made undone c.link_all.new.links.items in
+    subst R (sym c.in-Equal.is) (equal_linked did seen cs d.at c.in-Equal.a c.in-Equal.b made undone c.args.links.now.items c.link_all.new.links.items (subst G c.in-Equal.is g) h l))
+    c.link_all.ensures
 
 pub returns-in_ok-first-in-Make-clause-linked : goal.returns-in_ok-first-in-Make-clause-linked
 returns-in_ok-first-in-Make-clause-linked c =
@@ -91,11 +91,11 @@ returns-in_ok-first-in-Make-clause-linked c =
     let S : List ℕ → Type 0 = λ l. HasSigned made (sign_of (classes_in c.args.made.now) c.in-Make.op l) d.at made2 x in
     let sg = subst S c.deref.ensures.value c.in_ok-first-in-Make.ensures.signed in
     on_ok c.link_all-in-Make.result
-        (λ l did seen g h.
-        let G : Job → Type 0 = λ j. IsToLink did cs d.at (work_of j) in
-        let R : Job → Type 0 = λ j. AreLinked did (seen ++ (d.at, work_of j) ∷ []) cs made2 undone new in
-        subst R (sym c.in-Make.is) (make_linked did seen cs d.at c.in-Make.op c.in-Make.operands.items x made made2 undone c.args.links.now.items new (subst G c.in-Make.is g) h sg l))
-        c.link_all-in-Make.ensures
+    (λ l did seen g h.
+    let G : Job → Type 0 = λ j. IsToLink did cs d.at (work_of j) in
+    let R : Job → Type 0 = λ j. AreLinked did (seen ++ (d.at, work_of j) ∷ []) cs made2 undone new in
+    subst R (sym c.in-Make.is) (make_linked did seen cs d.at c.in-Make.op c.in-Make.operands.items x made made2 undone c.args.links.now.items new (subst G c.in-Make.is g) h sg l))
+    c.link_all-in-Make.ensures
 
 pub returns-in_ok-first-in-Undo-clause-linked : goal.returns-in_ok-first-in-Undo-clause-linked
 returns-in_ok-first-in-Undo-clause-linked c =
@@ -114,8 +114,8 @@ returns-in_ok-first-in-Undo-clause-linked c =
     let count : c.arity.result - c.keys.result ≡ arity o - keys o = omega (arith, c.arity.ensures, c.keys.ensures) in
     let L : ℕ → Type 0 = λ n. HasLinked cs x d.at n old new in
     on_ok c.link_all-in-Undo.result
-        (λ l did seen g h.
-        let G : Job → Type 0 = λ j. IsToLink did cs d.at (work_of j) in
-        let R : Job → Type 0 = λ j. AreLinked did (seen ++ (d.at, work_of j) ∷ []) cs made undone2 new in
-        subst R (sym c.in-Undo.is) (undo_linked did seen cs d.at o c.in-Undo.keys.items c.in-Undo.of x made undone undone2 old new (subst G c.in-Undo.is g) h sg (subst L count l)))
-        c.link_all-in-Undo.ensures
+    (λ l did seen g h.
+    let G : Job → Type 0 = λ j. IsToLink did cs d.at (work_of j) in
+    let R : Job → Type 0 = λ j. AreLinked did (seen ++ (d.at, work_of j) ∷ []) cs made undone2 new in
+    subst R (sym c.in-Undo.is) (undo_linked did seen cs d.at o c.in-Undo.keys.items c.in-Undo.of x made undone undone2 old new (subst G c.in-Undo.is g) h sg (subst L count l)))
+    c.link_all-in-Undo.ensures

@@ -17,10 +17,10 @@ loop-j-preserved c =
       | then-names-a+in_ok-push w ↦ (
           let m : Pair = record { 0 = a + j; 1 = b + j } in
           one_pushed cs a b j old new c.if-names-a.links.items m c.loop-j.invariant (ap (λ v. v.items) w.links-is ∙ w.in_ok-push.ensures.items) refl refl
-        )
+          )
       | else-names-a w ↦ (
           let P : List Pair → Type 0 = λ l. HasLinked cs a b (j + 1) old l in
           subst P (sym (ap (λ v. v.items) w.links-is))
           (one_skipped cs a b j old new 0 c.loop-j.invariant (c.requires.first j c.loop-j-test.true) (c.requires.second j c.loop-j-test.true) w.if-names-a.false)
-        )
+          )
     ]

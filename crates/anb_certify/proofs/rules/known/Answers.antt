@@ -75,7 +75,7 @@ loop-d-preserved c =
           let k = make_known seen names flags d.at w.in-Make.field-0 w.in-Make.field-1.items cl inv.known inside here in
           let F : List Bool → Type 0 = λ f. J f (job.Make w.in-Make.field-0 w.in-Make.field-1) in
           record { long = ap length is ∙ set_long flags cl true ∙ inv.long; known = subst K (sym next) (subst (J c.match-d.flags.items) (sym w.in-Make.is) (subst F (sym is) k)) }
-        )
+          )
       | in-Undo w ↦ (
           let n = w.in-Undo.of in
           let below : n < length names = omega (arith, undo_there c.requires.told.0 did d.at w.in-Undo.field-0 w.in-Undo.field-1.items n c.requires.told.2 (subst D w.in-Undo.is there), c.requires.told.1) in
@@ -86,13 +86,13 @@ loop-d-preserved c =
           let k = undo_known seen names flags d.at w.in-Undo.field-0 w.in-Undo.field-1.items n cl inv.known inside here in
           let F : List Bool → Type 0 = λ f. J f (job.Undo w.in-Undo.field-0 w.in-Undo.field-1 n) in
           record { long = ap length is ∙ set_long flags cl true ∙ inv.long; known = subst K (sym next) (subst (J c.match-d.flags.items) (sym w.in-Undo.is) (subst F (sym is) k)) }
-        )
+          )
       | in-Equal w ↦ (
           let is = ap (λ v. v.items) w.flags-is in
           let k = equal_known seen names flags d.at w.in-Equal.field-0 w.in-Equal.field-1 inv.known in
           let F : List Bool → Type 0 = λ f. J f (job.Equal w.in-Equal.field-0 w.in-Equal.field-1) in
           record { long = ap length is ∙ inv.long; known = subst K (sym next) (subst (J c.match-d.flags.items) (sym w.in-Equal.is) (subst F (sym is) k)) }
-        )
+          )
     ]
 
 pub returns-clause-known : goal.returns-clause-known

@@ -14,9 +14,9 @@ returns-then-not-opens c =
     let ks = c.args.keys.now in
     let ids = c.in-Apply.operands.items in
     let shut : Opens o ks c.in-Apply.built ids → ⊥ = λ h.
-        let P : List NodeId → Type 0 = λ l. Opens o ks c.in-Apply.built l in
-        let yes = c.opens.ensures.1 (subst P (sym c.deref.ensures.value) h) in
-        let no = c.if-not-opens.true in cc in
+    let P : List NodeId → Type 0 = λ l. Opens o ks c.in-Apply.built l in
+    let yes = c.opens.ensures.1 (subst P (sym c.deref.ensures.value) h) in
+    let no = c.if-not-opens.true in cc in
     record {
       under = tt;
       parts = λ ts d u v.

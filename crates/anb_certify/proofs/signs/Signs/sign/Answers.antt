@@ -34,7 +34,7 @@ returns-clause-signs c =
     let are = c.in_ok-operands.ensures ∙ ap (λ (l : List NodeId). picked l c.args.operands.now) c.deref.ensures.value in
     let under = under_still s.pool pool2 s.classes.items s.owners.items c.owner.new.owners.items id c.args.at c.in_ok-owner.owner c.args.op c.args.operands.now ids are c.in_ok-id.ensures.put c.in_ok-id.ensures.stored c.requires.signs.0 c.len-2.ensures.distinct c.requires.signs.1 c.in_ok-owner.ensures.owned in
     let long : length c.owner.new.owners.items ≡ length pool2 = ⊎_elim (λ x. c.in_ok-owner.ensures.long.0 (omega (arith, x.0, c.requires.signs.1)) ∙ c.requires.signs.1 ∙ sym x.1)
-        (λ x. c.in_ok-owner.ensures.long.1 (x.0 ∙ sym c.requires.signs.1) ∙ omega (arith, x.1, c.requires.signs.1)) (sign_place s.pool pool2 t id c.in_ok-id.ensures.put c.in_ok-id.ensures.stored c.len-2.ensures.distinct) in
+    (λ x. c.in_ok-owner.ensures.long.1 (x.0 ∙ sym c.requires.signs.1) ∙ omega (arith, x.1, c.requires.signs.1)) (sign_place s.pool pool2 t id c.in_ok-id.ensures.put c.in_ok-id.ensures.stored c.len-2.ensures.distinct) in
     (under, long)
 
 pub returns-clause-signed : goal.returns-clause-signed

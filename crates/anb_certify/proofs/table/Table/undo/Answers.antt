@@ -34,7 +34,7 @@ parts-requires c =
     let s = c.args.self.now in
     let within = recursion_from_All _ c.args.keys.now c.requires.ready.1.2 in
     ap length c.deref-2.ensures.value ∙ ap length c.in_ok-keys.ensures ∙ ap (λ (l : List NodeId). length (picked l c.args.keys.now)) c.deref.ensures.value
-        ∙ picked_length s.ids.items c.args.keys.now (subst (λ n. AllByRecursion (λ k. k < n) c.args.keys.now) (operands_long s.pool s.ids.items) within) ∙ c.requires.ready.1.1
+    ∙ picked_length s.ids.items c.args.keys.now (subst (λ n. AllByRecursion (λ k. k < n) c.args.keys.now) (operands_long s.pool s.ids.items) within) ∙ c.requires.ready.1.1
 
 pub returns-in-Some-clause-table : goal.returns-in-Some-clause-table
 returns-in-Some-clause-table c =
@@ -64,12 +64,15 @@ returns-in-Some-clause-written c =
     let term = at_register s.pool s.ids.items c.args.of x (tree_at s.pool c.get.result.now) here c.get.ensures.stands in
     let parts = c.in_ok-ids.ensures.parts s.pool c.len.ensures.distinct over key_under ∙ ap (option_map (λ (ids : Vec NodeId Global). operands_at s.pool ids.items)) c.in-Some.is in
     let key_terms : operands_at s.pool ks ≡ picked (operands_at s.pool s.ids.items) c.args.keys.now = ap (operands_at s.pool) key_are ∙ operands_picked s.pool s.ids.items c.args.keys.now in
-    let are = c.in_ok-extend_from_slice-in-Some.ensures.items ∙ ap (λ l. s.ids.items ++ l) c.deref-in-Some.ensures.value in (λ f. cc, λ f. (
-      operands_at s.pool c.in-Some.ids.items,
-      ap (option_and_then (parts_of c.args.op (picked (operands_at s.pool s.ids.items) c.args.keys.now))) term ∙ ap (λ l. parts_of c.args.op l (tree_at s.pool c.get.result.now)) (sym key_terms) ∙ parts,
-      ap (operands_at s.pool) are ∙ (more_here s.pool s.ids.items c.in-Some.ids.items c.requires.table under).1,
-      refl,
-    ))
+    let are = c.in_ok-extend_from_slice-in-Some.ensures.items ∙ ap (λ l. s.ids.items ++ l) c.deref-in-Some.ensures.value in (
+      λ f. cc,
+      λ f. (
+        operands_at s.pool c.in-Some.ids.items,
+        ap (option_and_then (parts_of c.args.op (picked (operands_at s.pool s.ids.items) c.args.keys.now))) term ∙ ap (λ l. parts_of c.args.op l (tree_at s.pool c.get.result.now)) (sym key_terms) ∙ parts,
+        ap (operands_at s.pool) are ∙ (more_here s.pool s.ids.items c.in-Some.ids.items c.requires.table under).1,
+        refl,
+      ),
+    )
 
 pub returns-clause-written : goal.returns-clause-written
 returns-clause-written c =

@@ -1,1 +1,0 @@
-use Rattle.anb_certify.proofs.Ending.{starts}
