@@ -19,10 +19,10 @@ both_parts (Some c) (Some d) e = (c, refl, ap Some (sym (eqb-true c d e)))
 both_parts (Some c) None e = cc
 both_parts None y e = cc
 
-Classed : List ℕ → ℕ → ℕ → Type 0
+abbrev pub Classed : List ℕ → ℕ → ℕ → Type 0
 Classed cs a b = (a ≡ b) ⊎ ((c : ℕ) × (slice_get cs a ≡ Some c) × (slice_get cs b ≡ Some c))
 
-classed : (cs : List ℕ) (a b : ℕ) → in_class cs a b ≡ true → Classed cs a b
+pub classed : (cs : List ℕ) (a b : ℕ) → in_class cs a b ≡ true → Classed cs a b
 unfolding Classed
 classed cs a b e = ⊎_elim (λ s. inl (eqb-true a b s)) (λ s. inr (both_parts _ _ s)) (or_parts (a == b) (both_are (slice_get cs a) (slice_get cs b)) e)
 
@@ -32,12 +32,12 @@ in_one cs a b c e f = or_right (a == b) _ (rw (e, f) (eq-eqb c c refl))
 alike : (cs : List ℕ) (a b : ℕ) → a ≡ b → in_class cs a b ≡ true
 alike cs a b e = or_left (a == b) _ (eq-eqb a b e)
 
-turn : (cs : List ℕ) (a b : ℕ) → Classed cs a b → in_class cs b a ≡ true
+pub turn : (cs : List ℕ) (a b : ℕ) → Classed cs a b → in_class cs b a ≡ true
 unfolding Classed
 turn cs a b (inl e) = alike cs b a (sym e)
 turn cs a b (inr e) = in_one cs b a e.0 e.2 e.1
 
-join : (cs : List ℕ) (a b c : ℕ) → Classed cs a b → Classed cs b c → in_class cs a c ≡ true
+pub join : (cs : List ℕ) (a b c : ℕ) → Classed cs a b → Classed cs b c → in_class cs a c ≡ true
 unfolding Classed
 join cs a b c (inl e) (inl f) = alike cs a c (e ∙ f)
 join cs a b c (inl e) (inr f) = in_one cs a c f.0 (ap (slice_get cs) e ∙ f.1) f.2

@@ -35,16 +35,16 @@ use Rattle.anb_certify.proofs.Tied.{tied_agree, pair_is, one_row}
 abbrev none_yet : Option CertifyNo
 none_yet = None
 
-get_after : {A : Type 0} (xs ys : List A) (n j : ℕ) → n ≡ length xs + j → slice_get (xs ++ ys) n ≡ slice_get ys j
+pub get_after : {A : Type 0} (xs ys : List A) (n j : ℕ) → n ≡ length xs + j → slice_get (xs ++ ys) n ≡ slice_get ys j
 get_after [] ys n j e = let s : n ≡ j = omega (arith, e) in ap (slice_get ys) s
 get_after (x ∷ xs) ys zero j e = absurd (omega (arith, e))
 get_after (x ∷ xs) ys (suc n) j e = get_after xs ys n j (omega (arith, e))
 
-get_last : {A : Type 0} (xs : List A) (x : A) → slice_get (xs ++ x ∷ []) (length xs) ≡ Some x
+pub get_last : {A : Type 0} (xs : List A) (x : A) → slice_get (xs ++ x ∷ []) (length xs) ≡ Some x
 get_last [] x = refl
 get_last (y ∷ ys) x = get_last ys x
 
-picked_more : {A : Type 0} (es more : List A) (ns : List ℕ) → AllByRecursion (λ n. n < length es) ns → picked (es ++ more) ns ≡ picked es ns
+pub picked_more : {A : Type 0} (es more : List A) (ns : List ℕ) → AllByRecursion (λ n. n < length es) ns → picked (es ++ more) ns ≡ picked es ns
 picked_more es more [] h = refl
 picked_more es more (n ∷ ns) h = let x = slice_get-there es n h.0 in rw (x.1, slice_get-append es more n x.0 x.1) (ap (λ l. x.0 ∷ l) (picked_more es more ns h.1))
 
@@ -52,11 +52,11 @@ picked_map : {A B : Type 0} (f : A → B) (es : List A) (ns : List ℕ) → AllB
 picked_map f es [] h = refl
 picked_map f es (n ∷ ns) h = let x = slice_get-there es n h.0 in rw (x.1, slice_get-map f es n x.0 x.1) (ap (λ l. f x.0 ∷ l) (picked_map f es ns h.1))
 
-wider : (ns : List ℕ) (a b : ℕ) → a ≤ b → AllByRecursion (λ n. n < a) ns → AllByRecursion (λ n. n < b) ns
+pub wider : (ns : List ℕ) (a b : ℕ) → a ≤ b → AllByRecursion (λ n. n < a) ns → AllByRecursion (λ n. n < b) ns
 wider [] a b l h = tt
 wider (n ∷ ns) a b l h = (omega (arith, l, h.0), wider ns a b l h.1)
 
-picked_length : {A : Type 0} (es : List A) (ns : List ℕ) → AllByRecursion (λ n. n < length es) ns → length (picked es ns) ≡ length ns
+pub picked_length : {A : Type 0} (es : List A) (ns : List ℕ) → AllByRecursion (λ n. n < length es) ns → length (picked es ns) ≡ length ns
 picked_length es [] h = refl
 picked_length es (n ∷ ns) h = let x = slice_get-there es n h.0 in rw x.1 (ap suc (picked_length es ns h.1))
 
@@ -66,7 +66,7 @@ zipped [] (x ∷ xs) e = absurd (omega (arith, e))
 zipped (t ∷ ts) [] e = absurd (omega (arith, e))
 zipped (t ∷ ts) (x ∷ xs) e = let z = zipped ts xs (omega (arith, e)) in ((t, x) ∷ z.0, ap (λ l. t ∷ l) z.1, ap (λ l. x ∷ l) z.2)
 
-values_length : {A : Type 0} (m : Meaning A) (vs : List A) (regs : List RecipeTree) (xs : List A) → values m vs (recipe_trees regs) ≡ Some xs → length xs ≡ length regs
+pub values_length : {A : Type 0} (m : Meaning A) (vs : List A) (regs : List RecipeTree) (xs : List A) → values m vs (recipe_trees regs) ≡ Some xs → length xs ≡ length regs
 values_length m vs [] xs e = let s : [] ≡ xs = cc in ap length (sym s)
 values_length m vs (r ∷ regs) xs e = let c = consed (value m vs r) (values m vs (recipe_trees regs)) xs e in ap length c.4 ∙ ap suc (values_length m vs regs c.1 c.3)
 
@@ -81,7 +81,7 @@ all_parts : {A : Type 0} (P : A → Type 0) (xs ys : List A) → AllByRecursion 
 all_parts P [] ys h = (tt, h)
 all_parts P (x ∷ xs) ys h = let r = all_parts P xs ys h.1 in ((h.0, r.0), r.1)
 
-did_cases : (did : List (ℕ × Work)) (at bt : ℕ) (w v : Work) → Did (did ++ (at, w) ∷ []) bt v → Did did bt v ⊎ ((at ≡ bt) × (w ≡ v))
+pub did_cases : (did : List (ℕ × Work)) (at bt : ℕ) (w v : Work) → Did (did ++ (at, w) ∷ []) bt v → Did did bt v ⊎ ((at ≡ bt) × (w ≡ v))
 did_cases [] at bt w v (inl h) = inr h
 did_cases [] at bt w v (inr h) = absurd h
 did_cases (d ∷ did) at bt w v (inl h) = inl (inl h)

@@ -80,7 +80,7 @@ pub operands_long : (ts : List Tree) (ids : List NodeId) → length (operands_at
 operands_long ts [] = refl
 operands_long ts (i ∷ ids) = ap suc (operands_long ts ids)
 
-all_listed : (S : List Tree) (ts : Trees) → all_compose S ts ≡ list_all (composes S) (list_of ts)
+pub all_listed : (S : List Tree) (ts : Trees) → all_compose S ts ≡ list_all (composes S) (list_of ts)
 all_listed S none = refl
 all_listed S (more t ts) = ap (λ b. composes S t && b) (all_listed S ts)
 
@@ -106,12 +106,12 @@ tree_at_front ts n (Apply o ids) h u = ap (λ us. node o (trees_of us)) (front i
         length_front [] (suc m) h = absurd (omega (arith, h))
         length_front (x ∷ xs) (suc m) h = ap suc (length_front xs m (omega (arith, h)))
 
-operands_take : (ts : List Tree) (n : ℕ) (ids : List NodeId) → operands_at ts (take n ids) ≡ take n (operands_at ts ids)
+pub operands_take : (ts : List Tree) (n : ℕ) (ids : List NodeId) → operands_at ts (take n ids) ≡ take n (operands_at ts ids)
 operands_take ts zero ids = refl
 operands_take ts (suc n) [] = refl
 operands_take ts (suc n) (i ∷ ids) = ap (λ l. unwrap_or (slice_get ts i.0) (leaf 0) ∷ l) (operands_take ts n ids)
 
-operands_drop : (ts : List Tree) (n : ℕ) (ids : List NodeId) → operands_at ts (drop n ids) ≡ drop n (operands_at ts ids)
+pub operands_drop : (ts : List Tree) (n : ℕ) (ids : List NodeId) → operands_at ts (drop n ids) ≡ drop n (operands_at ts ids)
 operands_drop ts zero ids = refl
 operands_drop ts (suc n) [] = refl
 operands_drop ts (suc n) (i ∷ ids) = operands_drop ts n ids

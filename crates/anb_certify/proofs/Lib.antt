@@ -8,3 +8,14 @@ pub mod Finding
 pub mod Refusing
 pub mod Classing
 pub mod Unique
+pub mod Telling
+pub mod Walking
+pub mod Linking
+pub mod Placing
+pub mod Signing
+pub mod Grouping
+pub mod Ruling
+pub mod Framing
+pub mod Tabling
+pub mod Results
+pub mod Ending

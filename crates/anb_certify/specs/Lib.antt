@@ -8,6 +8,11 @@ pub mod Statements
 pub mod Decided
 pub mod Classes
 -- for proofs alone
+pub mod Works
+pub mod Numbered
+pub mod Signs
+pub mod Links
+pub mod Walking
 pub mod Tables
 pub mod Flags
 pub mod Found

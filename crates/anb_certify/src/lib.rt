@@ -1,13 +1,23 @@
 //! Certifying role codes that came from elsewhere, and reasons for a refusal.
 #![tactic(auto)]
 
+mod certifying;
+mod classes;
+mod firsts;
 mod found;
+mod frames;
 mod laws;
+mod links;
 mod numbers;
 mod reasons;
 mod refusal;
+mod rules;
 mod shut_lists;
+mod signs;
+mod table;
+mod works;
 
+pub use certifying::certify;
 pub use laws::{
     certified_fits, classes_are_tied, none_is_both, refusals_are_unique, shut_has_none,
 };

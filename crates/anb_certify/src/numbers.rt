@@ -111,7 +111,7 @@ pub(crate) fn is_parted(marks: &[bool], composing: &[bool], node: &Node) -> bool
 }
 
 /// The first numbers.
-fn front(ids: &[NodeId], count: usize) -> &[NodeId]
+pub(crate) fn front(ids: &[NodeId], count: usize) -> &[NodeId]
     ensures { result.now ≡ take count ids.now }
 {
     if count < ids.len() {
@@ -121,7 +121,7 @@ fn front(ids: &[NodeId], count: usize) -> &[NodeId]
 }
 
 /// The numbers behind the first ones.
-fn back(ids: &[NodeId], count: usize) -> &[NodeId]
+pub(crate) fn back(ids: &[NodeId], count: usize) -> &[NodeId]
     ensures { result.now ≡ drop count ids.now }
 {
     if count < ids.len() {

@@ -1,0 +1,22 @@
+use Rattle.std.proofs.Common.{◌≡◌, ◌++◌, ◌∷◌, [], ℕ, List, length, map, sym, ap, ◌∙◌, true, arith}
+use Rattle.anb_plays.specs.Codes.{Work}
+use Rattle.anb_term.proofs.Lists.{map-append}
+use Rattle.anb_certify.specs.Works.{did_of, work_of}
+use Rattle.anb_certify.specs.Numbered.{did_in}
+use Rattle.anb_certify.proofs.Flagging.{operands_long}
+use Rattle.anb_certify.proofs.table.Table.work.Goals as goal
+
+pub returns-clause-works : goal.returns-clause-works
+returns-clause-works c e =
+    let s = c.args.self.now in
+    let wrote = c.in_ok-works.ensures.written.1 e in
+    let D : ℕ → List (ℕ × Work) = λ n. did_in s ++ (n, work_of c.args.job) ∷ [] in
+    let at : c.len-at.result ≡ length s.ids.items = omega (arith, c.len-at.ensures, s.ids.ok.0) in
+    let B : ℕ → List (ℕ × Work) = λ n. did_in s ++ (n, work_of c.args.job) ∷ [] in
+    record {
+      wrote = wrote.0;
+      worked = wrote.1;
+      terms = wrote.2;
+      did = ap (map did_of) c.in_ok-push.ensures.items ∙ map-append did_of c.write.new.self.done.items (_ ∷ []) ∙ ap (λ l. l ++ (c.len-at.result, work_of c.args.job) ∷ []) wrote.3 ∙ ap B at
+          ∙ ap D (sym (operands_long s.pool s.ids.items));
+    }

@@ -1,0 +1,145 @@
+//! Classes of registers that are tied.
+ghost use Rattle.std.specs.Prelude.{◌≡◌, ◌↔◌, ◌<◌, ℕ, List, length, map, true, All, IfOk};
+ghost use Rattle.std.specs.List.{AllByRecursion};
+ghost use Rattle.anb_term.specs.Tree.{Tree};
+ghost use Rattle.anb_plays.specs.Codes.{Work};
+ghost use Rattle.anb_certify.specs.Classes.{in_class, AreNamed, Saturated};
+ghost use Rattle.anb_certify.specs.Links.{AreTiedLinks};
+ghost use Rattle.anb_certify.specs.Numbered.{AreBelow, AreGrouped, AreSettled};
+ghost use Rattle.anb_certify.specs.Tied.{Tied};
+ghost use Rattle.anb_certify.specs.Works.{did_of, AreTold};
+
+use crate::firsts::settled;
+use crate::laws::classes_are_tied;
+use crate::links::{Pair, links};
+use crate::works::Done;
+use anb_term::NoMemory;
+use std::alloc::Global;
+
+/// For each register, the register that its class is named by: two are tied exactly where these are
+/// equal. Where comparisons tie each register to the first of its term, that takes one look at each;
+/// else each round of looks ties what the round before makes the rules tie.
+pub(crate) fn classes(alloc: Global, firsts: &[u32], done: &[Done]) -> Result<Vec<u32>, NoMemory>
+    requires few { length firsts.now < 4294967296 }
+    requires grouped { (ts : List Tree) × AreGrouped ts (map did_of done.now) firsts.now }
+    ensures long { IfOk result (λ names. length names.items ≡ length firsts.now) }
+    ensures below { IfOk result (λ names. AreBelow (length firsts.now) names.items) }
+    ensures exact { IfOk result (λ names. (a b : ℕ) → Tied (map did_of done.now) a b
+        ↔ (in_class names.items a b ≡ true)) }
+{
+    classes_are_tied();
+    let flags = settled(alloc, firsts, done)?;
+    let names = begun(alloc, firsts, &flags)?;
+    if all_set(&flags) {
+        return Ok(names);
+    }
+    saturated(alloc, names, done)
+}
+
+/// Whether all flags are set.
+fn all_set(flags: &[bool]) -> bool
+    ensures { result ≡ true → All (λ flag. flag ≡ true) flags.now }
+{
+    for flag in flags {
+        if !*flag {
+            return false;
+        }
+    }
+    true
+}
+
+/// A register with its flag set is named by the first of its term, and others by themselves.
+fn begun(alloc: Global, firsts: &[u32], flags: &[bool]) -> Result<Vec<u32>, NoMemory>
+    requires few { length firsts.now < 4294967296 }
+    requires long { length flags.now ≡ length firsts.now }
+    requires below { AreBelow (length firsts.now) firsts.now }
+    ensures long { IfOk result (λ names. length names.items ≡ length firsts.now) }
+    ensures below { IfOk result (λ names. AreBelow (length firsts.now) names.items) }
+    ensures named { IfOk result (λ names. (did : List (ℕ × Work))
+        → AreSettled did firsts.now flags.now → AreNamed did names.items) }
+    ensures all { IfOk result (λ names. All (λ flag. flag ≡ true) flags.now
+        → names.items ≡ firsts.now) }
+{
+    let mut names = Vec::new(alloc);
+    for i in 0..firsts.len() {
+        let name = if flags[i] { firsts[i] } else { i as u32 };
+        names.push(name)?;
+    }
+    Ok(names)
+}
+
+/// Ties what the rules tie, until nothing is left. Each round ties two classes at least, so there are
+/// never more rounds than registers.
+fn saturated(alloc: Global, mut names: Vec<u32>, done: &[Done]) -> Result<Vec<u32>, NoMemory>
+    requires few { length names.items < 4294967296 }
+    requires below { AreBelow (length names.items) names.items }
+    requires named { AreNamed (map did_of done.now) names.items }
+    requires told { (ts : List Tree) × (length ts ≡ length names.items)
+        × AreTold ts (map did_of done.now) }
+    ensures long { IfOk result (λ all. length all.items ≡ length names.items) }
+    ensures below { IfOk result (λ all. AreBelow (length names.items) all.items) }
+    ensures named { IfOk result (λ all. AreNamed (map did_of done.now) all.items) }
+    ensures saturated { IfOk result (λ all. Saturated (map did_of done.now) all.items) }
+{
+    for round in 0..=names.len() {
+        let _ = round;
+        let links = links(alloc, &names, done)?;
+        if links.is_empty() {
+            return Ok(names);
+        }
+        tie_all(&mut names, &links);
+    }
+    Err(NoMemory)
+}
+
+/// Ties all of these pairs, and then lets each register be named by the one that the others of its
+/// class are named by.
+fn tie_all(names: &mut [u32], links: &[Pair])
+    requires below { AreBelow (length names.old) names.old }
+    requires links { AllByRecursion (λ l. (l.0 < length names.old) × (l.1 < length names.old))
+        links.now }
+    ensures long { length names.new ≡ length names.old }
+    ensures below { AreBelow (length names.old) names.new }
+    ensures named { (did : List (ℕ × Work)) → AreNamed did names.old
+        → AreTiedLinks (length names.old) did links.now → AreNamed did names.new }
+{
+    for link in links {
+        tie(names, link.0, link.1);
+    }
+    for i in 0..names.len() {
+        names[i] = names[names[i] as usize];
+    }
+}
+
+/// Names the later of the roots of two registers by the earlier.
+fn tie(names: &mut [u32], a: u32, b: u32)
+    requires below { AreBelow (length names.old) names.old }
+    requires first { a < length names.old }
+    requires second { b < length names.old }
+    ensures long { length names.new ≡ length names.old }
+    ensures below { AreBelow (length names.old) names.new }
+    ensures named { (did : List (ℕ × Work)) → AreNamed did names.old → Tied did a b
+        → AreNamed did names.new }
+{
+    let a = root(names, a);
+    let b = root(names, b);
+    if a < b {
+        names[b as usize] = a;
+    } else {
+        names[a as usize] = b;
+    }
+}
+
+/// The first register on the way from a register to the one that it is named by, and on.
+fn root(names: &[u32], from: u32) -> u32
+    requires below { AreBelow (length names.now) names.now }
+    requires within { from < length names.now }
+    ensures within { result < length names.now }
+    ensures tied { (did : List (ℕ × Work)) → AreNamed did names.now → Tied did from result }
+{
+    let mut at = from;
+    while names[at as usize] < at {
+        at = names[at as usize];
+    }
+    at
+}
