@@ -85,8 +85,8 @@ fn other_records_are_refused(rt: HostRuntime) -> Result<(), Fail> {
     check(&rt, rt.alloc(), &ran, 30, line, "")
 }
 
-/// Each call of a slow wire fails in turn: its fault is told, and what is written is a prefix of what is
-/// due. The last run meets no fault, and leaves this status and all that is due.
+/// Each call of a slow wire fails in turn: its fault is told, and what is written is a prefix of
+/// what is due. The last run meets no fault, and leaves this status and all that is due.
 fn each_call_fails(
     rt: &impl Abort,
     alloc: Global,
@@ -166,8 +166,8 @@ fn each_fetch_that_fails_names_its_file(rt: HostRuntime) -> Result<(), Fail> {
     each_fetch_fails(&rt, alloc, resume, given, &["n", "r", "t"])
 }
 
-/// A of Needham and Schroeder is parked before its first arrival and after each of them. Its messages
-/// have 43, 10 and 71 bytes in their frames, and its arrivals 113 and 71.
+/// A of Needham and Schroeder is parked before its first arrival and after it, and ends. Its frames
+/// have 43, 10 and 71 bytes, and those of its arrivals 113 and 71.
 #[test]
 fn what_is_written_piece_by_piece_is_one_play(rt: HostRuntime) -> Result<(), Fail> {
     let alloc = rt.alloc();
