@@ -1,7 +1,7 @@
 //! Sessions that are parked and gone on from. The record was computed in Python, with hashlib, hmac and
 //! ChaCha20 as RFC 8439 states it.
 use crate::play::{SHARED_KEYS, SHARED_KEYS_INPUT, SHARED_KEYS_OUTPUT, SHARED_KEYS_VALUES};
-use crate::running::{Given, Ran, check, run_words};
+use crate::running::{Given, Ran, check, run_failing, run_words};
 use std::alloc::Global;
 use std::process::Abort;
 use std::test::Fail;
@@ -38,6 +38,14 @@ fn given_key<'a>(narration: &'a str, values: &'a str, input: &'a str) -> Given<'
     let mut given = Given::new(narration, values, input);
     given.transcript = "key";
     given
+}
+
+/// The same over a wire that moves single bytes.
+fn slow(given: Given<'_>) -> Given<'_> {
+    Given {
+        slow: true,
+        ..given
+    }
 }
 
 /// Goes on as A.
@@ -85,8 +93,8 @@ fn other_records_are_refused(rt: HostRuntime) -> Result<(), Fail> {
     check(&rt, rt.alloc(), &ran, 30, line, "")
 }
 
-/// Each call of a slow wire fails in turn: its fault is told, and what is written is a prefix of what is
-/// due. The last run meets no fault, and leaves this status and all that is due.
+/// Each call of a slow wire fails in turn: its fault is told, and what is written is a prefix of
+/// what is due. The last run meets no fault, and leaves this status and all that is due.
 fn each_call_fails(
     rt: &impl Abort,
     alloc: Global,
@@ -96,11 +104,7 @@ fn each_call_fails(
     due: &str,
 ) -> Result<(), Fail> {
     for call in 1..2000 {
-        let fails = [call];
-        let mut given = given;
-        given.slow = true;
-        given.wire_fails = &fails;
-        let ran = run_words(alloc, words, given)?;
+        let ran = run_failing(alloc, words, given, call, 0)?;
         let written = hex::encode(alloc, ran.wire.written())?;
         if ran.number == number {
             assert_eq!(rt; written.as_str(), due);
@@ -118,16 +122,30 @@ fn each_call_that_fails_is_told_and_leaves_a_prefix(rt: HostRuntime) -> Result<(
     let alloc = rt.alloc();
     let park = ["park", "n", "A", "v", "t"].as_slice();
     let due = format!(in alloc; "{FRAME}0000006d{RECORD}")?;
-    each_call_fails(&rt, alloc, park, given_key(PING, VALUES, ""), 29, &due)?;
+    each_call_fails(
+        &rt,
+        alloc,
+        park,
+        slow(given_key(PING, VALUES, "")),
+        29,
+        &due,
+    )?;
     let again = format!(in alloc; "0000006d{RECORD}")?;
     let resume = ["resume", "n", "A", "r", "t"].as_slice();
-    each_call_fails(&rt, alloc, resume, given_record(RECORD, ""), 29, &again)?;
+    each_call_fails(
+        &rt,
+        alloc,
+        resume,
+        slow(given_record(RECORD, "")),
+        29,
+        &again,
+    )?;
     let resume = ["resume", "n", "B", "r", "t"].as_slice();
     each_call_fails(
         &rt,
         alloc,
         resume,
-        given_record(RECORD_OF_B, FRAME),
+        slow(given_record(RECORD_OF_B, FRAME)),
         0,
         FRAME,
     )
@@ -142,13 +160,10 @@ fn each_fetch_fails(
     given: Given,
     files: &[&str],
 ) -> Result<(), Fail> {
-    let mut fetch = 0;
+    let mut fetch = 0u32;
     for file in files {
-        fetch += 1;
-        let fails = [fetch];
-        let mut given = given;
-        given.shelf_fails = &fails;
-        let ran = run_words(alloc, words, given)?;
+        fetch = fetch.saturating_add(1);
+        let ran = run_failing(alloc, words, given, 0, fetch)?;
         let line = format!(in alloc; "anb: can't read {file}\n")?;
         check(rt, alloc, &ran, 2, &line, "")?;
     }
@@ -166,8 +181,8 @@ fn each_fetch_that_fails_names_its_file(rt: HostRuntime) -> Result<(), Fail> {
     each_fetch_fails(&rt, alloc, resume, given, &["n", "r", "t"])
 }
 
-/// A of Needham and Schroeder is parked before its first arrival and after each of them. Its messages
-/// have 43, 10 and 71 bytes in their frames, and its arrivals 113 and 71.
+/// A of Needham and Schroeder is parked before its first arrival and after it, and ends. Its frames
+/// have 43, 10 and 71 bytes, and those of its arrivals 113 and 71.
 #[test]
 fn what_is_written_piece_by_piece_is_one_play(rt: HostRuntime) -> Result<(), Fail> {
     let alloc = rt.alloc();

@@ -53,11 +53,35 @@ pub(crate) struct Ran {
 
 /// Runs the words.
 pub(crate) fn run_words(alloc: Global, words: &[&str], given: Given) -> Result<Ran, Fail> {
+    let shelf = shelf_of(alloc, given)?;
+    let wire = wire_of(alloc, given)?;
+    run_over(alloc, words, shelf, wire, given.seed)
+}
+
+/// Runs the words where these calls alone fail: this one of the wire and this fetch, each counted from 1.
+/// 0 is no call.
+pub(crate) fn run_failing(
+    alloc: Global,
+    words: &[&str],
+    given: Given,
+    call: u32,
+    fetch: u32,
+) -> Result<Ran, Fail> {
+    let shelf = failing_shelf(alloc, given, &[fetch])?;
+    let wire = failing_wire(alloc, given, &[call])?;
+    run_over(alloc, words, shelf, wire, given.seed)
+}
+
+fn run_over(
+    alloc: Global,
+    words: &[&str],
+    mut shelf: MemShelf,
+    mut wire: MemWire,
+    seed: Option<[u8; 32]>,
+) -> Result<Ran, Fail> {
     let texts = texts_of(alloc, words)?;
-    let mut shelf = shelf_of(alloc, given)?;
-    let mut wire = wire_of(alloc, given)?;
     let mut err = empty_wire(alloc)?;
-    let status = run(alloc, &texts, &mut shelf, &mut wire, &mut err, given.seed);
+    let status = run(alloc, &texts, &mut shelf, &mut wire, &mut err, seed);
     Ok(Ran {
         number: status.number(),
         wire,
@@ -81,6 +105,11 @@ pub(crate) fn empty_wire(alloc: Global) -> Result<MemWire, NoMemory> {
 
 /// The shelf with the files `n`, `v`, `t` and `r`.
 pub(crate) fn shelf_of(alloc: Global, given: Given) -> Result<MemShelf, Fail> {
+    failing_shelf(alloc, given, given.shelf_fails)
+}
+
+/// The same where these fetches fail.
+fn failing_shelf(alloc: Global, given: Given, fails: &[u32]) -> Result<MemShelf, Fail> {
     let mut files = Vec::new(alloc);
     files.push((text(alloc, "n")?, bytes(alloc, given.narration.as_bytes())?))?;
     files.push((text(alloc, "v")?, bytes(alloc, given.values.as_bytes())?))?;
@@ -90,14 +119,19 @@ pub(crate) fn shelf_of(alloc: Global, given: Given) -> Result<MemShelf, Fail> {
     ))?;
     let record = Bytes::new(hex::decode(alloc, given.record.as_bytes())?);
     files.push((text(alloc, "r")?, record))?;
-    let fails = Vec::from_slice(alloc, given.shelf_fails)?;
+    let fails = Vec::from_slice(alloc, fails)?;
     Ok(MemShelf::new(alloc, files, fails)?)
 }
 
 fn wire_of(alloc: Global, given: Given) -> Result<MemWire, Fail> {
+    failing_wire(alloc, given, given.wire_fails)
+}
+
+/// The wire where these calls fail.
+fn failing_wire(alloc: Global, given: Given, fails: &[u32]) -> Result<MemWire, Fail> {
     let piece = if given.slow { 1 } else { 1024 };
     let input = Bytes::new(hex::decode(alloc, given.input.as_bytes())?);
-    let fails = Vec::from_slice(alloc, given.wire_fails)?;
+    let fails = Vec::from_slice(alloc, fails)?;
     Ok(MemWire::new(alloc, input, piece, 1024, fails)?)
 }
 

@@ -36,8 +36,9 @@ module _ (outputs : ℕ → List (List ℕ)) (tails : ℕ → Tail) (statuses : 
 -- faults and want of memory it has one outcome.
 abbrev pub RelaysAreDue : Type 0
 RelaysAreDue =
-    (outputs : ℕ → List (List ℕ)) (tails : ℕ → Tail) (statuses : ℕ → ℕ) (roles : ℕ) (old new : ℕ → Child)
-    (words : List (List (List ℕ))) (actions : List Ends) → AreTold outputs tails statuses roles old
+    (outputs : ℕ → List (List ℕ)) (tails : ℕ → Tail) (statuses : ℕ → ℕ)
+    (roles : ℕ) (old new : ℕ → Child) (words : List (List (List ℕ))) (actions : List Ends)
+    → AreTold outputs tails statuses roles old
     → (IsRelayed roles old new words actions → due_of outputs tails statuses roles actions ≡ None)
     × ((refusal : RelayNo) → IsRefused roles old new words actions refusal
     → IsDue outputs tails statuses roles actions refusal)

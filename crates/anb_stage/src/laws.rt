@@ -23,9 +23,9 @@ pub fn stages_are_honest(p: &Protocol)
     one_cut(ARRIVAL);
 }
 
-/// A law: where the children's outputs and statuses are told, a relay is refused by the first message
-/// that is missing, or else by the first child that ended badly, and is whole where there is neither.
-/// So it has one outcome, but for faults of children and want of memory.
+/// A law: where the children's outputs and statuses are told, a relay is refused by the first
+/// message that is missing, or else by the first child that ended badly, and is whole where there is
+/// neither. So it has one outcome, but for faults of children and want of memory.
 pub fn relays_are_due()
     ensures { RelaysAreDue }
 {}

@@ -1,5 +1,5 @@
 -- What is answered where the children are told is what is due.
-use Rattle.std.proofs.Common.{◌≡◌, ◌⊎◌, ℕ, true, false, List, [], length, Option, Some, None, refl, ap, sym, ◌∙◌, subst, inl, inr}
+use Rattle.std.proofs.Common.{◌≡◌, ◌⊎◌, ℕ, true, List, [], length, Option, Some, None, refl, ap, sym, ◌∙◌, subst, inl, inr}
 use Rattle.std.specs.Prelude.{IfSome}
 use Rattle.anb_frame.specs.Cuts.{Tail}
 use Rattle.anb_read.specs.Laws.{NarrationsAreUnique, RefusalsAreUnique, NoneIsBoth}
@@ -11,18 +11,18 @@ use Rattle.anb_stage.proofs.Due.{IsOfOutputs, due_of_outputs}
 use Rattle.anb_stage.specs.declared.refusal.RelayNo.{RelayNo}
 use Rattle.anb_stage.specs.declared.refusal.RelayNo.TheVariants as no
 use Rattle.anb_command.specs.declared.status.Status.{Status}
-use Rattle.anb_command.specs.declared.status.Status.TheVariants.{FileFault, NoMemory}
-use Rattle.anb_command.specs.Fetches.{Files, IfTold}
+use Rattle.anb_command.specs.declared.status.Status.TheVariants.{NoMemory}
+use Rattle.anb_command.specs.Fetches.{Files}
 use Rattle.anb_command.specs.Roles.{SendableInFile}
 use Rattle.anb_command.specs.Statuses.{is_fault}
 use Rattle.anb_command.specs.Steps.{Answer, HasOneAnswer, IsFailure, given, refused}
 use Rattle.anb_command.specs.Writing.{IsWriting, IsWritingOne, IsWritten, WritesLess}
 use Rattle.anb_command.proofs.Chains.{told_map}
 use Rattle.anb_command.proofs.Failing.{IsFailure-map}
-use Rattle.anb_command.proofs.Ones.{IsQuiet, IsSettled, RefusesQuietly, is_quiet, narration_in_file_quiet, not_both, one_settled, protocol_quiet, quiet_as, same_refusal, send_quiet, sendable_one, then_one, then_quiet}
+use Rattle.anb_command.proofs.Ones.{IsQuiet, RefusesQuietly, is_quiet, narration_in_file_quiet, not_both, one_settled, protocol_quiet, quiet_as, same_refusal, send_quiet, sendable_one, then_one, then_quiet}
 use Rattle.anb_command.proofs.Written.{faulty, put_nothing, refusal, the_one, written}
 use Rattle.anb_stage_commands.specs.Words.{Staged, words_for}
-use Rattle.anb_stage_commands.specs.StageCommand.{AreToldOf, DoesStage, IsAnswered, StageOf, StageText, answer_of, status_of}
+use Rattle.anb_stage_commands.specs.StageCommand.{AreToldOf, DoesStage, StageOf, StageText, answer_of, status_of}
 use Rattle.anb_stage_commands.specs.Relaying.{FailsInFile, FailsRelaying, Relays, RelaysInFile, Stay}
 use Rattle.anb_stage_commands.proofs.Outcomes.{staged_refused, staged_text}
 
@@ -82,7 +82,7 @@ module _ (narrations : NarrationsAreUnique) (refusals : RefusalsAreUnique) (none
     refused_file : (status : Status) → IsFailure status (λ file. Unit {0}) (SendableInFile files s.narration (refused status)) → IsWriting Text status w w
     refused_file status fails =
         refusal Text (one_settled Text one) w w status (λ file. Unit {0}) quiet (
-          IsFailure-map status (λ file. Unit {0}) (λ file. Unit {0}) _ _ (λ file is. is) (λ f. inl (status, f, refl)) fails
+        IsFailure-map status (λ file. Unit {0}) (λ file. Unit {0}) _ _ (λ file is. is) (λ f. inl (status, f, refl)) fails
         ) (put_nothing w)
 
     by_refusal : (p : ProtocolValue) (r : RelayNo) → SendableInFile files s.narration (given p) → IsRefused (length p.roles) old new (words_for s p.roles) (ends_in p) r → IsWriting Text (status_of p r) w w

@@ -182,7 +182,8 @@ fn each_call_may_fail(rt: HostRuntime) -> Result<(), Fail> {
         assert_eq!(&rt; staged.number, 31);
         assert_eq!(&rt; staged.err.written(), line.as_bytes());
     }
-    assert_eq!(&rt; ping(&rt, alloc, FRAME, 0, 13)?.number, 0);
+    let staged = ping(&rt, alloc, FRAME, 0, 13)?;
+    assert_eq!(&rt; staged.number, 0);
     Ok(())
 }
 
