@@ -7,6 +7,7 @@ _anb_words() {
         play | host) echo narration role values place ;;
         replay) echo narration role values file ;;
         rehearse) echo narration values file ;;
+        certify) echo narration role file ;;
         why) echo narration ;;
         park) echo narration role values file place ;;
         resume) echo narration role file file place ;;
@@ -30,7 +31,7 @@ _anb() {
     local word=${COMP_WORDS[COMP_CWORD]} before=${COMP_WORDS[COMP_CWORD-1]} kinds kind
     COMPREPLY=()
     if ((COMP_CWORD == 1)); then
-        mapfile -t COMPREPLY < <(compgen -W 'fmt compile explain play enact host replay rehearse drill why park resume stage chart help' -- "$word")
+        mapfile -t COMPREPLY < <(compgen -W 'fmt compile explain play enact host replay rehearse drill certify why park resume stage chart help' -- "$word")
         return
     fi
     read -ra kinds < <(_anb_words "${COMP_WORDS[1]}")

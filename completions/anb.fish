@@ -34,6 +34,7 @@ complete -c anb -n __fish_use_subcommand -a host -d 'Serve many sessions of a ro
 complete -c anb -n __fish_use_subcommand -a replay -d 'Compare a transcript with a role'
 complete -c anb -n __fish_use_subcommand -a rehearse -d 'Rehearse all roles'
 complete -c anb -n __fish_use_subcommand -a drill -d 'Write the numbers of a drill'
+complete -c anb -n __fish_use_subcommand -a certify -d 'Certify the code of a role file'
 complete -c anb -n __fish_use_subcommand -a why -d 'Say why a narration is refused'
 complete -c anb -n __fish_use_subcommand -a park -d 'Play a role and park it'
 complete -c anb -n __fish_use_subcommand -a resume -d 'Go on from a parked session'
@@ -51,6 +52,9 @@ complete -c anb -n '__anb_at 2 enact' -k -a '(__fish_complete_suffix .values)'
 complete -c anb -n '__anb_at 1 rehearse' -k -a '(__fish_complete_suffix .anb)'
 complete -c anb -n '__anb_at 2 rehearse' -k -a '(__fish_complete_suffix .values)'
 complete -c anb -n '__anb_at 3 rehearse' -F
+complete -c anb -n '__anb_at 1 certify' -k -a '(__fish_complete_suffix .anb)'
+complete -c anb -n '__anb_at 2 certify' -a '(__anb_roles)' -d Role
+complete -c anb -n '__anb_at 3 certify' -F
 complete -c anb -n '__anb_at 1 why' -k -a '(__fish_complete_suffix .anb)'
 complete -c anb -n '__anb_at 1 park' -k -a '(__fish_complete_suffix .anb)'
 complete -c anb -n '__anb_at 2 park' -a '(__anb_roles)' -d Role

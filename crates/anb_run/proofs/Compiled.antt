@@ -1,4 +1,5 @@
--- A file that `compile` wrote is enacted as its role is played.
+-- A role file of a code that fits is enacted as its role is played: one that `compile` wrote, and one that
+-- `certify` certified.
 use Rattle.std.proofs.Common.{◌≡◌, ℕ, Bool, List, [], length, None, Option, refl, sym, ap, ◌∙◌, subst, inl, inr}
 use Rattle.std.specs.List.{AllByRecursion}
 use Rattle.std.proofs.lemmas.List.{length-map}
@@ -12,7 +13,10 @@ use Rattle.anb_machine.specs.ByteRuns.{run_bytes}
 use Rattle.anb_plays.specs.Plays as plays
 use Rattle.anb_plays.specs.Plays.{Played}
 use Rattle.anb_plays.specs.Runs.{no_place, without_place}
+use Rattle.anb_compile.specs.Fitting.{FitsRole}
+use Rattle.anb_compile.specs.Laws.{FittingCodesPlay}
 use Rattle.anb_read.specs.Laws.{NarrationsAreUnique, NoneIsBoth, RefusalsAreUnique}
+use Rattle.anb_resolve.specs.Protocols.{ProtocolValue}
 use Rattle.anb_resolve.specs.Texts.{known_by, known_texts, term_text}
 use Rattle.anb_text.specs.Laws.{CodesAreUnique, FaultsAreUnique, FilesAreUnique, NoneIsBoth as NoFileIsFaulty}
 use Rattle.anb_values.specs.declared.fitted.Fitted.{Fitted}
@@ -22,20 +26,22 @@ use Rattle.anb_command.specs.declared.status.Status.TheVariants.{Stopped}
 use Rattle.anb_command.specs.declared.words.RoleText.TheVariants.{RoleFile}
 use Rattle.anb_command.specs.Errands.{Errand, ErrandOf, draws}
 use Rattle.anb_command.specs.Fetches.{Files}
-use Rattle.anb_command.specs.Files.{CodeInFile, HasFile, ValuesInFile}
+use Rattle.anb_command.specs.Files.{CodeInFile, HasFile, ProtocolInFile, ValuesInFile}
 use Rattle.anb_command.specs.Outcomes.{IsPlayed, IsRefused, LeavesAt, Outcome, status_at}
-use Rattle.anb_command.specs.Roles.{Part, PartInFile}
+use Rattle.anb_command.specs.Roles.{Part, PartInFile, PartOf, RoleIs}
 use Rattle.anb_command.specs.Seeds.{SeedIs}
 use Rattle.anb_command.specs.Statuses.{before_reach, phase_of}
 use Rattle.anb_command.specs.Steps.{Answer, refused, given, InTurn, AnswersWith}
 use Rattle.anb_command.proofs.Cutting.{bytes_in_cut}
-use Rattle.anb_command.proofs.Ones.{as_given, as_refused, code_in_file_one, not_both, part_one, same_given}
+use Rattle.anb_command.proofs.Ones.{as_given, as_refused, code_in_file_one, not_both, part_one, protocol_in_file_one, role_one, same_given}
+use Rattle.anb_reason_commands.specs.CertifyCommand.{IsCertificate}
 use Rattle.anb_role_commands.specs.EnactCommand.{ErrandIs, RunOf}
 use Rattle.anb_role_commands.specs.Jobs.{Job, JobIs, JobOf, makes_names}
 use Rattle.anb_role_commands.specs.PlayCommand.{PlayOf}
 use Rattle.anb_role_commands.proofs.Draws.{draws_as_made}
 use Rattle.anb_role_commands.proofs.Tasks.{job_quiet}
 use Rattle.anb_text_commands.specs.TextCommands.{IsDescribed}
+use Rattle.anb_run.specs.Certified.{CertifiedFilesPlay}
 use Rattle.anb_run.specs.Compiled.{CompiledFilesPlay, IsEnactedAsPlayed, IsLoadedAgain, as_played}
 use Rattle.anb_run.proofs.Given.{fit_bytes, fit_count}
 
@@ -94,48 +100,49 @@ module _ (files : Files) (values : List ℕ) (host_seed : Option (List ℕ)) (co
       let same : errand ≡ record { code = code; initial = fitted.values; seed = seed } = same_given errand (record { code = code; initial = fitted.values; seed = seed }) is in
       subst (IsErrand code) (sym same) (record { same = refl; count = fit_count text (take_texts code.instrs) fitted fit; bytes = fit_bytes text (take_texts code.instrs) fitted fit })
 
--- ---- a role file that was written
+-- ---- a role file of a code that fits
 
-module _ (files : Files) (narration name file values text : List ℕ) (host_seed : Option (List ℕ)) (part : Part) (d : IsDescribed RoleFile part text) where
+module _ (files : Files) (narration name file values : List ℕ) (host_seed : Option (List ℕ)) (part : Part) (code : CodeValue)
+    (fits : FitsRole part.protocol part.role code) (fitting : FittingCodesPlay part.protocol) where
   abbrev job_by : Errand → Job
   job_by errand = record { protocol = part.protocol; role = part.role; initial = errand.initial; seed = errand.seed }
 
   abbrev errand_by : Job → Errand
-  errand_by job = record { code = d.code; initial = job.initial; seed = job.seed }
+  errand_by job = record { code = code; initial = job.initial; seed = job.seed }
 
-  seed_as : (told : Option (List ℕ)) (answer : Answer (List ℕ)) → SeedIs (draws d.code) told host_seed answer → SeedIs (makes_names part.protocol part.role) told host_seed answer
-  seed_as told answer is = subst (λ (b : Bool). SeedIs b told host_seed answer) (draws_as_made part.protocol part.role d.code d.fits) is
+  seed_as : (told : Option (List ℕ)) (answer : Answer (List ℕ)) → SeedIs (draws code) told host_seed answer → SeedIs (makes_names part.protocol part.role) told host_seed answer
+  seed_as told answer is = subst (λ (b : Bool). SeedIs b told host_seed answer) (draws_as_made part.protocol part.role code fits) is
 
-  seed_of : (told : Option (List ℕ)) (answer : Answer (List ℕ)) → SeedIs (makes_names part.protocol part.role) told host_seed answer → SeedIs (draws d.code) told host_seed answer
-  seed_of told answer is = subst (λ (b : Bool). SeedIs b told host_seed answer) (sym (draws_as_made part.protocol part.role d.code d.fits)) is
+  seed_of : (told : Option (List ℕ)) (answer : Answer (List ℕ)) → SeedIs (makes_names part.protocol part.role) told host_seed answer → SeedIs (draws code) told host_seed answer
+  seed_of told answer is = subst (λ (b : Bool). SeedIs b told host_seed answer) (sym (draws_as_made part.protocol part.role code fits)) is
 
   -- what is answered behind the values, and behind the seed too
   abbrev ErrandBy : Fitted → List ℕ → Answer Errand → Type 0
-  ErrandBy fitted seed = AnswersWith (record { code = d.code; initial = fitted.values; seed = seed })
+  ErrandBy fitted seed = AnswersWith (record { code = code; initial = fitted.values; seed = seed })
 
   abbrev JobBy : Fitted → List ℕ → Answer Job → Type 0
   JobBy fitted seed = AnswersWith (record { protocol = part.protocol; role = part.role; initial = fitted.values; seed = seed })
 
   abbrev ErrandFrom : Fitted → Answer Errand → Type 0
-  ErrandFrom fitted = InTurn (SeedIs (draws d.code) fitted.seed host_seed) (ErrandBy fitted)
+  ErrandFrom fitted = InTurn (SeedIs (draws code) fitted.seed host_seed) (ErrandBy fitted)
 
   abbrev JobFrom : Fitted → Answer Job → Type 0
   JobFrom fitted = InTurn (SeedIs (makes_names part.protocol part.role) fitted.seed host_seed) (JobBy fitted)
 
-  asked_as : (answer : Answer Errand) → ErrandOf files values host_seed d.code answer → JobOf files values host_seed part (answer_by job_by answer)
+  asked_as : (answer : Answer Errand) → ErrandOf files values host_seed code answer → JobOf files values host_seed part (answer_by job_by answer)
   asked_as =
-      in_turn_by job_by (ValuesInFile files values (take_texts d.code.instrs)) (ValuesInFile files values (known_texts part.protocol part.role)) ErrandFrom JobFrom
-      (λ answer is. subst (λ (ns : List (List ℕ)). ValuesInFile files values ns answer) d.fits.texts is)
-      (λ fitted answer first. in_turn_by job_by (SeedIs (draws d.code) fitted.seed host_seed) (SeedIs (makes_names part.protocol part.role) fitted.seed host_seed) (ErrandBy fitted) (JobBy fitted)
-      (seed_as fitted.seed) (λ seed last some is. by_errand last (record { code = d.code; initial = fitted.values; seed = seed }) is) answer) where
+      in_turn_by job_by (ValuesInFile files values (take_texts code.instrs)) (ValuesInFile files values (known_texts part.protocol part.role)) ErrandFrom JobFrom
+      (λ answer is. subst (λ (ns : List (List ℕ)). ValuesInFile files values ns answer) fits.texts is)
+      (λ fitted answer first. in_turn_by job_by (SeedIs (draws code) fitted.seed host_seed) (SeedIs (makes_names part.protocol part.role) fitted.seed host_seed) (ErrandBy fitted) (JobBy fitted)
+      (seed_as fitted.seed) (λ seed last some is. by_errand last (record { code = code; initial = fitted.values; seed = seed }) is) answer) where
         by_errand : (last : Answer Errand) (errand : Errand) → last ≡ given errand → answer_by job_by last ≡ given (job_by errand)
         by_errand last errand is = ap (answer_by job_by) is
 
-  asked_of : (answer : Answer Job) → JobOf files values host_seed part answer → ErrandOf files values host_seed d.code (answer_by errand_by answer)
+  asked_of : (answer : Answer Job) → JobOf files values host_seed part answer → ErrandOf files values host_seed code (answer_by errand_by answer)
   asked_of =
-      in_turn_by errand_by (ValuesInFile files values (known_texts part.protocol part.role)) (ValuesInFile files values (take_texts d.code.instrs)) JobFrom ErrandFrom
-      (λ answer is. subst (λ (ns : List (List ℕ)). ValuesInFile files values ns answer) (sym d.fits.texts) is)
-      (λ fitted answer first. in_turn_by errand_by (SeedIs (makes_names part.protocol part.role) fitted.seed host_seed) (SeedIs (draws d.code) fitted.seed host_seed) (JobBy fitted) (ErrandBy fitted)
+      in_turn_by errand_by (ValuesInFile files values (known_texts part.protocol part.role)) (ValuesInFile files values (take_texts code.instrs)) JobFrom ErrandFrom
+      (λ answer is. subst (λ (ns : List (List ℕ)). ValuesInFile files values ns answer) (sym fits.texts) is)
+      (λ fitted answer first. in_turn_by errand_by (SeedIs (makes_names part.protocol part.role) fitted.seed host_seed) (SeedIs (draws code) fitted.seed host_seed) (JobBy fitted) (ErrandBy fitted)
       (seed_of fitted.seed) (λ seed last some is. by_job last (record { protocol = part.protocol; role = part.role; initial = fitted.values; seed = seed }) is) answer) where
         by_job : (last : Answer Job) (job : Job) → last ≡ given job → answer_by errand_by last ≡ given (errand_by job)
         by_job last job is = ap (answer_by errand_by) is
@@ -147,30 +154,19 @@ module _ (files : Files) (narration name file values text : List ℕ) (host_seed
       let same : job ≡ record { protocol = part.protocol; role = part.role; initial = fitted.values; seed = seed } = same_given job (record { protocol = part.protocol; role = part.role; initial = fitted.values; seed = seed }) is in
       same ∙ ap (λ (j : Job). job_by (errand_by j)) (sym same)
 
-  count_known : (errand : Errand) → IsErrand d.code errand → length errand.initial ≡ length (known_by part.protocol part.role)
-  count_known errand is = is.count ∙ ap length d.fits.texts ∙ length-map (known_by part.protocol part.role) (term_text part.protocol)
+  count_known : (errand : Errand) → IsErrand code errand → length errand.initial ≡ length (known_by part.protocol part.role)
+  count_known errand is = is.count ∙ ap length fits.texts ∙ length-map (known_by part.protocol part.role) (term_text part.protocol)
 
   module _ (narrations : NarrationsAreUnique) (refusals : RefusalsAreUnique) (none : NoneIsBoth)
       (role_files : FilesAreUnique) (codes : CodesAreUnique) (no_file : NoFileIsFaulty) (faults : FaultsAreUnique)
-      (in_file : PartInFile files narration name (given part)) (has : HasFile files file ROLE_FILE_LIMIT text) where
-    it_is : CodeInFile files file (given d.code)
-    it_is = inr (text, has, (d.accepted, (d.spellable, inl d.is)))
-
-    once : (answer : Answer CodeValue) → CodeInFile files file answer → answer ≡ as_given CodeValue d.code
-    once answer is = code_in_file_one role_files codes no_file faults files file answer (given d.code) is it_is
-
-    pub loaded_again : IsLoadedAgain files narration name file text
-    loaded_again = record {
-      part = part;
-      role = in_file;
-      written = d;
-      loaded = λ answer. (once answer, λ is. subst (CodeInFile files file) (sym is) it_is);
-    }
+      (in_file : PartInFile files narration name (given part)) (it_is : CodeInFile files file (given code)) where
+    once : (answer : Answer CodeValue) → CodeInFile files file answer → answer ≡ as_given CodeValue code
+    once answer is = code_in_file_one role_files codes no_file faults files file answer (given code) is it_is
 
     -- what is asked of `enact` is asked of the code, and of `play` of the role
-    of_code : (answer : Answer Errand) → ErrandIs files file values host_seed answer → ErrandOf files values host_seed d.code answer
-    of_code answer (inl (t, first, is)) = not_both t d.code (once (refused t) first)
-    of_code answer (inr (loaded, first, next)) = subst (λ (c : CodeValue). ErrandOf files values host_seed c answer) (same_given loaded d.code (once (given loaded) first)) next
+    of_code : (answer : Answer Errand) → ErrandIs files file values host_seed answer → ErrandOf files values host_seed code answer
+    of_code answer (inl (t, first, is)) = not_both t code (once (refused t) first)
+    of_code answer (inr (loaded, first, next)) = subst (λ (c : CodeValue). ErrandOf files values host_seed c answer) (same_given loaded code (once (given loaded) first)) next
 
     of_part : (answer : Answer Job) → JobIs files narration name values host_seed answer → JobOf files values host_seed part answer
     of_part answer (inl (t, first, is)) = not_both t part (part_one narrations refusals none files narration name (refused t) (given part) first in_file)
@@ -181,20 +177,20 @@ module _ (files : Files) (narration name file values text : List ℕ) (host_seed
     as_job answer is = inr (part, in_file, asked_as answer (of_code answer is))
 
     as_errand : (answer : Answer Job) → JobIs files narration name values host_seed answer → ErrandIs files file values host_seed (answer_by errand_by answer)
-    as_errand answer is = inr (d.code, it_is, asked_of answer (of_part answer is))
+    as_errand answer is = inr (code, it_is, asked_of answer (of_part answer is))
 
     kept_status : (s : Status) → JobIs files narration name values host_seed (refused s) → as_played s ≡ s
     kept_status s is = kept_before s ((job_quiet files narration name values host_seed).each s is).1
 
     module _ (left : List ℕ) (bytes : IsBytes left) (arrivals : List (List ℕ)) (tail : Tail) (out rest : List ℕ) (cut : Cut ARRIVAL left arrivals tail) where
       -- the play of the role is the run of the code
-      law : (errand : Errand) → IsErrand d.code errand → PlayOf (job_by errand) arrivals (without_place (run_bytes d.code errand.initial errand.seed 0 arrivals))
-          × ((p : Played (List ℕ)) → PlayOf (job_by errand) arrivals p → p ≡ without_place (run_bytes d.code errand.initial errand.seed 0 arrivals))
-      law errand is = d.plays part.role d.code errand.initial errand.seed 0 arrivals d.fits (count_known errand is) is.bytes (bytes_in_cut left arrivals tail bytes cut)
+      law : (errand : Errand) → IsErrand code errand → PlayOf (job_by errand) arrivals (without_place (run_bytes code errand.initial errand.seed 0 arrivals))
+          × ((p : Played (List ℕ)) → PlayOf (job_by errand) arrivals p → p ≡ without_place (run_bytes code errand.initial errand.seed 0 arrivals))
+      law errand is = fitting part.role code errand.initial errand.seed 0 arrivals fits (count_known errand is) is.bytes (bytes_in_cut left arrivals tail bytes cut)
 
-      played_as : (errand : Errand) (status : Status) → IsErrand d.code errand → IsPlayed RunOf errand left arrivals tail status out rest → IsPlayed PlayOf (job_by errand) left arrivals tail (as_played status) out rest
+      played_as : (errand : Errand) (status : Status) → IsErrand code errand → IsPlayed RunOf errand left arrivals tail status out rest → IsPlayed PlayOf (job_by errand) left arrivals tail (as_played status) out rest
       played_as errand status is played =
-          let run = played.plays ∙ ap (λ (c : CodeValue). run_bytes c errand.initial errand.seed 0 arrivals) is.same in record {
+          let run = playefitting ∙ ap (λ (c : CodeValue). run_bytes c errand.initial errand.seed 0 arrivals) is.same in record {
             play = without_place played.play;
             plays = subst (λ (p : Played (List ℕ)). PlayOf (job_by errand) arrivals (without_place p)) (sym run) (law errand is).0;
             status_is = ap as_played played.status_is ∙ as_ended played.play.end tail;
@@ -205,11 +201,11 @@ module _ (files : Files) (narration name file values text : List ℕ) (host_seed
       abbrev IsEnacted : Status → Type 0
       IsEnacted status = (enacted : Status) × (status ≡ as_played enacted) × Outcome RunOf (ErrandIs files file values host_seed) left arrivals tail enacted out rest
 
-      played_of : (errand : Errand) (status : Status) → ErrandIs files file values host_seed (given errand) → IsErrand d.code errand
+      played_of : (errand : Errand) (status : Status) → ErrandIs files file values host_seed (given errand) → IsErrand code errand
           → IsPlayed PlayOf (job_by errand) left arrivals tail status out rest → IsEnacted status
       played_of errand status asks is played =
-          let q = run_bytes d.code errand.initial errand.seed 0 arrivals in
-          let run : played.play ≡ without_place q = (law errand is).1 played.play played.plays in (
+          let q = run_bytes code errand.initial errand.seed 0 arrivals in
+          let run : played.play ≡ without_place q = (law errand is).1 played.play playefitting in (
             status_at q.end tail,
             played.status_is ∙ ap (λ (p : Played (List ℕ)). status_at p.end tail) run ∙ sym (as_ended q.end tail),
             inr (
@@ -229,7 +225,7 @@ module _ (files : Files) (narration name file values text : List ℕ) (host_seed
       as_outcome status (inl refusal) =
           let refuses = as_job (refused status) refusal.refuses in
           inl (subst (λ (s : Status). IsRefused (JobIs files narration name values host_seed) left s out rest) (sym (kept_status status refuses)) (record { refuses = refuses; writes = refusal.writes; leaves = refusal.leaves }))
-      as_outcome status (inr (errand, asks, played)) = inr (job_by errand, as_job (given errand) asks, played_as errand status (is_errand files values host_seed d.code errand (of_code (given errand) asks)) played)
+      as_outcome status (inr (errand, asks, played)) = inr (job_by errand, as_job (given errand) asks, played_as errand status (is_errand files values host_seed code errand (of_code (given errand) asks)) played)
 
       of_outcome : (status : Status) → Outcome PlayOf (JobIs files narration name values host_seed) left arrivals tail status out rest → IsEnacted status
       of_outcome status (inl refusal) =
@@ -238,7 +234,7 @@ module _ (files : Files) (narration name file values text : List ℕ) (host_seed
           let errand = errand_by job in
           let also = as_errand (given job) asks in
           let same = is_job job (of_part (given job) asks) in
-          played_of errand status also (is_errand files values host_seed d.code errand (of_code (given errand) also)) (subst (λ (j : Job). IsPlayed PlayOf j left arrivals tail status out rest) same played)
+          played_of errand status also (is_errand files values host_seed code errand (of_code (given errand) also)) (subst (λ (j : Job). IsPlayed PlayOf j left arrivals tail status out rest) same played)
 
     pub enacted_as_played : (left : List ℕ) → IsBytes left → IsEnactedAsPlayed files narration name file values host_seed left
     enacted_as_played left bytes arrivals tail status out rest cut = (
@@ -246,9 +242,62 @@ module _ (files : Files) (narration name file values text : List ℕ) (host_seed
       λ enacted. subst (λ (s : Status). Outcome PlayOf (JobIs files narration name values host_seed) left arrivals tail s out rest) (sym enacted.1) (as_outcome left bytes arrivals tail out rest cut enacted.0 enacted.2),
     )
 
+-- ---- a role file that was written
+
+module _ (files : Files) (narration name file text : List ℕ) (part : Part) (d : IsDescribed RoleFile part text)
+    (role_files : FilesAreUnique) (codes : CodesAreUnique) (no_file : NoFileIsFaulty) (faults : FaultsAreUnique)
+    (in_file : PartInFile files narration name (given part)) (has : HasFile files file ROLE_FILE_LIMIT text) where
+  written_is : CodeInFile files file (given d.code)
+  written_is = inr (text, has, (d.accepted, (d.spellable, inl d.is)))
+
+  loaded_again : IsLoadedAgain files narration name file text
+  loaded_again = record {
+    part = part;
+    role = in_file;
+    written = d;
+    loaded = λ answer. (
+      λ is. code_in_file_one role_files codes no_file faults files file answer (given d.code) is written_is,
+      λ is. subst (CodeInFile files file) (sym is) written_is,
+    );
+  }
+
 pub compiled_files_play : NarrationsAreUnique → RefusalsAreUnique → NoneIsBoth → FilesAreUnique → CodesAreUnique → NoFileIsFaulty → FaultsAreUnique → CompiledFilesPlay
 compiled_files_play narrations refusals none role_files codes no_file faults files narration name file text (inl (t, first, never)) = λ has. not_both t text (sym never)
 compiled_files_play narrations refusals none role_files codes no_file faults files narration name file text (inr (part, in_file, d)) = λ has. (
-  loaded_again files narration name file [] text None part d narrations refusals none role_files codes no_file faults in_file has,
-  λ values host_seed left bytes. enacted_as_played files narration name file values text host_seed part d narrations refusals none role_files codes no_file faults in_file has left bytes,
+  loaded_again files narration name file text part d role_files codes no_file faults in_file has,
+  λ values host_seed left bytes. enacted_as_played files narration name file values host_seed part d.code d.fits d.plays narrations refusals none role_files codes no_file faults in_file
+      (written_is files narration name file text part d role_files codes no_file faults in_file has) left bytes,
 )
+
+-- ---- a role file that is certified
+
+-- the role of this name
+part_is : (p : ProtocolValue) (role : ℕ) (part : Part) (name : List ℕ) → RoleIs p name (given role) → PartOf p name (given part) → part ≡ record { protocol = p; role = role }
+part_is p role part name named (inl (t, first, never)) = not_both t part (sym never)
+part_is p role part name named (inr (other, also, inl (t, first, never))) = not_both t part (sym never)
+part_is p role part name named (inr (other, also, inr (u, all, is))) =
+    let same : other ≡ role = same_given other role (role_one p name (given other) (given role) also named) in
+    same_given part (record { protocol = p; role = other }) is ∙ ap (λ (r : ℕ). record { protocol = p; role = r }) same
+
+module _ (narrations : NarrationsAreUnique) (refusals : RefusalsAreUnique) (none : NoneIsBoth)
+    (role_files : FilesAreUnique) (codes : CodesAreUnique) (no_file : NoFileIsFaulty) (faults : FaultsAreUnique) where
+  certified_code : (files : Files) (narration name file : List ℕ) (p : ProtocolValue) (role : ℕ) (code : CodeValue) → RoleIs p name (given role) → CodeInFile files file (given code) → IsCertificate p role code
+      → (part : Part) → PartInFile files narration name (given part) → PartOf p name (given part)
+      → (values : List ℕ) (host_seed : Option (List ℕ)) (left : List ℕ) → IsBytes left → IsEnactedAsPlayed files narration name file values host_seed left
+  certified_code files narration name file p role code named it_is certificate part in_file of values host_seed left bytes =
+      let same = part_is p role part name named of in
+      enacted_as_played files narration name file values host_seed part code
+      (subst (λ (q : Part). FitsRole q.protocol q.role code) (sym same) certificate.fits) (subst (λ (q : Part). FittingCodesPlay q.protocol) (sym same) certificate.plays)
+      narrations refusals none role_files codes no_file faults in_file it_is left bytes
+
+  of_protocol : (files : Files) (narration name : List ℕ) (p : ProtocolValue) → ProtocolInFile files narration (given p) → (part : Part) → PartInFile files narration name (given part) → PartOf p name (given part)
+  of_protocol files narration name p is part (inl (t, first, never)) = not_both t part (sym never)
+  of_protocol files narration name p is part (inr (q, also, of)) =
+      subst (λ (r : ProtocolValue). PartOf r name (given part)) (same_given q p (protocol_in_file_one narrations refusals none files narration (given q) (given p) also is)) of
+
+  pub certified_files_play : CertifiedFilesPlay
+  certified_files_play files narration name file text (inl (t, first, never)) part in_file = not_both t text (sym never)
+  certified_files_play files narration name file text (inr (p, is, inl (t, first, never))) part in_file = not_both t text (sym never)
+  certified_files_play files narration name file text (inr (p, is, inr (role, named, inl (t, first, never)))) part in_file = not_both t text (sym never)
+  certified_files_play files narration name file text (inr (p, is, inr (role, named, inr (code, it_is, certificate)))) part in_file =
+      certified_code files narration name file p role code named it_is certificate.0 part in_file (of_protocol files narration name p is part in_file)

@@ -4,12 +4,13 @@ use Rattle.std.specs.Prelude.{ℕ, List, Option, Some, None}
 use Rattle.anb_base.specs.Wires.{WireState}
 use Rattle.anb_command.specs.declared.status.Status.{Status}
 use Rattle.anb_command.specs.Fetches.{Files}
-use Rattle.anb_command.specs.Words.{Asked, fmt, describe, play, enact, replay, host, rehearse, drill, help, why, park, resume, chart}
+use Rattle.anb_command.specs.Words.{Asked, fmt, describe, play, enact, replay, host, rehearse, drill, help, certify, why, park, resume, chart}
 use Rattle.anb_many_commands.specs.HostCommand.{CompletesHost, DoesHost}
 use Rattle.anb_park_commands.specs.ParkCommand.{CompletesPark, DoesPark}
 use Rattle.anb_park_commands.specs.ResumeCommand.{CompletesResume, DoesResume}
 use Rattle.anb_rehearsal_commands.specs.DrillCommand.{CompletesDrill, DoesDrill}
 use Rattle.anb_rehearsal_commands.specs.RehearseCommand.{CompletesRehearse, DoesRehearse}
+use Rattle.anb_reason_commands.specs.CertifyCommand.{CompletesCertify, DoesCertify}
 use Rattle.anb_reason_commands.specs.WhyCommand.{CompletesWhy, DoesWhy}
 use Rattle.anb_report_commands.specs.ReportCommands.{CompletesChart, DoesChart}
 use Rattle.anb_role_commands.specs.EnactCommand.{CompletesEnact, DoesEnact}
@@ -42,6 +43,8 @@ Does (Some (rehearse narration values schedule)) told seed old new status =
     DoesRehearse narration values schedule told seed old new status
 Does (Some (drill exchanges)) told seed old new status = DoesDrill exchanges old new status
 Does (Some help) told seed old new status = DoesHelp old new status
+Does (Some (certify narration role code)) told seed old new status =
+    DoesCertify narration role code told old new status
 Does (Some (why narration)) told seed old new status = DoesWhy narration told old new status
 Does (Some (park narration role values key place)) told seed old new status =
     DoesPark narration role values key seed told old new status
@@ -67,6 +70,8 @@ Completes (Some (rehearse narration values schedule)) told seed old new status =
     CompletesRehearse narration values schedule told seed old new status
 Completes (Some (drill exchanges)) told seed old new status = CompletesDrill exchanges status
 Completes (Some help) told seed old new status = CompletesHelp status
+Completes (Some (certify narration role code)) told seed old new status =
+    CompletesCertify narration role code told status
 Completes (Some (why narration)) told seed old new status = CompletesWhy narration told status
 Completes (Some (park narration role values key place)) told seed old new status =
     CompletesPark narration role values key seed told old new status

@@ -1,4 +1,5 @@
-//! A law on what commands do with each other's files.
+//! Laws on what commands do with each other's files.
+ghost use Rattle.anb_run.specs.Certified.{CertifiedFilesPlay};
 ghost use Rattle.anb_run.specs.Compiled.{CompiledFilesPlay};
 
 use anb_text::{codes_are_unique, faults_are_unique, files_are_unique};
@@ -7,6 +8,19 @@ use anb_text::{codes_are_unique, faults_are_unique, files_are_unique};
 /// what `play` does, with the same values.
 pub(crate) fn compiled_files_play()
     ensures { CompiledFilesPlay }
+{
+    anb_read::narrations_are_unique();
+    anb_read::refusals_are_unique();
+    anb_read::none_is_both();
+    files_are_unique();
+    codes_are_unique();
+    anb_text::none_is_both();
+    faults_are_unique();
+}
+
+/// A law: `enact` of a role file that `certify` certified does what `play` does, with the same values.
+pub(crate) fn certified_files_play()
+    ensures { CertifiedFilesPlay }
 {
     anb_read::narrations_are_unique();
     anb_read::refusals_are_unique();

@@ -16,19 +16,20 @@ ghost use Rattle.anb_command.specs.Touches.{Touches};
 ghost use Rattle.anb_command.specs.Words.{asked_of, files_of, is_reading, place_of};
 ghost use Rattle.anb_command.specs.declared.status.Status.TheVariants.{Usage};
 ghost use Rattle.anb_run.specs.Commands.{Completes, Does};
+ghost use Rattle.anb_run.specs.Certified.{CertifiedFilesPlay};
 ghost use Rattle.anb_run.specs.Compiled.{CompiledFilesPlay};
 
 mod all;
 mod laws;
 
-use crate::laws::compiled_files_play;
+use crate::laws::{certified_files_play, compiled_files_play};
 pub use all::run_all;
 use anb_base::{Shelf, Sink, Text, Wire};
 use anb_command::{Command, tell};
 pub use anb_command::{Due, Halt, NarrationNo, Status};
 use anb_many_commands::host;
 use anb_park_commands::{park, resume};
-use anb_reason_commands::why;
+use anb_reason_commands::{certify, why};
 use anb_rehearsal_commands::{drill, rehearse};
 use anb_report_commands::chart;
 use anb_role_commands::{enact, play, replay};
@@ -54,6 +55,7 @@ pub fn run<F: Shelf, W: Wire, E: Sink>(
         → Completes (asked_of words.now) (F.files shelf.old) seed
         (W.state wire.old) (W.state wire.new) result }
     ensures compiled { CompiledFilesPlay }
+    ensures certified { CertifiedFilesPlay }
     ensures usage { (result ≡ Usage) ↔ (asked_of words.now ≡ None) }
     ensures faults { HasCause (files_of (asked_of words.now)) (place_of (asked_of words.now))
         (F.faults shelf.old) (F.faults shelf.new) (W.state wire.old) (W.state wire.new) result }
@@ -70,6 +72,7 @@ pub fn run<F: Shelf, W: Wire, E: Sink>(
     ensures beside_line { E.kept err.new ≡ E.kept err.old }
 {
     compiled_files_play();
+    certified_files_play();
     let status = match Command::read(words) {
         None => Status::Usage,
         Some(Command::Fmt { narration }) => fmt(alloc, shelf, wire, narration),
@@ -87,6 +90,7 @@ pub fn run<F: Shelf, W: Wire, E: Sink>(
         Some(Command::Rehearse(words)) => rehearse(alloc, shelf, wire, words, seed),
         Some(Command::Drill(exchanges)) => drill(alloc, wire, exchanges),
         Some(Command::Help) => help(wire),
+        Some(Command::Certify(words)) => certify(alloc, shelf, wire, words),
         Some(Command::Why { narration }) => why(alloc, shelf, wire, narration),
         Some(Command::Park(words)) => park(alloc, shelf, wire, words, seed),
         Some(Command::Resume(words)) => resume(alloc, shelf, wire, words),
