@@ -1,5 +1,5 @@
 -- Branched protocols: which are lawful, and which roles can't see what was chosen.
-use Rattle.std.specs.Prelude.{◌≡◌, ℕ, ◌+◌, ◌≤◌, ◌==◌, ◌&&◌, ◌||◌, not, nat_le, List, [], ◌∷◌, length, map, Bool, true, false, Option, Some, None, slice_get, if◌then◌else◌}
+use Rattle.std.specs.Prelude.{◌≡◌, ℕ, ◌+◌, ◌≤◌, ◌==◌, ◌&&◌, ◌||◌, not, nat_le, List, [], ◌∷◌, length, map, take, drop, Bool, true, false, Option, Some, None, slice_get, if◌then◌else◌}
 use Rattle.std.specs.Option.{option_map, option_map_or}
 use Rattle.std.specs.List.{AllByRecursion, list_all, list_any}
 use Rattle.std.specs.Str.{bytes_eq}
@@ -34,15 +34,17 @@ is_of_stem stem (to_make t ∷ es) = is_of_stem stem es
 is_of_stem stem (to_send action t ∷ es) = nat_le action stem
 is_of_stem stem (to_receive action t ∷ es) = nat_le action stem
 
--- a plan up to the last of the first actions, so many
-abbrev pub stem_part : ℕ → List PlanEvent → List PlanEvent
-stem_part stem [] = []
-stem_part stem (e ∷ es) = if is_of_stem stem (e ∷ es) then e ∷ stem_part stem es else []
+-- how many events a plan has up to the last of the first actions, so many
+abbrev pub stem_len : ℕ → List PlanEvent → ℕ
+stem_len stem [] = 0
+stem_len stem (e ∷ es) = if is_of_stem stem (e ∷ es) then 1 + stem_len stem es else 0
 
--- and what follows
+-- a plan up to there, and what follows
+abbrev pub stem_part : ℕ → List PlanEvent → List PlanEvent
+stem_part stem plan = take (stem_len stem plan) plan
+
 abbrev pub arm_part : ℕ → List PlanEvent → List PlanEvent
-arm_part stem [] = []
-arm_part stem (e ∷ es) = if is_of_stem stem (e ∷ es) then arm_part stem es else e ∷ es
+arm_part stem plan = drop (stem_len stem plan) plan
 
 -- ---- who can see what was chosen
 
