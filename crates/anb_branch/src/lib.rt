@@ -4,6 +4,19 @@
 //! the common actions is a narration of its own.
 #![tactic(auto)]
 
+mod alike;
+mod arms;
+mod blindness;
 mod branched;
+mod marks;
+mod order;
+mod parts;
+mod plans;
+mod refusal;
+mod splitting;
+#[cfg(test)]
+mod tests;
 
 pub use branched::Branched;
+pub use refusal::BranchNo;
+pub use splitting::split;
