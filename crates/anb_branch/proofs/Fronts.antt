@@ -19,55 +19,53 @@ module _ (kinds : List Kind) (ms : List Mark) (i : ℕ) (m : Mark) (h : i < leng
   pub before_here : list_any (kind_eqb m.kind) kinds ≡ true → before kinds (drop i ms) ≡ 0
   before_here one = ap (before kinds) rest ∙ ap (λ b. cond (not b) (1 + before kinds (drop (i + 1) ms)) 0) one
 
+within_more : (b : Bool) (n m : ℕ) → n ≤ m → cond (not b) (1 + n) 0 ≤ suc m
+within_more true n m h = omega arith
+within_more false n m h = omega (arith, h)
+
 pub before-within : (kinds : List Kind) (ms : List Mark) → before kinds ms ≤ length ms
 before-within kinds [] = omega arith
-before-within kinds (m ∷ ms) = by (list_any (kind_eqb m.kind) kinds) where
-  by : (b : Bool) → cond (not b) (1 + before kinds ms) 0 ≤ length (m ∷ ms)
-  by true = omega arith
-  by false = omega (arith, before-within kinds ms)
+before-within kinds (m ∷ ms) = within_more (list_any (kind_eqb m.kind) kinds) (before kinds ms) (length ms) (before-within kinds ms)
 
--- what stands at a place is the first of the rest
-pub kind_of_rest : (ms : List Mark) (i : ℕ) → kind_at (drop i ms) 0 ≡ kind_at ms i
-kind_of_rest [] i = ap (λ (l : List Mark). kind_at l 0) (drop_none i) where
-  drop_none : (k : ℕ) → drop k [] ≡ []
-  drop_none zero = refl
-  drop_none (suc k) = refl
-kind_of_rest (m ∷ ms) zero = refl
-kind_of_rest (m ∷ ms) (suc i) = kind_of_rest ms i
+same_kinds : (k l m : Kind) (r v : Bool) → r ≡ kind_eqb k l → l ≡ m → r ≡ v → kind_eqb k m ≡ v
+same_kinds k l m r v e f g = ap (kind_eqb k) (sym f) ∙ sym e ∙ g
 
--- one kind more
-pub misfit_more : (ks : List Kind) (ms : List Mark) (i : ℕ) (k : Kind) → i < length ks → k ≡ get_or ks i k → i < length ms
-    → kind_eqb k (kind_at ms i) ≡ true → misfit (drop i ks) (drop i ms) ≡ misfit (drop (i + 1) ks) (drop (i + 1) ms)
-misfit_more [] ms i k h e w t = absurd (omega (arith, h))
-misfit_more (x ∷ ks) [] i k h e w t = absurd (omega (arith, w))
-misfit_more (x ∷ ks) (m ∷ ms) zero k h e w t =
-    ap (λ (y : Kind). cond (kind_eqb y m.kind) (misfit ks ms) (Some m.at)) (sym e) ∙ ap (λ b. cond b (misfit ks ms) (Some m.at)) t
-misfit_more (x ∷ ks) (m ∷ ms) (suc i) k h e w t = rw (after i) (misfit_more ks ms i k (omega (arith, h)) e (omega (arith, w)) t) where
+kinds_at : (ks : List Kind) (ms : List Mark) (i : ℕ) (d : Kind) (v : Bool) → i < length ks → i < length ms → kind_eqb (get_or ks i d) (kind_at ms i) ≡ v
+    → misfit (drop i ks) (drop i ms) ≡ cond v (misfit (drop (i + 1) ks) (drop (i + 1) ms)) (Some (place_at ms i))
+kinds_at [] ms i d v h w t = absurd (omega (arith, h))
+kinds_at (x ∷ ks) [] i d v h w t = absurd (omega (arith, w))
+kinds_at (x ∷ ks) (m ∷ ms) zero d v h w t = ap (λ b. cond b (misfit ks ms) (Some m.at)) t
+kinds_at (x ∷ ks) (m ∷ ms) (suc i) d v h w t = rw (after i) (kinds_at ks ms i d v (omega (arith, h)) (omega (arith, w)) t) where
   after : (n : ℕ) → suc n + 1 ≡ suc (n + 1)
   after n = omega arith
 
--- a token of another kind
-pub misfit_here : (ks : List Kind) (ms : List Mark) (i : ℕ) (k : Kind) → i < length ks → k ≡ get_or ks i k → i < length ms
-    → kind_eqb k (kind_at ms i) ≡ false → misfit (drop i ks) (drop i ms) ≡ Some (place_at ms i)
-misfit_here [] ms i k h e w t = absurd (omega (arith, h))
-misfit_here (x ∷ ks) [] i k h e w t = absurd (omega (arith, w))
-misfit_here (x ∷ ks) (m ∷ ms) zero k h e w t =
-    ap (λ (y : Kind). cond (kind_eqb y m.kind) (misfit ks ms) (Some m.at)) (sym e) ∙ ap (λ b. cond b (misfit ks ms) (Some m.at)) t
-misfit_here (x ∷ ks) (m ∷ ms) (suc i) k h e w t = misfit_here ks ms i k (omega (arith, h)) e (omega (arith, w)) t
+module _ (ks : List Kind) (ms : List Mark) (i : ℕ) (d l : Kind) (r : Bool) (h : i < length ks) (w : i < length ms) (e : r ≡ kind_eqb (get_or ks i d) l) (f : l ≡ kind_at ms i) where
+  -- one kind more
+  pub misfit_more : r ≡ true → misfit (drop i ks) (drop i ms) ≡ misfit (drop (i + 1) ks) (drop (i + 1) ms)
+  misfit_more g = kinds_at ks ms i d true h w (same_kinds (get_or ks i d) l (kind_at ms i) r true e f g)
+
+  -- a token of another kind
+  pub misfit_here : r ≡ false → misfit (drop i ks) (drop i ms) ≡ Some (place_at ms i)
+  misfit_here g = kinds_at ks ms i d false h w (same_kinds (get_or ks i d) l (kind_at ms i) r false e f g)
+
+drop_none : {A : Type 0} (k : ℕ) → drop {A = A} k [] ≡ []
+drop_none zero = refl
+drop_none (suc k) = refl
 
 -- no token
 pub misfit_short : (ks : List Kind) (ms : List Mark) (i : ℕ) → i < length ks → length ms ≤ i → misfit (drop i ks) (drop i ms) ≡ Some 0
 misfit_short [] ms i h w = absurd (omega (arith, h))
 misfit_short (x ∷ ks) [] zero h w = refl
-misfit_short (x ∷ ks) [] (suc i) h w = misfit_short ks [] i (omega (arith, h)) (omega arith)
+misfit_short (x ∷ ks) [] (suc i) h w = ap (λ (l : List Mark). misfit (drop i ks) l) (sym (drop_none i)) ∙ misfit_short ks [] i (omega (arith, h)) (omega arith)
 misfit_short (x ∷ ks) (m ∷ ms) zero h w = absurd (omega (arith, w))
 misfit_short (x ∷ ks) (m ∷ ms) (suc i) h w = misfit_short ks ms i (omega (arith, h)) (omega (arith, w))
+
+fits_more : (b : Bool) (o : Option ℕ) (at n m : ℕ) → (o ≡ None → n ≤ m) → cond b o (Some at) ≡ None → suc n ≤ suc m
+fits_more true o at n m h e = let more = h e in omega (arith, more)
+fits_more false o at n m h e = cc
 
 -- where all fit, there are as many tokens
 pub fits_within : (ks : List Kind) (ms : List Mark) → misfit ks ms ≡ None → length ks ≤ length ms
 fits_within [] ms e = omega arith
 fits_within (k ∷ ks) [] e = cc
-fits_within (k ∷ ks) (m ∷ ms) e = by (kind_eqb k m.kind) e where
-  by : (b : Bool) → cond b (misfit ks ms) (Some m.at) ≡ None → length (k ∷ ks) ≤ length (m ∷ ms)
-  by true f = let more = fits_within ks ms f in omega (arith, more)
-  by false f = cc
+fits_within (k ∷ ks) (m ∷ ms) e = fits_more (kind_eqb k m.kind) (misfit ks ms) m.at (length ks) (length ms) (λ f. fits_within ks ms f) e

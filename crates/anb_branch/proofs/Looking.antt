@@ -133,8 +133,11 @@ module _ (x : List ℕ) (from : ℕ) (ms : List Mark) (gone : Gone x from ms) wh
   nothing : (n : ℕ) → length x ≤ n → len_of (token_here (drop n x)) ≡ 0
   nothing n h = ap (λ (z : List ℕ). len_of (token_here z)) (drop_all n x h)
 
-  plain : (k : Kind) (at : ℕ) → record { kind = k; at = at; past = at + 0 } ≡ record { kind = k; at = at; past = at }
-  plain k at = let same : at + 0 ≡ at = omega arith in ap (λ (n : ℕ). record { kind = k; at = at; past = n }) same
+  abbrev mark : Kind → ℕ → ℕ → Mark
+  mark k at past = record { kind = k; at = at; past = past }
+
+  plain : (k : Kind) (at : ℕ) → mark k at (at + 0) ≡ mark k at at
+  plain k at = let same : at + 0 ≡ at = omega arith in ap (mark k at) same
 
   -- the end is
   pub ends_end : EachIsEither → IsNext x from next.End → AreMarks x (ms ++ record { kind = Stop; at = length x; past = length x } ∷ [])

@@ -1,5 +1,5 @@
 -- Where tokens stand that stand one behind another.
-use Rattle.std.proofs.Common.{◌≡◌, ℕ, zero, suc, ◌+◌, ◌-◌, ◌<◌, ◌≤◌, List, [], ◌∷◌, ◌++◌, length, take, drop, Bool, true, false, refl, sym, ap, subst, ◌∙◌, arith}
+use Rattle.std.proofs.Common.{◌≡◌, ℕ, zero, suc, ◌+◌, ◌-◌, ◌<◌, ◌≤◌, List, [], ◌∷◌, ◌++◌, length, take, drop, Bool, true, false, refl, sym, ap, subst, ◌∙◌, arith, length-append}
 use Rattle.anb_syntax.specs.Words.{is_name}
 use Rattle.anb_branch.specs.declared.marks.Mark.{Mark}
 use Rattle.anb_branch.specs.Order.{past_at, place_at}
@@ -58,3 +58,6 @@ past_of_rest [] (suc n) i = refl
 past_of_rest (m ∷ ms) (suc n) i = past_of_rest ms n i ∙ ap (past_at (m ∷ ms)) (after n i) where
   after : (k j : ℕ) → suc (k + j) ≡ suc k + j
   after k j = omega arith
+
+pub grown : {A : Type 0} (xs ys : List A) (y : A) → ys ≡ xs ++ y ∷ [] → length ys ≡ length xs + 1
+grown xs ys y e = ap length e ∙ length-append xs (y ∷ [])

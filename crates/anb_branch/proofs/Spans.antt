@@ -1,5 +1,6 @@
 -- The arms that stand in a text whose tokens are in order.
-use Rattle.std.proofs.Common.{◌≡◌, ℕ, zero, suc, ◌+◌, ◌-◌, ◌<◌, ◌≤◌, List, [], ◌∷◌, ◌++◌, length, drop, Bool, true, false, Option, Some, None, Result, Ok, Err, refl, sym, ap, subst, ◌∙◌, arith, cond}
+use Rattle.std.proofs.Common.{◌≡◌, ℕ, zero, suc, ◌+◌, ◌-◌, ◌<◌, ◌≤◌, List, [], ◌∷◌, ◌++◌, length, drop, Bool, true, false, Option, Some, None, Result, Ok, Err, refl, sym, ap, subst, ◌∙◌, arith, cond, append_assoc, length-append}
+use Rattle.std.proofs.lemmas.List.{append-nil}
 use Rattle.std.specs.Prelude.{not}
 use Rattle.std.specs.List.{AllByRecursion}
 use Rattle.anb_syntax.specs.Words.{is_name}
@@ -40,6 +41,9 @@ fits_first k ks m ms e = by (kind_eqb k m.kind) refl e where
   by true t f = (t, f)
   by false t f = cc
 
+nothing_fits : (k : Kind) (ks : List Kind) → misfit (k ∷ ks) [] ≡ None → ⊥
+nothing_fits k ks e = cc
+
 pub unless_ok : {A : Type 0} (o : Option ℕ) (r : Result A ℕ) (a : A) → unless o r ≡ Ok a → (o ≡ None) × (r ≡ Ok a)
 unless_ok None r a e = (refl, e)
 unless_ok (Some at) r a e = cc
@@ -62,27 +66,31 @@ module _ (Of : ℕ → ℕ → List Mark → List Span → Type 0)
       let r = end_ok least ms spans e in
       subst (λ (l : ℕ). Of l most ms spans) (sym r.0) (subst (λ (s : List Span). Of 0 most ms s) (sym r.1) (none most ms))
 
-  pub arms_come : (least most : ℕ) (ms : List Mark) (spans : List Span) → arms_at least most ms ≡ Ok spans → Of least most ms spans
-  arms_come least zero ms spans e = by (kind_eqb (kind_at ms 0) Stop) e where
-    by : (b : Bool) → cond b (at_end least ms) (Err (place_at ms 0)) ≡ Ok spans → Of least 0 ms spans
-    by true f = end_of least 0 ms spans f
-    by false f = cc
-  arms_come least (suc most) ms spans e = by (kind_eqb (kind_at ms 0) Stop) e where
-    arm : (us : List Mark) → misfit arm_heading us ≡ None → with_front (arm_span us ∷ []) (arms_at (least - 1) most (behind_arm us)) ≡ Ok spans → Of least (suc most) us spans
-    arm [] f g = cc
-    arm (a ∷ []) f g = let one = fits_first Actions (Colon ∷ []) a [] f in absurd (never one.1) where
-      never : misfit (Colon ∷ []) [] ≡ None → ⊥
-      never h = cc
-    arm (a ∷ c ∷ rest) f g =
-        let one = fits_first Actions (Colon ∷ []) a (c ∷ rest) f in
-        let two = fits_first Colon [] c rest one.1 in
-        let r = front_ok (arm_span (a ∷ c ∷ rest) ∷ []) (arms_at (least - 1) most (behind_arm (a ∷ c ∷ rest))) spans g in
-        subst (λ (s : List Span). Of least (suc most) (a ∷ c ∷ rest) s) (sym r.2)
-        (more least most a c rest r.0 two.0 (arms_come (least - 1) most (behind_arm (a ∷ c ∷ rest)) r.0 r.1))
+  -- an arm, and what comes of the rest
+  arm_of : (least most : ℕ) (us : List Mark) (spans : List Span) → ((vs : List Mark) (more : List Span) → arms_at (least - 1) most vs ≡ Ok more → Of (least - 1) most vs more)
+      → misfit arm_heading us ≡ None → with_front (arm_span us ∷ []) (arms_at (least - 1) most (behind_arm us)) ≡ Ok spans → Of least (suc most) us spans
+  arm_of least most [] spans later f g = cc
+  arm_of least most (a ∷ []) spans later f g = let one = fits_first Actions (Colon ∷ []) a [] f in absurd (nothing_fits Colon [] one.1)
+  arm_of least most (a ∷ c ∷ rest) spans later f g =
+      let one = fits_first Actions (Colon ∷ []) a (c ∷ rest) f in
+      let two = fits_first Colon [] c rest one.1 in
+      let r = front_ok (arm_span (a ∷ c ∷ rest) ∷ []) (arms_at (least - 1) most (behind_arm (a ∷ c ∷ rest))) spans g in
+      subst (λ (s : List Span). Of least (suc most) (a ∷ c ∷ rest) s) (sym r.2)
+      (more least most a c rest r.0 two.0 (later (behind_arm (a ∷ c ∷ rest)) r.0 r.1))
 
-    by : (b : Bool) → cond b (at_end least ms) (unless (misfit arm_heading ms) (with_front (arm_span ms ∷ []) (arms_at (least - 1) most (behind_arm ms)))) ≡ Ok spans → Of least (suc most) ms spans
-    by true f = end_of least (suc most) ms spans f
-    by false f = let r = unless_ok (misfit arm_heading ms) _ spans f in arm ms r.0 r.1
+  last_of : (b : Bool) (least : ℕ) (ms : List Mark) (spans : List Span) → cond b (at_end least ms) (Err (place_at ms 0)) ≡ Ok spans → Of least 0 ms spans
+  last_of true least ms spans e = end_of least 0 ms spans e
+  last_of false least ms spans e = cc
+
+  next_of : (b : Bool) (least most : ℕ) (ms : List Mark) (spans : List Span) → ((vs : List Mark) (more : List Span) → arms_at (least - 1) most vs ≡ Ok more → Of (least - 1) most vs more)
+      → cond b (at_end least ms) (unless (misfit arm_heading ms) (with_front (arm_span ms ∷ []) (arms_at (least - 1) most (behind_arm ms)))) ≡ Ok spans → Of least (suc most) ms spans
+  next_of true least most ms spans later e = end_of least (suc most) ms spans e
+  next_of false least most ms spans later e = let r = unless_ok (misfit arm_heading ms) (with_front (arm_span ms ∷ []) (arms_at (least - 1) most (behind_arm ms))) spans e in arm_of least most ms spans later r.0 r.1
+
+  pub arms_come : (least most : ℕ) (ms : List Mark) (spans : List Span) → arms_at least most ms ≡ Ok spans → Of least most ms spans
+  unfolding arms_at
+  arms_come least zero ms spans e = last_of (kind_eqb (kind_at ms 0) Stop) least ms spans e
+  arms_come least (suc most) ms spans e = next_of (kind_eqb (kind_at ms 0) Stop) least most ms spans (λ vs more f. arms_come (least - 1) most vs more f) e
 
 -- how many there are
 pub arms_count : (least most : ℕ) (ms : List Mark) (spans : List Span) → arms_at least most ms ≡ Ok spans → (least ≤ length spans) × (length spans ≤ most)
@@ -131,9 +139,9 @@ passed false at e = cc
 
 pub in_order : (ms : List Mark) (spans : List Span) → order ms ≡ Ok spans → AreInOrder ms spans
 in_order ms spans e =
-    let one = unless_ok (refuse_if (not (closes_at ms (stem_size ms))) (place_at (drop (stem_size ms) ms) 0)) _ spans e in
-    let two = unless_ok (misfit choice_heading (drop (stem_size ms) ms)) _ spans one.1 in
-    record { closed = passed (closes_at ms (stem_size ms)) _ one.0; choice = two.0; arms = two.1 }
+    let one = unless_ok (refuse_if (not (closes_at ms (stem_size ms))) (place_at (drop (stem_size ms) ms) 0)) (unless (misfit choice_heading (drop (stem_size ms) ms)) (arms_at 2 8 (drop 4 (drop (stem_size ms) ms)))) spans e in
+    let two = unless_ok (misfit choice_heading (drop (stem_size ms) ms)) (arms_at 2 8 (drop 4 (drop (stem_size ms) ms))) spans one.1 in
+    record { closed = passed (closes_at ms (stem_size ms)) (place_at (drop (stem_size ms) ms) 0) one.0; choice = two.0; arms = two.1 }
 
 -- the chooser's name, and what follows it
 record IsChoice (x : List ℕ) (mid to : ℕ) (us : List Mark) : Type 0 where
@@ -146,17 +154,20 @@ record IsChoice (x : List ℕ) (mid to : ℕ) (us : List Mark) : Type 0 where
 
 choice_stands : (x : List ℕ) (mid to : ℕ) (us : List Mark) → misfit choice_heading us ≡ None → Stand x mid us to → IsChoice x mid to us
 choice_stands x mid to [] f s = cc
-choice_stands x mid to (a ∷ []) f s = absurd (never (fits_first Choice _ a [] f).1) where
-  never : misfit (Colon ∷ Name ∷ Semicolon ∷ []) [] ≡ None → ⊥
-  never h = cc
-choice_stands x mid to (a ∷ b ∷ []) f s = absurd (never (fits_first Colon _ b [] (fits_first Choice _ a (b ∷ []) f).1).1) where
-  never : misfit (Name ∷ Semicolon ∷ []) [] ≡ None → ⊥
-  never h = cc
-choice_stands x mid to (a ∷ b ∷ c ∷ []) f s = absurd (never (fits_first Name _ c [] (fits_first Colon _ b (c ∷ []) (fits_first Choice _ a (b ∷ c ∷ []) f).1).1).1) where
-  never : misfit (Semicolon ∷ []) [] ≡ None → ⊥
-  never h = cc
+choice_stands x mid to (a ∷ []) f s = let one = fits_first Choice (Colon ∷ Name ∷ Semicolon ∷ []) a [] f in absurd (nothing_fits Colon (Name ∷ Semicolon ∷ []) one.1)
+choice_stands x mid to (a ∷ b ∷ []) f s =
+    let one = fits_first Choice (Colon ∷ Name ∷ Semicolon ∷ []) a (b ∷ []) f in
+    let two = fits_first Colon (Name ∷ Semicolon ∷ []) b [] one.1 in
+    absurd (nothing_fits Name (Semicolon ∷ []) two.1)
+choice_stands x mid to (a ∷ b ∷ c ∷ []) f s =
+    let one = fits_first Choice (Colon ∷ Name ∷ Semicolon ∷ []) a (b ∷ c ∷ []) f in
+    let two = fits_first Colon (Name ∷ Semicolon ∷ []) b (c ∷ []) one.1 in
+    let three = fits_first Name (Semicolon ∷ []) c [] two.1 in
+    absurd (nothing_fits Semicolon [] three.1)
 choice_stands x mid to (a ∷ b ∷ c ∷ d ∷ us) f s =
-    let named = (fits_first Name _ c (d ∷ us) (fits_first Colon _ b (c ∷ d ∷ us) (fits_first Choice _ a (b ∷ c ∷ d ∷ us) f).1).1).0 in
+    let one = fits_first Choice (Colon ∷ Name ∷ Semicolon ∷ []) a (b ∷ c ∷ d ∷ us) f in
+    let two = fits_first Colon (Name ∷ Semicolon ∷ []) b (c ∷ d ∷ us) one.1 in
+    let named = (fits_first Name (Semicolon ∷ []) c (d ∷ us) two.1).0 in
     let c_stands = s.1.1.0 in
     let l1 = s.0.low in
     let l2 = s.0.bytes in
@@ -188,6 +199,9 @@ closed_some : (ms : List Mark) (n : ℕ) → closes_at ms n ≡ true → (k : �
 closed_some ms zero e = cc
 closed_some ms (suc n) e = (n, refl)
 
+one_less : (k : ℕ) → suc k - 1 ≡ k
+one_less k = omega arith
+
 pub parts_stand : (x : List ℕ) (ms : List Mark) (spans : List Span) (to : ℕ) → order ms ≡ Ok spans → Stand x 0 ms to → PartsStand x ms spans
 parts_stand x ms spans to e s =
     let o = in_order ms spans e in
@@ -198,7 +212,7 @@ parts_stand x ms spans to e s =
     let past = stand_past x 0 ms to k within s in
     let choice = subst (λ (n : ℕ). Stand x past.0 (drop n ms) to) (sym some.1) past.2 in
     let c = choice_stands x past.0 to (drop size ms) o.choice choice in
-    let ends : stem_end ms ≡ past_at ms k = ap (λ (n : ℕ). past_at ms (n - 1)) some.1 in
+    let ends : stem_end ms ≡ past_at ms k = ap (λ (n : ℕ). past_at ms (n - 1)) some.1 ∙ ap (past_at ms) (one_less k) in
     let end_low = past.1 in
     let low = c.low in
     let count = arms_count 2 8 (drop 4 (drop size ms)) spans o.arms in
@@ -213,3 +227,97 @@ parts_stand x ms spans to e s =
       bytes = let b = c.bytes in omega (arith, at_place, at_past, b);
       high = let h = c.high in omega (arith, at_past, h);
     }
+
+-- ---- the arms, one after another
+
+module _ (least : ℕ) (ms : List Mark) where
+  at_stop : (most : ℕ) → kind_eqb (kind_at ms 0) Stop ≡ true → arms_at least most ms ≡ at_end least ms
+  unfolding arms_at
+  at_stop zero e = ap (λ b. cond b (at_end least ms) (Err (place_at ms 0))) e
+  at_stop (suc most) e = ap (λ b. cond b (at_end least ms) (unless (misfit arm_heading ms) (with_front (arm_span ms ∷ []) (arms_at (least - 1) most (behind_arm ms))))) e
+
+  at_most : kind_eqb (kind_at ms 0) Stop ≡ false → arms_at least 0 ms ≡ Err (place_at ms 0)
+  unfolding arms_at
+  at_most e = ap (λ b. cond b (at_end least ms) (Err (place_at ms 0))) e
+
+  at_arm : (most : ℕ) (o : Option ℕ) → kind_eqb (kind_at ms 0) Stop ≡ false → misfit arm_heading ms ≡ o
+      → arms_at least (suc most) ms ≡ unless o (with_front (arm_span ms ∷ []) (arms_at (least - 1) most (behind_arm ms)))
+  unfolding arms_at
+  at_arm most o e f =
+      ap (λ b. cond b (at_end least ms) (unless (misfit arm_heading ms) (with_front (arm_span ms ∷ []) (arms_at (least - 1) most (behind_arm ms))))) e
+      ∙ ap (λ p. unless p (with_front (arm_span ms ∷ []) (arms_at (least - 1) most (behind_arm ms)))) f
+
+fronts : (a b : List Span) (r : Result (List Span) ℕ) → with_front a (with_front b r) ≡ with_front (a ++ b) r
+fronts a b (Ok c) = ap Ok (sym (append_assoc a b c))
+fronts a b (Err at) = refl
+
+-- these arms were found, and these tokens are left
+abbrev pub SoFar : List Mark → List Span → List Mark → Type 0
+SoFar ms spans rest = with_front spans (arms_at (2 - length spans) (8 - length spans) rest) ≡ arms_at 2 8 ms
+
+module _ (ms : List Mark) (spans : List Span) (rest : List Mark) (so : SoFar ms spans rest) where
+  of_rest : (most : ℕ) (r : Result (List Span) ℕ) → 8 - length spans ≡ most → arms_at (2 - length spans) most rest ≡ r → with_front spans r ≡ arms_at 2 8 ms
+  of_rest most r e f = ap (with_front spans) (sym f ∙ ap (λ k. arms_at (2 - length spans) k rest) (sym e)) ∙ so
+
+  pub arms_full : length spans ≡ 8 → kind_eqb (kind_at rest 0) Stop ≡ false → arms_at 2 8 ms ≡ Err (place_at rest 0)
+  arms_full n e = sym (of_rest 0 (Err (place_at rest 0)) (omega (arith, n)) (at_most (2 - length spans) rest e))
+
+  pub arms_misfit : (at : ℕ) → length spans < 8 → kind_eqb (kind_at rest 0) Stop ≡ false → misfit arm_heading rest ≡ Some at → arms_at 2 8 ms ≡ Err at
+  arms_misfit at n e f = sym (of_rest (suc (7 - length spans)) (Err at) (omega (arith, n)) (at_arm (2 - length spans) rest (7 - length spans) (Some at) e f))
+
+  pub arms_more : length spans < 8 → kind_eqb (kind_at rest 0) Stop ≡ false → misfit arm_heading rest ≡ None → SoFar ms (spans ++ arm_span rest ∷ []) (behind_arm rest)
+  arms_more n e f =
+      let size : length (spans ++ arm_span rest ∷ []) ≡ length spans + 1 = length-append spans (arm_span rest ∷ []) in
+      let most : 8 - length (spans ++ arm_span rest ∷ []) ≡ 7 - length spans = omega (arith, size) in
+      let least : 2 - length (spans ++ arm_span rest ∷ []) ≡ 2 - length spans - 1 = omega (arith, size) in
+      ap (λ k. with_front (spans ++ arm_span rest ∷ []) (arms_at (2 - length (spans ++ arm_span rest ∷ [])) k (behind_arm rest))) most
+      ∙ ap (λ k. with_front (spans ++ arm_span rest ∷ []) (arms_at k (7 - length spans) (behind_arm rest))) least
+      ∙ sym (fronts spans (arm_span rest ∷ []) (arms_at (2 - length spans - 1) (7 - length spans) (behind_arm rest)))
+      ∙ of_rest (suc (7 - length spans)) (with_front (arm_span rest ∷ []) (arms_at (2 - length spans - 1) (7 - length spans) (behind_arm rest))) (omega (arith, n)) (at_arm (2 - length spans) rest (7 - length spans) None e f)
+
+  pub arms_few : length spans < 2 → kind_eqb (kind_at rest 0) Stop ≡ true → arms_at 2 8 ms ≡ Err (place_at rest 0)
+  arms_few n e =
+      let some : 2 - length spans ≡ suc (1 - length spans) = omega (arith, n) in
+      sym (of_rest (8 - length spans) (Err (place_at rest 0)) refl (at_stop (2 - length spans) rest (8 - length spans) e ∙ ap (λ k. at_end k rest) some))
+
+  pub arms_done : 2 ≤ length spans → kind_eqb (kind_at rest 0) Stop ≡ true → arms_at 2 8 ms ≡ Ok spans
+  arms_done n e =
+      let none : 2 - length spans ≡ 0 = omega (arith, n) in
+      sym (of_rest (8 - length spans) (Ok []) refl (at_stop (2 - length spans) rest (8 - length spans) e ∙ ap (λ k. at_end k rest) none)) ∙ ap Ok (append-nil spans)
+
+-- ---- the order, by what the tokens are
+
+module _ (ms : List Mark) where
+  closed_first : (b : Bool) → closes_at ms (stem_size ms) ≡ b → order ms ≡ unless (refuse_if (not b) (place_at (drop (stem_size ms) ms) 0))
+      (unless (misfit choice_heading (drop (stem_size ms) ms)) (arms_at 2 8 (drop 4 (drop (stem_size ms) ms))))
+  closed_first b e = ap (λ c. unless (refuse_if (not c) (place_at (drop (stem_size ms) ms) 0)) (unless (misfit choice_heading (drop (stem_size ms) ms)) (arms_at 2 8 (drop 4 (drop (stem_size ms) ms))))) e
+
+  pub order_open : closes_at ms (stem_size ms) ≡ false → order ms ≡ Err (place_at (drop (stem_size ms) ms) 0)
+  order_open e = closed_first false e
+
+  pub order_choice : (o : Option ℕ) → closes_at ms (stem_size ms) ≡ true → misfit choice_heading (drop (stem_size ms) ms) ≡ o → order ms ≡ unless o (arms_at 2 8 (drop 4 (drop (stem_size ms) ms)))
+  order_choice o e f = closed_first true e ∙ ap (λ p. unless p (arms_at 2 8 (drop 4 (drop (stem_size ms) ms)))) f
+
+-- ---- what the code of the arms has
+
+pub stops : (k m : Kind) (r v : Bool) → r ≡ kind_eqb k Stop → k ≡ m → r ≡ v → kind_eqb m Stop ≡ v
+stops k m r v e f g = ap (λ l. kind_eqb l Stop) (sym f) ∙ sym e ∙ g
+
+abbrev span : ℕ → ℕ → Span
+span a b = record { from = a; to = b }
+
+-- the span of an arm by its ends
+pub span_is : (ms : List Mark) (from to size : ℕ) (us : List Mark) → from ≡ past_at ms 1 → us ≡ drop 1 ms → size ≡ arm_size ms → to ≡ past_at us size
+    → span from to ≡ arm_span ms
+span_is ms from to size us e f g h =
+    let last : to ≡ past_at ms (arm_size ms + 1) = h ∙ ap (λ l. past_at l size) f ∙ past_of_rest ms 1 size ∙ ap (past_at ms) (omega (arith, g)) in
+    ap (λ n. span n to) e ∙ ap (span (past_at ms 1)) last
+
+pub left_is : (ms us vs : List Mark) (size : ℕ) → us ≡ drop 2 ms → size ≡ arm_size ms → vs ≡ drop size us → vs ≡ behind_arm ms
+left_is ms us vs size e f g = g ∙ ap (drop size) e ∙ ap (λ n. drop n (drop 2 ms)) f
+
+pub next_so_far : (ms : List Mark) (spans : List Span) (rest : List Mark) (now : List Span) (s : Span) (left : List Mark) → SoFar ms spans rest
+    → now ≡ spans ++ s ∷ [] → s ≡ arm_span rest → left ≡ behind_arm rest → length spans < 8 → kind_eqb (kind_at rest 0) Stop ≡ false → misfit arm_heading rest ≡ None → SoFar ms now left
+next_so_far ms spans rest now s left so e f g n k m =
+    subst (λ (l : List Span). SoFar ms l left) (sym e) (subst (λ (l : List Mark). SoFar ms (spans ++ s ∷ []) l) (sym g)
+    (subst (λ (z : Span). SoFar ms (spans ++ z ∷ []) (behind_arm rest)) (sym f) (arms_more ms spans rest so n k m)))

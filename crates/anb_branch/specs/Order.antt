@@ -135,7 +135,7 @@ at_end zero ms = Ok []
 at_end (suc least) ms = Err (place_at ms 0)
 
 -- the arms up to the end, so many at least and so many at most, or the first token that is out of order
-abbrev pub arms_at : ℕ → ℕ → List Mark → Result (List Span) ℕ
+unfoldable pub arms_at : ℕ → ℕ → List Mark → Result (List Span) ℕ
 arms_at least zero ms = if kind_eqb (kind_at ms 0) Stop then at_end least ms else Err (place_at ms 0)
 arms_at least (suc most) ms =
     if kind_eqb (kind_at ms 0) Stop then at_end least ms

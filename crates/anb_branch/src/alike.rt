@@ -11,7 +11,9 @@ ghost use Rattle.anb_branch.specs.Views.{branched_of};
 use crate::branched::{Branched, roles_in};
 use crate::plans::{plan_named, same_events, stem_len};
 use anb_base::{Bytes, NoMemory, Text};
+use anb_read::narrations_are_unique;
 use anb_resolve::Protocol;
+use anb_syntax::canonical_is_text;
 use std::alloc::Global;
 
 /// Whether the name is one of these.
@@ -87,14 +89,14 @@ fn have_same_stems(alloc: Global, stem: u32, one: &Protocol, p: &Protocol) -> Re
 
 /// Whether the arms belong together, where each has this header.
 pub(crate) fn are_alike(alloc: Global, b: &Branched, headers: &[Bytes]) -> Result<bool, NoMemory>
+    requires some { 0 < length b.now.arms.items }
     requires headers { AllZip HasHeader b.now.arms.items headers.now }
     requires roles { AllByRecursion (λ (p : ProtocolValue).
         are_same_names (roles_in (branched_of b.now)) p.roles ≡ true) b.now.arms.items }
     ensures { IfOk result (λ alike. IsTrue alike → AreAlike b.now.stem b.now.arms.items) }
 {
-    let ([one, ..], [first, ..]) = (b.arms.as_slice(), headers) else {
-        return Ok(true);
-    };
+    let one = &b.arms[0];
+    let first = &headers[0];
     for (i, p) in b.arms.iter().enumerate() {
         if !is_like(alloc, b.stem, one, p, first, &headers[i])? {
             return Ok(false);
@@ -117,6 +119,8 @@ fn is_like(
     requires roles { are_same_names one.now.roles p.now.roles ≡ true }
     ensures { IfOk result (λ like. IsTrue like → IsLike stem one.now p.now) }
 {
+    canonical_is_text();
+    narrations_are_unique();
     if header.as_slice() != first.as_slice() {
         return Ok(false);
     }

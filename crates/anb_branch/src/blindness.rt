@@ -6,11 +6,11 @@ ghost use Rattle.anb_term.specs.View.{tree_of};
 ghost use Rattle.anb_resolve.specs.Names.{among};
 ghost use Rattle.anb_resolve.specs.Protocols.{ProtocolValue};
 ghost use Rattle.anb_resolve.specs.Views.{plan_event};
-ghost use Rattle.anb_branch.specs.Lawful.{are_same_names, arm_part, blind, blind_in, is_free, plan_named, received_format, root_format, roles_in, stem_len, tells, told_by, unseen_in};
+ghost use Rattle.anb_branch.specs.Lawful.{are_same_names, arm_part, blind, blind_in, is_format, is_free, plan_named, received_format, root_format, roles_in, stem_len, tells, told_by, unseen_in};
 ghost use Rattle.anb_branch.specs.Views.{branched_of};
 
 use crate::branched::{Branched, roles_in};
-use crate::plans::{plan_named, stem_len};
+use crate::plans::{behind, plan_named, stem_len};
 use anb_base::{NoMemory, Text};
 use anb_resolve::{Event, Protocol};
 use anb_term::{Op, Term};
@@ -53,7 +53,7 @@ fn told_by(alloc: Global, stem: u32, p: &Protocol, role: &Text) -> Result<Option
 {
     let plan = plan_named(alloc, p, role)?;
     let events = plan.events();
-    Ok(received_format(&events[stem_len(stem, events)..]))
+    Ok(received_format(behind(events, stem_len(stem, events))))
 }
 
 /// Whether the role has an action of its own in some arm.
@@ -91,13 +91,29 @@ fn told_in_each(
     Ok(told)
 }
 
+fn is_format(format: u16, other: &Option<u16>) -> bool
+    ensures { result ≡ is_format format other.now }
+{
+    match other {
+        None => false,
+        Some(other) => format == *other,
+    }
+}
+
+/// Whether one of these is the format.
+fn has_format(told: &[Option<u16>], format: u16) -> bool
+    ensures { result ≡ list_any (is_format format) told.now }
+{
+    told.iter().any(|other| is_format(format, other))
+}
+
 /// Whether the format tells an arm behind these.
 fn tells(before: &[Option<u16>], told: Option<u16>) -> bool
     ensures { result ≡ tells before.now told }
 {
     match told {
         None => false,
-        Some(format) => !before.iter().any(|other| *other == Some(format)),
+        Some(format) => !has_format(before, format),
     }
 }
 

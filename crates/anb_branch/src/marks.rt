@@ -83,6 +83,7 @@ fn ends_looking(kind: Kind) -> bool
 pub(crate) fn marks(alloc: Global, text: &[u8]) -> Result<Vec<Mark>, NoMemory>
     requires { length text.now ≤ SMALL_FILE }
     ensures are { IfOk result (λ ms. AreMarks text.now ms.items) }
+    ensures count { IfOk result (λ ms. length ms.items ≤ length text.now + 1) }
     ensures stand { IfOk result (λ ms. (to : ℕ) × Stand text.now 0 ms.items to) }
 {
     each_is_either();

@@ -1,5 +1,5 @@
 //! The order of the tokens of a branched text.
-ghost use Rattle.std.specs.Prelude.{◌≡◌, ◌≤◌, ◌<◌, ◌+◌, ◌^◌, length, Ok, Err, IfOk, MatchResult};
+ghost use Rattle.std.specs.Prelude.{◌≡◌, ◌≤◌, ◌<◌, ◌+◌, ◌^◌, length, drop, Ok, Err, IfOk, MatchResult};
 ghost use Rattle.std.specs.List.{count_by, list_any};
 ghost use Rattle.anb_branch.specs.declared.marks.Kind.TheVariants as kinds;
 ghost use Rattle.anb_branch.specs.declared.marks.Mark.{Mark as MarkValue};
@@ -48,6 +48,14 @@ pub(crate) fn past_at(marks: &[Mark], i: usize) -> u32
     }
 }
 
+/// The tokens behind the first ones, so many.
+fn behind(marks: &[Mark], n: usize) -> &[Mark]
+    requires { n ≤ length marks.now }
+    ensures { result.now ≡ drop n marks.now }
+{
+    &marks[n..]
+}
+
 fn is_same_kind(one: Kind, other: Kind) -> bool
     ensures { result ≡ kind_eqb one other }
 {
@@ -89,7 +97,7 @@ fn arm_size(marks: &[Mark]) -> usize
 {
     before(
         &[Kind::Choice, Kind::Actions, Kind::Stop, Kind::Bad],
-        &marks[2..],
+        behind(marks, 2),
     )
 }
 
@@ -129,9 +137,9 @@ fn arms(alloc: Global, marks: &[Mark]) -> Result<Result<Vec<Span>, u32>, NoMemor
 {
     let mut spans = Vec::new(alloc);
     let mut rest = marks;
-    for _ in 0..MOST {
-        if is_same_kind(kind_at(rest, 0), Kind::Stop) {
-            break;
+    'arms: while !is_same_kind(kind_at(rest, 0), Kind::Stop) {
+        if spans.len() == MOST {
+            return Ok(Err(place_at(rest, 0)));
         }
         if let Some(at) = misfit(&[Kind::Actions, Kind::Colon], rest) {
             return Ok(Err(at));
@@ -139,11 +147,11 @@ fn arms(alloc: Global, marks: &[Mark]) -> Result<Result<Vec<Span>, u32>, NoMemor
         let size = arm_size(rest);
         spans.push(Span {
             from: past_at(rest, 1),
-            to: past_at(rest, size + 1),
+            to: past_at(behind(rest, 1), size),
         })?;
-        rest = &rest[2..][size..];
+        rest = behind(behind(rest, 2), size);
     }
-    if spans.len() < FEWEST || !is_same_kind(kind_at(rest, 0), Kind::Stop) {
+    if spans.len() < FEWEST {
         return Ok(Err(place_at(rest, 0)));
     }
     Ok(Ok(spans))
@@ -155,7 +163,7 @@ pub(crate) fn order(alloc: Global, marks: &[Mark]) -> Result<Result<Vec<Span>, u
         (λ at. order marks.now ≡ Err at)) }
 {
     let size = stem_size(marks);
-    let choice = &marks[size..];
+    let choice = behind(marks, size);
     if !closes_at(marks, size) {
         return Ok(Err(place_at(choice, 0)));
     }
@@ -163,7 +171,7 @@ pub(crate) fn order(alloc: Global, marks: &[Mark]) -> Result<Result<Vec<Span>, u
     if let Some(at) = misfit(&heading, choice) {
         return Ok(Err(at));
     }
-    arms(alloc, &choice[4..])
+    arms(alloc, behind(choice, 4))
 }
 
 /// How many actions the stem has.

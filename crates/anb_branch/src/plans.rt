@@ -1,5 +1,5 @@
 //! Plans of roles by name, and their parts before and behind the choice.
-ghost use Rattle.std.specs.Prelude.{◌≡◌, ◌≤◌, ◌↔◌, length, map, true, IfOk, IsTrue};
+ghost use Rattle.std.specs.Prelude.{◌≡◌, ◌≤◌, ◌↔◌, length, drop, map, true, IfOk, IsTrue};
 ghost use Rattle.anb_resolve.specs.Names.{among};
 ghost use Rattle.anb_resolve.specs.Views.{plan_event};
 ghost use Rattle.anb_branch.specs.Lawful.{is_of_stem, plan_named, stem_len};
@@ -17,6 +17,14 @@ pub(crate) fn plan_named(alloc: Global, p: &Protocol, role: &Text) -> Result<Pla
         Some(number) => p.plan(alloc, number),
         None => unreachable!(),
     }
+}
+
+/// The events behind the first ones, so many.
+pub(crate) fn behind(events: &[Event], n: usize) -> &[Event]
+    requires { n ≤ length events.now }
+    ensures { result.now ≡ drop n events.now }
+{
+    &events[n..]
 }
 
 /// Whether the first event belongs to the first actions, so many.
@@ -40,7 +48,7 @@ pub(crate) fn stem_len(stem: u32, events: &[Event]) -> usize
     ensures within { result ≤ length events.now }
 {
     for i in 0..events.len() {
-        if !is_of_stem(stem, &events[i..]) {
+        if !is_of_stem(stem, behind(events, i)) {
             return i;
         }
     }

@@ -1,5 +1,5 @@
 //! Reads branched texts.
-ghost use Rattle.std.specs.Prelude.{◌≡◌, ◌≢◌, ◌≤◌, ℕ, List, length, IfOk, IfErr, IfNone};
+ghost use Rattle.std.specs.Prelude.{◌≡◌, ◌≢◌, ◌≤◌, ◌+◌, ℕ, List, length, IfOk, IfErr, IfNone};
 ghost use Rattle.std.specs.List.{AllByRecursion, AllZip};
 ghost use Rattle.anb_base.specs.declared.TheConstants.{SMALL_FILE};
 ghost use Rattle.anb_branch.specs.declared.order.Span.{Span as SpanValue};
@@ -55,6 +55,7 @@ fn branched_in(
     requires size { length text.now ≤ SMALL_FILE }
     requires ordered { IsOrdered text.now marks.now spans.now }
     requires stand { (to : ℕ) × Stand text.now 0 marks.now to }
+    requires count { length marks.now ≤ length text.now + 1 }
     ensures tells { IfOk result (λ b. BranchedText text.now (branched_of b)) }
     ensures lawful { IfOk result (λ b. IsLawful (branched_of b)) }
     ensures refused { IfErr result (λ no. no ≢ BranchNo.NoMemory → IsRefusal text.now no) }

@@ -7,9 +7,13 @@ use std::test::Fail;
 /// The declarations, the stem, the choice, and two arms.
 const HEAD: &str = "Protocol: C; Types: Agent A, B, D, E; Number N; Formats: yes = \"Y\" rest; \
      no = \"N\" len; Knowledge: A: N; B: N; ";
+
 const STEM: &str = "Actions: A -> B: N; ";
+
 const CHOICE: &str = "Choice: A; ";
+
 const YES: &str = "Actions: A -> B: yes(N); ";
+
 const NO: &str = "Actions: A -> B: no(N); ";
 
 /// These parts as one text.
@@ -41,7 +45,10 @@ fn choices_are_told(rt: HostRuntime) -> Result<(), Fail> {
     let two = told(alloc, &[HEAD, STEM, CHOICE, YES, NO])?;
     assert_eq!(rt; two.as_str(), "A 1 2");
     // A comment and goals behind the arms are passed over.
-    let goals = told(alloc, &[HEAD, STEM, CHOICE, YES, "# ?\n", NO, "Goals ? Choice"])?;
+    let goals = told(
+        alloc,
+        &[HEAD, STEM, CHOICE, YES, "# ?\n", NO, "Goals ? Choice"],
+    )?;
     assert_eq!(rt; goals.as_str(), "A 1 2");
     // A stem may have no action.
     let none = told(alloc, &[HEAD, "Actions: ", CHOICE, YES, NO])?;
@@ -100,7 +107,10 @@ fn arms_are_narrations(rt: HostRuntime) -> Result<(), Fail> {
     let alloc = rt.alloc();
     let read = told(alloc, &[HEAD, STEM, CHOICE, YES, "Actions: A -> B no(N);"])?;
     assert_eq!(rt; read.as_str(), "ArmRead(2, Grammar { at: 138 })");
-    let resolved = told(alloc, &[HEAD, STEM, CHOICE, "Actions: A -> A: yes(N);", "Actions: A"])?;
+    let resolved = told(
+        alloc,
+        &[HEAD, STEM, CHOICE, "Actions: A -> A: yes(N);", "Actions: A"],
+    )?;
     assert_eq!(rt; resolved.as_str(), "ArmResolve(1, SelfSend(2))");
     Ok(())
 }
@@ -122,7 +132,10 @@ fn nobody_is_blind(rt: HostRuntime) -> Result<(), Fail> {
     assert_eq!(rt; same.as_str(), BLIND_TWO);
     let idle = told(alloc, &[HEAD, STEM, CHOICE, YES, "Actions: "])?;
     assert_eq!(rt; idle.as_str(), BLIND_TWO);
-    let sender = told(alloc, &[HEAD, STEM, CHOICE, "Actions: B -> A: yes(N); ", NO])?;
+    let sender = told(
+        alloc,
+        &[HEAD, STEM, CHOICE, "Actions: B -> A: yes(N); ", NO],
+    )?;
     assert_eq!(rt; sender.as_str(), BLIND_ONE);
     let bare = told(alloc, &[HEAD, STEM, CHOICE, "Actions: A -> B: N; ", NO])?;
     assert_eq!(rt; bare.as_str(), BLIND_ONE);
@@ -130,4 +143,5 @@ fn nobody_is_blind(rt: HostRuntime) -> Result<(), Fail> {
 }
 
 const BLIND_ONE: &str = "Blind { role: Text { inner: \"B\" }, arm: 1 }";
+
 const BLIND_TWO: &str = "Blind { role: Text { inner: \"B\" }, arm: 2 }";

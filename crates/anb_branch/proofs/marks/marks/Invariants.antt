@@ -5,6 +5,7 @@ use Rattle.anb_branch.proofs.marks.marks.Given as goal
 
 abbrev pub invariant-tokens : goal.invariant-tokens
 invariant-tokens l = record {
+  count : length l.marks.items ≤ l.from;
   high : l.from ≤ length l.text;
   gone : Gone l.text l.from l.marks.items;
   stand : Stand l.text 0 l.marks.items l.from;
