@@ -9,7 +9,8 @@ use Rattle.anb_branch.specs.declared.order.Span.{Span}
 use Rattle.anb_branch.specs.declared.refusal.BranchNo.{BranchNo}
 use Rattle.anb_branch.specs.declared.refusal.BranchNo.TheVariants.{Token, Shape, ArmRead, ArmResolve, Roles, Chooser, Blind, NoMemory}
 use Rattle.anb_branch.specs.Branching.{ArmIsRefused, BranchedText, IsOrdered, IsRefusal, blind_refusal, choice_fault, other_roles, straights}
-use Rattle.anb_branch.specs.Lawful.{BranchedValue, blind, roles_in}
+use Rattle.anb_branch.specs.Lawful.{BranchedValue, IsLawful, blind, roles_in}
+use Rattle.anb_branch.proofs.Names.{alike_names}
 
 is_of_choice : BranchNo → Bool
 is_of_choice (Roles arm) = true
@@ -68,3 +69,7 @@ module _ (b : BranchedValue) (roles : other_roles b ≡ None) where
 
   pub no_fault : among (roles_in b) b.chooser ≡ true → blind b ≡ None → choice_fault b ≡ None
   no_fault e f = past_chooser e ∙ ap (option_map blind_refusal) f
+
+-- nothing is wrong with a lawful choice
+pub lawful_fault : (b : BranchedValue) → IsLawful b → choice_fault b ≡ None
+lawful_fault b l = no_fault b (alike_names b.stem b.arms l.alike) l.chooser l.seeing

@@ -6,3 +6,4 @@ pub mod Names
 pub mod Faults
 pub mod Events
 pub mod Headed
+pub mod Uniqueness

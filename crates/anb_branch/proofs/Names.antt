@@ -1,5 +1,5 @@
 -- Names that are among others.
-use Rattle.std.proofs.Common.{◌≡◌, ℕ, List, [], ◌∷◌, Bool, true, false, Option, Some, None, refl, sym, ap, subst, ◌∙◌, cond, get_or, length, ◌<◌, zero, suc, arith, ◌+◌}
+use Rattle.std.proofs.Common.{◌≡◌, ℕ, List, [], ◌∷◌, Bool, true, false, Option, Some, None, refl, sym, ap, subst, ◌∙◌, cond, get_or, length, ◌<◌, zero, suc, arith, ◌+◌, append_assoc}
 use Rattle.std.specs.Prelude.{◌&&◌, ◌||◌, not, ◌++◌, IfOk, Result, Ok, Err, slice_get}
 use Rattle.std.specs.Option.{option_map_or, option_or}
 use Rattle.std.specs.List.{AllByRecursion, AllZip, list_all, list_any}
@@ -92,3 +92,38 @@ not_false false e = cc
 -- byte strings that a comparison didn't tell apart
 pub not_apart : (a b c d : List ℕ) (r : Bool) → r ≡ not (bytes_eq c d) → c ≡ a → d ≡ b → r ≡ false → a ≡ b
 not_apart a b c d r e f g h = sym f ∙ bytes_are_one c d (not_false (bytes_eq c d) (sym e ∙ h)) ∙ g
+
+-- ---- arms that are alike have the same role names
+
+among_middle : (front : List (List ℕ)) (x : List ℕ) (xs : List (List ℕ)) → among (front ++ x ∷ xs) x ≡ true
+among_middle [] x xs = ap (λ b. b || among xs x) (bytes-same x)
+among_middle (y ∷ front) x xs = ap (λ b. bytes_eq y x || b) (among_middle front x xs) ∙ or-true (bytes_eq y x)
+
+both_true : (a b : Bool) → a ≡ true → b ≡ true → (a && b) ≡ true
+both_true a b e f = ap (λ c. c && b) e ∙ f
+
+all_among_behind : (front xs : List (List ℕ)) → list_all (among (front ++ xs)) xs ≡ true
+all_among_behind front [] = refl
+all_among_behind front (x ∷ xs) =
+    both_true (among (front ++ x ∷ xs) x) (list_all (among (front ++ x ∷ xs)) xs) (among_middle front x xs)
+    (subst (λ (l : List (List ℕ)). list_all (among l) xs ≡ true) (append_assoc front (x ∷ []) xs) (all_among_behind (front ++ x ∷ []) xs))
+
+same_itself : (xs : List (List ℕ)) → are_same_names xs xs ≡ true
+same_itself xs = both_true (list_all (among xs) xs) (list_all (among xs) xs) (all_among_behind [] xs) (all_among_behind [] xs)
+
+pass_none : {X R : Type 0} (test : X → Bool) (r : List X → R) (before xs : List X) → AllByRecursion (λ x. test x ≡ true) xs
+    → first_after (λ us x. refuse_if (not (test x)) (r us)) before xs ≡ None
+pass_none test r before [] all = refl
+pass_none test r before (x ∷ xs) all =
+    ap (λ b. option_or (refuse_if (not b) (r before)) (first_after (λ us y. refuse_if (not (test y)) (r us)) (before ++ x ∷ []) xs)) all.0
+    ∙ pass_none test r (before ++ x ∷ []) xs all.1
+
+like_names : (stem : ℕ) (one : ProtocolValue) (others : List ProtocolValue) → AllByRecursion (IsLike stem one) others → AllByRecursion (λ (p : ProtocolValue). are_same_names one.roles p.roles ≡ true) others
+like_names stem one [] all = tt
+like_names stem one (p ∷ others) all = (all.0.roles, like_names stem one others all.1)
+
+pub alike_names : (stem : ℕ) (arms : List ProtocolValue) → AreAlike stem arms
+    → first_after (λ before (p : ProtocolValue). refuse_if (not (are_same_names (option_map_or (λ (q : ProtocolValue). q.roles) (slice_get arms 0) []) p.roles)) (length before + 1)) [] arms ≡ None
+alike_names stem [] all = refl
+alike_names stem (one ∷ others) all =
+    pass_none (λ (p : ProtocolValue). are_same_names one.roles p.roles) (λ (us : List ProtocolValue). length us + 1) [] (one ∷ others) (same_itself one.roles, like_names stem one others all)

@@ -8,6 +8,7 @@ mod alike;
 mod arms;
 mod blindness;
 mod branched;
+mod laws;
 mod marks;
 mod order;
 mod parts;
@@ -18,5 +19,6 @@ mod splitting;
 mod tests;
 
 pub use branched::Branched;
+pub use laws::{branch_refusals_are_unique, choices_are_unique, no_choice_is_refused};
 pub use refusal::BranchNo;
 pub use splitting::split;
