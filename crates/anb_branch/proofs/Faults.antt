@@ -1,5 +1,5 @@
 -- Refusals of a text, by what was found.
-use Rattle.std.proofs.Common.{◌≡◌, ℕ, List, Bool, true, false, Option, Some, None, refl, sym, ap, ◌∙◌}
+use Rattle.std.proofs.Common.{◌≡◌, ◌≢◌, ◌⊎◌, inl, inr, ℕ, List, Bool, true, false, Option, Some, None, refl, sym, ap, ◌∙◌}
 use Rattle.std.specs.Prelude.{not}
 use Rattle.std.specs.Option.{option_map, option_or}
 use Rattle.anb_resolve.specs.Choices.{refuse_if}
@@ -9,6 +9,7 @@ use Rattle.anb_branch.specs.declared.order.Span.{Span}
 use Rattle.anb_branch.specs.declared.refusal.BranchNo.{BranchNo}
 use Rattle.anb_branch.specs.declared.refusal.BranchNo.TheVariants.{Token, Shape, ArmRead, ArmResolve, Roles, Chooser, Blind, NoMemory}
 use Rattle.anb_branch.specs.Branching.{ArmIsRefused, BranchedText, IsOrdered, IsRefusal, blind_refusal, choice_fault, other_roles, straights}
+use Rattle.anb_branch.specs.Laws.{NoneIsBoth, RefusalsAreUnique}
 use Rattle.anb_branch.specs.Lawful.{BranchedValue, IsLawful, blind, roles_in}
 use Rattle.anb_branch.proofs.Names.{alike_names}
 
@@ -73,3 +74,25 @@ module _ (b : BranchedValue) (roles : other_roles b ≡ None) where
 -- nothing is wrong with a lawful choice
 pub lawful_fault : (b : BranchedValue) → IsLawful b → choice_fault b ≡ None
 lawful_fault b l = no_fault b (alike_names b.stem b.arms l.alike) l.chooser l.seeing
+
+-- ---- each text is refused by its one refusal
+
+pub exactly : RefusalsAreUnique → (x : List ℕ) (e why : BranchNo) → (e ≢ NoMemory → IsRefusal x e) → IsRefusal x why → (e ≡ why) ⊎ (e ≡ NoMemory)
+exactly unique x (Token at) why given has = inl (unique x (Token at) why (given (λ q. cc)) has)
+exactly unique x (Shape at) why given has = inl (unique x (Shape at) why (given (λ q. cc)) has)
+exactly unique x (ArmRead arm r) why given has = inl (unique x (ArmRead arm r) why (given (λ q. cc)) has)
+exactly unique x (ArmResolve arm r) why given has = inl (unique x (ArmResolve arm r) why (given (λ q. cc)) has)
+exactly unique x (Roles arm) why given has = inl (unique x (Roles arm) why (given (λ q. cc)) has)
+exactly unique x Chooser why given has = inl (unique x Chooser why (given (λ q. cc)) has)
+exactly unique x (Blind role arm) why given has = inl (unique x (Blind role arm) why (given (λ q. cc)) has)
+exactly unique x NoMemory why given has = inr refl
+
+pub never_refused : NoneIsBoth → (x : List ℕ) (b : BranchedValue) (e : BranchNo) → BranchedText x b → IsLawful b → (e ≢ NoMemory → IsRefusal x e) → e ≡ NoMemory
+never_refused law x b (Token at) text lawful given = absurd (law x b (Token at) text lawful (given (λ q. cc)))
+never_refused law x b (Shape at) text lawful given = absurd (law x b (Shape at) text lawful (given (λ q. cc)))
+never_refused law x b (ArmRead arm r) text lawful given = absurd (law x b (ArmRead arm r) text lawful (given (λ q. cc)))
+never_refused law x b (ArmResolve arm r) text lawful given = absurd (law x b (ArmResolve arm r) text lawful (given (λ q. cc)))
+never_refused law x b (Roles arm) text lawful given = absurd (law x b (Roles arm) text lawful (given (λ q. cc)))
+never_refused law x b Chooser text lawful given = absurd (law x b Chooser text lawful (given (λ q. cc)))
+never_refused law x b (Blind role arm) text lawful given = absurd (law x b (Blind role arm) text lawful (given (λ q. cc)))
+never_refused law x b NoMemory text lawful given = refl

@@ -1,11 +1,11 @@
 -- The tokens at the front: how many come before some kinds, and whether they are of given kinds.
-use Rattle.std.proofs.Common.{◌≡◌, ℕ, zero, suc, ◌+◌, ◌<◌, ◌≤◌, List, [], ◌∷◌, length, take, drop, get_or, Bool, true, false, Option, Some, None, Result, Ok, Err, refl, sym, ap, ◌∙◌, arith, cond}
+use Rattle.std.proofs.Common.{◌≡◌, ℕ, zero, suc, ◌+◌, ◌<◌, ◌≤◌, List, [], ◌∷◌, length, drop, get_or, Bool, true, false, Option, Some, None, refl, sym, ap, ◌∙◌, arith, cond}
 use Rattle.std.specs.Prelude.{not}
-use Rattle.std.specs.List.{list_any, count_by, slice_get}
+use Rattle.std.specs.List.{list_any}
 use Rattle.std.proofs.lemmas.List.{drop_more}
 use Rattle.anb_branch.specs.declared.marks.Kind.{Kind}
 use Rattle.anb_branch.specs.declared.marks.Mark.{Mark}
-use Rattle.anb_branch.specs.Order.{before, kind_at, kind_eqb, misfit, past_at, place_at}
+use Rattle.anb_branch.specs.Order.{before, kind_at, kind_eqb, misfit, place_at}
 
 module _ (kinds : List Kind) (ms : List Mark) (i : ℕ) (m : Mark) (h : i < length ms) (e : m ≡ get_or ms i m) where
   rest : drop i ms ≡ m ∷ drop (i + 1) ms

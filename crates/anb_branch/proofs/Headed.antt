@@ -1,25 +1,22 @@
 -- What the narrations of arms have in common, and the arms that were read.
-use Rattle.std.proofs.Common.{◌≡◌, ℕ, zero, suc, ◌+◌, ◌<◌, List, [], ◌∷◌, ◌++◌, length, map, take, drop, get_or, Bool, true, false, Some, refl, sym, ap, subst, ◌∙◌, arith}
+use Rattle.std.proofs.Common.{◌≡◌, ℕ, ◌+◌, ◌<◌, List, [], ◌∷◌, ◌++◌, length, map, take, drop, get_or, Bool, true, false, refl, sym, ap, subst, ◌∙◌, arith}
 use Rattle.std.specs.Prelude.{◌&&◌}
 use Rattle.std.specs.List.{AllZip, flat_map}
 use Rattle.std.proofs.lemmas.List.{drop_more, get_or_default, length-map, length-take-le, take-append-drop}
 use Rattle.std.proofs.Math.ListN.{get_or-map}
 use Rattle.anb_lemmas.proofs.Each.{take_next, zip_and_last}
-use Rattle.anb_base.specs.declared.content.Suite.{Suite}
-use Rattle.anb_format.specs.Formats.{FormatValue}
-use Rattle.anb_syntax.specs.Grammar.{Narration, IsSpellable, TypeItem, FormatItem}
+use Rattle.anb_syntax.specs.Grammar.{Narration, IsSpellable}
 use Rattle.anb_syntax.specs.Canon.{canon}
 use Rattle.anb_syntax.specs.Text.{Text}
 use Rattle.anb_syntax.specs.Laws.{CanonicalIsText}
 use Rattle.anb_read.specs.Laws.{NarrationsAreUnique}
-use Rattle.anb_resolve.specs.declared.parts.Atom.{Atom}
 use Rattle.anb_resolve.specs.Names.{item_atoms}
 use Rattle.anb_resolve.specs.Protocols.{ProtocolValue, format_value, protocol_of}
 use Rattle.anb_branch.specs.declared.refusal.BranchNo.{BranchNo}
 use Rattle.anb_branch.specs.declared.refusal.BranchNo.TheVariants.{Token, Shape, ArmRead, ArmResolve, Roles, Chooser, Blind, NoMemory}
 use Rattle.anb_branch.specs.declared.marks.Mark.{Mark}
 use Rattle.anb_branch.specs.declared.order.Span.{Span}
-use Rattle.anb_branch.specs.Branching.{ArmIsRefused, FirstRefused, Tells, straights}
+use Rattle.anb_branch.specs.Branching.{ArmIsRefused, Tells, straights}
 use Rattle.anb_branch.specs.Order.{bytes_between, stem_end, straight}
 use Rattle.anb_branch.specs.Headers.{HasHeader, IsRefusedAs, without_actions}
 

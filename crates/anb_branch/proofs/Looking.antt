@@ -1,5 +1,5 @@
 -- The tokens that are looked at, one after another.
-use Rattle.std.proofs.Common.{◌≡◌, ◌⊎◌, inl, inr, ℕ, zero, suc, ◌+◌, ◌-◌, ◌<◌, ◌≤◌, List, [], ◌∷◌, ◌++◌, length, take, drop, Bool, true, false, Option, Some, None, refl, sym, ap, subst, ◌∙◌, arith, cond, append_assoc, length-drop}
+use Rattle.std.proofs.Common.{◌≡◌, ◌⊎◌, inl, inr, ℕ, ◌+◌, ◌-◌, ◌<◌, ◌≤◌, List, [], ◌∷◌, ◌++◌, length, take, drop, Bool, true, false, Option, Some, None, refl, sym, ap, subst, ◌∙◌, arith, cond, append_assoc, length-drop}
 use Rattle.std.proofs.lemmas.List.{drop-drop, drop_all}
 use Rattle.std.specs.Str.{bytes_eq}
 use Rattle.anb_syntax.specs.Words.{Word, end, bad, Tok, actions_word, choice_word, goals_word, is_name}
@@ -16,9 +16,9 @@ use Rattle.anb_read.specs.Laws.{EachIsEither}
 use Rattle.anb_read.specs.Refusals.{IsRefusal}
 use Rattle.anb_read.specs.declared.refusal.ReadNo.{ReadNo}
 use Rattle.anb_branch.specs.declared.marks.Kind.{Kind}
-use Rattle.anb_branch.specs.declared.marks.Kind.TheVariants.{Choice, Actions, Colon, Semicolon, Name, Other, Stop, Bad}
+use Rattle.anb_branch.specs.declared.marks.Kind.TheVariants.{Choice, Actions, Name, Other, Stop, Bad}
 use Rattle.anb_branch.specs.declared.marks.Mark.{Mark}
-use Rattle.anb_branch.specs.Order.{AreMarks, bytes_between, ends_looking, kind_of, len_of, looked, mark_of, word_kind}
+use Rattle.anb_branch.specs.Order.{AreMarks, ends_looking, kind_of, len_of, looked, mark_of, word_kind}
 use Rattle.anb_branch.specs.Standing.{IsWithin}
 
 -- ---- each text has tokens

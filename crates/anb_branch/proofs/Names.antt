@@ -1,8 +1,8 @@
 -- Names that are among others.
-use Rattle.std.proofs.Common.{◌≡◌, ℕ, List, [], ◌∷◌, Bool, true, false, Option, Some, None, refl, sym, ap, subst, ◌∙◌, cond, get_or, length, ◌<◌, zero, suc, arith, ◌+◌, append_assoc}
+use Rattle.std.proofs.Common.{◌≡◌, ℕ, List, [], ◌∷◌, Bool, true, false, Option, None, refl, sym, ap, subst, ◌∙◌, get_or, length, ◌<◌, zero, suc, arith, ◌+◌, append_assoc}
 use Rattle.std.specs.Prelude.{◌&&◌, ◌||◌, not, ◌++◌, IfOk, Result, Ok, Err, slice_get}
 use Rattle.std.specs.Option.{option_map_or, option_or}
-use Rattle.std.specs.List.{AllByRecursion, AllZip, list_all, list_any}
+use Rattle.std.specs.List.{AllByRecursion, AllZip, list_all}
 use Rattle.std.specs.Str.{bytes_eq}
 use Rattle.anb_lemmas.proofs.Items.{bytes_are_one, bytes_eq-same}
 use Rattle.anb_resolve.specs.Choices.{first_after, refuse_if}

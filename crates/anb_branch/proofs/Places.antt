@@ -1,6 +1,5 @@
 -- Where tokens stand that stand one behind another.
-use Rattle.std.proofs.Common.{◌≡◌, ℕ, zero, suc, ◌+◌, ◌-◌, ◌<◌, ◌≤◌, List, [], ◌∷◌, ◌++◌, length, take, drop, Bool, true, false, refl, sym, ap, subst, ◌∙◌, arith, length-append}
-use Rattle.anb_syntax.specs.Words.{is_name}
+use Rattle.std.proofs.Common.{◌≡◌, ℕ, zero, suc, ◌+◌, ◌<◌, ◌≤◌, List, [], ◌∷◌, ◌++◌, length, drop, refl, sym, ap, subst, ◌∙◌, arith, length-append}
 use Rattle.anb_branch.specs.declared.marks.Mark.{Mark}
 use Rattle.anb_branch.specs.Order.{past_at, place_at}
 use Rattle.anb_branch.specs.Standing.{IsWithin, Stand}

@@ -9,8 +9,8 @@ use Rattle.anb_branch.specs.declared.marks.Kind.{Kind}
 use Rattle.anb_branch.specs.declared.marks.Kind.TheVariants.{Choice, Actions, Colon, Semicolon, Name, Other, Stop, Bad}
 use Rattle.anb_branch.specs.declared.marks.Mark.{Mark}
 use Rattle.anb_branch.specs.declared.order.Span.{Span}
-use Rattle.anb_branch.specs.Order.{arm_heading, arm_size, arm_span, arms_at, at_end, before, behind_arm, bytes_between, chooser_in, choice_heading, closes_at, ends_looking, kind_at, kind_eqb, misfit, order, past_at, place_at, stem_end, stem_size, unless, with_front}
-use Rattle.anb_branch.specs.Standing.{IsSpanOf, IsWithin, Stand}
+use Rattle.anb_branch.specs.Order.{arm_heading, arm_size, arm_span, arms_at, at_end, behind_arm, bytes_between, chooser_in, choice_heading, closes_at, ends_looking, kind_at, kind_eqb, misfit, order, past_at, place_at, stem_end, stem_size, unless, with_front}
+use Rattle.anb_branch.specs.Standing.{IsSpanOf, Stand}
 use Rattle.anb_branch.proofs.Fronts.{before-within}
 use Rattle.anb_branch.proofs.Places.{past_behind, past_of_rest, place_of_rest, stand_drop, stand_past}
 

@@ -1,17 +1,11 @@
 -- A text tells one choice, or has one refusal.
-use Rattle.std.proofs.Common.{◌≡◌, ◌⊎◌, inl, inr, ℕ, ◌+◌, List, [], ◌∷◌, ◌++◌, length, map, Bool, true, false, Option, Some, None, Result, Ok, Err, refl, sym, ap, subst, ◌∙◌}
-use Rattle.std.specs.Prelude.{not}
+use Rattle.std.proofs.Common.{◌≡◌, ◌⊎◌, inl, inr, ℕ, ◌+◌, List, [], ◌∷◌, ◌++◌, length, Option, Some, None, Result, Ok, Err, refl, sym, ap, subst, ◌∙◌}
 use Rattle.std.specs.Option.{option_map, option_or}
 use Rattle.std.specs.List.{AllZip}
 use Rattle.anb_base.specs.declared.TheConstants.{ARRIVAL, WIDE}
-use Rattle.anb_syntax.specs.Grammar.{Narration}
-use Rattle.anb_syntax.specs.Text.{Text}
 use Rattle.anb_syntax.specs.Laws.{TokensAreUnique}
 use Rattle.anb_read.specs.Laws as read
-use Rattle.anb_read.specs.Refusals as reading
 use Rattle.anb_resolve.specs.Checks.{fault}
-use Rattle.anb_resolve.specs.Choices.{refuse_if}
-use Rattle.anb_resolve.specs.Names.{among}
 use Rattle.anb_resolve.specs.Protocols.{ProtocolValue, protocol_of}
 use Rattle.anb_branch.specs.declared.marks.Mark.{Mark}
 use Rattle.anb_branch.specs.declared.order.Span.{Span}

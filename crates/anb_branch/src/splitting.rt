@@ -1,11 +1,12 @@
 //! Reads branched texts.
-ghost use Rattle.std.specs.Prelude.{◌≡◌, ◌≢◌, ◌≤◌, ◌+◌, ℕ, List, length, IfOk, IfErr, IfNone};
+ghost use Rattle.std.specs.Prelude.{◌≡◌, ◌≢◌, ◌⊎◌, ◌≤◌, ◌+◌, ℕ, List, length, IfOk, IfErr, IfNone, MatchResult};
 ghost use Rattle.std.specs.List.{AllByRecursion, AllZip};
 ghost use Rattle.anb_base.specs.declared.TheConstants.{SMALL_FILE};
 ghost use Rattle.anb_branch.specs.declared.order.Span.{Span as SpanValue};
+ghost use Rattle.anb_branch.specs.declared.refusal.BranchNo.{BranchNo as No};
 ghost use Rattle.anb_branch.specs.Branching.{ArmIsRefused, BranchedText, IsOrdered, IsRefusal, Tells, choice_fault, straights};
 ghost use Rattle.anb_branch.specs.Headers.{HasHeader};
-ghost use Rattle.anb_branch.specs.Lawful.{IsLawful};
+ghost use Rattle.anb_branch.specs.Lawful.{BranchedValue, IsLawful};
 ghost use Rattle.anb_branch.specs.Order.{chooser_in, stem_end};
 ghost use Rattle.anb_branch.specs.Standing.{IsSpanOf, Stand};
 ghost use Rattle.anb_branch.specs.Views.{branched_of};
@@ -14,6 +15,7 @@ use crate::alike::{among, are_alike, other_roles};
 use crate::arms::{Arm, arm_of};
 use crate::blindness::blind;
 use crate::branched::{Branched, roles_in};
+use crate::laws::{branch_refusals_are_unique, choices_are_unique, no_choice_is_refused};
 use crate::marks::{Mark, bad_at, marks};
 use crate::order::{Span, order, past_at, place_at, stem_actions, stem_size};
 use crate::parts::{bytes_between, straight};
@@ -26,6 +28,28 @@ use std::alloc::Global;
 /// What the text tells: the role that chooses, the number of common actions, and each arm's protocol.
 /// Only what stands before the first `Goals` is looked at.
 pub fn split(alloc: Global, text: &[u8]) -> Result<Branched, BranchNo>
+    requires { length text.now ≤ SMALL_FILE }
+    // What is told is the text's choice, and lawful; each text of a lawful choice tells it.
+    ensures tells { IfOk result (λ b. BranchedText text.now (branched_of b)) }
+    ensures lawful { IfOk result (λ b. IsLawful (branched_of b)) }
+    ensures only { (b : BranchedValue) → BranchedText text.now b → IsLawful b
+        → MatchResult result (λ c. branched_of c ≡ b) (λ e. e ≡ BranchNo.NoMemory) }
+    // What is refused has the refusal, and each text with a refusal is refused so.
+    ensures refused { IfErr result (λ e. e ≢ BranchNo.NoMemory → IsRefusal text.now e) }
+    ensures exact { (e : No) → IsRefusal text.now e
+        → MatchResult result (λ b. ⊥) (λ f. (f ≡ e) ⊎ (f ≡ BranchNo.NoMemory)) }
+{
+    choices_are_unique();
+    branch_refusals_are_unique();
+    no_choice_is_refused();
+    match marked(alloc, text) {
+        Ok(b) => Ok(b),
+        Err(no) => Err(no),
+    }
+}
+
+/// What the text tells, or its refusal.
+fn marked(alloc: Global, text: &[u8]) -> Result<Branched, BranchNo>
     requires { length text.now ≤ SMALL_FILE }
     ensures tells { IfOk result (λ b. BranchedText text.now (branched_of b)) }
     ensures lawful { IfOk result (λ b. IsLawful (branched_of b)) }

@@ -1,5 +1,5 @@
 use Rattle.std.proofs.Common.{take}
-use Rattle.std.specs.List.{AllByRecursion, slice_get}
+use Rattle.std.specs.List.{AllByRecursion}
 use Rattle.anb_branch.specs.Lawful.{IsLike}
 use Rattle.anb_branch.proofs.alike.are_alike.Given as goal
 

@@ -1,4 +1,4 @@
-use Rattle.std.proofs.Common.{map, sym, ap, ◌∙◌}
+use Rattle.std.proofs.Common.{map, ap, ◌∙◌}
 use Rattle.anb_resolve.specs.Views.{plan_event}
 use Rattle.anb_branch.specs.Lawful.{received_format}
 use Rattle.anb_branch.proofs.Events.{arm_seen}

@@ -1,4 +1,4 @@
-use Rattle.std.proofs.Common.{length, sym, ap, ◌∙◌, arith}
+use Rattle.std.proofs.Common.{sym, ap, ◌∙◌, arith}
 use Rattle.anb_branch.specs.Order.{ends_looking}
 use Rattle.anb_branch.proofs.Looking.{bad_within, end_within, ends_bad, ends_end, ends_token, gone_token, token_within}
 use Rattle.anb_branch.proofs.Places.{grown, stand_more}

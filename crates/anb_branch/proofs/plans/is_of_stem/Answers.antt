@@ -1,4 +1,4 @@
-use Rattle.std.proofs.Common.{refl, true, arith}
+use Rattle.std.proofs.Common.{refl, arith}
 use Rattle.anb_branch.proofs.Events.{told_here, told_later}
 use Rattle.anb_branch.proofs.plans.is_of_stem.Goals as goal
 

@@ -1,4 +1,4 @@
-use Rattle.std.proofs.Common.{true, sym, ◌∙◌, arith}
+use Rattle.std.proofs.Common.{sym, ◌∙◌, arith}
 use Rattle.std.proofs.lemmas.Bool.{false≢true}
 use Rattle.anb_resolve.specs.Views.{plan_event}
 use Rattle.anb_branch.proofs.Events.{same_at, same_more}

@@ -1,4 +1,4 @@
-use Rattle.std.proofs.Common.{◌≡◌, take, map}
+use Rattle.std.proofs.Common.{take}
 use Rattle.std.specs.List.{AllZip}
 use Rattle.anb_branch.specs.Branching.{Tells, straights}
 use Rattle.anb_branch.specs.Headers.{HasHeader}

@@ -1,10 +1,10 @@
-use Rattle.std.proofs.Common.{map, sym, ◌∙◌, arith}
+use Rattle.std.proofs.Common.{sym, ◌∙◌, arith}
 use Rattle.std.proofs.lemmas.List.{length-map}
 use Rattle.std.proofs.lemmas.Slice.Zip.{AllZip-long}
-use Rattle.anb_branch.specs.Branching.{Tells, straights}
+use Rattle.anb_branch.specs.Branching.{Tells}
 use Rattle.anb_branch.specs.Lawful.{BranchedValue}
 use Rattle.anb_branch.specs.Order.{straight}
-use Rattle.anb_branch.proofs.Faults.{arm_refusal, choice_refusal}
+use Rattle.anb_branch.proofs.Faults.{choice_refusal}
 use Rattle.anb_branch.proofs.Spans.{parts_stand}
 use Rattle.anb_branch.proofs.splitting.branched_in.Goals as goal
 

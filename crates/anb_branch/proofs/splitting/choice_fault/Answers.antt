@@ -1,4 +1,4 @@
-use Rattle.std.proofs.Common.{ℕ, ◌+◌, [], List, length, sym, ◌∙◌}
+use Rattle.std.proofs.Common.{◌+◌, [], List, length, sym, ◌∙◌}
 use Rattle.anb_resolve.specs.Protocols.{ProtocolValue}
 use Rattle.anb_branch.specs.Lawful.{are_same_names, roles_in}
 use Rattle.anb_branch.specs.Views.{branched_of}

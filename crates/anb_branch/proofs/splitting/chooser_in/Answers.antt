@@ -1,6 +1,3 @@
-use Rattle.std.proofs.Common.{◌≡◌, ℕ, ◌+◌, true, sym, ap, subst, ◌∙◌, arith}
-use Rattle.anb_syntax.specs.Words.{is_name}
-use Rattle.anb_branch.specs.Order.{bytes_between, past_at, place_at, stem_size}
 use Rattle.anb_branch.proofs.Spans.{parts_stand}
 use Rattle.anb_branch.proofs.splitting.chooser_in.Goals as goal
 
