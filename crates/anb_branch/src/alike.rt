@@ -61,7 +61,8 @@ fn has_same_stem(
     requires in_one { among one.now.roles role.now ≡ true }
     requires in_other { among p.now.roles role.now ≡ true }
     ensures { IfOk result (λ same. IsTrue same
-        → stem_part stem (plan_named p.now role.now) ≡ stem_part stem (plan_named one.now role.now)) }
+        → stem_part stem (plan_named p.now role.now)
+        ≡ stem_part stem (plan_named one.now role.now)) }
 {
     let ours = plan_named(alloc, one, role)?;
     let theirs = plan_named(alloc, p, role)?;
@@ -77,7 +78,8 @@ fn has_same_stem(
 fn have_same_stems(alloc: Global, stem: u32, one: &Protocol, p: &Protocol) -> Result<bool, NoMemory>
     requires { are_same_names one.now.roles p.now.roles ≡ true }
     ensures { IfOk result (λ same. IsTrue same → AllByRecursion (λ role.
-        stem_part stem (plan_named p.now role) ≡ stem_part stem (plan_named one.now role)) one.now.roles) }
+        stem_part stem (plan_named p.now role) ≡ stem_part stem (plan_named one.now role))
+        one.now.roles) }
 {
     for role in one.roles() {
         if !has_same_stem(alloc, stem, one, p, role)? {

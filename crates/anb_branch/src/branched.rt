@@ -6,9 +6,8 @@ ghost use Rattle.anb_branch.specs.Views.{branched_of};
 use anb_base::Text;
 use anb_resolve::Protocol;
 
-/// A choice at the end: the role that chooses, how many actions come before the choice, and for each
-/// arm the protocol of the common actions with those of the arm. Arms are numbered from 1. It takes
-/// its memory from the protocols.
+/// A choice at the end: the role that chooses, how many actions come before the choice, and for
+/// each arm the protocol of the common actions with those of the arm. Arms are numbered from 1.
 #[derive(Drop)]
 pub struct Branched {
     pub chooser: Text,

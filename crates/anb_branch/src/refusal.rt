@@ -9,8 +9,8 @@ use std::alloc::{AllocError, AllocFailed};
 pub enum BranchNo {
     /// No token begins at this offset.
     Token(u32),
-    /// From the token at this offset on the order of tokens is wrong, or the text ends there and more
-    /// is needed.
+    /// From the token at this offset on the order of tokens is wrong, or the text ends there and
+    /// more is needed.
     Shape(u32),
     /// The stem with this arm is no narration.
     ArmRead(u32, ReadNo),

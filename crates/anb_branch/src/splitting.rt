@@ -25,8 +25,9 @@ use anb_resolve::Protocol;
 use anb_syntax::name_text;
 use std::alloc::Global;
 
-/// What the text tells: the role that chooses, the number of common actions, and each arm's protocol.
-/// Only what stands before the first `Goals` is looked at.
+/// What the text tells: the role that chooses, the number of common actions, and each arm's
+/// protocol. Only what stands before the first `Goals` is looked at. Its time is that of reading
+/// and resolving each arm with the stem, and of comparing the roles' plans.
 pub fn split(alloc: Global, text: &[u8]) -> Result<Branched, BranchNo>
     requires { length text.now ≤ SMALL_FILE }
     // What is told is the text's choice, and lawful; each text of a lawful choice tells it.

@@ -25,8 +25,8 @@ fn joined(alloc: Global, parts: &[&str]) -> Result<String, Fail> {
     Ok(text)
 }
 
-/// What is told of the text of these parts: the chooser, the number of common actions and that of the
-/// arms, or the refusal.
+/// What is told of the text of these parts: the chooser, the number of common actions and that of
+/// the arms, or the refusal.
 fn told(alloc: Global, parts: &[&str]) -> Result<String, Fail> {
     let text = joined(alloc, parts)?;
     if text.len() > SMALL_FILE as usize {
