@@ -141,7 +141,7 @@ fn compiled_codes_are_certified(rt: HostRuntime) -> Result<(), Fail> {
     ] {
         let text = format!(in alloc; "{}{}", NAMES, rest)?;
         let protocol = protocol(&rt, alloc, text.as_str())?;
-        for role in 0..protocol.roles().len() as u32 {
+        for role in 0..2 {
             assert!(rt; (role as usize) < protocol.roles().len());
             match compile(alloc, &protocol, role) {
                 Ok(code) => {
