@@ -1,0 +1,2 @@
+-- for proofs alone
+pub mod Stems
