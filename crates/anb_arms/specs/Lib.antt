@@ -1,2 +1,6 @@
+pub mod Arms
+pub mod Taken
+pub mod Laws
 -- for proofs alone
+pub mod Signs
 pub mod Stems

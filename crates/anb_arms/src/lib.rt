@@ -1,4 +1,10 @@
 //! The arms of a branched text, compiled and played.
 #![tactic(auto)]
 
+mod compiling;
+mod laws;
+mod signs;
 mod stem;
+
+pub use compiling::{ArmNo, compile_arms};
+pub use laws::arms_play_alike;
