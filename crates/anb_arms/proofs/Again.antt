@@ -4,7 +4,7 @@ use Rattle.std.proofs.lemmas.List.{append-nil}
 use Rattle.anb_base.specs.declared.TheConstants.{ARRIVAL}
 use Rattle.anb_plays.specs.Plays.{Played, End, waiting, ends, says}
 use Rattle.anb_machine.specs.Machines.{MachineValue, gives, waits}
-use Rattle.anb_arms.specs.Stems.{AreShort, said, StandsBehind, RunsTo, WaitsBehind}
+use Rattle.anb_arms.specs.Stems.{AreShort, said, StandsBehind, RunsTo, WaitsAt}
 use Rattle.anb_arms.proofs.Behind.{stands_saying, stands_same, stands_hearing}
 
 -- the machine stands behind the first of the arrivals, and these are left
@@ -44,7 +44,7 @@ again_waiting first old new past rest event same next waits is a =
 
 -- it isn't over
 pub again_over : (first now : MachineValue) (past rest : List (List ℕ)) (x : End) → ((event : ℕ) → x ≡ waiting event → ⊥) → ((more : List (List ℕ)) → gives now more ≡ ends x more)
-    → WaitsBehind first past → Again first now past rest → ⊥
+    → WaitsAt (gives first) past → Again first now past rest → ⊥
 again_over first now past rest x other over w a =
     let is : gives first past ≡ said a.sent (ends x rest) = ap (gives first) a.joined ∙ a.stands.comes rest ∙ ap (said a.sent) (over rest) in
     other w.event (sym (ap (λ (p : Played (List ℕ)). p.end) is) ∙ w.end)

@@ -59,7 +59,7 @@ behind_saying R G past sent b v v' a st says_so more =
     let w = still_sent R G past sent (gives v' []).sent b a now more in
     says_next (R (past ++ more)) sent w.0 b w.1
 
-over_now : (R G : Run) (past sent : List (List ℕ)) (v : MachineValue) (x : End) → AgreesAt R G past → StandsBehind G past sent v
+pub over_now : (R G : Run) (past sent : List (List ℕ)) (v : MachineValue) (x : End) → AgreesAt R G past → StandsBehind G past sent v
     → gives v [] ≡ ends x [] → R past ≡ record { sent = sent; end = no_place x; left = [] }
 over_now R G past sent v x a st is =
     a.same ∙ ap without_place (stands_now G past sent v st ∙ ap (said sent) is)

@@ -6,3 +6,5 @@ pub mod Again
 pub mod Members
 pub mod Refusals
 pub mod Agreeing
+pub mod Choosing
+pub mod Deciding

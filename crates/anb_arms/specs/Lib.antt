@@ -3,4 +3,5 @@ pub mod Taken
 pub mod Laws
 -- for proofs alone
 pub mod Signs
+pub mod Choices
 pub mod Stems

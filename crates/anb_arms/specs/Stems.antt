@@ -117,11 +117,11 @@ pub record RunsTo (old : MachineValue) (past : List (List ℕ)) (new : MachineVa
   pub event : ℕ
   pub next : gives new [] ≡ ends (waiting event) []
 
--- it waits behind these arrivals, with all used
-pub record WaitsBehind (v : MachineValue) (past : List (List ℕ)) : Type 0 where
+-- a run waits behind these arrivals, with all used
+pub record WaitsAt (F : Run) (past : List (List ℕ)) : Type 0 where
   pub event : ℕ
-  pub end : (gives v past).end ≡ waiting event
-  pub used : (gives v past).left ≡ []
+  pub end : (F past).end ≡ waiting event
+  pub used : (F past).left ≡ []
 
 -- how a session ended, without the instruction of its stop
 abbrev pub no_halt : PlayEnd → PlayEnd

@@ -3,8 +3,10 @@
 
 mod compiling;
 mod laws;
+mod playing;
 mod signs;
 mod stem;
 
 pub use compiling::{ArmNo, compile_arms};
 pub use laws::arms_play_alike;
+pub use playing::branch_play;

@@ -8,7 +8,7 @@ ghost use Rattle.anb_base.specs.Moves.{Rose};
 ghost use Rattle.anb_base.specs.declared.TheConstants.{ARRIVAL};
 ghost use Rattle.anb_plays.specs.Runs.{without_place};
 ghost use Rattle.anb_machine.specs.Machines.{gives, left, waits};
-ghost use Rattle.anb_arms.specs.Stems.{AreBytes, AreShort, Steps, Chooses, EndsBefore, WaitsBehind, RunsTo, Closes, no_halt};
+ghost use Rattle.anb_arms.specs.Stems.{AreBytes, AreShort, Steps, Chooses, EndsBefore, WaitsAt, RunsTo, Closes, no_halt};
 ghost use Rattle.anb_arms.specs.declared.stem.Step.TheVariants as step;
 
 use anb_base::{ARRIVAL, Bytes, NoMemory, Wire};
@@ -146,7 +146,7 @@ fn placeless(halt: Halt) -> Halt
 }
 
 /// A law: a slice of bytes is a string of bytes.
-fn are_bytes(bytes: &[u8])
+pub(crate) fn are_bytes(bytes: &[u8])
     ensures { IsBytes bytes.now }
 {
     let _ = bytes;
@@ -158,7 +158,7 @@ pub(crate) fn run_again(
     machine: &mut Machine<'_>,
     past: Vec<Bytes>,
 ) -> Result<(), NoMemory>
-    requires waits { WaitsBehind machine.old past.items }
+    requires waits { WaitsAt (gives machine.old) past.items }
     requires short { AreShort past.items }
     ensures { OnOk result (RunsTo machine.old past.items machine.new) }
 {
