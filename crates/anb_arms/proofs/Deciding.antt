@@ -169,3 +169,15 @@ module _ (b : BranchedValue) (role : List ℕ) (init : List (List ℕ)) (seed : 
           let Q : Played (List ℕ) → Type 0 = λ q. Grows (without_place (run_bytes there.code init seed 0 past)) q more in
           subst P (sym before) (subst Q (sym now) g);
     }
+
+-- ---- where nothing is to be decided
+
+pub run_told : (b : BranchedValue) (role : List ℕ) (init : List (List ℕ)) (seed : List ℕ) (codes : List CodeValue) (number : ℕ) (code : CodeValue) → slice_get codes (number - 1) ≡ Some code
+    → (more : List (List ℕ)) → without_place (run_bytes code init seed 0 more) ≡ run_taken b role (Some number) init seed codes more
+run_told b role init seed codes number code at more = sym (ap (λ o. without_place (option_map_or (λ c. run_bytes c init seed 0 more) o (ends done more))) at)
+
+pub run_untold : (b : BranchedValue) (role : List ℕ) (init : List (List ℕ)) (seed : List ℕ) (codes : List CodeValue) (code : CodeValue) → list_any (is_free b.stem role) b.arms ≡ false → slice_get codes 0 ≡ Some code
+    → (more : List (List ℕ)) → without_place (run_bytes code init seed 0 more) ≡ run_taken b role None init seed codes more
+run_untold b role init seed codes code free at more =
+    sym (ap (λ f. without_place (run_at codes (if f then option_map_or (place_begun b role) (slice_get more (stem_receives b role)) 0 else 0) init seed more)) free
+    ∙ ap (λ o. without_place (option_map_or (λ c. run_bytes c init seed 0 more) o (ends done more))) at)

@@ -6,5 +6,8 @@ pub mod Again
 pub mod Members
 pub mod Refusals
 pub mod Agreeing
+pub mod Heads
+pub mod Cutting
+pub mod Seeing
 pub mod Choosing
 pub mod Deciding

@@ -1,6 +1,6 @@
 //! A branched text played over a wire.
-ghost use Rattle.std.specs.Prelude.{◌≡◌, ◌≢◌, ◌≤◌, ◌<◌, ℕ, List, [], ◌∷◌, length, All, true, Some, None, slice_get};
-ghost use Rattle.std.specs.List.{AllByRecursion, list_any};
+ghost use Rattle.std.specs.Prelude.{◌≡◌, ◌≤◌, ◌<◌, ℕ, List, length, All, true, None};
+ghost use Rattle.std.specs.List.{AllByRecursion};
 ghost use Rattle.anb_base.specs.Bytes.{IsBytes};
 ghost use Rattle.anb_base.specs.Moves.{Rose};
 ghost use Rattle.anb_base.specs.declared.TheConstants.{ARRIVAL};
@@ -15,8 +15,7 @@ ghost use Rattle.anb_session.specs.Sessions.{Runs, IsPrompt};
 ghost use Rattle.anb_branch.specs.Lawful.{IsLawful, roles_in};
 ghost use Rattle.anb_branch.specs.Views.{branched_of};
 ghost use Rattle.anb_arms.specs.Arms.{FitArms};
-ghost use Rattle.anb_arms.specs.Taken.{IsTold, PlaysTaken, run_taken, run_at};
-ghost use Rattle.anb_arms.specs.Signs.{AreSigns};
+ghost use Rattle.anb_arms.specs.Taken.{IsTold, PlaysTaken, run_taken};
 ghost use Rattle.anb_arms.specs.Stems.{AreShort, Closes, WaitsAt};
 ghost use Rattle.anb_arms.specs.Choices.{Decides, goes_behind};
 
@@ -133,7 +132,8 @@ fn play_seeing<W: Wire>(
     seed: &[u8; 32],
     wire: &mut W,
 ) -> PlayEnd
-    requires arms { 0 < length (branched_of b.now).arms }
+    requires some { 0 < length (branched_of b.now).arms }
+    requires few { length (branched_of b.now).arms ≤ 8 }
     requires signs { length signs.now ≡ length (branched_of b.now).arms }
     requires codes { length codes.now ≡ length (branched_of b.now).arms }
     requires count { All (λ (code : CodeValue). length init.now ≡ length (take_texts code.instrs)) codes.now }

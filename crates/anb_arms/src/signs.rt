@@ -1,13 +1,13 @@
 //! What a role sees of each arm.
-ghost use Rattle.std.specs.Prelude.{◌≡◌, ◌<◌, ◌≤◌, ℕ, List, length, map, nat_eq, IfOk};
+ghost use Rattle.std.specs.Prelude.{◌≡◌, ◌<◌, ◌≤◌, ℕ, List, ◌∷◌, length, map, nat_eq, false, IfOk, IfSome, IfNone};
 ghost use Rattle.std.specs.Option.{option_map_or};
 ghost use Rattle.std.specs.List.{list_any, starts_with};
 ghost use Rattle.anb_term.specs.View.{tree_of};
 ghost use Rattle.anb_format.specs.Formats.{head};
 ghost use Rattle.anb_resolve.specs.Protocols.{role_number};
-ghost use Rattle.anb_resolve.specs.Plans.{to_know, to_make, to_send, to_receive};
+ghost use Rattle.anb_resolve.specs.Plans.{PlanEvent};
 ghost use Rattle.anb_resolve.specs.Views.{plan_event};
-ghost use Rattle.anb_branch.specs.Lawful.{stem_len, is_free, received_format, root_format};
+ghost use Rattle.anb_branch.specs.Lawful.{is_of_stem, stem_len, received_format, root_format};
 ghost use Rattle.anb_branch.specs.Views.{branched_of};
 ghost use Rattle.anb_arms.specs.Arms.{HaveRole};
 ghost use Rattle.anb_arms.specs.Taken.{count_receives, has_head, place_begun};
@@ -66,18 +66,29 @@ fn stem_len(events: &[Event], stem: u32) -> usize
     let mut at = 0;
     for event in events {
         at += 1;
-        match event {
-            Event::Know(_) => len = at,
-            Event::Fresh(_) => {}
-            Event::Send { action, .. } | Event::Recv { action, .. } => {
-                if *action > stem {
-                    return len;
-                }
-                len = at;
-            }
+        match is_common(event, stem) {
+            None => {}
+            Some(true) => len = at,
+            Some(false) => return len,
         }
     }
     len
+}
+
+/// Whether an event is known from the start or belongs to the first actions, so many. A name that is
+/// made belongs to the action that follows it.
+fn is_common(event: &Event, stem: u32) -> Option<bool>
+    ensures some { IfSome result (λ common. (es : List PlanEvent)
+        → is_of_stem stem (plan_event event.now ∷ es) ≡ common) }
+    ensures none { IfNone result ((es : List PlanEvent)
+        → is_of_stem stem (plan_event event.now ∷ es) ≡ is_of_stem stem es) }
+{
+    match event {
+        Event::Know(_) => Some(true),
+        Event::Fresh(_) => None,
+        Event::Send { action, .. } => Some(*action <= stem),
+        Event::Recv { action, .. } => Some(*action <= stem),
+    }
 }
 
 fn count_receives(events: &[Event]) -> usize
