@@ -116,5 +116,5 @@ module _ (b : BranchedValue) (role : List ℕ) (init : List (List ℕ)) (seed : 
         let taken = taken_behind past x place other (omega (arith, chooses.all, is)) begun at in
         let comes : (more : List (List ℕ)) → behind R past (length sent) (x ∷ more) ≡ R' more =
         λ more. ap (λ (p : Played (List ℕ)). record p { sent = drop (length sent) p.sent }) (taken more)
-            ∙ ap (λ (l : List (List ℕ)). behind (λ xs. without_place (F xs)) past (length l) (x ∷ more)) same in
+        ∙ ap (λ (l : List (List ℕ)). behind (λ xs. without_place (F xs)) past (length l) (x ∷ more)) same in
         closes_behind R R' s t u end (passes R' comes) closes

@@ -25,6 +25,7 @@ len_on stem len i e es is = step (is_of_stem stem (e ∷ es)) is ∙ rest es whe
   step : (b : Bool) → b ≡ true → (if b then i + (if b then 1 + stem_len stem es else 0) else len) ≡ i + (1 + stem_len stem es)
   step true h = refl
   step false h = cc
+
   rest : (xs : List PlanEvent) → i + (1 + stem_len stem xs) ≡ len_from stem (i + 1) (i + 1) xs
   rest [] = refl
   rest (x ∷ xs) = by (is_of_stem stem (x ∷ xs)) where
