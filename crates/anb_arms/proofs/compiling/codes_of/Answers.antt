@@ -1,4 +1,4 @@
-use Rattle.std.proofs.Common.{◌≡◌, ℕ, ◌+◌, List, take, length, length-append, arith, sym, ap, ◌∙◌, subst}
+use Rattle.std.proofs.Common.{◌≡◌, ℕ, ◌+◌, ◌<◌, List, take, length, length-append, arith, sym, ap, ◌∙◌, subst}
 use Rattle.std.specs.Prelude.{◌∷◌, [], ◌++◌, slice_get, All}
 use Rattle.std.proofs.lemmas.List.{take_all}
 use Rattle.anb_lemmas.proofs.Each.{zip_and_last, take_next, all_of_next}
@@ -24,7 +24,7 @@ loop-arm-preserved c =
     let old = c.loop-arm.codes.items in
     let arm = c.arm-item.result in
     let pushed = c.in_ok-push-in-Ok.ensures.items in
-    let within = omega (arith, c.loop-arm-test.true) in
+    let within : i < length arms = omega (arith, c.loop-arm-test.true, c.loop-arm.auto.arm-index-end) in
     let next : take (i + 1) arms ≡ take i arms ++ arm ∷ [] = take_next arms i arm within c.arm-item.is in
     let R : ProtocolValue → CodeValue → Type 0 = λ p code. FitsRole p (role_number p.roles c.args.role.now) code in
     let P : List ProtocolValue → Type 0 = λ l. FitArms l c.args.role.now c.push.new.self.items in
