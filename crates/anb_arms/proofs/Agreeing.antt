@@ -19,7 +19,7 @@ use Rattle.anb_resolve.specs.Protocols.{ProtocolValue, role_number}
 use Rattle.anb_resolve.specs.Plans.{PlanEvent, to_know, to_make, to_send, to_receive, plan_of}
 use Rattle.anb_resolve.specs.Plays.{event_of, events_of, meaning_of, IsPlay}
 use Rattle.anb_resolve.proofs.PlanLaws.{knows_first, map-append}
-use Rattle.anb_branch.specs.Lawful.{BranchedValue, IsLawful, IsLike, AreAlike, roles_in, plan_named, stem_len, stem_part, arm_part, is_free, received_format, told_by, tells, unseen_arm, blind_in, blind}
+use Rattle.anb_branch.specs.Lawful.{BranchedValue, IsLawful, IsLike, AreAlike, roles_in, plan_named, stem_len, stem_part, arm_part, is_free, received_format, told_by, tells, unseen_in, blind_in, blind}
 use Rattle.anb_arms.specs.Taken.{count_receives, receives_in, stem_receives}
 use Rattle.anb_arms.specs.Laws.{ArmsPlayAlike, MustSee}
 use Rattle.anb_arms.proofs.Members.{of_among, none_first, none_mapped, none_after, each_at}
@@ -76,19 +76,25 @@ seen (to_make t ∷ es) i e = cc
 seen (to_send k t ∷ es) i e = cc
 seen (to_receive k t ∷ es) i e = (k, t, es, refl)
 
-sees_by : (stem : ℕ) (role : List ℕ) (arm : ProtocolValue) (before : List (Option ℕ)) (o : Option ℕ) → told_by stem role arm ≡ o → tells before o ≡ true → Sees stem role arm
-sees_by stem role arm before None is tells_so = cc
-sees_by stem role arm before (Some i) is tells_so =
+sees_by : (stem : ℕ) (role : List ℕ) (arm : ProtocolValue) → ((i : ℕ) × (told_by stem role arm ≡ Some i)) → Sees stem role arm
+sees_by stem role arm (i, is) =
     let (action, t, after, e) = seen (arm_part stem (plan_named arm role)) i is in
     record { action = action; message = t; after = after; is = e }
 
-not_refused : (wrong : Bool) (k : ℕ) → refuse_if (not wrong) k ≡ None → wrong ≡ true
-not_refused true k e = refl
-not_refused false k e = cc
+unseen_none : (told : List (Option ℕ)) (chooser free : Bool) → chooser ≡ false → free ≡ true → (if chooser || not free then None else unseen_in told) ≡ None → unseen_in told ≡ None
+unseen_none told chooser free e f h = rw (e, f) at h
 
-unseen_none : (b : BranchedValue) (role : List ℕ) (chooser free : Bool) → chooser ≡ false → free ≡ true
-    → (if chooser || not free then None else unseen_arm b.stem b.arms role) ≡ None → unseen_arm b.stem b.arms role ≡ None
-unseen_none b role chooser free e f h = rw (e, f) at h
+tells_each : (before : List (Option ℕ)) (o : Option ℕ) → refuse_if (not (tells before o)) (length before + 1) ≡ None → (i : ℕ) × (o ≡ Some i)
+tells_each before None h = cc
+tells_each before (Some i) h = (i, refl)
+
+mapped_each : {X Y : Type 0} (f : X → Y) (P : Y → Type 0) (xs : List X) → AllByRecursion P (map f xs) → AllByRecursion (λ x. P (f x)) xs
+mapped_each f P [] all = tt
+mapped_each f P (x ∷ xs) all = (all.0, mapped_each f P xs all.1)
+
+each_as : {X : Type 0} (P Q : X → Type 0) (xs : List X) → ((x : X) → P x → Q x) → AllByRecursion P xs → AllByRecursion Q xs
+each_as P Q [] f all = tt
+each_as P Q (x ∷ xs) f all = (f x all.0, each_as P Q xs f all.1)
 
 -- ---- arms of a lawful branched text
 
@@ -97,9 +103,11 @@ pub sees_each : (b : BranchedValue) (role : List ℕ) → IsLawful b → among (
     → AllByRecursion (Sees b.stem role) b.arms
 sees_each b role law is other free =
     let none : blind_in b role ≡ None = none_mapped (λ arm. (role, arm)) (blind_in b role) (none_first (λ r. option_map (λ arm. (r, arm)) (blind_in b r)) (roles_in b) role law.seeing is) in
-    let all = unseen_none b role (bytes_eq role b.chooser) (list_any (is_free b.stem role) b.arms) other free none in
-    none_after (λ before p. refuse_if (not (tells (map (told_by b.stem role) before) (told_by b.stem role p))) (length before + 1)) [] b.arms (Sees b.stem role)
-    (λ before p h. sees_by b.stem role p (map (told_by b.stem role) before) (told_by b.stem role p) refl (not_refused (tells (map (told_by b.stem role) before) (told_by b.stem role p)) (length before + 1) h)) all
+    let told = map (told_by b.stem role) b.arms in
+    let Told : Option ℕ → Type 0 = λ o. (i : ℕ) × (o ≡ Some i) in
+    let all = none_after (λ before x. refuse_if (not (tells before x)) (length before + 1)) [] told Told (λ before x h. tells_each before x h)
+    (unseen_none told (bytes_eq role b.chooser) (list_any (is_free b.stem role) b.arms) other free none) in
+    each_as (λ arm. Told (told_by b.stem role arm)) (Sees b.stem role) b.arms (λ arm h. sees_by b.stem role arm h) (mapped_each (told_by b.stem role) Told b.arms all)
 
 -- an arm has the formats and the suite of the first, and the role the same stem
 pub record HasStem (stem : ℕ) (role : List ℕ) (one arm : ProtocolValue) : Type 0 where

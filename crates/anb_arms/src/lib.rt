@@ -10,3 +10,6 @@ mod stem;
 pub use compiling::{ArmNo, compile_arms};
 pub use laws::arms_play_alike;
 pub use playing::branch_play;
+
+#[cfg(test)]
+mod tests;
