@@ -74,19 +74,18 @@ abbrev pub tells : List (Option ℕ) → Option ℕ → Bool
 tells before None = false
 tells before (Some i) = not (list_any (is_format i) before)
 
--- The first arm, from 1, that a role doesn't see to be taken: it isn't free there, its first action there
--- isn't a receive, the message of that action has no format at its root, or an earlier arm has this
--- format in that place.
-abbrev pub unseen_arm : ℕ → List ProtocolValue → List ℕ → Option ℕ
-unseen_arm stem arms role =
-    first_after (λ before p. refuse_if (not (tells (map (told_by stem role) before) (told_by stem role p))) (length before + 1)) [] arms
+-- The first arm, from 1, that a role with these formats doesn't see to be taken: it isn't free there, its
+-- first action there isn't a receive, the message of that action has no format at its root, or an earlier
+-- arm has this format in that place.
+abbrev pub unseen_in : List (Option ℕ) → Option ℕ
+unseen_in told = first_after (λ before x. refuse_if (not (tells before x)) (length before + 1)) [] told
 
 -- All roles but the chooser that are free in some arm are to see each arm. This is the first arm that
 -- the role is blind in, where there is one.
 abbrev pub blind_in : BranchedValue → List ℕ → Option ℕ
 blind_in b role =
     if bytes_eq role b.chooser || not (list_any (is_free b.stem role) b.arms) then None
-    else unseen_arm b.stem b.arms role
+    else unseen_in (map (told_by b.stem role) b.arms)
 
 -- the first role that is blind in some arm, and its first such arm
 abbrev pub blind : BranchedValue → Option (List ℕ × ℕ)

@@ -1,4 +1,8 @@
 //! What a branched text tells.
+ghost use Rattle.std.specs.Prelude.{◌≡◌};
+ghost use Rattle.anb_branch.specs.Lawful.{roles_in};
+ghost use Rattle.anb_branch.specs.Views.{branched_of};
+
 use anb_base::Text;
 use anb_resolve::Protocol;
 
@@ -10,4 +14,14 @@ pub struct Branched {
     pub chooser: Text,
     pub stem: u32,
     pub arms: Vec<Protocol>,
+}
+
+/// The roles in the order of arm 1.
+pub(crate) fn roles_in(b: &Branched) -> &[Text]
+    ensures { result.now ≡ roles_in (branched_of b.now) }
+{
+    match b.arms.as_slice() {
+        [one, ..] => one.roles(),
+        [] => &[],
+    }
 }

@@ -4,6 +4,21 @@
 //! the common actions is a narration of its own.
 #![tactic(auto)]
 
+mod alike;
+mod arms;
+mod blindness;
 mod branched;
+mod laws;
+mod marks;
+mod order;
+mod parts;
+mod plans;
+mod refusal;
+mod splitting;
+#[cfg(test)]
+mod tests;
 
 pub use branched::Branched;
+pub use laws::{branch_refusals_are_unique, choices_are_unique, no_choice_is_refused};
+pub use refusal::BranchNo;
+pub use splitting::split;
