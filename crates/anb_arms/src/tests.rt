@@ -32,6 +32,7 @@ const LONGER: &str = "Knowledge: A: N; B: N, M; D: N; Actions: D -> B: N; B -> D
      Actions: A -> B: never(); B -> A: M; A -> B: M;";
 
 /// The role that is played, the arm that it is told, and its initial values.
+#[derive(Clone, Copy)]
 struct Part<'a> {
     role: &'a str,
     told: Option<u32>,
