@@ -55,10 +55,16 @@ fn branched(rt: &impl Abort, alloc: Global, rest: &str) -> Result<Branched, Fail
 fn has_role(b: &Branched, role: &Text) -> bool
     ensures { result ≡ true → among (roles_in (branched_of b.now)) role.now ≡ true }
 {
-    match b.arms.first() {
-        Some(arm) => arm.role_of(role.as_str().as_bytes()).is_some(),
-        None => false,
+    match b.arms.as_slice() {
+        [one, ..] => is_among(one.roles(), role),
+        [] => false,
     }
+}
+
+fn is_among(names: &[Text], role: &Text) -> bool
+    ensures { result ≡ among names.now role.now }
+{
+    names.iter().any(|name| name.as_str().as_bytes() == role.as_str().as_bytes())
 }
 
 /// Whether the role may be told this arm.
@@ -241,6 +247,22 @@ fn another_arm_goes_on_behind_a_longer_stem(rt: HostRuntime) -> Result<(), Fail>
     plays(&rt, alloc, LONGER, &d, answer, (PlayEnd::Done, sent, 0))
 }
 
+/// Why a role has no codes.
+fn refusal(alloc: Global, b: &Branched, role: &Text) -> Result<String, Fail>
+    requires lawful { IsLawful (branched_of b.now) }
+    requires is_role { among (roles_in (branched_of b.now)) role.now ≡ true }
+{
+    match compile_arms(alloc, b, role) {
+        Ok(_codes) => Ok(String::new(alloc)),
+        Err(no) => match no {
+            ArmNo::CannotSend { arm, action, role } => {
+                Ok(format!(in alloc; "{arm} {action} {}", role.as_str())?)
+            }
+            ArmNo::NoMemory => Ok(String::new(alloc)),
+        },
+    }
+}
+
 #[test]
 fn what_can_not_be_sent_is_told_with_its_arm(rt: HostRuntime) -> Result<(), Fail> {
     let alloc = rt.alloc();
@@ -249,12 +271,7 @@ fn what_can_not_be_sent_is_told_with_its_arm(rt: HostRuntime) -> Result<(), Fail
     let b = branched(&rt, alloc, rest)?;
     let role = Text::new(String::from_str(alloc, "B")?);
     assert!(rt; has_role(&b, &role));
-    let told = match compile_arms(alloc, &b, &role) {
-        Err(ArmNo::CannotSend { arm, action, role }) => {
-            format!(in alloc; "{arm} {action} {}", role.as_str())?
-        }
-        _ => String::new(alloc),
-    };
+    let told = refusal(alloc, &b, &role)?;
     assert_eq!(rt; told.as_str(), "2 2 A");
     Ok(())
 }
