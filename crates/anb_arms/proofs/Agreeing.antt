@@ -1,6 +1,6 @@
 -- The plays of a role in two arms agree up to the arrival that tells the arm.
-use Rattle.std.proofs.Common.{◌≡◌, ℕ, zero, suc, ◌+◌, ◌<◌, ◌≤◌, List, [], ◌∷◌, ◌++◌, length, map, take, drop, Bool, true, false, cond, Option, Some, None, refl, sym, ap, ◌∙◌, subst, arith, append-nil, inl, inr}
-use Rattle.std.specs.Prelude.{slice_get, not, ◌||◌, ◌&&◌, if◌then◌else◌}
+use Rattle.std.proofs.Common.{◌≡◌, ℕ, ◌+◌, ◌≤◌, List, [], ◌∷◌, ◌++◌, length, map, Bool, true, false, Option, Some, None, refl, sym, ap, ◌∙◌, subst, arith, append-nil, inl, inr}
+use Rattle.std.specs.Prelude.{slice_get, not, ◌||◌, if◌then◌else◌}
 use Rattle.std.specs.Option.{option_map, option_map_or}
 use Rattle.std.specs.List.{AllByRecursion, list_any}
 use Rattle.std.specs.Str.{bytes_eq}
@@ -12,16 +12,16 @@ use Rattle.anb_term.specs.Value.{Meaning}
 use Rattle.anb_seal.specs.Streams.{draw_of}
 use Rattle.anb_algebra.specs.ByteMeaning.{byte_meaning}
 use Rattle.anb_plays.specs.Plans.{Event, know, fresh, send, recv, known}
-use Rattle.anb_plays.specs.Plays.{Played, waiting, ends, says, Judge, Walk, Play}
+use Rattle.anb_plays.specs.Plays.{Played, Judge, Walk, Play}
 use Rattle.anb_resolve.specs.Choices.{refuse_if}
 use Rattle.anb_resolve.specs.Names.{among}
 use Rattle.anb_resolve.specs.Protocols.{ProtocolValue, role_number}
-use Rattle.anb_resolve.specs.Plans.{PlanEvent, to_know, to_make, to_send, to_receive, plan_of}
+use Rattle.anb_resolve.specs.Plans.{PlanEvent, to_know, to_make, to_send, to_receive}
 use Rattle.anb_resolve.specs.Plays.{event_of, events_of, meaning_of, IsPlay}
 use Rattle.anb_resolve.proofs.PlanLaws.{knows_first, map-append}
-use Rattle.anb_branch.specs.Lawful.{BranchedValue, IsLawful, IsLike, AreAlike, roles_in, plan_named, stem_len, stem_part, arm_part, is_free, received_format, told_by, tells, unseen_in, blind_in, blind}
-use Rattle.anb_arms.specs.Taken.{count_receives, receives_in, stem_receives}
-use Rattle.anb_arms.specs.Laws.{ArmsPlayAlike, MustSee}
+use Rattle.anb_branch.specs.Lawful.{BranchedValue, IsLawful, IsLike, AreAlike, roles_in, plan_named, stem_len, stem_part, arm_part, is_free, received_format, told_by, tells, unseen_in, blind_in}
+use Rattle.anb_arms.specs.Taken.{count_receives, receives_in}
+use Rattle.anb_arms.specs.Laws.{ArmsPlayAlike}
 use Rattle.anb_arms.proofs.Members.{of_among, none_first, none_mapped, none_after, each_at}
 
 -- ---- walks

@@ -1,6 +1,6 @@
 -- Going on behind the choice.
-use Rattle.std.proofs.Common.{◌≡◌, ℕ, zero, suc, ◌+◌, ◌<◌, ◌≤◌, List, [], ◌∷◌, ◌++◌, length, drop, Bool, true, false, cond, Option, Some, None, refl, sym, ap, ◌∙◌, subst, arith}
-use Rattle.std.specs.Prelude.{slice_get, unwrap_or, if◌then◌else◌}
+use Rattle.std.proofs.Common.{◌≡◌, ℕ, zero, suc, ◌≤◌, List, [], ◌∷◌, ◌++◌, length, drop, true, Some, None, refl, sym, ap, ◌∙◌, subst, arith}
+use Rattle.std.specs.Prelude.{slice_get, if◌then◌else◌}
 use Rattle.std.specs.Option.{option_map_or}
 use Rattle.std.specs.List.{list_any}
 use Rattle.std.proofs.lemmas.List.{append-nil}
@@ -14,7 +14,7 @@ use Rattle.anb_session.specs.declared.PlayEnd.{PlayEnd}
 use Rattle.anb_session.specs.Sessions.{Run}
 use Rattle.anb_branch.specs.Lawful.{BranchedValue, is_free}
 use Rattle.anb_arms.specs.Taken.{place_begun, stem_receives, run_at, run_taken}
-use Rattle.anb_arms.specs.Stems.{said, StandsBehind, AgreesAt, AgreeUpTo, behind, Closes, Chooses, EndsBefore, RunsTo, WaitsAt}
+use Rattle.anb_arms.specs.Stems.{said, StandsBehind, AgreeUpTo, behind, Closes, Chooses, EndsBefore, RunsTo, WaitsAt}
 use Rattle.anb_arms.specs.Choices.{goes_behind}
 use Rattle.anb_arms.proofs.Behind.{behind_taken, over_now}
 use Rattle.anb_arms.proofs.Turns.{closes_as, closes_behind}

@@ -1,12 +1,11 @@
 -- A plan cut at the choice, event by event.
-use Rattle.std.proofs.Common.{◌≡◌, ℕ, ◌+◌, ◌<◌, ◌≤◌, List, [], ◌∷◌, length, map, drop, get_or, Bool, true, false, refl, sym, ap, ◌∙◌, subst, arith}
-use Rattle.std.specs.Prelude.{nat_le, if◌then◌else◌}
+use Rattle.std.proofs.Common.{◌≡◌, ℕ, ◌+◌, ◌<◌, ◌≤◌, List, [], ◌∷◌, length, map, drop, get_or, Bool, true, false, refl, sym, ap, ◌∙◌, arith}
+use Rattle.std.specs.Prelude.{if◌then◌else◌}
 use Rattle.std.proofs.lemmas.List.{drop_more, drop_all}
 use Rattle.anb_resolve.specs.declared.plans.Event.{Event}
-use Rattle.anb_resolve.specs.Plans.{PlanEvent, to_know, to_make, to_send, to_receive}
+use Rattle.anb_resolve.specs.Plans.{PlanEvent}
 use Rattle.anb_resolve.specs.Views.{plan_event}
 use Rattle.anb_branch.specs.Lawful.{is_of_stem, stem_len}
-use Rattle.anb_arms.specs.Taken.{count_receives}
 
 -- the stem's length where these events are left behind i, of which the first so many are of the stem
 abbrev pub len_from : ℕ → ℕ → ℕ → List PlanEvent → ℕ

@@ -1,6 +1,6 @@
 -- The run of the arm that is taken: up to the choice it is that of each arm, and it is the role's play.
-use Rattle.std.proofs.Common.{◌≡◌, ℕ, zero, suc, ◌+◌, ◌-◌, ◌<◌, ◌≤◌, List, [], ◌∷◌, ◌++◌, length, map, Bool, true, false, cond, Option, Some, None, refl, sym, ap, ◌∙◌, subst, arith, inl, inr}
-use Rattle.std.specs.Prelude.{◌↔◌, slice_get, unwrap_or, All, if◌then◌else◌}
+use Rattle.std.proofs.Common.{◌≡◌, ℕ, ◌-◌, ◌<◌, ◌≤◌, List, [], ◌∷◌, ◌++◌, length, Bool, true, false, Option, Some, None, refl, sym, ap, ◌∙◌, subst, arith, inl, inr}
+use Rattle.std.specs.Prelude.{slice_get, All, if◌then◌else◌}
 use Rattle.std.specs.Option.{option_map_or}
 use Rattle.std.specs.List.{AllByRecursion, AllZip, list_any}
 use Rattle.std.specs.Str.{bytes_eq}
@@ -18,16 +18,16 @@ use Rattle.anb_code.specs.Taking.{take_texts}
 use Rattle.anb_machine.specs.ByteRuns.{run_bytes, meaning_of}
 use Rattle.anb_resolve.specs.Names.{among}
 use Rattle.anb_resolve.specs.Protocols.{ProtocolValue, role_number}
-use Rattle.anb_resolve.specs.Texts.{known_by, known_texts}
+use Rattle.anb_resolve.specs.Texts.{known_by}
 use Rattle.anb_resolve.specs.Plays.{IsPlay}
 use Rattle.anb_compile.specs.Fitting.{FitsRole}
 use Rattle.anb_compile.specs.Laws.{FittingCodesPlay}
 use Rattle.anb_session.specs.Sessions.{Run}
 use Rattle.anb_branch.specs.Lawful.{BranchedValue, IsLawful, roles_in, is_free}
 use Rattle.anb_arms.specs.Arms.{FitArms}
-use Rattle.anb_arms.specs.Taken.{begins_arm, place_begun, place_taken, stem_receives, IsTold, run_at, run_taken, IsPlayTaken, PlaysTaken}
-use Rattle.anb_arms.specs.Stems.{AgreesAt, AgreeUpTo}
-use Rattle.anb_arms.proofs.Members.{chosen_within, each_at, zipped_there, zipped_at}
+use Rattle.anb_arms.specs.Taken.{begins_arm, place_begun, place_taken, stem_receives, IsTold, run_at, run_taken, PlaysTaken}
+use Rattle.anb_arms.specs.Stems.{AgreeUpTo}
+use Rattle.anb_arms.proofs.Members.{chosen_within, each_at, zipped_there}
 use Rattle.anb_arms.proofs.Agreeing.{arms_alike}
 
 -- ---- runs that grow

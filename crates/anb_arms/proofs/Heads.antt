@@ -1,12 +1,12 @@
 -- Whether bytes begin with the head of pieces.
-use Rattle.std.proofs.Common.{◌≡◌, ◌≢◌, ℕ, ◌+◌, ◌<◌, ◌≤◌, List, [], ◌∷◌, ◌++◌, length, drop, get_or, Bool, true, false, Option, Some, None, refl, sym, ap, ◌∙◌, subst, append_assoc}
+use Rattle.std.proofs.Common.{◌≡◌, ◌≢◌, ℕ, ◌+◌, ◌<◌, ◌≤◌, List, [], ◌∷◌, ◌++◌, length, drop, get_or, Bool, true, false, refl, sym, ap, ◌∙◌, append_assoc}
 use Rattle.std.specs.Prelude.{nat_eq}
 use Rattle.std.specs.List.{starts_with}
 use Rattle.std.proofs.lemmas.Bool.Decides.{Decides-eqb}
 use Rattle.std.proofs.lemmas.Slice.Eq.{starts_is}
 use Rattle.std.proofs.lemmas.List.{drop_more, drop_all}
 use Rattle.anb_format.specs.declared.pieces.Piece.{Piece}
-use Rattle.anb_format.specs.declared.pieces.Piece.TheVariants.{Lit, Field}
+use Rattle.anb_format.specs.declared.pieces.Piece.TheVariants.{Lit}
 use Rattle.anb_format.specs.Formats.{head}
 
 -- the bytes are the head of the pieces and a tail exactly where the rest is that of the pieces from i on, and this tail

@@ -1,12 +1,12 @@
 -- Items of lists, and roles by their names.
-use Rattle.std.proofs.Common.{◌≡◌, ℕ, zero, suc, ◌+◌, ◌<◌, ◌≤◌, List, [], ◌∷◌, ◌++◌, length, take, Bool, true, false, cond, Option, Some, None, refl, sym, ap, ◌∙◌, subst, arith}
-use Rattle.std.specs.Prelude.{slice_get, slice_index_or, unwrap_or, All, IsSomeAnd, ◌||◌, ◌&&◌}
+use Rattle.std.proofs.Common.{◌≡◌, ℕ, zero, suc, ◌+◌, ◌<◌, List, [], ◌∷◌, ◌++◌, length, Bool, true, false, cond, Option, Some, None, refl, sym, ap, ◌∙◌, subst, arith}
+use Rattle.std.specs.Prelude.{slice_get, slice_index_or, unwrap_or, ◌||◌, ◌&&◌}
 use Rattle.std.specs.Option.{option_map, option_or}
-use Rattle.std.specs.List.{AllByRecursion, AllZip, list_all, list_any, position_from}
+use Rattle.std.specs.List.{AllByRecursion, AllZip, list_all, position_from}
 use Rattle.std.specs.Str.{bytes_eq}
 use Rattle.std.proofs.lemmas.Option.{slice_get-get_or}
 use Rattle.anb_lemmas.proofs.Items.{bytes_are_one}
-use Rattle.anb_resolve.specs.Choices.{first, first_after, refuse_if}
+use Rattle.anb_resolve.specs.Choices.{first, first_after}
 use Rattle.anb_resolve.specs.Names.{among}
 use Rattle.anb_resolve.specs.Protocols.{role_number}
 

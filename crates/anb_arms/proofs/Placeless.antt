@@ -1,12 +1,11 @@
 -- A run without the instructions of its stops, over a wire.
-use Rattle.std.proofs.Common.{◌≡◌, ℕ, List, [], ◌∷◌, ◌++◌, length, replicate, Option, Some, None, IfSome, refl, sym, ap, ◌∙◌, subst}
+use Rattle.std.proofs.Common.{◌≡◌, ℕ, List, [], ◌∷◌, ◌++◌, length, replicate, Option, Some, None, IfSome, refl, ap, ◌∙◌, subst}
 use Rattle.anb_base.specs.Moves.{Put}
 use Rattle.anb_base.specs.Wires.{WireState}
-use Rattle.anb_base.specs.declared.TheConstants.{ARRIVAL}
-use Rattle.anb_frame.specs.Frames.{frame, frames}
-use Rattle.anb_frame.specs.Cuts.{Tail, CutLeft, Short, Long}
+use Rattle.anb_frame.specs.Frames.{frame}
+use Rattle.anb_frame.specs.Cuts.{Tail, Short, Long}
 use Rattle.anb_frame.specs.Cuts.{End as Whole}
-use Rattle.anb_plays.specs.Plays.{Played, End, stopped, waiting, done}
+use Rattle.anb_plays.specs.Plays.{End, stopped, waiting, done}
 use Rattle.anb_plays.specs.Runs.{no_place, without_place}
 use Rattle.anb_session.specs.declared.PlayEnd.{PlayEnd}
 use Rattle.anb_session.specs.declared.PlayEnd.TheVariants.{Done, Stopped, Waiting, Truncated, TooLarge, ReadFault, WriteFault, NoMemory}

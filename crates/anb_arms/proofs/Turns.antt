@@ -1,5 +1,5 @@
 -- What a turn before the choice comes to, from what its calls did.
-use Rattle.std.proofs.Common.{◌≡◌, ◌≤◌, ◌<◌, ℕ, List, [], ◌∷◌, ◌++◌, length, true, Option, refl, sym, ap, ◌∙◌, subst}
+use Rattle.std.proofs.Common.{◌≡◌, ◌≤◌, ◌<◌, ℕ, List, [], ◌∷◌, ◌++◌, length, Option, refl, sym, ap, ◌∙◌, subst}
 use Rattle.anb_base.specs.Moves.{Put}
 use Rattle.anb_base.specs.Bytes.{IsBytes}
 use Rattle.anb_base.specs.Wires.{WireState}
@@ -12,13 +12,13 @@ use Rattle.anb_machine.specs.Machines.{MachineValue, gives, left}
 use Rattle.anb_machine.specs.declared.turn.Halt.{Halt}
 use Rattle.anb_session.specs.declared.PlayEnd.{PlayEnd}
 use Rattle.anb_session.specs.declared.PlayEnd.TheVariants.{Done, Stopped, Waiting, Truncated, TooLarge, ReadFault, WriteFault, NoMemory}
-use Rattle.anb_session.specs.Sessions.{Run, Runs, IsPrompt}
-use Rattle.anb_session.specs.Turns.{Ends, EndsSending, EndsWaiting, Receives, Continues, WaitsPromptly, GoesOnPromptly, ReceivesPromptly, SendsPromptly, TookNothing}
+use Rattle.anb_session.specs.Sessions.{Run, Runs}
+use Rattle.anb_session.specs.Turns.{Ends, EndsSending, EndsWaiting, Receives, WaitsPromptly, ReceivesPromptly, SendsPromptly, TookNothing}
 use Rattle.anb_session.proofs.Continued.{saying, receiving, going_nowhere, continued, ending, is_done, is_stopped}
 use Rattle.anb_session.proofs.Prompt.{prompt_nothing, prompt_still, nowhere_promptly, joined_promptly, prompt_as}
 use Rattle.anb_session.proofs.Written.{put_nothing}
-use Rattle.anb_arms.specs.Stems.{AreBytes, AreShort, StandsBehind, AgreeUpTo, behind, Passes, Closes, Hears, GoesOn, Arrives, IsOver}
-use Rattle.anb_arms.proofs.Behind.{stands_saying, stands_same, stands_hearing, behind_saying, behind_waiting, behind_over, behind_hearing}
+use Rattle.anb_arms.specs.Stems.{AreBytes, AreShort, StandsBehind, behind, Passes, Closes, Hears, GoesOn, IsOver}
+use Rattle.anb_arms.proofs.Behind.{stands_saying, stands_hearing, behind_saying, behind_waiting, behind_over, behind_hearing}
 
 -- ---- what a wire tells, in one value
 

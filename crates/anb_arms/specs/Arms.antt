@@ -11,14 +11,16 @@ use Rattle.anb_arms.specs.declared.compiling.ArmNo.TheVariants.{CannotSend, NoMe
 -- one code for each arm, in order, for the role with this name in the arm's protocol
 abbrev pub FitArms : List ProtocolValue → (role : List ℕ) → List CodeValue → Type 0
 FitArms arms role codes =
-    AllZip (λ (arm : ProtocolValue) (code : CodeValue). FitsRole arm (role_number arm.roles role) code) arms codes
+    AllZip (λ (arm : ProtocolValue) (code : CodeValue).
+    FitsRole arm (role_number arm.roles role) code) arms codes
 
--- why an arm with this number has no code: this is its first action that can't be sent, by the role with
--- this name
+-- why an arm with this number has no code: this is its first action that can't be sent, by the role
+-- with this name
 abbrev pub RefusesArm : ProtocolValue → ℕ → ArmNo → Type 0
 RefusesArm arm number (CannotSend n action name) =
     (n ≡ number)
-    × ((sender : ℕ) × (slice_get arm.roles sender ≡ Some name) × IsFirstUnsentOfAll arm sender action)
+    × ((sender : ℕ) × (slice_get arm.roles sender ≡ Some name)
+    × IsFirstUnsentOfAll arm sender action)
 RefusesArm arm number NoMemory = Unit {0}
 
 -- the first arm in which some role can't send all. Arms are numbered from 1

@@ -29,7 +29,8 @@ said sent p = record p { sent = sent ++ p.sent }
 pub record StandsBehind (G : Run) (past sent : List (List ℕ)) (v : MachineValue) : Type 0 where
   pub comes : (more : List (List ℕ)) → G (past ++ more) ≡ said sent (gives v more)
 
--- Over these arrivals R is G, but for the instruction of a stop, and over more it goes on from there.
+-- Over these arrivals R is G, but for the instruction of a stop, and over more it goes on from
+-- there.
 pub record AgreesAt (R G : Run) (past : List (List ℕ)) : Type 0 where
   pub same : R past ≡ without_place (G past)
   pub grows : (more : List (List ℕ)) → Grows (R past) (R (past ++ more)) more

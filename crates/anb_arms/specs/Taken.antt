@@ -1,5 +1,5 @@
 -- The arm that is taken, and what comes of it.
-use Rattle.std.specs.Prelude.{◌≡◌, ◌≤◌, ◌↔◌, ℕ, suc, ◌-◌, List, [], ◌∷◌, length, Bool, true, false, Option, Some, None, nat_eq, slice_get, unwrap_or, if◌then◌else◌}
+use Rattle.std.specs.Prelude.{◌≡◌, ◌≤◌, ◌↔◌, ℕ, suc, ◌-◌, List, [], ◌∷◌, length, All, Bool, true, false, Option, Some, None, nat_eq, slice_get, unwrap_or, if◌then◌else◌}
 use Rattle.std.specs.Option.{option_map_or}
 use Rattle.std.specs.List.{AllByRecursion, list_any, position_from, starts_with}
 use Rattle.std.specs.Str.{bytes_eq}
@@ -8,6 +8,7 @@ use Rattle.anb_format.specs.Formats.{FormatValue, head}
 use Rattle.anb_plays.specs.Plays.{Played, done, ends}
 use Rattle.anb_plays.specs.Runs.{without_place}
 use Rattle.anb_code.specs.CodeValue.{CodeValue}
+use Rattle.anb_code.specs.Taking.{take_texts}
 use Rattle.anb_machine.specs.ByteRuns.{run_bytes}
 use Rattle.anb_resolve.specs.Protocols.{ProtocolValue, role_number}
 use Rattle.anb_resolve.specs.Plans.{PlanEvent, to_know, to_make, to_send, to_receive}
@@ -33,7 +34,8 @@ stem_receives b role = option_map_or (receives_in b.stem role) (slice_get b.arms
 -- an arrival begins with the head of this format
 abbrev pub has_head : List FormatValue → List ℕ → ℕ → Bool
 has_head formats arrival i =
-    option_map_or (λ (f : FormatValue). starts_with nat_eq arrival (head f.pieces)) (slice_get formats i) false
+    option_map_or (λ (f : FormatValue). starts_with nat_eq arrival (head f.pieces))
+    (slice_get formats i) false
 
 -- it begins with the head of the format at the root of the role's first message in the arm
 abbrev pub begins_arm : ℕ → List ℕ → List ℕ → ProtocolValue → Bool
@@ -45,8 +47,8 @@ abbrev pub place_begun : BranchedValue → List ℕ → List ℕ → ℕ
 place_begun b role arrival = unwrap_or (position_from (begins_arm b.stem role arrival) 0 b.arms) 0
 
 -- The place, from 0, of the arm that is taken. A role that is told an arm, by its number from 1,
--- takes that. Another role that is free in some arm takes the one that its arrival after those of the
--- stem begins, and arm 1 where there is no such arrival. Every other role takes arm 1.
+-- takes that. Another role that is free in some arm takes the one that its arrival after those of
+-- the stem begins, and arm 1 where there is no such arrival. Every other role takes arm 1.
 abbrev pub place_taken : BranchedValue → List ℕ → (told : Option ℕ) → List (List ℕ) → ℕ
 place_taken b role (Some number) arrivals = number - 1
 place_taken b role None arrivals =
@@ -63,13 +65,20 @@ IsTold b role (Some number) =
 -- what comes of the code at a place
 abbrev pub run_at : List CodeValue → ℕ → List (List ℕ) → List ℕ → Run
 run_at codes place init seed arrivals =
-    option_map_or (λ code. run_bytes code init seed 0 arrivals) (slice_get codes place) (ends done arrivals)
+    option_map_or (λ code. run_bytes code init seed 0 arrivals)
+    (slice_get codes place) (ends done arrivals)
 
-module _ (b : BranchedValue) (role : List ℕ) (told : Option ℕ) (init : List (List ℕ)) (seed : List ℕ) where
+-- there is a value for each take of each code
+abbrev pub TakeAll : List CodeValue → List (List ℕ) → Type 0
+TakeAll codes init = All (λ (code : CodeValue). length init ≡ length (take_texts code.instrs)) codes
+
+module _ (b : BranchedValue) (role : List ℕ) (told : Option ℕ)
+    (init : List (List ℕ)) (seed : List ℕ) where
   -- What comes of the code of the arm that is taken, in session 0. It tells no instructions, as a
   -- play tells none.
   abbrev pub run_taken : List CodeValue → Run
-  run_taken codes arrivals = without_place (run_at codes (place_taken b role told arrivals) init seed arrivals)
+  run_taken codes arrivals =
+      without_place (run_at codes (place_taken b role told arrivals) init seed arrivals)
 
   -- a play of the role in the protocol of the arm that is taken, in session 0
   pub record IsPlayTaken (arrivals : List (List ℕ)) (played : Played (List ℕ)) : Type 0 where

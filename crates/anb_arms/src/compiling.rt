@@ -19,8 +19,8 @@ use std::alloc::{AllocError, AllocFailed, Global};
 /// Why a role has no codes.
 #[derive(Debug, Drop)]
 pub enum ArmNo {
-    /// In this arm the role with this name can't compose the message of this action. Arms and actions
-    /// are numbered from 1.
+    /// In this arm the role with this name can't compose the message of this action. Arms and
+    /// actions are numbered from 1.
     CannotSend { arm: u32, action: u32, role: Text },
     NoMemory,
 }
@@ -49,8 +49,8 @@ impl<T: Drop> From<AllocFailed<T>> for ArmNo {
     }
 }
 
-/// The codes of a role, one for each arm in order. Each arm is compiled once, for all its roles, since
-/// a text is refused where any of them can't send.
+/// The codes of a role, one for each arm in order. Each arm is compiled once, for all its roles,
+/// since a text is refused where any of them can't send.
 pub fn compile_arms(alloc: Global, b: &Branched, role: &Text) -> Result<Vec<RoleCode>, ArmNo>
     requires lawful { IsLawful (branched_of b.now) }
     requires is_role { among (roles_in (branched_of b.now)) role.now ≡ true }

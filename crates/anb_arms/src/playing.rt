@@ -6,7 +6,6 @@ ghost use Rattle.anb_base.specs.Moves.{Rose};
 ghost use Rattle.anb_base.specs.declared.TheConstants.{ARRIVAL};
 ghost use Rattle.anb_frame.specs.Cuts.{Tail, CutLeft};
 ghost use Rattle.anb_plays.specs.Runs.{without_place};
-ghost use Rattle.anb_code.specs.CodeValue.{CodeValue};
 ghost use Rattle.anb_code.specs.Taking.{take_texts};
 ghost use Rattle.anb_machine.specs.ByteRuns.{run_bytes};
 ghost use Rattle.anb_resolve.specs.Names.{among};
@@ -15,7 +14,7 @@ ghost use Rattle.anb_session.specs.Sessions.{Runs, IsPrompt};
 ghost use Rattle.anb_branch.specs.Lawful.{IsLawful, roles_in};
 ghost use Rattle.anb_branch.specs.Views.{branched_of};
 ghost use Rattle.anb_arms.specs.Arms.{FitArms};
-ghost use Rattle.anb_arms.specs.Taken.{IsTold, PlaysTaken, run_taken};
+ghost use Rattle.anb_arms.specs.Taken.{IsTold, PlaysTaken, TakeAll, run_taken};
 ghost use Rattle.anb_arms.specs.Stems.{AreShort, Closes, WaitsAt};
 ghost use Rattle.anb_arms.specs.Choices.{Decides, goes_behind};
 
@@ -33,10 +32,10 @@ use std::alloc::Global;
 /// Plays a role of a branched text over a wire, with its code of each arm and a value for each take
 /// in order, in session 0. Only the chooser is told an arm, by its number from 1.
 ///
-/// A role that must see the choice plays the code of arm 1 up to the arrival that tells the arm. Where
-/// that tells another arm, the code of this runs over the earlier arrivals, of which a copy was kept,
-/// and goes on from there. So the common actions are played once over the wire, and an arrival is
-/// copied once. As a play a stop tells no instruction: `at` is 0.
+/// A role that must see the choice plays the code of arm 1 up to the arrival that tells the arm.
+/// Where that tells another arm, the code of this runs over the earlier arrivals, of which a copy
+/// was kept, and goes on from there. So the common actions are played once over the wire, and an
+/// arrival is copied once. As in a play a stop tells no instruction: `at` is 0.
 pub fn branch_play<W: Wire>(
     alloc: Global,
     b: &Branched,
@@ -51,12 +50,12 @@ pub fn branch_play<W: Wire>(
     requires is_role { among (roles_in (branched_of b.now)) role.now ≡ true }
     requires fit { FitArms (branched_of b.now).arms role.now codes.now }
     requires told { IsTold (branched_of b.now) role.now told }
-    requires count { All (λ (code : CodeValue). length init.now ≡ length (take_texts code.instrs)) codes.now }
+    requires count { TakeAll codes.now init.now }
     requires short { All (λ value. length value ≤ ARRIVAL) init.now }
     ensures runs { (arrivals : List (List ℕ)) (tail : Tail)
         → CutLeft ARRIVAL (W.left wire.old) arrivals tail
-        → Runs (run_taken (branched_of b.now) role.now told init.now seed.now codes.now) arrivals tail
-        (W.left wire.old) (W.left wire.new) (W.written wire.old) (W.written wire.new) result }
+        → Runs (run_taken (branched_of b.now) role.now told init.now seed.now codes.now)
+        arrivals tail (W.left wire.old) (W.left wire.new) (W.written wire.old) (W.written wire.new) result }
     ensures prompt { IsPrompt
         (run_taken (branched_of b.now) role.now told init.now seed.now codes.now)
         (W.state wire.old) (W.state wire.new) }
@@ -97,11 +96,12 @@ fn play_untold<W: Wire>(
     requires is_role { among (roles_in (branched_of b.now)) role.now ≡ true }
     requires fit { FitArms (branched_of b.now).arms role.now codes.now }
     requires told { IsTold (branched_of b.now) role.now None }
-    requires count { All (λ (code : CodeValue). length init.now ≡ length (take_texts code.instrs)) codes.now }
+    requires count { TakeAll codes.now init.now }
     requires short { All (λ value. length value ≤ ARRIVAL) init.now }
     requires bytes { AllByRecursion IsBytes init.now }
     requires play { AllByRecursion FittingCodesPlay (branched_of b.now).arms }
-    ensures closes { Closes (run_taken (branched_of b.now) role.now None init.now seed.now codes.now)
+    ensures closes { Closes
+        (run_taken (branched_of b.now) role.now None init.now seed.now codes.now)
         (W.state wire.old) (W.state wire.new) result }
     ensures read_fault { result ≡ PlayEnd.ReadFault
         → Rose (W.Source.faults wire.old) (W.Source.faults wire.new) }
@@ -136,10 +136,12 @@ fn play_seeing<W: Wire>(
     requires few { length (branched_of b.now).arms ≤ 8 }
     requires signs { length signs.now ≡ length (branched_of b.now).arms }
     requires codes { length codes.now ≡ length (branched_of b.now).arms }
-    requires count { All (λ (code : CodeValue). length init.now ≡ length (take_texts code.instrs)) codes.now }
+    requires count { TakeAll codes.now init.now }
     requires short { All (λ value. length value ≤ ARRIVAL) init.now }
-    requires decides { (role : List ℕ) × Decides (branched_of b.now) role init.now seed.now codes.now signs.now }
-    ensures closes { (role : List ℕ) → Decides (branched_of b.now) role init.now seed.now codes.now signs.now
+    requires decides { (role : List ℕ)
+        × Decides (branched_of b.now) role init.now seed.now codes.now signs.now }
+    ensures closes { (role : List ℕ)
+        → Decides (branched_of b.now) role init.now seed.now codes.now signs.now
         → Closes (run_taken (branched_of b.now) role None init.now seed.now codes.now)
         (W.state wire.old) (W.state wire.new) result }
     ensures read_fault { result ≡ PlayEnd.ReadFault

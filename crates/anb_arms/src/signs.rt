@@ -33,7 +33,8 @@ pub(crate) struct Sign {
 /// What a role sees of each arm, in order.
 pub(crate) fn signs_of(alloc: Global, b: &Branched, role: &Text) -> Result<Vec<Sign>, NoMemory>
     requires { HaveRole (branched_of b.now).arms role.now }
-    ensures { IfOk result (λ signs. AreSigns (branched_of b.now).stem role.now (branched_of b.now).arms signs.items) }
+    ensures { IfOk result (λ signs.
+        AreSigns (branched_of b.now).stem role.now (branched_of b.now).arms signs.items) }
 {
     let mut signs = Vec::new(alloc);
     for arm in &b.arms {
@@ -75,8 +76,8 @@ fn stem_len(events: &[Event], stem: u32) -> usize
     len
 }
 
-/// Whether an event is known from the start or belongs to the first actions, so many. A name that is
-/// made belongs to the action that follows it.
+/// Whether an event is known from the start or belongs to the first actions, so many. A name that
+/// is made belongs to the action that follows it.
 fn is_common(event: &Event, stem: u32) -> Option<bool>
     ensures some { IfSome result (λ common. (es : List PlanEvent)
         → is_of_stem stem (plan_event event.now ∷ es) ≡ common) }

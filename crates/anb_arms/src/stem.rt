@@ -1,7 +1,7 @@
 //! A role's play up to the arrival that tells the arm.
 //!
-//! Up to there the arms' plays are the same, so one machine does for all of them. It keeps a copy of
-//! each arrival, from which the machine of another arm goes on.
+//! Up to there the arms' plays are the same, so one machine does for all of them. A copy of each
+//! arrival is kept, from which the machine of another arm goes on.
 ghost use Rattle.std.specs.Prelude.{◌≡◌, ◌≤◌, ◌<◌, ℕ, List, [], ◌∷◌, ◌++◌, length, IsTrue, IfOk, IfErr, OnOk};
 ghost use Rattle.anb_base.specs.Bytes.{IsBytes};
 ghost use Rattle.anb_base.specs.Moves.{Rose};

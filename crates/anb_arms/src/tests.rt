@@ -1,12 +1,10 @@
 //! Roles of branched texts, compiled and played over wires in memory.
 ghost use Rattle.std.specs.Prelude.{◌≡◌, ◌≤◌, length, All, true, IfOk};
 ghost use Rattle.anb_base.specs.declared.TheConstants.{ARRIVAL};
-ghost use Rattle.anb_code.specs.CodeValue.{CodeValue};
-ghost use Rattle.anb_code.specs.Taking.{take_texts};
 ghost use Rattle.anb_resolve.specs.Names.{among};
 ghost use Rattle.anb_branch.specs.Lawful.{IsLawful, roles_in};
 ghost use Rattle.anb_branch.specs.Views.{branched_of};
-ghost use Rattle.anb_arms.specs.Taken.{IsTold};
+ghost use Rattle.anb_arms.specs.Taken.{IsTold, TakeAll};
 
 use crate::{ArmNo, branch_play, compile_arms};
 use anb_base::{ARRIVAL, Bytes, MemWire, SMALL_FILE, Text, read_full};
@@ -81,7 +79,7 @@ fn may_be_told(b: &Branched, role: &Text, told: Option<u32>) -> bool
 /// Whether there is a value for each take of each code.
 fn take_all(codes: &[RoleCode], values: &[Bytes]) -> bool
     ensures { result ≡ true
-        → All (λ (code : CodeValue). length values.now ≡ length (take_texts code.instrs)) codes.now }
+        → TakeAll codes.now values.now }
 {
     codes
         .iter()

@@ -1,5 +1,4 @@
-use Rattle.std.proofs.Common.{ℕ, arith, sym, ◌∙◌, subst}
-use Rattle.anb_resolve.specs.Protocols.{role_number}
+use Rattle.std.proofs.Common.{ℕ, arith, subst}
 use Rattle.anb_compile.specs.Fitting.{FitsRole}
 use Rattle.anb_arms.proofs.Members.{item_at}
 use Rattle.anb_arms.proofs.compiling.code_of.Goals as goal

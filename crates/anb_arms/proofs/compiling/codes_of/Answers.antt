@@ -1,5 +1,5 @@
-use Rattle.std.proofs.Common.{◌≡◌, ℕ, ◌+◌, ◌<◌, List, take, length, length-append, arith, sym, ap, ◌∙◌, subst}
-use Rattle.std.specs.Prelude.{◌∷◌, [], ◌++◌, slice_get, All}
+use Rattle.std.proofs.Common.{◌≡◌, ◌+◌, ◌<◌, List, take, length, length-append, arith, sym, ap, ◌∙◌, subst}
+use Rattle.std.specs.Prelude.{◌∷◌, [], ◌++◌, All}
 use Rattle.std.proofs.lemmas.List.{take_all}
 use Rattle.anb_lemmas.proofs.Each.{zip_and_last, take_next, all_of_next}
 use Rattle.anb_resolve.specs.Protocols.{ProtocolValue, role_number}

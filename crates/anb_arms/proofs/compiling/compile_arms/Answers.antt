@@ -1,6 +1,4 @@
-use Rattle.std.proofs.Common.{sym, subst}
 use Rattle.anb_branch.specs.Views.{branched_of}
-use Rattle.anb_arms.specs.Arms.{HaveRole}
 use Rattle.anb_arms.proofs.Refusals.{have_role}
 use Rattle.anb_arms.proofs.compiling.compile_arms.Goals as goal
 

@@ -1,4 +1,3 @@
-use Rattle.std.proofs.Common.{ℕ, List, ap}
 use Rattle.anb_machine.specs.ByteRuns.{run_bytes}
 use Rattle.anb_machine.specs.Machines.{gives}
 use Rattle.anb_arms.specs.Choices.{goes_behind}

@@ -1,9 +1,6 @@
-use Rattle.std.proofs.Common.{◌≡◌, ◌<◌, ℕ, List, length, Bool, true, false, None, refl, sym, ap, ◌∙◌, subst, arith}
-use Rattle.std.specs.Prelude.{slice_get, Some}
+use Rattle.std.proofs.Common.{◌≡◌, ◌<◌, length, false, None, sym, ap, ◌∙◌, subst, arith}
 use Rattle.anb_code.specs.CodeValue.{CodeValue}
 use Rattle.anb_code.specs.Taking.{take_texts}
-use Rattle.anb_machine.specs.ByteRuns.{run_bytes}
-use Rattle.anb_branch.specs.Lawful.{BranchedValue}
 use Rattle.anb_branch.specs.Views.{branched_of}
 use Rattle.anb_arms.specs.declared.signs.Sign.{Sign}
 use Rattle.anb_arms.specs.Taken.{begins_arm, place_begun, run_taken}

@@ -1,5 +1,4 @@
-use Rattle.std.proofs.Common.{◌≡◌, ◌<◌, ℕ, List, length, Bool, true, false, None, refl, sym, ap, ◌∙◌, subst, arith}
-use Rattle.std.specs.Prelude.{slice_get, Some}
+use Rattle.std.proofs.Common.{ℕ, List, length, None, sym, ap, ◌∙◌, subst, arith}
 use Rattle.std.specs.List.{list_any}
 use Rattle.std.proofs.lemmas.Slice.Zip.{AllZip-long}
 use Rattle.anb_plays.specs.Runs.{without_place}
@@ -11,7 +10,6 @@ use Rattle.anb_branch.specs.Views.{branched_of}
 use Rattle.anb_arms.specs.declared.signs.Sign.{Sign}
 use Rattle.anb_arms.specs.Taken.{run_taken}
 use Rattle.anb_arms.specs.Signs.{AreSigns, IsSign}
-use Rattle.anb_arms.specs.Choices.{Decides}
 use Rattle.anb_arms.proofs.Members.{item_at}
 use Rattle.anb_arms.proofs.Refusals.{have_role}
 use Rattle.anb_arms.proofs.Seeing.{any_free}

@@ -1,4 +1,4 @@
-use Rattle.std.proofs.Common.{◌≡◌, ◌+◌, ◌∷◌, refl, sym, ap, ◌∙◌, arith, Some, None, subst, drop}
+use Rattle.std.proofs.Common.{◌+◌, ◌∷◌, sym, ap, arith, Some, None, drop}
 use Rattle.std.proofs.lemmas.Bool.Decides.{Decides-eqb}
 use Rattle.std.proofs.lemmas.Slice.Eq.{strip_prefix_is}
 use Rattle.anb_format.specs.Formats.{head}

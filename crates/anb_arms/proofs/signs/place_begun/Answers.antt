@@ -1,9 +1,8 @@
-use Rattle.std.proofs.Common.{◌≡◌, ◌+◌, ◌<◌, ℕ, List, Bool, true, false, None, refl, sym, ap, ◌∙◌, arith, length}
-use Rattle.std.specs.Prelude.{slice_get, Some}
+use Rattle.std.proofs.Common.{◌<◌, false, None, sym, ◌∙◌, arith, length}
 use Rattle.anb_arms.specs.declared.signs.Sign.{Sign}
 use Rattle.anb_arms.specs.Taken.{begins_arm}
 use Rattle.anb_arms.proofs.Members.{item_at}
-use Rattle.anb_arms.proofs.Seeing.{begins_so, place_found, place_next, place_none}
+use Rattle.anb_arms.proofs.Seeing.{begins_so, place_found, place_next}
 use Rattle.anb_arms.proofs.signs.place_begun.Goals as goal
 
 pub returns-then-has_head : goal.returns-then-has_head

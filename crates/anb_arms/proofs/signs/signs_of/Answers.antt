@@ -1,4 +1,4 @@
-use Rattle.std.proofs.Common.{◌≡◌, ◌+◌, ℕ, List, ◌∷◌, [], ◌++◌, take, refl, sym, ap, ◌∙◌, arith, subst}
+use Rattle.std.proofs.Common.{◌≡◌, ◌+◌, List, ◌∷◌, [], ◌++◌, take, sym, arith, subst}
 use Rattle.anb_lemmas.proofs.Each.{zip_and_last, take_next}
 use Rattle.anb_resolve.specs.Protocols.{ProtocolValue}
 use Rattle.anb_arms.specs.declared.signs.Sign.{Sign}

@@ -1,7 +1,6 @@
-use Rattle.std.proofs.Common.{◌≡◌, ◌+◌, ℕ, map, drop, refl, sym, ap, ◌∙◌, arith}
+use Rattle.std.proofs.Common.{◌+◌, map, drop, refl, ap, ◌∙◌, arith}
 use Rattle.anb_resolve.specs.Views.{plan_event}
-use Rattle.anb_branch.specs.Lawful.{stem_len}
-use Rattle.anb_arms.proofs.Cutting.{len_from, len_at_first, len_on, len_over_made, len_off, next_event}
+use Rattle.anb_arms.proofs.Cutting.{len_from, len_at_first, len_on, len_over_made, next_event}
 use Rattle.anb_arms.proofs.signs.stem_len.Goals.{in-None, in-Some-true}
 use Rattle.anb_arms.proofs.signs.stem_len.Goals as goal
 

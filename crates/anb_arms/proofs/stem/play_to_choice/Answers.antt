@@ -1,5 +1,4 @@
 use Rattle.std.proofs.Common.{◌≡◌, arith, refl, sym, ap, ◌∙◌, subst, length, List, ℕ}
-use Rattle.anb_machine.specs.Machines.{gives}
 use Rattle.anb_session.specs.declared.PlayEnd.TheVariants.{ReadFault, WriteFault}
 use Rattle.anb_session.proofs.Written.{written_back, rose_later}
 use Rattle.anb_arms.specs.Stems.{AreBytes, AreShort}

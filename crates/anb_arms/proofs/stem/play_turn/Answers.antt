@@ -1,12 +1,12 @@
-use Rattle.std.proofs.Common.{◌≡◌, ◌≤◌, ℕ, List, length, refl, sym, ap, ◌∙◌, subst, arith, length-append}
+use Rattle.std.proofs.Common.{◌≡◌, ℕ, List, length, refl, sym, ap, ◌∙◌, subst, arith, length-append}
 use Rattle.std.specs.Prelude.{[], ◌∷◌}
 use Rattle.anb_base.specs.Moves.{Put}
 use Rattle.anb_frame.specs.Frames.{frame}
-use Rattle.anb_plays.specs.Plays.{says, stopped, waiting, done}
+use Rattle.anb_plays.specs.Plays.{says, stopped, done}
 use Rattle.anb_machine.specs.Machines.{gives}
 use Rattle.anb_session.specs.declared.PlayEnd.TheVariants.{NoMemory}
 use Rattle.anb_session.specs.Turns.{EndsSending, EndsWaiting, Receives}
-use Rattle.anb_arms.specs.Stems.{AreBytes, AreShort, Hears}
+use Rattle.anb_arms.specs.Stems.{AreBytes, AreShort}
 use Rattle.anb_arms.proofs.Turns.{by_told, goes_saying, over_sending, over_waiting, over_ended, goes_hearing, closes_done, closes_stopped, over_wanting, wanting_room, hears_so, bytes_more, short_more}
 use Rattle.anb_arms.proofs.stem.play_turn.Goals as goal
 

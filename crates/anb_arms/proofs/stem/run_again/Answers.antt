@@ -1,6 +1,4 @@
-use Rattle.std.proofs.Common.{List, ℕ, ◌∷◌, ◌≡◌, subst}
-use Rattle.anb_arms.specs.Stems.{AreShort}
-use Rattle.anb_arms.proofs.Again.{Again, again_saying, again_hearing, short_rest}
+use Rattle.anb_arms.proofs.Again.{again_saying, again_hearing, short_rest}
 use Rattle.anb_arms.proofs.stem.run_again.Goals.{in-Message, in-Wants+in-Some}
 use Rattle.anb_arms.proofs.stem.run_again.Goals as goal
 

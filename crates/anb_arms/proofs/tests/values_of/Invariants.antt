@@ -4,4 +4,4 @@ use Rattle.anb_base.specs.declared.TheConstants.{ARRIVAL}
 use Rattle.anb_arms.proofs.tests.values_of.Given as goal
 
 abbrev pub invariant-loop-value : goal.invariant-loop-value
-invariant-loop-value l = All (λ value. length value ≤ ARRIVAL) l.all.items
+invariant-loop-value g l = All (λ value. length value ≤ ARRIVAL) l.all.items
