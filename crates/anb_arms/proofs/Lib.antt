@@ -1,0 +1,13 @@
+pub mod Behind
+pub mod Turns
+pub mod Stems
+pub mod Placeless
+pub mod Again
+pub mod Members
+pub mod Refusals
+pub mod Agreeing
+pub mod Heads
+pub mod Cutting
+pub mod Seeing
+pub mod Choosing
+pub mod Deciding

@@ -1,0 +1,15 @@
+//! The arms of a branched text, compiled and played.
+#![tactic(auto)]
+
+mod compiling;
+mod laws;
+mod playing;
+mod signs;
+mod stem;
+
+pub use compiling::{ArmNo, compile_arms};
+pub use laws::arms_play_alike;
+pub use playing::branch_play;
+
+#[cfg(test)]
+mod tests;
