@@ -44,7 +44,7 @@ def compiled(program, folder, make, role, size):
 
 def squared(size, compares):
     """A role file that makes so many macs of what it received, each of the one before under itself."""
-    head = 'anb-role 2\nprotocol P\nrole A\nsuite sha256\nformat ok = "OK"\ncode\nr0 = take N\nr1 = recv\n'
+    head = 'anb-role 2\nprotocol P\nrole A\nsuite sha256\nformat ok "OK"\ncode\nr0 = take N\nr1 = recv\n'
     macs = "".join(f"r{i + 2} = mac r{i + 1} r{i + 1}\n" for i in range(size))
     equal = "equal r0 r1\n" if compares else ""
     role = f"{head}{macs}{equal}r{size + 2} = build ok\nsend r{size + 2}\nend\n"
