@@ -190,7 +190,7 @@ module _ (files : Files) (narration name file values : List ℕ) (host_seed : Op
 
       played_as : (errand : Errand) (status : Status) → IsErrand code errand → IsPlayed RunOf errand left arrivals tail status out rest → IsPlayed PlayOf (job_by errand) left arrivals tail (as_played status) out rest
       played_as errand status is played =
-          let run = playefitting ∙ ap (λ (c : CodeValue). run_bytes c errand.initial errand.seed 0 arrivals) is.same in record {
+          let run = played.plays ∙ ap (λ (c : CodeValue). run_bytes c errand.initial errand.seed 0 arrivals) is.same in record {
             play = without_place played.play;
             plays = subst (λ (p : Played (List ℕ)). PlayOf (job_by errand) arrivals (without_place p)) (sym run) (law errand is).0;
             status_is = ap as_played played.status_is ∙ as_ended played.play.end tail;
@@ -205,7 +205,7 @@ module _ (files : Files) (narration name file values : List ℕ) (host_seed : Op
           → IsPlayed PlayOf (job_by errand) left arrivals tail status out rest → IsEnacted status
       played_of errand status asks is played =
           let q = run_bytes code errand.initial errand.seed 0 arrivals in
-          let run : played.play ≡ without_place q = (law errand is).1 played.play playefitting in (
+          let run : played.play ≡ without_place q = (law errand is).1 played.play played.plays in (
             status_at q.end tail,
             played.status_is ∙ ap (λ (p : Played (List ℕ)). status_at p.end tail) run ∙ sym (as_ended q.end tail),
             inr (
