@@ -8,8 +8,9 @@ Examples: `fmt` gives the narration's text, each role compiles, all roles play t
 `compile` wrote send the same under `enact`, and each message has the bytes that docs/narration.py computes apart. What
 came of it is compared with examples/expected, and the index of the examples with what docs/charts.py writes. Where the
 program has `rehearse`, all roles are rehearsed too, by `schedule` and by each other file `*.schedule`, which has turns
-that are passed over; and where it has `chart`, the charts are those of docs/charts.py. A role's transcript stands beside
-its values. What the gate runs of each example is a copy, in crates/anb_examples.
+that are passed over; where it has `chart`, the charts are those of docs/charts.py; and where it has `certify`, each code
+that `compile` wrote is certified, and without one of its checks it is certified or refused. A role's transcript stands
+beside its values. What the gate runs of each example is a copy, in crates/anb_examples.
 
 Pages: in a fenced block that begins with a line `$ ...` each such line is a command for sh, and what follows is what
 it writes, errors too. The commands run in a folder of their own with a copy of examples/, block by block, with `anb` on
@@ -107,6 +108,27 @@ def enacted(program, story, folder, codes):
         for role, code in codes.items():
             (pathlib.Path(scratch) / role).write_text(code)
         return relay(program, story, lambda role: ["enact", pathlib.Path(scratch) / role, values_file(folder, role)])
+
+
+def certified(program, narration, role, code):
+    """The status of `certify` on a code."""
+    with tempfile.TemporaryDirectory() as scratch:
+        file = pathlib.Path(scratch) / "code"
+        file.write_text(code)
+        return subprocess.run([program, "certify", narration, role, file], capture_output=True, timeout=300).returncode
+
+
+def check_certificates(program, narration, codes):
+    """Each code is certified. Without one of its checks it may be no role file (16), or not certified (28)."""
+    for role, code in codes.items():
+        if certified(program, narration, role, code) != 0:
+            raise ValueError(f"the code of {role} isn't certified")
+        lines = code.splitlines(keepends=True)
+        for i, line in enumerate(lines):
+            if not re.match(r"equal |r[0-9 r]* = (unseal|unwrap|parse) ", line):
+                continue
+            if certified(program, narration, role, "".join(lines[:i] + lines[i + 1 :])) not in (0, 16, 28):
+                raise ValueError(f"the code of {role} without its line {i + 1} has another status")
 
 
 def played(story, words):
@@ -230,6 +252,8 @@ def check_example(program, folder, commands, write):
     for role, code in codes.items():
         if not re.fullmatch(r"anb-role 2\n.*\nend\n", code, re.S):
             raise ValueError(f"no role file for {role}")
+    if "certify" in commands:
+        check_certificates(program, path, codes)
     check_schedules(program, story, folder, commands)
     names = names_of(story, folder)
     carried = relay(program, story, lambda role: ["play", path, role, values_file(folder, role)])
