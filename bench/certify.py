@@ -7,13 +7,12 @@ role file, almost as long as one may be, that squares a term at each line, and c
 with what it knows; `uncompared` is the same without the comparison, and is refused. Seconds are the
 least of so many runs, as whole processes. The program is crates/anb/out/anb unless another is named.
 """
-import argparse
 import os
 import subprocess
 import sys
 import tempfile
 
-from measure import PROGRAM, ROLE_FILE_LIMIT, Case, best
+from measure import ROLE_FILE_LIMIT, Case, asked_for, report
 from narrations import ROWS
 
 SQUARED = """Protocol: P;
@@ -62,27 +61,10 @@ def cases(program, folder):
 
 
 def main():
-    words = argparse.ArgumentParser()
-    words.add_argument("--program", default=PROGRAM)
-    words.add_argument("--limit", type=float, default=60)
-    words.add_argument("--runs", type=int, default=1)
-    words.add_argument("rows", nargs="*")
-    asked = words.parse_args()
-    program = os.path.abspath(asked.program)
-    print(f"{'row':<24}{'size':>8}{'seconds':>10}{'growth':>8}{'MB':>8}")
+    asked = asked_for()
     with tempfile.TemporaryDirectory() as folder:
-        for row, sizes, make in cases(program, folder):
-            if asked.rows and row not in asked.rows:
-                continue
-            before = None
-            for size in sizes:
-                found = best(program, folder, make(size), asked.limit, asked.runs)
-                if found is None:
-                    print(f"{row:<24}{size:>8}{'over ' + format(asked.limit, 'g'):>10}", flush=True)
-                    break
-                growth = f"{found[0] / before:.1f}" if before else ""
-                print(f"{row:<24}{size:>8}{found[0]:>10.3f}{growth:>8}{found[1]:>8.0f}", flush=True)
-                before = found[0]
+        rows = [case for case in cases(asked.program, folder) if not asked.rows or case[0] in asked.rows]
+        report(asked.program, folder, rows, asked.limit, asked.runs)
 
 
 if __name__ == "__main__":

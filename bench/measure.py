@@ -88,28 +88,39 @@ def best(program, folder, case, limit, runs):
     return min(seconds for seconds, _ in found), max(memory for _, memory in found)
 
 
-def main():
+def report(program, folder, rows, limit, runs):
+    """Prints a line for each size of the rows, which are names, sizes, and what makes a case of a size."""
+    print(f"{'row':<20}{'size':>8}{'seconds':>10}{'growth':>8}{'MB':>8}")
+    for row, sizes, make in rows:
+        before = None
+        for size in sizes:
+            found = best(program, folder, make(size), limit, runs)
+            if found is None:
+                print(f"{row:<20}{size:>8}{'over ' + format(limit, 'g'):>10}", flush=True)
+                break
+            seconds, memory = found
+            growth = f"{seconds / before:.1f}" if before else ""
+            print(f"{row:<20}{size:>8}{seconds:>10.3f}{growth:>8}{memory:>8.0f}", flush=True)
+            before = seconds
+
+
+def asked_for(limit=60):
+    """What the words ask for: the program, a limit in seconds, how many runs, and rows."""
     words = argparse.ArgumentParser()
     words.add_argument("--program", default=PROGRAM)
-    words.add_argument("--limit", type=float, default=60)
+    words.add_argument("--limit", type=float, default=limit)
     words.add_argument("--runs", type=int, default=1)
     words.add_argument("rows", nargs="*")
     asked = words.parse_args()
-    program = os.path.abspath(asked.program)
-    print(f"{'row':<20}{'size':>8}{'seconds':>10}{'growth':>8}{'MB':>8}")
+    asked.program = os.path.abspath(asked.program)
+    return asked
+
+
+def main():
+    asked = asked_for()
+    rows = [(row, CASES[row][1], CASES[row][0]) for row in asked.rows or CASES]
     with tempfile.TemporaryDirectory() as folder:
-        for row in asked.rows or CASES:
-            make, sizes = CASES[row]
-            before = None
-            for size in sizes:
-                found = best(program, folder, make(size), asked.limit, asked.runs)
-                if found is None:
-                    print(f"{row:<20}{size:>8}{'over ' + format(asked.limit, 'g'):>10}", flush=True)
-                    break
-                seconds, memory = found
-                growth = f"{seconds / before:.1f}" if before else ""
-                print(f"{row:<20}{size:>8}{seconds:>10.3f}{growth:>8}{memory:>8.0f}", flush=True)
-                before = seconds
+        report(asked.program, folder, rows, asked.limit, asked.runs)
 
 
 if __name__ == "__main__":
