@@ -3,10 +3,10 @@
     python3 bench/park.py [--program FILE] [--arrivals N] [--bytes N]
 
 The role takes so many messages of so many bytes, and waits for one more. `play` of the same input is
-what the play itself costs; `seal` is one sealing of as many bytes as the record has, by a role that
-seals a message of that size or, where that is longer than an arrival may be, several of them. The
-program is crates/anb/out/anb unless another is named. Seconds are the least of three runs; memory is
-the most that was resident.
+what the play itself costs; `resume` goes on to the end, and `again` parks the session again; `seals` is
+one sealing of as many bytes as the record has, by a role that seals a message of that size or, where
+that is longer than an arrival may be, several of them. The program is crates/anb/out/anb unless another
+is named. Seconds are the least of three runs; memory is the most that was resident.
 """
 import argparse
 import os
@@ -84,7 +84,9 @@ def main():
             source.read(4)
             to.write(source.read())
         size = os.path.getsize(record)
-        resume, resumed = ran(anb + ["resume", narration, "B", record, key], none, out, PARKED)
+        last = file("last", frame(b"the last"))
+        resume, resumed = ran(anb + ["resume", narration, "B", record, key], last, out, 0)
+        again, parked_again = ran(anb + ["resume", narration, "B", record, key], none, out, PARKED)
         pieces = -(-size // ARRIVAL)
         seals = file("s.anb", sealing(pieces).encode())
         keys = "".join(f'K{i} = "{i}"\n' for i in range(pieces))
@@ -95,6 +97,7 @@ def main():
         print(f"{'seals':<8}{seal:>8.3f} s of as many bytes")
         print(f"{'park':<8}{park:>8.3f} s, {parked / size:.2f} times the record in memory")
         print(f"{'resume':<8}{resume:>8.3f} s, {resumed / size:.2f} times the record in memory")
+        print(f"{'again':<8}{again:>8.3f} s, {parked_again / size:.2f} times the record in memory")
 
 
 if __name__ == "__main__":
