@@ -55,7 +55,7 @@ pub(crate) fn write_code<K: Sink>(
 }
 
 /// How many registers an instruction writes.
-fn count_written(formats: &[Format], instr: &Instr) -> usize
+pub fn count_written(formats: &[Format], instr: &Instr) -> usize
     requires fields { AllByRecursion (λ format. field_count format.pieces ≤ 32) formats.now }
     requires format { HasItsFormat formats.now instr.now }
     ensures { result ≡ count_written formats.now instr.now }
