@@ -4,7 +4,7 @@ use Rattle.std.specs.Prelude.{ℕ, List, Option, Some, None}
 use Rattle.anb_base.specs.Wires.{WireState}
 use Rattle.anb_command.specs.declared.status.Status.{Status}
 use Rattle.anb_command.specs.Fetches.{Files}
-use Rattle.anb_command.specs.Words.{Asked, fmt, describe, play, enact, replay, host, rehearse, drill, help, certify, why, park, resume, chart}
+use Rattle.anb_command.specs.Words.{Asked, fmt, describe, play, enact, replay, trace, host, rehearse, drill, help, certify, why, park, resume, chart}
 use Rattle.anb_many_commands.specs.HostCommand.{CompletesHost, DoesHost}
 use Rattle.anb_park_commands.specs.ParkCommand.{CompletesPark, DoesPark}
 use Rattle.anb_park_commands.specs.ResumeCommand.{CompletesResume, DoesResume}
@@ -16,6 +16,7 @@ use Rattle.anb_report_commands.specs.ReportCommands.{CompletesChart, DoesChart}
 use Rattle.anb_role_commands.specs.EnactCommand.{CompletesEnact, DoesEnact}
 use Rattle.anb_role_commands.specs.PlayCommand.{CompletesPlay, DoesPlay}
 use Rattle.anb_role_commands.specs.ReplayCommand.{CompletesReplay, DoesReplay}
+use Rattle.anb_trace_commands.specs.TraceCommand.{CompletesTrace, DoesTrace}
 use Rattle.anb_text_commands.specs.TextCommands.{
   CompletesDescribe,
   CompletesFmt,
@@ -37,6 +38,8 @@ Does (Some (enact code values place)) told seed old new status =
     DoesEnact code values told seed old new status
 Does (Some (replay narration role values transcript)) told seed old new status =
     DoesReplay narration role values transcript seed told old new status
+Does (Some (trace narration role values transcript)) told seed old new status =
+    DoesTrace narration role values transcript seed told old new status
 Does (Some (host narration role values place)) told seed old new status =
     DoesHost narration role values told seed old new status
 Does (Some (rehearse narration values schedule)) told seed old new status =
@@ -64,6 +67,8 @@ Completes (Some (enact code values place)) told seed old new status =
     CompletesEnact code values told seed old new status
 Completes (Some (replay narration role values transcript)) told seed old new status =
     CompletesReplay narration role values transcript seed told status
+Completes (Some (trace narration role values transcript)) told seed old new status =
+    CompletesTrace narration role values transcript seed told old new status
 Completes (Some (host narration role values place)) told seed old new status =
     CompletesHost narration role values told seed old new status
 Completes (Some (rehearse narration values schedule)) told seed old new status =

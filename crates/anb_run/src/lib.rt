@@ -34,6 +34,7 @@ use anb_rehearsal_commands::{drill, rehearse};
 use anb_report_commands::chart;
 use anb_role_commands::{enact, play, replay};
 use anb_text_commands::{describe, fmt, help};
+use anb_trace_commands::trace;
 use std::alloc::Global;
 
 /// Does what the words ask for. The words are those after the program's name. The files are fetched
@@ -86,6 +87,7 @@ pub fn run<F: Shelf, W: Wire, E: Sink>(
         Some(Command::Play(words)) => play(alloc, shelf, wire, words, seed),
         Some(Command::Enact(words)) => enact(alloc, shelf, wire, words, seed),
         Some(Command::Replay(words)) => replay(alloc, shelf, wire, words, seed),
+        Some(Command::Trace(words)) => trace(alloc, shelf, wire, words, seed),
         Some(Command::Host(words)) => host(alloc, shelf, wire, words, seed),
         Some(Command::Rehearse(words)) => rehearse(alloc, shelf, wire, words, seed),
         Some(Command::Drill(exchanges)) => drill(alloc, wire, exchanges),

@@ -29,9 +29,9 @@ behind s rest = rest s.registers.items s.events s.drawn s.arrivals.now
 
 -- what was told of an instruction, the next of so many, and where it stands then; behind the last one nothing is said
 abbrev pub Tells : SubjectValue → (seed : List ℕ) → Instr → (first at : ℕ) → (old : Standing) → Told → (new : Standing) → Type 0
-Tells s seed instr first at old text new =
+Tells s seed instr first at old part new =
     (rest : Rest) → told s (draw_of seed 0) (act_of s.code.formats instr) instr old.registers.items first old.events at old.drawn old.arrivals.now rest
-    ≡ text.text.items ++ (if text.goes_on then behind new rest else [])
+    ≡ part.text.items ++ (if part.goes_on then behind new rest else [])
 
 -- the counts are no further than the place
 abbrev pub IsWithin : Standing → ℕ → Type 0
@@ -44,13 +44,13 @@ IsActReady has n act = Unit {0}
 
 -- where it goes on, the act has written its registers
 abbrev pub HasWritten : Act → (old : Standing) → Told → (new : Standing) → Type 0
-HasWritten act old text new = text.goes_on ≡ true → length new.registers.items ≡ length old.registers.items + registers_of act
+HasWritten act old part new = part.goes_on ≡ true → length new.registers.items ≡ length old.registers.items + registers_of act
 
 -- ---- by what an instruction does
 
-pub record TellsDraw (s : SubjectValue) (seed : List ℕ) (instr : Instr) (first : ℕ) (old : Standing) (text : Told) (new : Standing) : Type 0 where
-  pub goes_on : text.goes_on ≡ true
-  pub text : text.text.items ≡ instr_lines s instr first (draw_of seed 0 old.drawn ∷ [])
+pub record TellsDraw (s : SubjectValue) (seed : List ℕ) (instr : Instr) (first : ℕ) (old : Standing) (part : Told) (new : Standing) : Type 0 where
+  pub goes_on : part.goes_on ≡ true
+  pub text : part.text.items ≡ instr_lines s instr first (draw_of seed 0 old.drawn ∷ [])
   pub registers : new.registers.items ≡ old.registers.items ++ draw_of seed 0 old.drawn ∷ []
   pub events : new.events ≡ old.events
   pub drawn : new.drawn ≡ old.drawn + 1
@@ -58,17 +58,17 @@ pub record TellsDraw (s : SubjectValue) (seed : List ℕ) (instr : Instr) (first
 
 -- with an arrival, and without one
 abbrev pub TellsArrival : SubjectValue → (arrivals : List (List ℕ)) → (old : Standing) → Told → (new : Standing) → Type 0
-TellsArrival s [] old text new = (text.goes_on ≡ false) × (text.text.items ≡ event_line s.protocol s.plan old.events ++ end_line (waiting (old.events + 1)) [])
-TellsArrival s (x ∷ arrivals) old text new =
-    (text.goes_on ≡ true) × (text.text.items ≡ event_line s.protocol s.plan old.events ++ bytes_line x)
+TellsArrival s [] old part new = (part.goes_on ≡ false) × (part.text.items ≡ event_line s.protocol s.plan old.events ++ end_line (waiting (old.events + 1)) [])
+TellsArrival s (x ∷ arrivals) old part new =
+    (part.goes_on ≡ true) × (part.text.items ≡ event_line s.protocol s.plan old.events ++ bytes_line x)
     × (new.registers.items ≡ old.registers.items ++ x ∷ []) × (new.arrivals.now ≡ arrivals)
 
 abbrev pub TellsReceive : SubjectValue → (old : Standing) → Told → (new : Standing) → Type 0
-TellsReceive s old text new = (new.events ≡ old.events + 1) × (new.drawn ≡ old.drawn) × TellsArrival s old.arrivals.now old text new
+TellsReceive s old part new = (new.events ≡ old.events + 1) × (new.drawn ≡ old.drawn) × TellsArrival s old.arrivals.now old part new
 
-pub record TellsSend (s : SubjectValue) (register : ℕ) (old : Standing) (text : Told) (new : Standing) : Type 0 where
-  pub goes_on : text.goes_on ≡ true
-  pub text : text.text.items ≡ event_line s.protocol s.plan old.events ++ option_map_or bytes_line (slice_get old.registers.items register) []
+pub record TellsSend (s : SubjectValue) (register : ℕ) (old : Standing) (part : Told) (new : Standing) : Type 0 where
+  pub goes_on : part.goes_on ≡ true
+  pub text : part.text.items ≡ event_line s.protocol s.plan old.events ++ option_map_or bytes_line (slice_get old.registers.items register) []
   pub registers : new.registers.items ≡ old.registers.items
   pub events : new.events ≡ old.events + 1
   pub drawn : new.drawn ≡ old.drawn
@@ -76,13 +76,13 @@ pub record TellsSend (s : SubjectValue) (register : ℕ) (old : Standing) (text 
 
 -- where the demand is true, and where it fails
 abbrev pub TellsWritten : SubjectValue → Instr → (first at : ℕ) → (old : Standing) → Told → (new : Standing) → Option (List (List ℕ)) → Type 0
-TellsWritten s instr first at old text new None =
-    (text.goes_on ≡ false) × (text.text.items ≡ instr_lines s instr first [] ++ end_line (stopped old.events (at + 1)) (why s old.registers.items instr))
-TellsWritten s instr first at old text new (Some values) =
-    (text.goes_on ≡ true) × (text.text.items ≡ instr_lines s instr first values) × (new.registers.items ≡ old.registers.items ++ values)
+TellsWritten s instr first at old part new None =
+    (part.goes_on ≡ false) × (part.text.items ≡ instr_lines s instr first [] ++ end_line (stopped old.events (at + 1)) (why s old.registers.items instr))
+TellsWritten s instr first at old part new (Some values) =
+    (part.goes_on ≡ true) × (part.text.items ≡ instr_lines s instr first values) × (new.registers.items ≡ old.registers.items ++ values)
 
 abbrev pub TellsWork : SubjectValue → Act → Instr → (first at : ℕ) → (old : Standing) → Told → (new : Standing) → Type 0
-TellsWork s (works w) instr first at old text new =
+TellsWork s (works w) instr first at old part new =
     (new.events ≡ old.events) × (new.drawn ≡ old.drawn) × (new.arrivals.now ≡ old.arrivals.now)
-    × TellsWritten s instr first at old text new (worked (meaning_of s.code) old.registers.items w)
-TellsWork s act instr first at old text new = ⊥
+    × TellsWritten s instr first at old part new (worked (meaning_of s.code) old.registers.items w)
+TellsWork s act instr first at old part new = ⊥

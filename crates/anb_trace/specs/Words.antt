@@ -121,7 +121,7 @@ abbrev pub is_vowel : ℕ → Bool
 is_vowel letter = list_any (λ vowel. vowel == letter) (codes "aeiouAEIOU")
 
 abbrev pub sounds_open : ℕ → Bool
-sounds_open letter = is_vowel letter || list_any (λ open. open == letter) (codes "fhlmnrsxFHLMNRSX")
+sounds_open letter = is_vowel letter || list_any (λ other. other == letter) (codes "fhlmnrsxFHLMNRSX")
 
 abbrev pub is_letter : ℕ → Bool
 is_letter b = (nat_lt 64 b && nat_lt b 91) || (nat_lt 96 b && nat_lt b 123)

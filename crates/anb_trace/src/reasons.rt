@@ -3,7 +3,7 @@ ghost use Rattle.std.specs.Prelude.{◌≡◌, ◌++◌, ◌∷◌, [], OnOk, If
 ghost use Rattle.anb_code.specs.Spelling.{name_at};
 ghost use Rattle.std.specs.Option.{option_map_or};
 ghost use Rattle.anb_trace.specs.Tracing.{IsOurs, subject_in};
-ghost use Rattle.anb_trace.specs.Words.{article, comes_first, differing, opened, rank, rank_at, why, writer};
+ghost use Rattle.anb_trace.specs.Words.{article, comes_first, differing, opened, rank, rank_at, term_at, why, writer};
 
 use crate::names::article;
 use crate::subject::{Subject, put_term_at};
@@ -26,16 +26,8 @@ pub(crate) fn put_reason(
         ≡ out.old.items ++ why (subject_in subject.now) registers.now instr.now) }
 {
     match instr {
-        Instr::Unseal(key, _) => {
-            out.extend_from_slice(b"can't unseal under ")?;
-            put_term_at(alloc, out, subject, *key)
-        }
-        Instr::Unwrap(key, context, _) => {
-            out.extend_from_slice(b"can't unwrap under ")?;
-            put_term_at(alloc, out, subject, *key)?;
-            out.extend_from_slice(b" with ")?;
-            put_term_at(alloc, out, subject, *context)
-        }
+        Instr::Unseal(key, _) => put_unsealed(alloc, out, subject, *key),
+        Instr::Unwrap(key, context, _) => put_unwrapped(alloc, out, subject, *key, *context),
         Instr::Parse(format, of) => put_misfit(out, subject.code, *format, *of),
         Instr::Equal(a, b) => {
             if comes_first(subject.code, *b, *a) {
@@ -46,6 +38,40 @@ pub(crate) fn put_reason(
         }
         _ => Ok(()),
     }
+}
+
+/// Appends that nothing can be unsealed under this key.
+fn put_unsealed(
+    alloc: Global,
+    out: &mut Vec<u8>,
+    subject: &Subject<'_>,
+    key: u32,
+) -> Result<(), NoMemory>
+    requires { IsOurs subject.now }
+    ensures { OnOk result (out.new.items ≡ out.old.items
+        ++ (codes "can't unseal under " ++ term_at (subject_in subject.now) key)) }
+{
+    out.extend_from_slice(b"can't unseal under ")?;
+    put_term_at(alloc, out, subject, key)
+}
+
+/// Appends that nothing can be unwrapped under this key with this context.
+fn put_unwrapped(
+    alloc: Global,
+    out: &mut Vec<u8>,
+    subject: &Subject<'_>,
+    key: u32,
+    context: u32,
+) -> Result<(), NoMemory>
+    requires { IsOurs subject.now }
+    ensures { OnOk result (out.new.items ≡ out.old.items
+        ++ (codes "can't unwrap under " ++ (term_at (subject_in subject.now) key
+        ++ (codes " with " ++ term_at (subject_in subject.now) context)))) }
+{
+    out.extend_from_slice(b"can't unwrap under ")?;
+    put_term_at(alloc, out, subject, key)?;
+    out.extend_from_slice(b" with ")?;
+    put_term_at(alloc, out, subject, context)
 }
 
 /// Appends that a register isn't of a format.

@@ -1,5 +1,5 @@
 //! One instruction of a trace.
-ghost use Rattle.std.specs.Prelude.{◌≡◌, ◌+◌, ◌<◌, ◌^◌, ◌++◌, [], IfOk, OnOk, Some, length, slice_get, take};
+ghost use Rattle.std.specs.Prelude.{◌≡◌, ◌+◌, ◌<◌, ◌≤◌, ◌^◌, ◌++◌, [], IfOk, OnOk, Some, codes, decimal, length, slice_get, take};
 ghost use Rattle.anb_algebra.specs.ByteMeaning.{has_operator};
 ghost use Rattle.anb_code.specs.Meaning.{act_of};
 ghost use Rattle.anb_code.specs.Verified.{count_registers};
@@ -92,7 +92,8 @@ fn draws(
     requires at { slice_get subject.now.code.now.instrs at ≡ Some instr.now }
     requires first { first ≡ count_registers subject.now.code.now.formats
         (take at subject.now.code.now.instrs) }
-    requires few { standing.old.drawn + 1 < 2 ^ 32 }
+    requires few { at + 1 < 2 ^ 32 }
+    requires drawn { standing.old.drawn ≤ at }
     ensures told { IfOk result (λ told. TellsDraw (subject_in subject.now) seed.now instr.now
         first standing.old told standing.new) }
 {
@@ -208,14 +209,22 @@ fn works(
     let code = subject.code;
     let algebra = ByteAlgebra::new(code.formats(), code.suite());
     let before = standing.registers.len();
-    let goes_on = do_work(&algebra, alloc, code.formats(), &mut standing.registers, instr)?;
+    let went = do_work(&algebra, alloc, code.formats(), &mut standing.registers, instr)?;
     let mut text = Vec::new(alloc);
-    let values = &standing.registers[before..];
-    put_instr_lines(alloc, &mut text, subject, at, instr, first, values)?;
-    if !goes_on {
-        put_stop(alloc, &mut text, subject, standing, instr, at)?;
+    if went {
+        let values = &standing.registers[before..];
+        put_instr_lines(alloc, &mut text, subject, at, instr, first, values)?;
+        return Ok(Told {
+            text,
+            goes_on: true,
+        });
     }
-    Ok(Told { text, goes_on })
+    put_instr_lines(alloc, &mut text, subject, at, instr, first, &[])?;
+    put_stop(alloc, &mut text, subject, standing, instr, at)?;
+    Ok(Told {
+        text,
+        goes_on: false,
+    })
 }
 
 /// Appends that an instruction failed, and why.
@@ -233,14 +242,33 @@ fn put_stop(
         ++ end_line (stopped standing.now.events (at + 1))
         (why (subject_in subject.now) standing.now.registers.items instr.now)) }
 {
-    let mut event = Buffer::new();
-    let mut place = Buffer::new();
-    out.extend_from_slice(b"stopped at event ")?;
-    out.extend_from_slice(event.format(standing.events).as_bytes())?;
-    out.extend_from_slice(b", instruction ")?;
-    out.extend_from_slice(place.format(at + 1).as_bytes())?;
-    out.extend_from_slice(b": ")?;
+    put_stopped(out, standing.events)?;
+    put_place(out, at)?;
     put_reason(alloc, out, subject, &standing.registers, instr)?;
     out.push(b'\n')?;
+    Ok(())
+}
+
+/// Appends the event of a stop.
+fn put_stopped(out: &mut Vec<u8>, event: u32) -> Result<(), NoMemory>
+    ensures { OnOk result (out.new.items
+        ≡ out.old.items ++ (codes "stopped at event " ++ decimal event)) }
+{
+    let mut buffer = Buffer::new();
+    out.extend_from_slice(b"stopped at event ")?;
+    out.extend_from_slice(buffer.format(event).as_bytes())?;
+    Ok(())
+}
+
+/// Appends the number of the instruction at this place.
+fn put_place(out: &mut Vec<u8>, at: usize) -> Result<(), NoMemory>
+    requires { at + 1 < 2 ^ 32 }
+    ensures { OnOk result (out.new.items
+        ≡ out.old.items ++ (codes ", instruction " ++ (decimal (at + 1) ++ codes ": "))) }
+{
+    let mut buffer = Buffer::new();
+    out.extend_from_slice(b", instruction ")?;
+    out.extend_from_slice(buffer.format(at + 1).as_bytes())?;
+    out.extend_from_slice(b": ")?;
     Ok(())
 }

@@ -1,5 +1,5 @@
 //! Whom a trace is of.
-ghost use Rattle.std.specs.Prelude.{◌≡◌, ◌++◌, OnOk};
+ghost use Rattle.std.specs.Prelude.{◌≡◌, ◌++◌, OnOk, IfSome, IfNone, Some, None, map, slice_get};
 ghost use Rattle.anb_term.specs.View.{tree_of};
 ghost use Rattle.anb_resolve.specs.Texts.{IsTermOf, term_text};
 ghost use Rattle.anb_trace.specs.Tracing.{IsOurs, subject_in};
@@ -46,8 +46,17 @@ pub(crate) fn put_term_at(
     requires { IsOurs subject.now }
     ensures { OnOk result (out.new.items ≡ out.old.items ++ term_at (subject_in subject.now) register) }
 {
-    match subject.explanation.terms().get(register as usize) {
+    match term_at(subject.explanation.terms(), register as usize) {
         Some(term) => put_term(alloc, out, subject.protocol, term),
         None => Ok(()),
     }
+}
+
+/// The term at this place.
+pub(crate) fn term_at(terms: &[Term], place: usize) -> Option<&Term>
+    ensures some { IfSome result (λ term.
+        slice_get (map tree_of terms.now) place ≡ Some (tree_of term.now)) }
+    ensures none { IfNone result (slice_get (map tree_of terms.now) place ≡ None) }
+{
+    terms.get(place)
 }

@@ -6,7 +6,7 @@ ghost use Rattle.anb_term.specs.View.{tree_of};
 ghost use Rattle.anb_resolve.specs.Texts.{IsTermOf};
 ghost use Rattle.anb_trace.specs.Words.{bytes_line, hex_at, value_line, value_lines};
 
-use crate::subject::put_term;
+use crate::subject::{put_term, term_at};
 use anb_base::{Bytes, NoMemory};
 use anb_resolve::Protocol;
 use anb_term::Term;
@@ -59,7 +59,7 @@ pub(crate) fn put_value_lines(
         ≡ out.old.items ++ value_lines protocol.now (map tree_of terms.now) values.now) }
 {
     for (i, value) in values.iter().enumerate() {
-        let Some(term) = terms.get(i) else {
+        let Some(term) = term_at(terms, i) else {
             return Ok(());
         };
         put_value_line(alloc, out, protocol, term, value.as_slice())?;
