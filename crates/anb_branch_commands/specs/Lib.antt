@@ -1,0 +1,4 @@
+pub mod BranchCommand
+pub mod BranchJobs
+-- for proofs alone
+pub mod Arming
