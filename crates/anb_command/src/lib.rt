@@ -28,9 +28,9 @@ pub use playable::{
 };
 pub use prepare::{Prepared, prepare_code, seed_of};
 pub use reaching::{reach, reach_stdio};
-pub use status::{CertifyNo, Due, Halt, NarrationNo, ParkNo, Report, Status};
+pub use status::{BranchNo, CertifyNo, Due, Halt, NarrationNo, ParkNo, Report, Status};
 pub use text::{reach_streams, write_text};
 pub use words::{
-    CertifyWords, Command, EnactWords, Endpoint, ParkWords, PlayWords, RehearseWords, ReplayWords,
-    ResumeWords, RoleText, is_operand,
+    BranchWords, CertifyWords, Command, EnactWords, Endpoint, ParkWords, PlayWords, RehearseWords,
+    ReplayWords, ResumeWords, RoleText, is_operand,
 };
