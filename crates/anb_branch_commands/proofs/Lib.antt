@@ -1,0 +1,4 @@
+pub mod Completing
+pub mod Seats
+pub mod Tasks
+pub mod Preparing
