@@ -1,6 +1,8 @@
 -- From the steps of the preparation to what is asked.
 use Rattle.std.proofs.Common.{◌≡◌, ℕ, Bool, true, List, Option, Some, None, refl, ap, sym, ◌∙◌, subst, inl, inr}
+use Rattle.std.specs.Prelude.{All}
 use Rattle.anb_resolve.specs.Names.{among}
+use Rattle.anb_resolve.specs.Plays.{IsSendable}
 use Rattle.anb_branch.specs.Lawful.{BranchedValue, IsLawful, roles_in}
 use Rattle.anb_session.specs.Sessions.{Run}
 use Rattle.anb_arms.specs.Taken.{IsTold, PlaysTaken}
@@ -19,35 +21,35 @@ use Rattle.anb_branch_commands.specs.BranchJobs.{ArmsSend, BranchInFile, BranchI
 
 -- ---- what a job has
 
--- the role is one of a lawful text, and is told what it may be
-pub record IsOfChoice (job : BranchJob) : Type 0 where
-  pub lawful : IsLawful job.branched
-  pub is_role : among (roles_in job.branched) job.role ≡ true
-  pub may : IsTold job.branched job.role job.told
+-- the role is one of a lawful text in whose arms all can send, and is told what it may be
+pub record IsSeat (b : BranchedValue) (role : List ℕ) (told : Option ℕ) : Type 0 where
+  pub lawful : IsLawful b
+  pub is_role : among (roles_in b) role ≡ true
+  pub sendable : All IsSendable b.arms
+  pub may : IsTold b role told
 
 -- what a step gives that is followed by another
-given_by : {A B : Type 0} (first : Answer A → Type 0) (next : A → Answer B → Type 0) (x : B) → InTurn first next (given x) → (a : A) × first (given a) × next a (given x)
+pub given_by : {A B : Type 0} (first : Answer A → Type 0) (next : A → Answer B → Type 0) (x : B) → InTurn first next (given x) → (a : A) × first (given a) × next a (given x)
 given_by first next x (inl (s, never, is)) = not_both s x (sym is)
 given_by first next x (inr step) = step
 
-module _ (files : Files) (narration role values : List ℕ) (told : Option ℕ) (host_seed : Option (List ℕ)) where
-  seat_has : (b : BranchedValue) → SeatInFile files narration role told (given b) → IsLawful b × (among (roles_in b) role ≡ true) × IsTold b role told
-  seat_has b seat =
-      let (read, in_file, of) = given_by (BranchInFile files narration) (SeatOf role told) b seat in
-      let (text, holds, tells) = given_by _ BranchIs read in_file in
-      let (u, is_role, sends) = given_by (HasRole read role) _ b of in
-      let (v, can, tolds) = given_by (ArmsSend read) _ b sends in
-      let (w, may, is) = given_by (ToldIs read role told) _ b tolds in
-      subst (λ (c : BranchedValue). IsLawful c × (among (roles_in c) role ≡ true) × IsTold c role told) (sym (same_given b read is)) (tells.1, is_role, may)
+pub seat_has : (files : Files) (narration role : List ℕ) (told : Option ℕ) (b : BranchedValue) → SeatInFile files narration role told (given b) → IsSeat b role told
+seat_has files narration role told b seat =
+    let (read, in_file, of) = given_by (BranchInFile files narration) (SeatOf role told) b seat in
+    let (text, holds, tells) = given_by _ BranchIs read in_file in
+    let (u, is_role, sends) = given_by (HasRole read role) _ b of in
+    let (v, can, tolds) = given_by (ArmsSend read) _ b sends in
+    let (w, may, is) = given_by (ToldIs read role told) _ b tolds in
+    subst (λ (c : BranchedValue). IsSeat c role told) (sym (same_given b read is)) (record { lawful = tells.1; is_role = is_role; sendable = can; may = may })
 
-  pub job_seated : (job : BranchJob) → BranchJobIs files narration role values told host_seed (given job) → IsOfChoice job
-  job_seated job asks =
-      let (b, seat, of) = given_by (SeatInFile files narration role told) (BranchJobOf files role values told host_seed) job asks in
-      let (fitted, fits, seeds) = given_by (ValuesInFile files values (known_in b role)) _ job of in
-      let (seed, has, is) = given_by (SeedIs (makes_in b role) fitted.seed host_seed) _ job seeds in
-      let all = seat_has b seat in
-      let made : BranchJob = record { branched = b; role = role; told = told; initial = fitted.values; seed = seed } in
-      subst IsOfChoice (sym (same_given job made is)) (record { lawful = all.0; is_role = all.1; may = all.2 })
+pub job_seated : (files : Files) (narration role values : List ℕ) (told : Option ℕ) (host_seed : Option (List ℕ)) (job : BranchJob) → BranchJobIs files narration role values told host_seed (given job)
+    → IsSeat job.branched job.role job.told
+job_seated files narration role values told host_seed job asks =
+    let (b, seat, of) = given_by (SeatInFile files narration role told) (BranchJobOf files role values told host_seed) job asks in
+    let (fitted, fits, seeds) = given_by (ValuesInFile files values (known_in b role)) _ job of in
+    let (seed, has, is) = given_by (SeedIs (makes_in b role) fitted.seed host_seed) _ job seeds in
+    let made : BranchJob = record { branched = b; role = role; told = told; initial = fitted.values; seed = seed } in
+    subst (λ (j : BranchJob). IsSeat j.branched j.role j.told) (sym (same_given job made is)) (seat_has files narration role told b seat)
 
 -- ---- all steps
 

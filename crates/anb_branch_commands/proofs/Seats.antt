@@ -137,13 +137,17 @@ each_code P [] role (c ∷ codes) fit holds = absurd fit
 each_code P (p ∷ arms) role [] fit holds = absurd fit
 each_code P (p ∷ arms) role (c ∷ codes) (fits, fit) holds = (holds 0 p c refl fits, each_code P arms role codes fit (λ i arm code at is. holds (suc i) arm code at is))
 
--- values for what the role knows are values for the takes of each code
+-- what the role knows has the texts of arm 1 in each arm
+pub known_at : ArmsKnowAlike → (b : BranchedValue) (role : List ℕ) → IsLawful b → among (roles_in b) role ≡ true → (place : ℕ) (arm : ProtocolValue) → slice_get b.arms place ≡ Some arm
+    → known_in b role ≡ known_texts arm (role_number arm.roles role)
+known_at alike b role lawful is_role place arm at =
+    let f = first_arm b role lawful is_role in
+    ap (λ (o : Option ProtocolValue). option_map_or (λ (p : ProtocolValue). known_texts p (role_number p.roles role)) o []) f.at ∙ alike b role lawful is_role 0 place f.one arm f.at at
+
+-- values for it are values for the takes of each code
 pub takes_all : ArmsKnowAlike → (b : BranchedValue) (role : List ℕ) (codes : List CodeValue) (initial : List (List ℕ)) → IsLawful b → among (roles_in b) role ≡ true → FitArms b.arms role codes
     → length initial ≡ length (known_in b role) → TakeAll codes initial
 takes_all alike b role codes initial lawful is_role fit count =
     All-from_recursion (λ (code : CodeValue). length initial ≡ length (take_texts code.instrs)) codes
     (each_code (λ (code : CodeValue). length initial ≡ length (take_texts code.instrs)) b.arms role codes fit (λ i arm code at fits.
-    let f = first_arm b role lawful is_role in
-    let first : known_in b role ≡ known_texts f.one (role_number f.one.roles role) =
-    ap (λ (o : Option ProtocolValue). option_map_or (λ (p : ProtocolValue). known_texts p (role_number p.roles role)) o []) f.at in
-    count ∙ ap length (first ∙ alike b role lawful is_role 0 i f.one arm f.at at ∙ sym fits.texts)))
+    count ∙ ap length (known_at alike b role lawful is_role i arm at ∙ sym fits.texts)))
