@@ -126,7 +126,7 @@ have_stem stem role one (p ∷ others) is (like, all) = (
 -- ---- plays
 
 module _ (stem : ℕ) (role : List ℕ) where
-  split_plan : (arm : ProtocolValue) (sees : Sees stem role arm)
+  pub split_plan : (arm : ProtocolValue) (sees : Sees stem role arm)
       → events_of arm (role_number arm.roles role) ≡ map event_of (stem_part stem (plan_named arm role)) ++ (recv sees.message ∷ map event_of sees.after)
   split_plan arm sees =
       let plan = plan_named arm role in

@@ -5,7 +5,9 @@
 #![tactic(auto)]
 
 mod branching;
+mod laws;
 mod seating;
 mod valuing;
 
 pub use branching::branch;
+pub use laws::arms_are_narrations;
