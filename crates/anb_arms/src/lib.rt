@@ -10,6 +10,3 @@ mod stem;
 pub use compiling::{ArmNo, compile_arms};
 pub use laws::{arms_know_alike, arms_play_alike, fitting_arms_play};
 pub use playing::branch_play;
-
-#[cfg(test)]
-mod tests;

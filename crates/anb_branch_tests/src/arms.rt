@@ -6,7 +6,7 @@ ghost use Rattle.anb_branch.specs.Lawful.{IsLawful, roles_in};
 ghost use Rattle.anb_branch.specs.Views.{branched_of};
 ghost use Rattle.anb_arms.specs.Taken.{IsTold, TakeAll};
 
-use crate::{ArmNo, branch_play, compile_arms};
+use anb_arms::{ArmNo, branch_play, compile_arms};
 use anb_base::{ARRIVAL, Bytes, MemWire, SMALL_FILE, Text, read_full};
 use anb_branch::{Branched, split};
 use anb_code::RoleCode;
