@@ -84,14 +84,20 @@ module _ (told_files : Option Files) (role values : List ℕ) (told : Option ℕ
   module _ (fitted : Fitted) (first : IfTold told_files (λ files. ValuesInFile files values names (given fitted))) (makes : Bool) (is : makes ≡ makes_in b role) where
     pub seed_refused : (s : Status) → SeedIs makes fitted.seed host_seed (refused s) → IfTold told_files (λ files. BranchJobOf files role values told host_seed b (refused s))
     seed_refused s next =
-        told_map told_files (λ files f. inr (fitted, subst (λ (ns : List (List ℕ)). ValuesInFile files values ns (given fitted)) are f,
-        inl (s, subst (λ (m : Bool). SeedIs m fitted.seed host_seed (refused s)) is next, refl))) first
+        told_map told_files (λ files f. inr (
+          fitted,
+          subst (λ (ns : List (List ℕ)). ValuesInFile files values ns (given fitted)) are f,
+          inl (s, subst (λ (m : Bool). SeedIs m fitted.seed host_seed (refused s)) is next, refl),
+        )) first
 
     pub means_given : (seed : List ℕ) → SeedIs makes fitted.seed host_seed (given seed)
         → IfTold told_files (λ files. BranchJobOf files role values told host_seed b (given (record { branched = b; role = role; told = told; initial = fitted.values; seed = seed })))
     means_given seed next =
-        told_map told_files (λ files f. inr (fitted, subst (λ (ns : List (List ℕ)). ValuesInFile files values ns (given fitted)) are f,
-        inr (seed, subst (λ (m : Bool). SeedIs m fitted.seed host_seed (given seed)) is next, refl))) first
+        told_map told_files (λ files f. inr (
+          fitted,
+          subst (λ (ns : List (List ℕ)). ValuesInFile files values ns (given fitted)) are f,
+          inr (seed, subst (λ (m : Bool). SeedIs m fitted.seed host_seed (given seed)) is next, refl),
+        )) first
 
 -- ---- a run
 

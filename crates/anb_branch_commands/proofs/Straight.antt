@@ -87,7 +87,7 @@ arms_are_narrations alike files branched role values told host_seed job asks tex
     let made : BranchJob = record { branched = b; role = role; told = told; initial = fitted.values; seed = seed } in
     let same : job ≡ made = same_given job made is in
     let P : BranchJob → Type 0 = λ j. (tells' : BranchedText text j.branched) → slice_get j.branched.arms place ≡ Some arm → slice_get (straights text tells'.marks tells'.spans) place ≡ Some straight
-        → JobIs files name role values host_seed (given (job_in j arm)) in
+    → JobIs files name role values host_seed (given (job_in j arm)) in
     let seat = seat_has files branched role told b seated in
     subst P (sym same) (λ tells' at here'. inr (
       part alike files role values told host_seed b seat text tells' place arm straight at here' name file,

@@ -43,11 +43,11 @@ pub(crate) fn means_in_file<F: Shelf>(
         BranchJobOf files words.entry.play.name.now words.entry.play.values.now words.entry.told
         host_seed (branched_of b.now)
         (given (record {
-            branched = branched_of b.now;
-            role = words.entry.play.name.now;
-            told = words.entry.told;
-            initial = means.initial;
-            seed = means.seed;
+          branched = branched_of b.now;
+          role = words.entry.play.name.now;
+          told = words.entry.told;
+          initial = means.initial;
+          seed = means.seed;
         })))) }
     ensures armed { IfOk result (λ means. IsArmed (branched_of b.now)
         words.entry.play.name.now words.entry.told codes.now means.initial) }
