@@ -81,8 +81,8 @@ fn branch_over<W: Wire>(
     words: BranchWords,
     prepared: &Prepared,
 ) -> Status
-    requires { IsArmed (branched_of prepared.now.branched) words.entry.play.name.now
-        words.entry.told prepared.now.codes.items prepared.now.means.initial }
+    requires { IsArmed (branched_of prepared.now.branched) words.play.name.now
+        words.told prepared.now.codes.items prepared.now.means.initial }
     ensures plays { PlaysTaken (branched_of prepared.now.branched) words.entry.play.name.now
         words.entry.told prepared.now.means.initial prepared.now.means.seed
         (run_taken (branched_of prepared.now.branched) words.entry.play.name.now words.entry.told
@@ -130,8 +130,8 @@ fn branch_now<W: Wire>(
     words: BranchWords,
     prepared: &Prepared,
 ) -> Status
-    requires { IsArmed (branched_of prepared.now.branched) words.entry.play.name.now
-        words.entry.told prepared.now.codes.items prepared.now.means.initial }
+    requires { IsArmed (branched_of prepared.now.branched) words.play.name.now
+        words.told prepared.now.codes.items prepared.now.means.initial }
     ensures runs { RunsOn
         (run_taken (branched_of prepared.now.branched) words.entry.play.name.now words.entry.told
         prepared.now.means.initial prepared.now.means.seed prepared.now.codes.items)
