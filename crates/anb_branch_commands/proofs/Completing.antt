@@ -1,5 +1,5 @@
 -- A role that hears all it waits for in the arm that is taken, and where everything agrees, is done.
-use Rattle.std.proofs.Common.{◌≡◌, ℕ, ◌+◌, ◌<◌, ◌≤◌, ◌⊎◌, Bool, true, false, List, [], ◌∷◌, ◌++◌, length, map, get_or, Option, Some, None, refl, ap, sym, ◌∙◌, subst, inl, inr, arith}
+use Rattle.std.proofs.Common.{◌≡◌, ℕ, ◌+◌, ◌<◌, Bool, true, false, List, [], ◌∷◌, ◌++◌, length, map, Option, Some, None, refl, ap, sym, ◌∙◌, subst, length-append, arith}
 use Rattle.std.specs.Prelude.{slice_get, if◌then◌else◌}
 use Rattle.std.specs.Option.{option_map_or}
 use Rattle.std.specs.List.{list_any}
@@ -12,8 +12,7 @@ use Rattle.anb_frame.specs.Cuts.{HasCut}
 use Rattle.anb_seal.specs.Streams.{draw_of}
 use Rattle.anb_term.specs.Tree.{Tree}
 use Rattle.anb_term.specs.Value.{Meaning}
-use Rattle.anb_plays.specs.Plans.{Event, recv}
-use Rattle.anb_plays.specs.Plays.{Played}
+use Rattle.anb_plays.specs.Plans.{Event, known, recv}
 use Rattle.anb_resolve.specs.Names.{among}
 use Rattle.anb_resolve.specs.Plans.{PlanEvent, to_know, to_make, to_send, to_receive}
 use Rattle.anb_resolve.specs.Plays.{IsPlay, event_of, events_of, meaning_of}
@@ -29,7 +28,7 @@ use Rattle.anb_command.specs.Statuses.{is_fault}
 use Rattle.anb_command.specs.Steps.{given, HasOneAnswer}
 use Rattle.anb_role_commands.specs.Completions.{AgreesAfterEach}
 use Rattle.anb_role_commands.proofs.Completing.{HearsEnough, completes_run, play_finishes}
-use Rattle.anb_branch_commands.specs.BranchCommand.{BranchPlayOf, CompletesBranch, DoesBranch, HearsArm, job_in}
+use Rattle.anb_branch_commands.specs.BranchCommand.{BranchPlayOf, CompletesBranch, DoesBranch, HearsArm}
 use Rattle.anb_branch_commands.specs.BranchJobs.{BranchJob, BranchJobIs, IsReadToBranch}
 use Rattle.anb_branch_commands.proofs.Preparing.{job_seated}
 
@@ -50,7 +49,7 @@ more_heard m draw (to_receive k u ∷ events) t es frame vs i (x ∷ heard) agre
 
 same_arrival : (heard more : List (List ℕ)) (k : ℕ) → k < length heard → slice_get (heard ++ more) k ≡ slice_get heard k
 same_arrival heard more k within =
-    slice_get-get_or (heard ++ more) k [] (omega (arith, within)) ∙ ap Some (get_or_append_left heard more [] k within) ∙ sym (slice_get-get_or heard k [] within)
+    slice_get-get_or (heard ++ more) k [] (omega (arith, within, length-append heard more)) ∙ ap Some (get_or_append_left heard more [] k within) ∙ sym (slice_get-get_or heard k [] within)
 
 module _ (job : BranchJob) (left later : List ℕ) (hears : HearsArm job left later) (lawful : IsLawful job.branched) (is_role : among (roles_in job.branched) job.role ≡ true) where
   abbrev b : BranchedValue
@@ -65,8 +64,8 @@ module _ (job : BranchJob) (left later : List ℕ) (hears : HearsArm job left la
       let stem = each_at (HasStem b.stem job.role first.one) b.arms place arm first.stems at in
       let part = stem_part b.stem (plan_named arm job.role) in
       let agrees = hears.hears.agrees.1 in
-      let more = more_heard (meaning_of arm) (draw_of job.seed 0) part sees.message (map event_of sees.after) _ job.initial 0 hears.hears.heard
-      (subst (λ (es : List Event). AgreesAfterEach (meaning_of arm) (draw_of job.seed 0) es _ job.initial 0 hears.hears.heard) (split_plan b.stem job.role arm sees) agrees) in
+      let more = more_heard (meaning_of arm) (draw_of job.seed 0) part sees.message (map event_of sees.after) (known (events_of arm (role_number arm.roles job.role))) job.initial 0 hears.hears.heard
+      (subst (λ (es : List Event). AgreesAfterEach (meaning_of arm) (draw_of job.seed 0) es (known (events_of arm (role_number arm.roles job.role))) job.initial 0 hears.hears.heard) (split_plan b.stem job.role arm sees) agrees) in
       omega (arith, more, ap count_receives stem.part, ap (λ o. option_map_or (receives_in b.stem job.role) o 0) first.at)
 
   -- whatever else arrives, the same arm is taken

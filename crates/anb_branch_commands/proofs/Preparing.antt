@@ -1,5 +1,5 @@
 -- From the steps of the preparation to what is asked.
-use Rattle.std.proofs.Common.{◌≡◌, ℕ, Bool, true, List, Option, Some, None, refl, ap, sym, ◌∙◌, subst, inl, inr}
+use Rattle.std.proofs.Common.{◌≡◌, ℕ, Bool, true, List, Option, Some, None, refl, sym, subst, inl, inr}
 use Rattle.std.specs.Prelude.{All}
 use Rattle.anb_resolve.specs.Names.{among}
 use Rattle.anb_resolve.specs.Plays.{IsSendable}
@@ -9,7 +9,8 @@ use Rattle.anb_arms.specs.Taken.{IsTold, PlaysTaken}
 use Rattle.anb_values.specs.declared.fitted.Fitted.{Fitted}
 use Rattle.anb_command.specs.declared.status.Status.{Status}
 use Rattle.anb_command.specs.Fetches.{Files, IfTold}
-use Rattle.anb_command.specs.Files.{ValuesInFile}
+use Rattle.anb_command.specs.declared.limits.TheConstants.{NARRATION_LIMIT}
+use Rattle.anb_command.specs.Files.{FileIs, ValuesInFile}
 use Rattle.anb_command.specs.Prepared.{IsReady}
 use Rattle.anb_command.specs.Seeds.{SeedIs}
 use Rattle.anb_command.specs.Steps.{Answer, refused, given, InTurn, AnswersWith}
@@ -36,18 +37,18 @@ given_by first next x (inr step) = step
 pub seat_has : (files : Files) (narration role : List ℕ) (told : Option ℕ) (b : BranchedValue) → SeatInFile files narration role told (given b) → IsSeat b role told
 seat_has files narration role told b seat =
     let (read, in_file, of) = given_by (BranchInFile files narration) (SeatOf role told) b seat in
-    let (text, holds, tells) = given_by _ BranchIs read in_file in
-    let (u, is_role, sends) = given_by (HasRole read role) _ b of in
-    let (v, can, tolds) = given_by (ArmsSend read) _ b sends in
-    let (w, may, is) = given_by (ToldIs read role told) _ b tolds in
+    let (text, holds, tells) = given_by (FileIs files narration NARRATION_LIMIT) BranchIs read in_file in
+    let (u, is_role, sends) = given_by (HasRole read role) (λ u. InTurn (ArmsSend read) (λ v. InTurn (ToldIs read role told) (λ w. AnswersWith read))) b of in
+    let (v, can, tolds) = given_by (ArmsSend read) (λ v. InTurn (ToldIs read role told) (λ w. AnswersWith read)) b sends in
+    let (w, may, is) = given_by (ToldIs read role told) (λ w. AnswersWith read) b tolds in
     subst (λ (c : BranchedValue). IsSeat c role told) (sym (same_given b read is)) (record { lawful = tells.1; is_role = is_role; sendable = can; may = may })
 
 pub job_seated : (files : Files) (narration role values : List ℕ) (told : Option ℕ) (host_seed : Option (List ℕ)) (job : BranchJob) → BranchJobIs files narration role values told host_seed (given job)
     → IsSeat job.branched job.role job.told
 job_seated files narration role values told host_seed job asks =
     let (b, seat, of) = given_by (SeatInFile files narration role told) (BranchJobOf files role values told host_seed) job asks in
-    let (fitted, fits, seeds) = given_by (ValuesInFile files values (known_in b role)) _ job of in
-    let (seed, has, is) = given_by (SeedIs (makes_in b role) fitted.seed host_seed) _ job seeds in
+    let (fitted, fits, seeds) = given_by (ValuesInFile files values (known_in b role)) (λ f. InTurn (SeedIs (makes_in b role) f.seed host_seed) (λ s. AnswersWith (record { branched = b; role = role; told = told; initial = f.values; seed = s }))) job of in
+    let (seed, has, is) = given_by (SeedIs (makes_in b role) fitted.seed host_seed) (λ s. AnswersWith (record { branched = b; role = role; told = told; initial = fitted.values; seed = s })) job seeds in
     let made : BranchJob = record { branched = b; role = role; told = told; initial = fitted.values; seed = seed } in
     subst (λ (j : BranchJob). IsSeat j.branched j.role j.told) (sym (same_given job made is)) (seat_has files narration role told b seat)
 
@@ -84,14 +85,20 @@ module _ (told_files : Option Files) (role values : List ℕ) (told : Option ℕ
   module _ (fitted : Fitted) (first : IfTold told_files (λ files. ValuesInFile files values names (given fitted))) (makes : Bool) (is : makes ≡ makes_in b role) where
     pub seed_refused : (s : Status) → SeedIs makes fitted.seed host_seed (refused s) → IfTold told_files (λ files. BranchJobOf files role values told host_seed b (refused s))
     seed_refused s next =
-        told_map told_files (λ files f. inr (fitted, subst (λ (ns : List (List ℕ)). ValuesInFile files values ns (given fitted)) are f,
-        inl (s, subst (λ (m : Bool). SeedIs m fitted.seed host_seed (refused s)) is next, refl))) first
+        told_map told_files (λ files f. inr (
+          fitted,
+          subst (λ (ns : List (List ℕ)). ValuesInFile files values ns (given fitted)) are f,
+          inl (s, subst (λ (m : Bool). SeedIs m fitted.seed host_seed (refused s)) is next, refl),
+        )) first
 
     pub means_given : (seed : List ℕ) → SeedIs makes fitted.seed host_seed (given seed)
         → IfTold told_files (λ files. BranchJobOf files role values told host_seed b (given (record { branched = b; role = role; told = told; initial = fitted.values; seed = seed })))
     means_given seed next =
-        told_map told_files (λ files f. inr (fitted, subst (λ (ns : List (List ℕ)). ValuesInFile files values ns (given fitted)) are f,
-        inr (seed, subst (λ (m : Bool). SeedIs m fitted.seed host_seed (given seed)) is next, refl))) first
+        told_map told_files (λ files f. inr (
+          fitted,
+          subst (λ (ns : List (List ℕ)). ValuesInFile files values ns (given fitted)) are f,
+          inr (seed, subst (λ (m : Bool). SeedIs m fitted.seed host_seed (given seed)) is next, refl),
+        )) first
 
 -- ---- a run
 

@@ -1,12 +1,11 @@
 -- What is asked of `branch` is asked of `play` by the text of an arm.
-use Rattle.std.proofs.Common.{◌≡◌, ℕ, zero, suc, Bool, true, false, List, [], ◌∷◌, Option, Some, None, refl, ap, sym, ◌∙◌, subst, inl, inr}
+use Rattle.std.proofs.Common.{◌≡◌, ℕ, zero, suc, Bool, true, false, List, [], ◌∷◌, Option, Some, None, refl, ap, sym, ◌∙◌, subst, inr}
 use Rattle.std.specs.Prelude.{◌||◌, slice_get, unwrap_or}
 use Rattle.std.specs.List.{list_any}
 use Rattle.std.proofs.lemmas.Option.{get_or_from_slice_get, slice_get_within}
 use Rattle.anb_resolve.specs.Names.{among}
 use Rattle.anb_resolve.specs.Plays.{IsSendable}
 use Rattle.anb_resolve.specs.Protocols.{ProtocolValue, role_number}
-use Rattle.anb_resolve.specs.Texts.{known_texts}
 use Rattle.anb_branch.specs.Branching.{BranchedText, Tells, straights}
 use Rattle.anb_branch.specs.Lawful.{BranchedValue}
 use Rattle.anb_arms.specs.Laws.{ArmsKnowAlike}
@@ -18,11 +17,11 @@ use Rattle.anb_command.specs.Fetches.{Files}
 use Rattle.anb_command.specs.Files.{HasFile, ValuesInFile}
 use Rattle.anb_command.specs.Roles.{Part, PartInFile, role_named}
 use Rattle.anb_command.specs.Seeds.{SeedIs, seed_of}
-use Rattle.anb_command.specs.Steps.{given}
+use Rattle.anb_command.specs.Steps.{given, InTurn, AnswersWith}
 use Rattle.anb_command.proofs.Ones.{same_given}
 use Rattle.anb_role_commands.specs.Jobs.{JobIs, JobOf, makes_names}
 use Rattle.anb_branch_commands.specs.BranchCommand.{job_in}
-use Rattle.anb_branch_commands.specs.BranchJobs.{BranchJob, BranchJobIs, BranchJobOf, SeatInFile, known_in, makes_in}
+use Rattle.anb_branch_commands.specs.BranchJobs.{BranchJob, BranchJobOf, SeatInFile, known_in, makes_in}
 use Rattle.anb_branch_commands.specs.Laws.{ArmsAreNarrations}
 use Rattle.anb_branch_commands.proofs.Preparing.{IsSeat, given_by, seat_has}
 use Rattle.anb_branch_commands.proofs.Seats.{known_at}
@@ -82,12 +81,12 @@ module _ (alike : ArmsKnowAlike) (files : Files) (role values : List ℕ) (told 
 pub arms_are_narrations : ArmsKnowAlike → ArmsAreNarrations
 arms_are_narrations alike files branched role values told host_seed job asks text tells place arm straight arm_at here name file =
     let (b, seated, of) = given_by (SeatInFile files branched role told) (BranchJobOf files role values told host_seed) job asks in
-    let (fitted, fits, seeds) = given_by (ValuesInFile files values (known_in b role)) _ job of in
-    let (seed, has, is) = given_by (SeedIs (makes_in b role) fitted.seed host_seed) _ job seeds in
+    let (fitted, fits, seeds) = given_by (ValuesInFile files values (known_in b role)) (λ f. InTurn (SeedIs (makes_in b role) f.seed host_seed) (λ s. AnswersWith (record { branched = b; role = role; told = told; initial = f.values; seed = s }))) job of in
+    let (seed, has, is) = given_by (SeedIs (makes_in b role) fitted.seed host_seed) (λ s. AnswersWith (record { branched = b; role = role; told = told; initial = fitted.values; seed = s })) job seeds in
     let made : BranchJob = record { branched = b; role = role; told = told; initial = fitted.values; seed = seed } in
     let same : job ≡ made = same_given job made is in
     let P : BranchJob → Type 0 = λ j. (tells' : BranchedText text j.branched) → slice_get j.branched.arms place ≡ Some arm → slice_get (straights text tells'.marks tells'.spans) place ≡ Some straight
-        → JobIs files name role values host_seed (given (job_in j arm)) in
+    → JobIs files name role values host_seed (given (job_in j arm)) in
     let seat = seat_has files branched role told b seated in
     subst P (sym same) (λ tells' at here'. inr (
       part alike files role values told host_seed b seat text tells' place arm straight at here' name file,

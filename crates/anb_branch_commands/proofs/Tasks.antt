@@ -1,5 +1,5 @@
 -- What is asked of `branch` is one, and its refusals come before the wire is reached.
-use Rattle.std.proofs.Common.{◌≡◌, ℕ, Bool, true, false, List, Option, Some, refl, ap, sym, ◌∙◌}
+use Rattle.std.proofs.Common.{◌≡◌, ℕ, true, false, List, Option, refl, ap, sym, ◌∙◌}
 use Rattle.anb_branch.specs.Laws.{ChoicesAreUnique, NoneIsBoth, RefusalsAreUnique}
 use Rattle.anb_branch.specs.Lawful.{BranchedValue}
 use Rattle.anb_values.specs.Fit.{FitIsUnique}

@@ -8,7 +8,8 @@ use Rattle.anb_arms.specs.Arms.{FitArms}
 use Rattle.anb_arms.specs.Taken.{IsTold, TakeAll}
 
 -- a role of a lawful text has a code in each arm, and is told what it may be
-pub record IsSeated (b : BranchedValue) (role : List ℕ) (told : Option ℕ) (codes : List CodeValue) : Type 0 where
+pub record IsSeated (b : BranchedValue) (role : List ℕ) (told : Option ℕ)
+    (codes : List CodeValue) : Type 0 where
   pub lawful : IsLawful b
   pub is_role : among (roles_in b) role ≡ true
   pub fit : FitArms b.arms role codes

@@ -17,29 +17,38 @@ use Rattle.anb_branch_commands.specs.BranchJobs.{BranchJob, BranchJobIs, IsReadT
 -- what comes of a job over these arrivals: the play of the role in the protocol of the arm that is
 -- taken, in session 0
 abbrev pub BranchPlayOf : BranchJob → List (List ℕ) → Played (List ℕ) → Type 0
-BranchPlayOf job arrivals p = IsPlayTaken job.branched job.role job.told job.initial job.seed arrivals p
+BranchPlayOf job arrivals p =
+    IsPlayTaken job.branched job.role job.told job.initial job.seed arrivals p
 
 -- the job in one arm, which is one of the arm's own narration
 abbrev pub job_in : BranchJob → ProtocolValue → Job
-job_in job arm = record { protocol = arm; role = role_number arm.roles job.role; initial = job.initial; seed = job.seed }
+job_in job arm = record {
+  protocol = arm;
+  role = role_number arm.roles job.role;
+  initial = job.initial;
+  seed = job.seed;
+}
 
--- a frame for each receive of the role in the arm that is taken, after which all agrees, and later bytes
+-- a frame for each receive of the role in the arm that is taken, after which all agrees, and later
+-- bytes
 pub record HearsArm (job : BranchJob) (left later : List ℕ) : Type 0 where
   pub arm : ProtocolValue
   pub hears : HearsAll (job_in job arm) left later
-  pub taken : slice_get job.branched.arms (place_taken job.branched job.role job.told hears.heard) ≡ Some arm
+  pub taken : slice_get job.branched.arms
+      (place_taken job.branched job.role job.told hears.heard) ≡ Some arm
 
-module _ (narration role values : List ℕ) (arm : Option ℕ) (told : Option Files) (host_seed : Option (List ℕ))
-    (old new : WireState) (status : Status) where
+module _ (narration role values : List ℕ) (arm : Option ℕ) (told : Option Files)
+    (host_seed : Option (List ℕ)) (old new : WireState) (status : Status) where
   abbrev pub DoesBranch : Type 0
   DoesBranch =
       RunsOver BranchPlayOf (λ files. BranchJobIs files narration role values arm host_seed)
       (λ files. IsReadToBranch files narration role values arm) told old new status
 
-  -- where nothing failed and the input has all that the role waits for, it is done, and exactly these
-  -- frames are read; else memory was wanting
+  -- where nothing failed and the input has all that the role waits for, it is done, and exactly
+  -- these frames are read; else memory was wanting
   abbrev pub CompletesBranch : Type 0
   CompletesBranch =
-      IfTold told (λ files. IfTold old.left (λ left. (job : BranchJob) (later : List ℕ) → IsBytes left
+      IfTold told (λ files. IfTold old.left (λ left.
+      (job : BranchJob) (later : List ℕ) → IsBytes left
       → BranchJobIs files narration role values arm host_seed (given job) → HearsArm job left later
       → ((status ≡ Done) × (new.left ≡ Some later)) ⊎ (status ≡ NoMemory)))

@@ -42,8 +42,8 @@ ArmsSend b (refused status) =
     × (status ≡ ArmCannotSend arm action sender)
 ArmsSend b (given _) = All IsSendable b.arms
 
--- What doesn't fit of what the chooser is told, where there are so many arms: 0 where it is told none,
--- and a number that no arm has.
+-- What doesn't fit of what the chooser is told, where there are so many arms: 0 where it is told
+-- none, and a number that no arm has.
 abbrev pub misfit_among : ℕ → (told : Option ℕ) → Option ℕ
 misfit_among count None = Some 0
 misfit_among count (Some number) = refuse_if (not (nat_le 1 number && nat_le number count)) number
@@ -59,7 +59,8 @@ ToldIs b role told (refused status) =
 ToldIs b role told (given _) = IsTold b role told
 
 -- a role of a branched text, where all roles can send in all arms, and what it is told
-abbrev pub SeatOf : (role : List ℕ) → (told : Option ℕ) → BranchedValue → Answer BranchedValue → Type 0
+abbrev pub SeatOf : (role : List ℕ) → (told : Option ℕ) → BranchedValue
+    → Answer BranchedValue → Type 0
 SeatOf role told b =
     InTurn (HasRole b role) (λ _.
     InTurn (ArmsSend b) (λ _.
@@ -68,11 +69,14 @@ SeatOf role told b =
 
 -- the texts of what the role knows, which are the same in all arms
 abbrev pub known_in : BranchedValue → (role : List ℕ) → List (List ℕ)
-known_in b role = option_map_or (λ (arm : ProtocolValue). known_texts arm (role_number arm.roles role)) (slice_get b.arms 0) []
+known_in b role =
+    option_map_or (λ (arm : ProtocolValue). known_texts arm (role_number arm.roles role))
+    (slice_get b.arms 0) []
 
 -- in some arm the role's plan makes a name
 abbrev pub makes_in : BranchedValue → (role : List ℕ) → Bool
-makes_in b role = list_any (λ (arm : ProtocolValue). makes_names arm (role_number arm.roles role)) b.arms
+makes_in b role =
+    list_any (λ (arm : ProtocolValue). makes_names arm (role_number arm.roles role)) b.arms
 
 -- ---- all steps
 
@@ -88,24 +92,35 @@ module _ (files : Files) where
   abbrev pub BranchInFile : (narration : List ℕ) → Answer BranchedValue → Type 0
   BranchInFile narration = InTurn (FileIs files narration NARRATION_LIMIT) BranchIs
 
-  abbrev pub SeatInFile : (narration role : List ℕ) → (told : Option ℕ) → Answer BranchedValue → Type 0
+  abbrev pub SeatInFile : (narration role : List ℕ) → (told : Option ℕ)
+      → Answer BranchedValue → Type 0
   SeatInFile narration role told = InTurn (BranchInFile narration) (SeatOf role told)
 
-  -- What a role plays from the values in a file, where this seed is handed in. A role that makes a name
-  -- in some arm needs a seed, whatever arm is taken.
-  abbrev pub BranchJobOf : (role values : List ℕ) → (told : Option ℕ) → Option (List ℕ) → BranchedValue → Answer BranchJob → Type 0
+  -- What a role plays from the values in a file, where this seed is handed in. A role that makes a
+  -- name in some arm needs a seed, whatever arm is taken.
+  abbrev pub BranchJobOf : (role values : List ℕ) → (told : Option ℕ) → Option (List ℕ)
+      → BranchedValue → Answer BranchJob → Type 0
   BranchJobOf role values told host_seed b =
       InTurn (ValuesInFile files values (known_in b role)) (λ fitted.
       InTurn (SeedIs (makes_in b role) fitted.seed host_seed) (λ seed.
-      AnswersWith (record { branched = b; role = role; told = told; initial = fitted.values; seed = seed })))
+      AnswersWith (record {
+        branched = b;
+        role = role;
+        told = told;
+        initial = fitted.values;
+        seed = seed;
+      })))
 
-  -- What is asked, or the first refusal: of the text, of the role, of the messages of all roles in all
-  -- arms, of the number of an arm, of the values, or of the seed.
-  abbrev pub BranchJobIs : (narration role values : List ℕ) → (told : Option ℕ) → Option (List ℕ) → Answer BranchJob → Type 0
+  -- What is asked, or the first refusal: of the text, of the role, of the messages of all roles in
+  -- all arms, of the number of an arm, of the values, or of the seed.
+  abbrev pub BranchJobIs : (narration role values : List ℕ) → (told : Option ℕ)
+      → Option (List ℕ) → Answer BranchJob → Type 0
   BranchJobIs narration role values told host_seed =
       InTurn (SeatInFile narration role told) (BranchJobOf role values told host_seed)
 
   -- the text's file is read, and where the role can be played as it is told, the values file
-  abbrev pub IsReadToBranch : (narration role values : List ℕ) → (told : Option ℕ) → List ℕ → Type 0
+  abbrev pub IsReadToBranch : (narration role values : List ℕ) → (told : Option ℕ)
+      → List ℕ → Type 0
   IsReadToBranch narration role values told file =
-      (file ≡ narration) ⊎ ((file ≡ values) × ((b : BranchedValue) × SeatInFile narration role told (given b)))
+      (file ≡ narration)
+      ⊎ ((file ≡ values) × ((b : BranchedValue) × SeatInFile narration role told (given b)))

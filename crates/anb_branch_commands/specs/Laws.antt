@@ -10,10 +10,12 @@ use Rattle.anb_role_commands.specs.Jobs.{JobIs}
 use Rattle.anb_branch_commands.specs.BranchCommand.{job_in}
 use Rattle.anb_branch_commands.specs.BranchJobs.{BranchJob, BranchJobIs}
 
--- Let a role of a text with a choice be played, and let the stem with one arm behind it stand in a file.
--- Then `play` of that file, with the same role, values file and seed, plays the same job in that arm.
+-- Let a role of a text with a choice be played, and let the stem with one arm behind it stand in a
+-- file. Then `play` of that file, with the same role, values file and seed, plays the same job in
+-- that arm.
 abbrev pub ArmsAreNarrations : Type 0
-ArmsAreNarrations = (files : Files) (branched role values : List ℕ) (told : Option ℕ) (host_seed : Option (List ℕ)) (job : BranchJob)
+ArmsAreNarrations = (files : Files) (branched role values : List ℕ) (told : Option ℕ)
+    → (host_seed : Option (List ℕ)) (job : BranchJob)
     → BranchJobIs files branched role values told host_seed (given job)
     → (text : List ℕ) → (tells : BranchedText text job.branched)
     → (place : ℕ) (arm : ProtocolValue) (straight : List ℕ)

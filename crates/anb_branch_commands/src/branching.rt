@@ -81,8 +81,8 @@ fn branch_over<W: Wire>(
     words: BranchWords,
     prepared: &Prepared,
 ) -> Status
-    requires { IsArmed (branched_of prepared.now.branched) words.entry.play.name.now
-        words.entry.told prepared.now.codes.items prepared.now.means.initial }
+    requires { IsArmed (branched_of prepared.now.branched) words.play.name.now
+        words.told prepared.now.codes.items prepared.now.means.initial }
     ensures plays { PlaysTaken (branched_of prepared.now.branched) words.entry.play.name.now
         words.entry.told prepared.now.means.initial prepared.now.means.seed
         (run_taken (branched_of prepared.now.branched) words.entry.play.name.now words.entry.told
@@ -99,9 +99,20 @@ fn branch_over<W: Wire>(
     ensures wire { OverWire (place_by words.entry.play.endpoint) true result
         (W.state wire.old) (W.state wire.new) }
 {
-    let Prepared { branched, codes, means } = prepared;
+    let Prepared {
+        branched,
+        codes,
+        means,
+    } = prepared;
     let initial = means.initial.as_slice();
-    fitting_arms_play(branched, codes, words.play.name, words.told, initial, &means.seed);
+    fitting_arms_play(
+        branched,
+        codes,
+        words.play.name,
+        words.told,
+        initial,
+        &means.seed,
+    );
     let place = match words.play.endpoint.place(alloc) {
         Ok(place) => place,
         Err(NoMemory) => return Status::NoMemory,
@@ -119,8 +130,8 @@ fn branch_now<W: Wire>(
     words: BranchWords,
     prepared: &Prepared,
 ) -> Status
-    requires { IsArmed (branched_of prepared.now.branched) words.entry.play.name.now
-        words.entry.told prepared.now.codes.items prepared.now.means.initial }
+    requires { IsArmed (branched_of prepared.now.branched) words.play.name.now
+        words.told prepared.now.codes.items prepared.now.means.initial }
     ensures runs { RunsOn
         (run_taken (branched_of prepared.now.branched) words.entry.play.name.now words.entry.told
         prepared.now.means.initial prepared.now.means.seed prepared.now.codes.items)
@@ -134,7 +145,11 @@ fn branch_now<W: Wire>(
         → HasWireCause (Some place) (W.state wire.old) (W.state wire.new) result }
     ensures reached { StaysReached (W.state wire.old) (W.state wire.new) }
 {
-    let Prepared { branched, codes, means } = prepared;
+    let Prepared {
+        branched,
+        codes,
+        means,
+    } = prepared;
     let initial = means.initial.as_slice();
     status_of(branch_play(
         alloc,
@@ -159,11 +174,11 @@ fn prepare<F: Shelf>(
         BranchJobIs files words.entry.play.narration.now words.entry.play.name.now
         words.entry.play.values.now words.entry.told host_seed
         (given (record {
-            branched = branched_of p.branched;
-            role = words.entry.play.name.now;
-            told = words.entry.told;
-            initial = p.means.initial;
-            seed = p.means.seed;
+          branched = branched_of p.branched;
+          role = words.entry.play.name.now;
+          told = words.entry.told;
+          initial = p.means.initial;
+          seed = p.means.seed;
         })))) }
     ensures armed { IfOk result (λ p. IsArmed (branched_of p.branched) words.entry.play.name.now
         words.entry.told p.codes.items p.means.initial) }

@@ -57,7 +57,8 @@ fn branch_of_text(alloc: Global, text: &[u8]) -> Result<Branched, Status>
     }
 }
 
-/// The role's codes in all arms, where there is such a role, all can send, and what it is told fits.
+/// The role's codes in all arms, where there is such a role, all can send, and what it is told
+/// fits.
 pub(crate) fn codes_for(
     alloc: Global,
     b: &Branched,

@@ -38,16 +38,16 @@ pub(crate) fn means_in_file<F: Shelf>(
     codes: &[RoleCode],
     host_seed: Option<[u8; 32]>,
 ) -> Result<Means, Status>
-    requires { IsSeated (branched_of b.now) words.entry.play.name.now words.entry.told codes.now }
+    requires { IsSeated (branched_of b.now) words.play.name.now words.told codes.now }
     ensures given { IfOk result (λ means. IfTold (F.files shelf.old) (λ files.
         BranchJobOf files words.entry.play.name.now words.entry.play.values.now words.entry.told
         host_seed (branched_of b.now)
         (given (record {
-            branched = branched_of b.now;
-            role = words.entry.play.name.now;
-            told = words.entry.told;
-            initial = means.initial;
-            seed = means.seed;
+          branched = branched_of b.now;
+          role = words.entry.play.name.now;
+          told = words.entry.told;
+          initial = means.initial;
+          seed = means.seed;
         })))) }
     ensures armed { IfOk result (λ means. IsArmed (branched_of b.now)
         words.entry.play.name.now words.entry.told codes.now means.initial) }

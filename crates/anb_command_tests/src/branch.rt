@@ -83,11 +83,7 @@ fn the_chooser_plays_the_arm_that_it_is_told(rt: HostRuntime) -> Result<(), Fail
 fn texts_roles_and_arms_are_refused_in_order(rt: HostRuntime) -> Result<(), Fail> {
     let nobody = ["branch", "n", "D", "v"];
     let cases: [(&[&str], &str, (u8, &str, &str)); 4] = [
-        (
-            AS_B,
-            "A -> B: yes(N);",
-            (25, "anb: branch refused\n", ""),
-        ),
+        (AS_B, "A -> B: yes(N);", (25, "anb: branch refused\n", "")),
         (&nobody, SECOND, (5, "anb: no role D\n", "")),
         (
             AS_A,
@@ -98,11 +94,7 @@ fn texts_roles_and_arms_are_refused_in_order(rt: HostRuntime) -> Result<(), Fail
                 "",
             ),
         ),
-        (
-            AS_B,
-            "A -> B: no(N); B -> A: M;",
-            (8, "anb: no seed\n", ""),
-        ),
+        (AS_B, "A -> B: no(N); B -> A: M;", (8, "anb: no seed\n", "")),
     ];
     for (words, second, left) in cases {
         check_branch(&rt, rt.alloc(), words, second, "", left)?;

@@ -16,7 +16,7 @@ returns-clause-runs g c =
     let p = c.args.prepared.now in
     let R = run_taken (branched_of p.branched) c.args.words.play.name.now c.args.words.told p.means.initial p.means.seed p.codes.items in
     by_parts (λ (S T : WireState). RunsOn R S T c.status_of.result) _ _ _ _ (g.met.W.Wire.state_tells c.args.wire.now) (g.met.W.Wire.state_tells c.branch_play.new.wire)
-    (λ arrivals tail cut. rw c.status_of.ensures (runs_to R R (λ heard. refl) arrivals tail _ _ _ _ c.branch_play.result (c.branch_play.ensures.runs arrivals tail cut)))
+    (λ arrivals tail cut. rw c.status_of.ensures (runs_to R R (λ heard. refl) arrivals tail _ _ _ _ c.branch_play.result ((rw (c.as_slice-initial.ensures, c.deref.ensures.value) at c.branch_play.ensures.runs) arrivals tail cut)))
 
 pub returns-clause-after : goal.returns-clause-after
 returns-clause-after g c = rw c.status_of.ensures (after_of c.branch_play.result)

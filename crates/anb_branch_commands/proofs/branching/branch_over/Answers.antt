@@ -1,4 +1,4 @@
-use Rattle.std.proofs.Common.{List, ℕ, true, subst, refl}
+use Rattle.std.proofs.Common.{true, subst, refl}
 use Rattle.anb_base.specs.declared.place.Place.{Place}
 use Rattle.anb_branch.specs.Views.{branched_of}
 use Rattle.anb_arms.specs.Taken.{run_taken}
@@ -61,3 +61,12 @@ returns-in-Err-clause-prompt g c =
 
 pub returns-in-Err-clause-wire : goal.returns-in-Err-clause-wire
 returns-in-Err-clause-wire g c = no_memory _ true (g.W.Wire.state c.args.wire.now)
+
+pub returns-in-Ok-reach-clause-plays : goal.returns-in-Ok-reach-clause-plays
+returns-in-Ok-reach-clause-plays g c = rw (c.as_slice-initial.ensures, c.deref.ensures.value) at c.fitting_arms_play.ensures
+
+pub returns-in-Err-reach-clause-plays : goal.returns-in-Err-reach-clause-plays
+returns-in-Err-reach-clause-plays g c = rw (c.as_slice-initial.ensures, c.deref.ensures.value) at c.fitting_arms_play.ensures
+
+pub returns-in-Err-clause-plays : goal.returns-in-Err-clause-plays
+returns-in-Err-clause-plays g c = rw (c.as_slice-initial.ensures, c.deref.ensures.value) at c.fitting_arms_play.ensures
