@@ -15,6 +15,7 @@ pub mod Placing
 pub mod Signing
 pub mod Grouping
 pub mod Ruling
+pub mod Progressing
 pub mod Framing
 pub mod Tabling
 pub mod Results

@@ -10,6 +10,7 @@ pub mod Classes
 -- for proofs alone
 pub mod Works
 pub mod Numbered
+pub mod Progress
 pub mod Signs
 pub mod Links
 pub mod Walking

@@ -1,15 +1,15 @@
 //! Classes of registers that are tied.
-ghost use Rattle.std.specs.Prelude.{◌≡◌, ◌↔◌, ◌<◌, ℕ, List, length, map, true, All, IfOk};
+ghost use Rattle.std.specs.Prelude.{◌≡◌, ◌↔◌, ◌<◌, ◌≤◌, ℕ, List, Bool, Some, length, map, slice_get, true, IfOk};
 ghost use Rattle.std.specs.List.{AllByRecursion};
 ghost use Rattle.anb_term.specs.Tree.{Tree};
 ghost use Rattle.anb_plays.specs.Codes.{Work};
 ghost use Rattle.anb_certify.specs.Classes.{in_class, AreNamed, Saturated};
 ghost use Rattle.anb_certify.specs.Links.{AreTiedLinks};
 ghost use Rattle.anb_certify.specs.Numbered.{AreBelow, AreGrouped, AreSettled};
+ghost use Rattle.anb_certify.specs.Progress.{AreSet};
 ghost use Rattle.anb_certify.specs.Tied.{Tied};
 ghost use Rattle.anb_certify.specs.Works.{did_of, AreTold};
 
-use crate::firsts::settled;
 use crate::laws::classes_are_tied;
 use crate::links::{Pair, links};
 use crate::works::Done;
@@ -17,31 +17,38 @@ use anb_term::NoMemory;
 use std::alloc::Global;
 
 /// For each register, the register that its class is named by: two are tied exactly where these are
-/// equal. Where comparisons tie each register to the first of its term, that takes one look at each;
-/// else each round of looks ties what the round before makes the rules tie.
-pub(crate) fn classes(alloc: Global, firsts: &[u32], done: &[Done]) -> Result<Vec<u32>, NoMemory>
+/// equal. Where each register is flagged as tied to the first of its term, that takes one look at
+/// each; else each round of looks ties what the round before makes the rules tie.
+pub(crate) fn classes(
+    alloc: Global,
+    firsts: &[u32],
+    flags: &[bool],
+    done: &[Done],
+) -> Result<Vec<u32>, NoMemory>
     requires few { length firsts.now < 4294967296 }
     requires grouped { (ts : List Tree) × AreGrouped ts (map did_of done.now) firsts.now }
+    requires long { length flags.now ≡ length firsts.now }
+    requires settled { AreSettled (map did_of done.now) firsts.now flags.now }
     ensures long { IfOk result (λ names. length names.items ≡ length firsts.now) }
     ensures below { IfOk result (λ names. AreBelow (length firsts.now) names.items) }
     ensures exact { IfOk result (λ names. (a b : ℕ) → Tied (map did_of done.now) a b
         ↔ (in_class names.items a b ≡ true)) }
 {
     classes_are_tied();
-    let flags = settled(alloc, firsts, done)?;
-    let names = begun(alloc, firsts, &flags)?;
-    if all_set(&flags) {
+    let names = begun(alloc, firsts, flags)?;
+    if all_set(flags, 0) {
         return Ok(names);
     }
     saturated(alloc, names, done)
 }
 
-/// Whether all flags are set.
-fn all_set(flags: &[bool]) -> bool
-    ensures { result ≡ true → All (λ flag. flag ≡ true) flags.now }
+/// Whether all flags from one on are set.
+pub(crate) fn all_set(flags: &[bool], from: usize) -> bool
+    ensures { result ≡ true → (i : ℕ) (b : Bool) → from ≤ i
+        → slice_get flags.now i ≡ Some b → b ≡ true }
 {
-    for flag in flags {
-        if !*flag {
+    for i in from..flags.len() {
+        if !flags[i] {
             return false;
         }
     }
@@ -57,8 +64,7 @@ fn begun(alloc: Global, firsts: &[u32], flags: &[bool]) -> Result<Vec<u32>, NoMe
     ensures below { IfOk result (λ names. AreBelow (length firsts.now) names.items) }
     ensures named { IfOk result (λ names. (did : List (ℕ × Work))
         → AreSettled did firsts.now flags.now → AreNamed did names.items) }
-    ensures all { IfOk result (λ names. All (λ flag. flag ≡ true) flags.now
-        → names.items ≡ firsts.now) }
+    ensures all { IfOk result (λ names. AreSet flags.now → names.items ≡ firsts.now) }
 {
     let mut names = Vec::new(alloc);
     for i in 0..firsts.len() {

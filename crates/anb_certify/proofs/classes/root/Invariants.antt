@@ -1,4 +1,4 @@
-use Rattle.std.proofs.Common.{◌≡◌, ◌<◌, ℕ, length, List}
+use Rattle.std.proofs.Common.{◌<◌, ℕ, length, List}
 use Rattle.anb_plays.specs.Codes.{Work}
 use Rattle.anb_certify.specs.Classes.{AreNamed}
 use Rattle.anb_certify.specs.Tied.{Tied}

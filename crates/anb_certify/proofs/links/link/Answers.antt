@@ -1,10 +1,8 @@
-use Rattle.std.proofs.Common.{◌≡◌, ◌<◌, ◌+◌, ◌-◌, ◌++◌, ◌∷◌, [], ℕ, List, length, sym, ap, ◌∙◌, subst, arith}
+use Rattle.std.proofs.Common.{◌≡◌, ◌<◌, ◌-◌, ◌++◌, ◌∷◌, [], ℕ, List, length, sym, ap, ◌∙◌, subst, arith}
 use Rattle.std.proofs.lemmas.List.Elements.{All-from_recursion}
 use Rattle.std.specs.List.{AllByRecursion}
 use Rattle.anb_term.specs.Operator.{arity, keys}
-use Rattle.anb_plays.specs.Codes.{Work, make, undo, equal}
 use Rattle.anb_certify.specs.declared.works.Job.{Job}
-use Rattle.anb_certify.specs.declared.links.Pair.{Pair}
 use Rattle.anb_certify.specs.Works.{work_of}
 use Rattle.anb_certify.specs.Links.{AreLinked, HasLinked, IsToLink}
 use Rattle.anb_certify.specs.Signs.{sign_of, signs_in, classes_in, HasSigned}

@@ -1,4 +1,4 @@
-use Rattle.std.proofs.Common.{◌≡◌, ◌+◌, ◌++◌, ◌∷◌, [], List, refl, sym, ap, ◌∙◌, subst, arith}
+use Rattle.std.proofs.Common.{◌+◌, List, refl, sym, ap, ◌∙◌, subst}
 use Rattle.anb_certify.specs.declared.links.Pair.{Pair}
 use Rattle.anb_certify.specs.Links.{HasLinked}
 use Rattle.anb_certify.proofs.Placing.{one_skipped, one_pushed}
