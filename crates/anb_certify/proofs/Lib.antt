@@ -11,6 +11,7 @@ pub mod Unique
 pub mod Telling
 pub mod Walking
 pub mod Linking
+pub mod Falling
 pub mod Placing
 pub mod Signing
 pub mod Grouping

@@ -55,7 +55,7 @@ known_more : (did : List (ℕ × Work)) (names : List ℕ) (x : ℕ × Work) (d 
 known_more did names x d (inl k) = inl (k.0, k.1, k.2, did_more did x k.0 (make k.1 k.2) k.3, k.4)
 known_more did names x d (inr k) = inr (k.0, k.1, k.2, k.3, did_more did x k.0 (undo k.1 k.2 k.3) k.4, k.5)
 
-same_or_not : (a b : ℕ) → (a ≡ b) ⊎ (a ≡ b → ⊥)
+pub same_or_not : (a b : ℕ) → (a ≡ b) ⊎ (a ≡ b → ⊥)
 same_or_not zero zero = inl refl
 same_or_not zero (suc b) = inr (λ e. omega (arith, e))
 same_or_not (suc a) zero = inr (λ e. omega (arith, e))

@@ -13,6 +13,7 @@ pub mod Numbered
 pub mod Progress
 pub mod Signs
 pub mod Links
+pub mod Falling
 pub mod Walking
 pub mod Tables
 pub mod Flags
