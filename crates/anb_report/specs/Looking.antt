@@ -1,0 +1,99 @@
+-- Which registers of a code bring parts of arrivals, and which are opened, compared and built again.
+use Rattle.std.specs.Prelude.{ℕ, ◌+◌, ◌&&◌, List, [], ◌∷◌, ◌++◌, Bool, true, false, not, nat_eq, filter, if◌then◌else◌}
+use Rattle.std.specs.List.{flat_map, list_any, range_with_len}
+use Rattle.anb_format.specs.Formats.{FormatValue}
+use Rattle.anb_code.specs.declared.instr.Instr.{Instr}
+use Rattle.anb_code.specs.declared.instr.Instr.TheVariants.{Take, Fresh, Recv, Hash, Mac, Seal, Unseal, Wrap, Unwrap, Build, Parse, Equal, Send}
+use Rattle.anb_code.specs.Registers.{count_written}
+
+abbrev pub is_among : List ℕ → ℕ → Bool
+is_among ns n = list_any (λ m. nat_eq m n) ns
+
+abbrev pub is_message : Instr → Bool
+is_message Recv = true
+is_message (Send r) = true
+is_message instr = false
+
+-- it writes an arrival, or parts of one
+abbrev pub brings : Instr → Bool
+brings Recv = true
+brings (Unseal k c) = true
+brings (Unwrap k d c) = true
+brings (Parse f r) = true
+brings instr = false
+
+-- it builds a value of registers
+abbrev pub builds : Instr → Bool
+builds (Hash r) = true
+builds (Mac k b) = true
+builds (Seal k b) = true
+builds (Wrap k d b) = true
+builds (Build f rs) = true
+builds instr = false
+
+-- the keys with which it opens
+abbrev pub keys_of : Instr → List ℕ
+keys_of (Unseal k c) = k ∷ []
+keys_of (Unwrap k d c) = k ∷ d ∷ []
+keys_of instr = []
+
+-- what it opens or takes apart
+abbrev pub opened_by : Instr → List ℕ
+opened_by (Unseal k c) = c ∷ []
+opened_by (Unwrap k d c) = c ∷ []
+opened_by (Parse f r) = r ∷ []
+opened_by instr = []
+
+-- what it compares
+abbrev pub compared : Instr → List ℕ
+compared (Equal a b) = a ∷ b ∷ []
+compared instr = []
+
+-- what it builds of
+abbrev pub built_of : Instr → List ℕ
+built_of (Hash r) = r ∷ []
+built_of (Mac k b) = k ∷ b ∷ []
+built_of (Seal k b) = k ∷ b ∷ []
+built_of (Wrap k d b) = k ∷ d ∷ b ∷ []
+built_of (Build f rs) = rs
+built_of instr = []
+
+-- what it checks: one of the two, which have one term
+abbrev pub checked_by : Instr → List ℕ
+checked_by (Equal a b) = b ∷ []
+checked_by instr = []
+
+module _ (formats : List FormatValue) where
+  -- the registers that such instructions write, where the first register to be written is this one
+  abbrev pub written_by : (Instr → Bool) → ℕ → List Instr → List ℕ
+  written_by test next [] = []
+  written_by test next (x ∷ xs) =
+      (if test x then range_with_len next (count_written formats x) else []) ++ written_by test (next + count_written formats x) xs
+
+  -- The registers on whose bytes it depends whether all demands are true: those that are compared, the
+  -- keys of what is opened, and, of a built one that later instructions look at, what it is built of
+  abbrev pub looks_at : List ℕ → ℕ → Instr → List ℕ
+  looks_at later next x = (if is_among later next then built_of x else []) ++ (keys_of x ++ compared x)
+
+  abbrev pub looked_at : ℕ → List Instr → List ℕ
+  looked_at next [] = []
+  looked_at next (x ∷ xs) =
+      let later = looked_at (next + count_written formats x) xs in
+      later ++ looks_at later next x
+
+  -- and the parts of these, as far as they are taken apart
+  abbrev pub with_parts : List ℕ → ℕ → List Instr → List ℕ
+  with_parts seen next [] = seen
+  with_parts seen next (x ∷ xs) =
+      with_parts (seen ++ (if list_any (is_among seen) (opened_by x) then range_with_len next (count_written formats x) else [])) (next + count_written formats x) xs
+
+  abbrev pub seen_in : List Instr → List ℕ
+  seen_in instrs = with_parts (looked_at 0 instrs) 0 instrs
+
+abbrev pub without : List ℕ → List ℕ → List ℕ
+without some all = filter (λ n. not (is_among some n)) all
+
+-- Arrivals and parts of arrivals that the code neither opens, nor compares, nor builds again: in no demand are
+-- their bytes looked at.
+abbrev pub unchecked : List FormatValue → List Instr → List ℕ
+unchecked formats instrs = without (seen_in formats instrs ++ flat_map opened_by instrs) (written_by formats brings 0 instrs)
