@@ -1,6 +1,6 @@
 -- Which registers of a code bring parts of arrivals, and which are opened, compared and built again.
-use Rattle.std.specs.Prelude.{ℕ, ◌+◌, ◌&&◌, List, [], ◌∷◌, ◌++◌, Bool, true, false, not, nat_eq, filter, if◌then◌else◌}
-use Rattle.std.specs.List.{flat_map, list_any, range_with_len}
+use Rattle.std.specs.Prelude.{ℕ, ◌+◌, List, [], ◌∷◌, ◌++◌, Bool, true, false, not, nat_eq, filter, if◌then◌else◌}
+use Rattle.std.specs.List.{list_any, range_with_len}
 use Rattle.anb_format.specs.Formats.{FormatValue}
 use Rattle.anb_code.specs.declared.instr.Instr.{Instr}
 use Rattle.anb_code.specs.declared.instr.Instr.TheVariants.{Take, Fresh, Recv, Hash, Mac, Seal, Unseal, Wrap, Unwrap, Build, Parse, Equal, Send}
@@ -70,16 +70,18 @@ module _ (formats : List FormatValue) where
   written_by test next (x ∷ xs) =
       (if test x then range_with_len next (count_written formats x) else []) ++ written_by test (next + count_written formats x) xs
 
-  -- The registers on whose bytes it depends whether all demands are true: those that are compared, the
-  -- keys of what is opened, and, of a built one that later instructions look at, what it is built of
-  abbrev pub looks_at : List ℕ → ℕ → Instr → List ℕ
-  looks_at later next x = (if is_among later next then built_of x else []) ++ (keys_of x ++ compared x)
+  -- The registers that instructions look at: those that are compared, the keys of what is opened, what is
+  -- opened itself where this is asked for, and, of a built one that later instructions look at, what it is
+  -- built of. The first register to be written is given.
+  abbrev pub looks_at : Bool → List ℕ → ℕ → Instr → List ℕ
+  looks_at opened later next x =
+      (if is_among later next then built_of x else []) ++ (keys_of x ++ (compared x ++ (if opened then opened_by x else [])))
 
-  abbrev pub looked_at : ℕ → List Instr → List ℕ
-  looked_at next [] = []
-  looked_at next (x ∷ xs) =
-      let later = looked_at (next + count_written formats x) xs in
-      later ++ looks_at later next x
+  abbrev pub looked_at : Bool → ℕ → List Instr → List ℕ
+  looked_at opened next [] = []
+  looked_at opened next (x ∷ xs) =
+      let later = looked_at opened (next + count_written formats x) xs in
+      later ++ looks_at opened later next x
 
   -- and the parts of these, as far as they are taken apart
   abbrev pub with_parts : List ℕ → ℕ → List Instr → List ℕ
@@ -87,13 +89,18 @@ module _ (formats : List FormatValue) where
   with_parts seen next (x ∷ xs) =
       with_parts (seen ++ (if list_any (is_among seen) (opened_by x) then range_with_len next (count_written formats x) else [])) (next + count_written formats x) xs
 
-  abbrev pub seen_in : List Instr → List ℕ
-  seen_in instrs = with_parts (looked_at 0 instrs) 0 instrs
+  -- those on whose bytes it depends whether the demands are true
+  abbrev pub demanded : List Instr → List ℕ
+  demanded instrs = looked_at true 0 instrs
+
+  -- those that are looked at as a whole, and not by being opened alone, with their parts
+  abbrev pub seen_whole : List Instr → List ℕ
+  seen_whole instrs = with_parts (looked_at false 0 instrs) 0 instrs
 
 abbrev pub without : List ℕ → List ℕ → List ℕ
 without some all = filter (λ n. not (is_among some n)) all
 
--- Arrivals and parts of arrivals that the code neither opens, nor compares, nor builds again: in no demand are
--- their bytes looked at.
+-- Arrivals and parts of arrivals that the code neither opens, nor compares, nor builds again, be it as a part of
+-- something: the bytes of no demand depend on them.
 abbrev pub unchecked : List FormatValue → List Instr → List ℕ
-unchecked formats instrs = without (seen_in formats instrs ++ flat_map opened_by instrs) (written_by formats brings 0 instrs)
+unchecked formats instrs = without (demanded formats instrs ++ seen_whole formats instrs) (written_by formats brings 0 instrs)

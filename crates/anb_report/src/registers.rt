@@ -56,7 +56,8 @@ pub(crate) fn put_keys(out: &mut Vec<u32>, instr: &Instr) -> Result<(), NoMemory
     Ok(())
 }
 
-fn put_opened(out: &mut Vec<u32>, instr: &Instr) -> Result<(), NoMemory>
+/// Appends what an instruction opens.
+pub(crate) fn put_opened(out: &mut Vec<u32>, instr: &Instr) -> Result<(), NoMemory>
     ensures { OnOk result (out.new.items ≡ out.old.items ++ opened_by instr.now) }
 {
     match instr {

@@ -3,10 +3,10 @@ ghost use Rattle.std.specs.Prelude.{◌≡◌, ◌+◌, ◌≤◌, ◌<◌, ◌^
 ghost use Rattle.std.specs.List.{AllByRecursion, list_any};
 ghost use Rattle.anb_format.specs.Formats.{field_count};
 ghost use Rattle.anb_code.specs.Verified.{count_registers};
-ghost use Rattle.anb_report.specs.Looking.{built_of, compared, is_among, looked_at, looks_at, opened_by, seen_in, unchecked, with_parts};
+ghost use Rattle.anb_report.specs.Looking.{built_of, compared, is_among, looked_at, looks_at, opened_by, unchecked, with_parts};
 
 use crate::lists::without;
-use crate::registers::{Use, put_between, put_keys, used, written};
+use crate::registers::{put_between, put_keys, put_opened, written};
 use anb_base::NoMemory;
 use anb_code::{Instr, RoleCode};
 use anb_explain::count_written;
@@ -19,21 +19,12 @@ pub fn unchecked(alloc: Global, code: &RoleCode) -> Result<Vec<u32>, NoMemory>
 {
     let formats = code.formats();
     let instrs = code.instrs();
-    let mut seen = seen_in(alloc, formats, instrs)?;
-    let mut opened = used(alloc, Use::Opened, instrs)?;
-    seen.append(&mut opened)?;
+    let mut seen = looked_at(alloc, formats, true, instrs)?;
+    let mut whole = looked_at(alloc, formats, false, instrs)?;
+    put_parts(&mut whole, formats, instrs)?;
+    seen.append(&mut whole)?;
     let arrived = written(alloc, formats, false, 0, instrs)?;
     without(alloc, &seen, &arrived)
-}
-
-fn seen_in(alloc: Global, formats: &[Format], instrs: &[Instr]) -> Result<Vec<u32>, NoMemory>
-    requires fields { AllByRecursion (λ format. field_count format.pieces ≤ 32) formats.now }
-    requires few { count_registers formats.now instrs.now < 2 ^ 32 }
-    ensures { IfOk result (λ rs. rs.items ≡ seen_in formats.now instrs.now) }
-{
-    let mut seen = looked_at(alloc, formats, instrs)?;
-    put_parts(&mut seen, formats, instrs)?;
-    Ok(seen)
 }
 
 /// How many registers instructions write.
@@ -50,10 +41,15 @@ fn count_registers(formats: &[Format], instrs: &[Instr]) -> u32
 }
 
 /// What is looked at, from the last instruction back.
-fn looked_at(alloc: Global, formats: &[Format], instrs: &[Instr]) -> Result<Vec<u32>, NoMemory>
+fn looked_at(
+    alloc: Global,
+    formats: &[Format],
+    opened: bool,
+    instrs: &[Instr],
+) -> Result<Vec<u32>, NoMemory>
     requires fields { AllByRecursion (λ format. field_count format.pieces ≤ 32) formats.now }
     requires few { count_registers formats.now instrs.now < 2 ^ 32 }
-    ensures { IfOk result (λ rs. rs.items ≡ looked_at formats.now 0 instrs.now) }
+    ensures { IfOk result (λ rs. rs.items ≡ looked_at formats.now opened 0 instrs.now) }
 {
     let mut seen = Vec::new(alloc);
     let mut next = count_registers(formats, instrs);
@@ -61,22 +57,31 @@ fn looked_at(alloc: Global, formats: &[Format], instrs: &[Instr]) -> Result<Vec<
     for k in 0..count {
         let instr = &instrs[count - 1 - k];
         next -= count_written(formats, instr) as u32;
-        put_looks(&mut seen, next, instr)?;
+        put_looks(&mut seen, opened, next, instr)?;
     }
     Ok(seen)
 }
 
 /// Appends what an instruction looks at that writes this register first, where later ones look at
 /// these.
-fn put_looks(seen: &mut Vec<u32>, next: u32, instr: &Instr) -> Result<(), NoMemory>
+fn put_looks(
+    seen: &mut Vec<u32>,
+    opened: bool,
+    next: u32,
+    instr: &Instr,
+) -> Result<(), NoMemory>
     ensures { OnOk result (seen.new.items
-        ≡ seen.old.items ++ looks_at seen.old.items next instr.now) }
+        ≡ seen.old.items ++ looks_at opened seen.old.items next instr.now) }
 {
     if seen.contains(&next) {
         put_built_of(seen, instr)?;
     }
     put_keys(seen, instr)?;
-    put_compared(seen, instr)
+    put_compared(seen, instr)?;
+    if opened {
+        put_opened(seen, instr)?;
+    }
+    Ok(())
 }
 
 /// Appends what an instruction builds of.
