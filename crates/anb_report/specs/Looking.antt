@@ -63,19 +63,22 @@ abbrev pub checked_by : Instr → List ℕ
 checked_by (Equal a b) = b ∷ []
 checked_by instr = []
 
+-- The registers that an instruction looks at: those that are compared, the keys of what is opened, what is
+-- opened itself where this is asked for, and, of a built one that later instructions look at, what it is built
+-- of. It writes this register first.
+abbrev pub looks_at : Bool → List ℕ → ℕ → Instr → List ℕ
+looks_at opened later next x =
+    (if is_among later next then built_of x else []) ++ (keys_of x ++ (compared x ++ (if opened then opened_by x else [])))
+
 module _ (formats : List FormatValue) where
-  -- the registers that such instructions write, where the first register to be written is this one
+  -- the registers that an instruction writes, where the first one is this one
+  abbrev pub writes_at : ℕ → Instr → List ℕ
+  writes_at next x = range_with_len next (count_written formats x)
+
+  -- those that such instructions write
   abbrev pub written_by : (Instr → Bool) → ℕ → List Instr → List ℕ
   written_by test next [] = []
-  written_by test next (x ∷ xs) =
-      (if test x then range_with_len next (count_written formats x) else []) ++ written_by test (next + count_written formats x) xs
-
-  -- The registers that instructions look at: those that are compared, the keys of what is opened, what is
-  -- opened itself where this is asked for, and, of a built one that later instructions look at, what it is
-  -- built of. The first register to be written is given.
-  abbrev pub looks_at : Bool → List ℕ → ℕ → Instr → List ℕ
-  looks_at opened later next x =
-      (if is_among later next then built_of x else []) ++ (keys_of x ++ (compared x ++ (if opened then opened_by x else [])))
+  written_by test next (x ∷ xs) = (if test x then writes_at next x else []) ++ written_by test (next + count_written formats x) xs
 
   abbrev pub looked_at : Bool → ℕ → List Instr → List ℕ
   looked_at opened next [] = []
@@ -83,11 +86,13 @@ module _ (formats : List FormatValue) where
       let later = looked_at opened (next + count_written formats x) xs in
       later ++ looks_at opened later next x
 
-  -- and the parts of these, as far as they are taken apart
+  -- registers, and the parts of these as far as they are taken apart
+  abbrev pub parts_of : List ℕ → ℕ → Instr → List ℕ
+  parts_of seen next x = if list_any (is_among seen) (opened_by x) then writes_at next x else []
+
   abbrev pub with_parts : List ℕ → ℕ → List Instr → List ℕ
   with_parts seen next [] = seen
-  with_parts seen next (x ∷ xs) =
-      with_parts (seen ++ (if list_any (is_among seen) (opened_by x) then range_with_len next (count_written formats x) else [])) (next + count_written formats x) xs
+  with_parts seen next (x ∷ xs) = with_parts (seen ++ parts_of seen next x) (next + count_written formats x) xs
 
   -- those on whose bytes it depends whether the demands are true
   abbrev pub demanded : List Instr → List ℕ
@@ -97,8 +102,11 @@ module _ (formats : List FormatValue) where
   abbrev pub seen_whole : List Instr → List ℕ
   seen_whole instrs = with_parts (looked_at false 0 instrs) 0 instrs
 
+abbrev pub is_other : List ℕ → ℕ → Bool
+is_other some n = not (is_among some n)
+
 abbrev pub without : List ℕ → List ℕ → List ℕ
-without some all = filter (λ n. not (is_among some n)) all
+without some all = filter (is_other some) all
 
 -- Arrivals and parts of arrivals that the code neither opens, nor compares, nor builds again, be it as a part of
 -- something: the bytes of no demand depend on them.

@@ -1,5 +1,5 @@
 -- What a role does with each arrival, in words.
-use Rattle.std.specs.Prelude.{ℕ, ◌+◌, ◌&&◌, List, [], ◌∷◌, ◌++◌, Bool, false, not, codes, map, filter, take, slice_get, if◌then◌else◌}
+use Rattle.std.specs.Prelude.{ℕ, ◌+◌, ◌&&◌, List, [], ◌∷◌, ◌++◌, Bool, false, not, codes, filter, take, slice_get, if◌then◌else◌}
 use Rattle.std.specs.List.{flat_map, join_by, list_any}
 use Rattle.std.specs.Option.{option_map_or}
 use Rattle.anb_format.specs.Formats.{FormatValue}
@@ -15,34 +15,43 @@ use Rattle.anb_report.specs.Looking.{is_message, brings, builds, keys_of, opened
 abbrev pub register_text : ProtocolValue → List Tree → ℕ → List ℕ
 register_text p terms r = option_map_or (term_text p) (slice_get terms r) []
 
-abbrev pub listed : List (List ℕ) → List ℕ
-listed texts = join_by (λ text. text) (codes ", ") texts
+abbrev pub register_texts : ProtocolValue → List Tree → List ℕ → List ℕ
+register_texts p terms rs = join_by (register_text p terms) (codes ", ") rs
 
 -- a word and the terms of registers, where there are any
 abbrev pub said : ProtocolValue → List Tree → List ℕ → List ℕ → List (List ℕ)
 said p terms word [] = []
-said p terms word (r ∷ rs) = (word ++ listed (map (register_text p terms) (r ∷ rs))) ∷ []
+said p terms word (r ∷ rs) = (word ++ register_texts p terms (r ∷ rs)) ∷ []
 
 -- ---- what is learned
 
--- it is the term of one of these registers
+-- it is the term of this register
 abbrev pub is_term_of : List Tree → Tree → ℕ → Bool
 is_term_of terms t r = option_map_or (tree_eqb t) (slice_get terms r) false
 
+-- it is the term of one of these registers
+abbrev pub is_term_of_one : List Tree → List ℕ → Tree → Bool
+is_term_of_one terms rs t = list_any (is_term_of terms t) rs
+
+-- no register before this one has the term, and none of those that were built
+abbrev pub is_new_term : List Tree → List ℕ → ℕ → Tree → Bool
+is_new_term terms built r t = not (list_any (tree_eqb t) (take r terms)) && not (is_term_of_one terms built t)
+
 -- a register has a term that none before it has, and none of those that were built
 abbrev pub is_new : List Tree → List ℕ → ℕ → Bool
-is_new terms built r = option_map_or (λ t. not (list_any (tree_eqb t) (take r terms)) && not (list_any (is_term_of terms t) built)) (slice_get terms r) false
+is_new terms built r = option_map_or (is_new_term terms built r) (slice_get terms r) false
 
 -- one of these registers has the term of another one
 abbrev pub is_named : List Tree → List ℕ → ℕ → Bool
-is_named terms named r = option_map_or (λ t. list_any (is_term_of terms t) named) (slice_get terms r) false
+is_named terms named r = option_map_or (is_term_of_one terms named) (slice_get terms r) false
 
--- registers, each term by the first one that has it; some have been named
+-- registers, each term by the first one that has it, behind some that were named
+abbrev pub once_more : List Tree → List ℕ → ℕ → List ℕ
+once_more terms named r = if is_named terms named r then named else named ++ r ∷ []
+
 abbrev pub once_after : List Tree → List ℕ → List ℕ → List ℕ
-once_after terms named [] = []
-once_after terms named (r ∷ rs) =
-    if is_named terms named r then once_after terms named rs
-    else r ∷ once_after terms (named ++ r ∷ []) rs
+once_after terms named [] = named
+once_after terms named (r ∷ rs) = once_after terms (once_more terms named r) rs
 
 abbrev pub once : List Tree → List ℕ → List ℕ
 once terms rs = once_after terms [] rs
@@ -66,10 +75,13 @@ module _ (formats : List FormatValue) where
         ++ (said p terms (codes "checks ") (once terms (flat_map checked_by instrs)) ++ said p terms (codes "learns ") (learned terms next instrs))
 
     -- the same for each message, with what stands up to the next one
+    abbrev pub notes_first : ℕ → List Instr → List (List (List ℕ))
+    notes_first next [] = []
+    notes_first next (x ∷ xs) = if is_message x then notes_at next (x ∷ up_to_message xs) ∷ [] else []
+
     abbrev pub notes_from : ℕ → List Instr → List (List (List ℕ))
     notes_from next [] = []
-    notes_from next (x ∷ xs) =
-        (if is_message x then notes_at next (x ∷ up_to_message xs) ∷ [] else []) ++ notes_from (next + count_written formats x) xs
+    notes_from next (x ∷ xs) = notes_first next (x ∷ xs) ++ notes_from (next + count_written formats x) xs
 
 -- for each event, from event 0 on
 abbrev pub notes_of : ProtocolValue → CodeValue → List Tree → List (List (List ℕ))

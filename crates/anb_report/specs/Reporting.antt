@@ -10,7 +10,7 @@ use Rattle.anb_resolve.specs.Texts.{atom_name, term_text}
 use Rattle.anb_code.specs.CodeValue.{CodeValue}
 use Rattle.anb_explain.specs.Explained.{line, register_terms}
 use Rattle.anb_report.specs.Looking.{unchecked}
-use Rattle.anb_report.specs.Noting.{listed, notes_of, register_text}
+use Rattle.anb_report.specs.Noting.{notes_of, register_texts}
 
 abbrev pub role_name : ProtocolValue → ℕ → List ℕ
 role_name p role = option_map_or (λ name. name) (slice_get p.roles role) []
@@ -30,7 +30,7 @@ head_line p role = line (codes "role " ++ (role_name p role ++ (codes ": " ++ co
 -- the names that are made for a message
 abbrev pub with_new : List (List ℕ) → List ℕ
 with_new [] = []
-with_new (name ∷ names) = codes ", with new " ++ listed (name ∷ names)
+with_new (name ∷ names) = codes ", with new " ++ join_by (λ x. x) (codes ", ") (name ∷ names)
 
 -- to whom it is sent, or from whom it is received
 abbrev pub peer : ProtocolValue → ℕ → ActionValue → List ℕ
@@ -56,7 +56,7 @@ start_lines (note ∷ notes) = line (codes "  event 0, at the beginning") ++ not
 
 abbrev pub unchecked_line : ProtocolValue → List Tree → List ℕ → List ℕ
 unchecked_line p terms [] = line (codes "  takes nothing unchecked")
-unchecked_line p terms (r ∷ rs) = line (codes "  takes unchecked: " ++ listed (map (register_text p terms) (r ∷ rs)))
+unchecked_line p terms (r ∷ rs) = line (codes "  takes unchecked: " ++ register_texts p terms (r ∷ rs))
 
 -- ---- a role
 

@@ -5,12 +5,16 @@
 //! the byte 0A.
 #![tactic(auto)]
 
+mod charting;
+mod laws;
 mod lists;
 mod notes;
 mod registers;
 mod reporting;
 mod seen;
 
+pub use charting::role_chart;
+pub use laws::unchecked_is_free;
 pub use notes::{Notes, notes_of};
 pub use reporting::report;
 pub use seen::unchecked;

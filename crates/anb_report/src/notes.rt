@@ -1,12 +1,12 @@
 //! What a role does with each message, in words.
-ghost use Rattle.std.specs.Prelude.{◌≡◌, ◌+◌, ◌≤◌, ◌<◌, ◌^◌, ◌++◌, map, length, filter, IfOk, OnOk};
+ghost use Rattle.std.specs.Prelude.{◌≡◌, ◌+◌, ◌≤◌, ◌<◌, ◌^◌, ◌++◌, ◌∷◌, map, length, filter, IfOk, OnOk};
 ghost use Rattle.std.specs.List.{AllByRecursion};
 ghost use Rattle.anb_format.specs.Formats.{field_count};
 ghost use Rattle.anb_term.specs.View.{tree_of};
 ghost use Rattle.anb_code.specs.Verified.{count_registers};
 ghost use Rattle.anb_resolve.specs.Texts.{IsTermOf};
 ghost use Rattle.anb_report.specs.Looking.{is_message};
-ghost use Rattle.anb_report.specs.Noting.{is_new, learned, notes_at, notes_from, notes_of, said, up_to_message};
+ghost use Rattle.anb_report.specs.Noting.{is_new, learned, notes_at, notes_first, notes_from, notes_of, said, up_to_message};
 
 use crate::lists::{is_new, once, put_terms, without};
 use crate::registers::{Use, used, written};
@@ -61,8 +61,23 @@ pub fn notes_of(
     ensures { IfOk result (λ notes. notes.items
         ≡ notes_of protocol.now code.now (map tree_of terms.now)) }
 {
-    let formats = code.formats();
-    let instrs = code.instrs();
+    notes_in(alloc, protocol, code.formats(), terms, code.instrs())
+}
+
+fn notes_in(
+    alloc: Global,
+    protocol: &Protocol,
+    formats: &[Format],
+    terms: &[Term],
+    instrs: &[Instr],
+) -> Result<Vec<Notes>, NoMemory>
+    requires fields { AllByRecursion (λ format. field_count format.pieces ≤ 32) formats.now }
+    requires few { count_registers formats.now instrs.now < 2 ^ 32 }
+    requires terms { AllByRecursion (IsTermOf protocol.now) (map tree_of terms.now) }
+    ensures { IfOk result (λ notes. notes.items
+        ≡ notes_at formats.now protocol.now (map tree_of terms.now) 0 (up_to_message instrs.now)
+        ∷ notes_from formats.now protocol.now (map tree_of terms.now) 0 instrs.now) }
+{
     let mut out = Vec::new(alloc);
     let first = &instrs[..to_message(instrs)];
     out.push(notes_at(alloc, protocol, formats, terms, 0, first)?)?;
@@ -87,19 +102,35 @@ fn put_notes(
 {
     let mut next = 0;
     for (i, instr) in instrs.iter().enumerate() {
-        if is_message(instr) {
-            let end = i + 1 + to_message(&instrs[i + 1..]);
-            out.push(notes_at(
-                alloc,
-                protocol,
-                formats,
-                terms,
-                next,
-                &instrs[i..end],
-            )?)?;
-        }
+        put_first(alloc, out, protocol, formats, terms, next, &instrs[i..])?;
         next += count_written(formats, instr) as u32;
     }
+    Ok(())
+}
+
+/// Appends the notes of the first instruction, where that is a message.
+fn put_first(
+    alloc: Global,
+    out: &mut Vec<Notes>,
+    protocol: &Protocol,
+    formats: &[Format],
+    terms: &[Term],
+    next: u32,
+    instrs: &[Instr],
+) -> Result<(), NoMemory>
+    requires fields { AllByRecursion (λ format. field_count format.pieces ≤ 32) formats.now }
+    requires few { next + count_registers formats.now instrs.now < 2 ^ 32 }
+    requires terms { AllByRecursion (IsTermOf protocol.now) (map tree_of terms.now) }
+    requires some { 0 < length instrs.now }
+    ensures { OnOk result (out.new.items ≡ out.old.items
+        ++ notes_first formats.now protocol.now (map tree_of terms.now) next instrs.now) }
+{
+    if !is_message(&instrs[0]) {
+        return Ok(());
+    }
+    let count = 1 + to_message(&instrs[1..]);
+    let notes = notes_at(alloc, protocol, formats, terms, next, &instrs[..count])?;
+    out.push(notes)?;
     Ok(())
 }
 

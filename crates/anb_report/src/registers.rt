@@ -1,5 +1,5 @@
 //! Registers that instructions read and write, by what for.
-ghost use Rattle.std.specs.Prelude.{◌≡◌, ◌+◌, ◌-◌, ◌≤◌, ◌<◌, ◌^◌, ◌++◌, IfOk, OnOk};
+ghost use Rattle.std.specs.Prelude.{◌≡◌, ◌+◌, ◌-◌, ◌≤◌, ◌<◌, ◌^◌, ◌++◌, [], if◌then◌else◌, IfOk, OnOk};
 ghost use Rattle.std.specs.List.{AllByRecursion, flat_map, range_with_len};
 ghost use Rattle.anb_format.specs.Formats.{field_count};
 ghost use Rattle.anb_code.specs.Verified.{count_registers};
@@ -93,12 +93,28 @@ pub(crate) fn written(
     let mut next = first;
     for instr in instrs {
         let end = next + count_written(formats, instr) as u32;
-        if writes(built, instr) {
-            put_between(&mut out, next, end)?;
-        }
+        put_written(&mut out, built, next, end, instr)?;
         next = end;
     }
     Ok(out)
+}
+
+/// Appends the registers from one on up to another, where an instruction writes so.
+fn put_written(
+    out: &mut Vec<u32>,
+    built: bool,
+    start: u32,
+    end: u32,
+    instr: &Instr,
+) -> Result<(), NoMemory>
+    requires { start ≤ end }
+    ensures { OnOk result (out.new.items ≡ out.old.items
+        ++ (if writes built instr.now then range_with_len start (end - start) else [])) }
+{
+    if writes(built, instr) {
+        put_between(out, start, end)?;
+    }
+    Ok(())
 }
 
 /// Appends the registers from one on up to another.

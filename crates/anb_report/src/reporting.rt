@@ -1,14 +1,13 @@
 //! The report of all roles.
 ghost use Rattle.std.specs.Prelude.{◌≡◌, ◌<◌, ◌++◌, map, length, count_by, decimal, IfOk, OnOk};
-ghost use Rattle.std.specs.List.{AllByRecursion, join_by};
+ghost use Rattle.std.specs.List.{AllByRecursion};
 ghost use Rattle.anb_term.specs.View.{tree_of};
 ghost use Rattle.anb_compile.specs.Fitting.{FitsRole, FitRoles};
 ghost use Rattle.anb_resolve.specs.Laws.{HoldsOf};
 ghost use Rattle.anb_resolve.specs.Plans.{names_made};
 ghost use Rattle.anb_resolve.specs.Texts.{IsTermOf};
 ghost use Rattle.anb_resolve.specs.Views.{action_value};
-ghost use Rattle.anb_report.specs.Noting.{listed};
-ghost use Rattle.anb_report.specs.Reporting.{action_lines, counted, event_line, events_text, head_line, is_own, notes_at_event, notes_line, peer, report, role_name, role_report, start_lines, unchecked_line, with_new};
+ghost use Rattle.anb_report.specs.Reporting.{action_lines, counted, event_line, events_text, head_line, is_own, new_for, notes_at_event, notes_line, peer, report, role_name, role_report, start_lines, unchecked_line, with_new};
 
 use crate::lists::put_terms;
 use crate::notes::{Notes, notes_of};
@@ -49,18 +48,19 @@ fn put_role(
     ensures { OnOk result (out.new.items ≡ out.old.items
         ++ role_report protocol.now role code.now) }
 {
+    protocols_hold();
     let explanation = explanation_of(alloc, protocol, role, code)?;
     let terms = explanation.terms();
     let notes = notes_of(alloc, protocol, code, terms)?;
     let taken = unchecked(alloc, code)?;
     put_head(out, protocol, role)?;
     put_start(out, notes_at(&notes, 0))?;
-    put_events(alloc, out, protocol, role, made, &notes)?;
+    put_events(alloc, out, protocol, role, protocol.messages(), made, &notes)?;
     put_unchecked(alloc, out, protocol, terms, &taken)
 }
 
 /// The notes of an event.
-fn notes_at(notes: &[Notes], event: usize) -> &[Bytes]
+pub(crate) fn notes_at(notes: &[Notes], event: usize) -> &[Bytes]
     ensures { result.now ≡ notes_at_event notes.now event }
 {
     match notes.get(event) {
@@ -103,7 +103,8 @@ fn count_own(actions: &[Action], role: u32) -> usize
     count
 }
 
-fn is_own(role: u32, action: &Action) -> bool
+/// Whether a role sends or receives an action's message.
+pub(crate) fn is_own(role: u32, action: &Action) -> bool
     ensures { result ≡ is_own role (action_value action.now) }
 {
     action.from == role || action.to == role
@@ -137,7 +138,8 @@ fn put_start(out: &mut Vec<u8>, notes: &[Bytes]) -> Result<(), NoMemory>
         return Ok(());
     }
     out.extend_from_slice(b"  event 0, at the beginning\n")?;
-    put_notes(out, notes)
+    put_notes(out, notes)?;
+    Ok(())
 }
 
 /// Appends the line of an event's notes, where there are any.
@@ -163,21 +165,55 @@ fn put_events(
     out: &mut Vec<u8>,
     protocol: &Protocol,
     role: u32,
+    actions: &[Action],
     made: &[Names],
     notes: &[Notes],
 ) -> Result<(), NoMemory>
-    requires { made.now ≡ names_made protocol.now }
+    requires actions { map action_value actions.now ≡ protocol.now.actions }
+    requires made { made.now ≡ names_made protocol.now }
+    requires holds { HoldsOf protocol.now }
     ensures { OnOk result (out.new.items ≡ out.old.items
         ++ events_text protocol.now role notes.now) }
 {
-    protocols_hold();
     let mut event = 0;
-    for (i, action) in protocol.messages().iter().enumerate() {
+    for (i, action) in actions.iter().enumerate() {
+        put_action(
+            alloc,
+            out,
+            protocol,
+            role,
+            notes,
+            event + 1,
+            i + 1,
+            action,
+            made[i].as_slice(),
+        )?;
         if is_own(role, action) {
             event += 1;
-            put_event(alloc, out, protocol, role, event, i + 1, action, made[i].as_slice())?;
-            put_notes(out, notes_at(notes, event))?;
         }
+    }
+    Ok(())
+}
+
+/// Appends the lines of an action, where it is the role's.
+fn put_action(
+    alloc: Global,
+    out: &mut Vec<u8>,
+    protocol: &Protocol,
+    role: u32,
+    notes: &[Notes],
+    event: usize,
+    number: usize,
+    action: &Action,
+    names: &[Text],
+) -> Result<(), NoMemory>
+    requires { IsTermOf protocol.now (tree_of action.now.message) }
+    ensures { OnOk result (out.new.items ≡ out.old.items
+        ++ action_lines protocol.now role notes.now event number (action_value action.now) names.now) }
+{
+    if is_own(role, action) {
+        put_event(alloc, out, protocol, role, event, number, action, names)?;
+        put_notes(out, notes_at(notes, event))?;
     }
     Ok(())
 }
@@ -206,9 +242,7 @@ fn put_event(
     out.extend_from_slice(b": ")?;
     let text = protocol.text_of_term(alloc, &action.message)?;
     out.extend_from_slice(text.as_str().as_bytes())?;
-    if action.from == role {
-        put_new(out, names)?;
-    }
+    put_new_for(out, role, action, names)?;
     out.push(b'\n')?;
     Ok(())
 }
@@ -231,7 +265,22 @@ fn put_peer(
     }
 }
 
-/// Appends the names that are made for a message.
+/// Appends the names that a role makes for a message.
+fn put_new_for(
+    out: &mut Vec<u8>,
+    role: u32,
+    action: &Action,
+    names: &[Text],
+) -> Result<(), NoMemory>
+    ensures { OnOk result (out.new.items
+        ≡ out.old.items ++ new_for role (action_value action.now) names.now) }
+{
+    if action.from == role {
+        put_new(out, names)?;
+    }
+    Ok(())
+}
+
 fn put_new(out: &mut Vec<u8>, names: &[Text]) -> Result<(), NoMemory>
     ensures { OnOk result (out.new.items ≡ out.old.items ++ with_new names.now) }
 {

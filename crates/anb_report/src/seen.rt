@@ -1,6 +1,6 @@
 //! The registers on which the checks of a code depend, and those that it takes unchecked.
-ghost use Rattle.std.specs.Prelude.{◌≡◌, ◌+◌, ◌≤◌, ◌<◌, ◌^◌, ◌++◌, IfOk, OnOk};
-ghost use Rattle.std.specs.List.{AllByRecursion, list_any};
+ghost use Rattle.std.specs.Prelude.{◌≡◌, ◌+◌, ◌≤◌, ◌<◌, ◌^◌, ◌++◌, ◌-◌, [], if◌then◌else◌, IfOk, OnOk};
+ghost use Rattle.std.specs.List.{AllByRecursion, list_any, range_with_len};
 ghost use Rattle.anb_format.specs.Formats.{field_count};
 ghost use Rattle.anb_code.specs.Verified.{count_registers};
 ghost use Rattle.anb_report.specs.Looking.{built_of, compared, is_among, looked_at, looks_at, opened_by, unchecked, with_parts};
@@ -17,8 +17,18 @@ use std::alloc::Global;
 pub fn unchecked(alloc: Global, code: &RoleCode) -> Result<Vec<u32>, NoMemory>
     ensures { IfOk result (λ rs. rs.items ≡ unchecked code.now.formats code.now.instrs) }
 {
-    let formats = code.formats();
-    let instrs = code.instrs();
+    unchecked_in(alloc, code.formats(), code.instrs())
+}
+
+fn unchecked_in(
+    alloc: Global,
+    formats: &[Format],
+    instrs: &[Instr],
+) -> Result<Vec<u32>, NoMemory>
+    requires fields { AllByRecursion (λ format. field_count format.pieces ≤ 32) formats.now }
+    requires few { count_registers formats.now instrs.now < 2 ^ 32 }
+    ensures { IfOk result (λ rs. rs.items ≡ unchecked formats.now instrs.now) }
+{
     let mut seen = looked_at(alloc, formats, true, instrs)?;
     let mut whole = looked_at(alloc, formats, false, instrs)?;
     put_parts(&mut whole, formats, instrs)?;
@@ -125,10 +135,26 @@ fn put_parts(seen: &mut Vec<u32>, formats: &[Format], instrs: &[Instr]) -> Resul
     let mut next = 0;
     for instr in instrs {
         let end = next + count_written(formats, instr) as u32;
-        if opens_one(seen, instr) {
-            put_between(seen, next, end)?;
-        }
+        put_parts_of(seen, next, end, instr)?;
         next = end;
+    }
+    Ok(())
+}
+
+/// Appends the registers from one on up to another, where an instruction opens one of these.
+fn put_parts_of(
+    seen: &mut Vec<u32>,
+    start: u32,
+    end: u32,
+    instr: &Instr,
+) -> Result<(), NoMemory>
+    requires { start ≤ end }
+    ensures { OnOk result (seen.new.items ≡ seen.old.items
+        ++ (if list_any (is_among seen.old.items) (opened_by instr.now)
+            then range_with_len start (end - start) else [])) }
+{
+    if opens_one(seen, instr) {
+        put_between(seen, start, end)?;
     }
     Ok(())
 }

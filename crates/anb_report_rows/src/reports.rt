@@ -1,7 +1,7 @@
 //! Reports on whole narrations. The texts are written by hand.
 use anb_base::Bytes;
-use anb_compile::compile_all;
-use anb_report::report;
+use anb_compile::{compile, compile_all};
+use anb_report::{report, role_chart};
 use anb_rows::protocol_in;
 use std::alloc::Global;
 use std::process::Abort;
@@ -117,6 +117,37 @@ const HELD_REPORT: &str = concat!(
     "  takes nothing unchecked\n",
 );
 
+/// The chart for B, who knows A.
+const B_KNOWN_CHART: &str = concat!(
+    "sequenceDiagram\n",
+    "    participant A\n",
+    "    participant B\n",
+    "    participant S\n",
+    "    A->>S: 1 m1(A,B,NA)\n",
+    "    S->>A: 2 scrypt(KAS,m2(NA,B,KAB,scrypt(KBS,m3(KAB,A))))\n",
+    "    A->>B: 3 scrypt(KBS,m3(KAB,A))\n",
+    "    Note over B: opens with KBS\n",
+    "    Note over B: checks A\n",
+    "    Note over B: learns KAB\n",
+    "    B->>A: 4 scrypt(KAB,m4(NB))\n",
+    "    A->>B: 5 scrypt(KAB,m5(NB))\n",
+    "    Note over B: checks scrypt(KAB,m5(NB))\n",
+);
+
+/// The chart for A, who compares what it knows.
+const HASHES_CHART: &str = concat!(
+    "sequenceDiagram\n",
+    "    participant A\n",
+    "    participant B\n",
+    "    Note over A: checks h(X)\n",
+    "    B->>A: 1 h(N)\n",
+    "    Note over A: learns h(N)\n",
+    "    B->>A: 2 N\n",
+    "    Note over A: checks h(N)\n",
+    "    Note over A: learns N\n",
+    "    A->>B: 3 X\n",
+);
+
 /// The report on a narration.
 fn reported(rt: &impl Abort, alloc: Global, narration: &[u8]) -> Result<Bytes, Fail> {
     let Ok(protocol) = protocol_in(alloc, narration) else {
@@ -162,4 +193,34 @@ fn parts_are_checked_in_wholes_and_later(rt: HostRuntime) -> Result<(), Fail> {
     check(&rt, rt.alloc(), HASHES, hashes)?;
     let held = [HELD_REPORT].as_slice();
     check(&rt, rt.alloc(), HELD, held)
+}
+
+/// Whether the chart of a narration for a role is this text.
+fn check_chart(
+    rt: &impl Abort,
+    alloc: Global,
+    narration: &[u8],
+    role: u32,
+    want: &str,
+) -> Result<(), Fail> {
+    let Ok(protocol) = protocol_in(alloc, narration) else {
+        panic!(rt; "no protocol");
+    };
+    if protocol.roles().len() <= role as usize {
+        panic!(rt; "no role");
+    }
+    let Ok(code) = compile(alloc, &protocol, role) else {
+        panic!(rt; "no code");
+    };
+    let Ok(text) = role_chart(alloc, &protocol, role, &code) else {
+        panic!(rt; "no memory");
+    };
+    assert_eq!(rt; str::from_utf8(text.as_slice()), str::from_utf8(want.as_bytes()));
+    Ok(())
+}
+
+#[test]
+fn a_chart_has_the_notes_of_a_role(rt: HostRuntime) -> Result<(), Fail> {
+    check_chart(&rt, rt.alloc(), NEEDHAM_SCHROEDER_KNOWN, 1, B_KNOWN_CHART)?;
+    check_chart(&rt, rt.alloc(), HASHES, 0, HASHES_CHART)
 }
