@@ -30,32 +30,25 @@ first_split (x ∷ xs) h = ap (λ l. x ∷ l) (sym (take_all (length (x ∷ xs) 
 
 -- ---- up to the next message
 
-pub turn_fits : (instrs : List Instr) → length (up_to_message instrs) ≤ length instrs
-turn_fits [] = omega arith
-turn_fits (x ∷ instrs) = one (is_message x)
-  where
-    one : (b : Bool) → length (if b then [] else x ∷ up_to_message instrs) ≤ length (x ∷ instrs)
-    one true = omega arith
-    one false = omega (arith, turn_fits instrs)
-
 pub turn_taken : (instrs : List Instr) → take (length (up_to_message instrs)) instrs ≡ up_to_message instrs
 turn_taken [] = refl
-turn_taken (x ∷ instrs) = one (is_message x)
+turn_taken (x ∷ instrs) = one (is_message x) (turn_taken instrs)
   where
-    one : (b : Bool) → take (length (if b then [] else x ∷ up_to_message instrs)) (x ∷ instrs) ≡ (if b then [] else x ∷ up_to_message instrs)
-    one true = refl
-    one false = ap (λ l. x ∷ l) (turn_taken instrs)
+    one : (b : Bool) → take (length (up_to_message instrs)) instrs ≡ up_to_message instrs
+        → take (length (if b then [] else x ∷ up_to_message instrs)) (x ∷ instrs) ≡ (if b then [] else x ∷ up_to_message instrs)
+    one true ih = refl
+    one false ih = ap (λ l. x ∷ l) ih
 
--- a message, with what stands up to the next one
-pub message_turn : (instrs : List Instr) (x : Instr) → 0 < length instrs → x ≡ get_or instrs 0 x
-    → take (1 + length (up_to_message (drop 1 instrs))) instrs ≡ x ∷ up_to_message (drop 1 instrs)
-message_turn [] x h e = absurd (omega (arith, h))
-message_turn (y ∷ instrs) x h e = ap (λ z. z ∷ take (length (up_to_message instrs)) instrs) (sym e) ∙ ap (λ l. x ∷ l) (turn_taken instrs)
+take_more : (n : ℕ) (x : Instr) (instrs : List Instr) → take (1 + n) (x ∷ instrs) ≡ x ∷ take n instrs
+take_more n x instrs = let e : 1 + n ≡ suc n = omega arith in ap (λ k. take k (x ∷ instrs)) e
 
 pub fewer_taken : (formats : List FormatValue) (k : ℕ) (instrs : List Instr) → count_registers formats (take k instrs) ≤ count_registers formats instrs
 fewer_taken formats zero instrs = omega arith
 fewer_taken formats (suc k) [] = omega arith
 fewer_taken formats (suc k) (x ∷ instrs) = omega (arith, fewer_taken formats k instrs, sum_by-cons (count_written formats) x instrs, sum_by-cons (count_written formats) x (take k instrs))
+
+pub turn_fewer : (formats : List FormatValue) (instrs : List Instr) → count_registers formats (up_to_message instrs) ≤ count_registers formats instrs
+turn_fewer formats instrs = let e = ap (count_registers formats) (turn_taken instrs) in omega (arith, e, fewer_taken formats (length (up_to_message instrs)) instrs)
 
 -- ---- the terms of registers
 
@@ -138,7 +131,7 @@ message_notes formats p terms next [] x h e is = absurd (omega (arith, h))
 message_notes formats p terms next (y ∷ instrs) x h e is =
     let t : is_message y ≡ true = ap is_message (sym e) ∙ is in
     ap (λ b. if b then notes_at formats p terms next (y ∷ up_to_message instrs) ∷ [] else []) t
-    ∙ ap (λ l. notes_at formats p terms next (y ∷ l) ∷ []) (sym (turn_taken instrs))
+    ∙ ap (λ l. notes_at formats p terms next l ∷ []) (ap (λ l. y ∷ l) (sym (turn_taken instrs)) ∙ sym (take_more (length (up_to_message instrs)) y instrs))
 
 pub other_notes : (formats : List FormatValue) (p : ProtocolValue) (terms : List Tree) (next : ℕ) (instrs : List Instr) (x : Instr) → 0 < length instrs → x ≡ get_or instrs 0 x → is_message x ≡ false
     → notes_first formats p terms next instrs ≡ []

@@ -4,18 +4,20 @@ use Rattle.std.specs.Prelude.{codes, count_by, decimal, slice_get}
 use Rattle.std.proofs.lemmas.List.Sums.{sum_by-append, sum_by-cons}
 use Rattle.std.proofs.lemmas.Option.{get_or_from_slice_get}
 use Rattle.anb_term.specs.Tree.{Tree}
+use Rattle.anb_code.specs.CodeValue.{CodeValue}
 use Rattle.anb_resolve.specs.declared.parts.Action.{Action}
 use Rattle.anb_resolve.specs.Choices.{each_after}
 use Rattle.anb_resolve.specs.Plans.{made_at, names_made_at}
 use Rattle.anb_resolve.specs.Protocols.{ActionValue, ProtocolValue}
 use Rattle.anb_resolve.specs.Texts.{atom_name}
 use Rattle.anb_resolve.specs.Views.{action_value}
+use Rattle.anb_chart.specs.Charts as chart
 use Rattle.anb_explain.specs.Explained.{line}
 use Rattle.anb_explain.proofs.Lines.{counted_one}
 use Rattle.anb_explain.proofs.Loops.{drop_item, item_drop}
 use Rattle.anb_report.specs.Noting.{register_texts}
 use Rattle.anb_report.specs.RoleCharts.{noted_lines, noted_text}
-use Rattle.anb_report.specs.Reporting.{action_lines, action_text, is_own, notes_line, start_lines, unchecked_line}
+use Rattle.anb_report.specs.Reporting.{action_lines, action_text, is_own, notes_line, role_after, role_report, start_lines, unchecked_line}
 
 pub event_put : (old event action peer text new : List ℕ)
     → (((((((((old ++ codes "  event ") ++ event) ++ codes ", action ") ++ action) ++ codes ", ") ++ peer) ++ codes ": ") ++ text) ++ new) ++ 10 ∷ []
@@ -32,6 +34,9 @@ unchecked_some p terms old [] some = absurd (omega (arith, some))
 unchecked_some p terms old (r ∷ rs) some =
     ap (λ l. l ++ 10 ∷ []) (append_assoc old (codes "  takes unchecked: ") (register_texts p terms (r ∷ rs)))
     ∙ append_assoc old (codes "  takes unchecked: " ++ register_texts p terms (r ∷ rs)) (10 ∷ [])
+
+pub note_put : (old from note : List ℕ) → ((((old ++ codes "    Note over ") ++ from) ++ codes ": ") ++ note) ++ 10 ∷ [] ≡ old ++ chart.line (codes "Note over " ++ (from ++ (codes ": " ++ note)))
+note_put old from note = simp append_assoc
 
 -- ---- one action more
 
@@ -85,3 +90,14 @@ module _ (p : ProtocolValue) (actions : List Action) (i : ℕ) (x : Action) (her
 
 pub one_longer : (before : List ActionValue) (a : ActionValue) (i : ℕ) → length before ≡ i → length (before ++ a ∷ []) ≡ i + 1
 one_longer before a i many = omega (arith, length-append before (a ∷ []), many)
+
+-- ---- one role more
+
+pub role_first : (p : ProtocolValue) (codes_of : List CodeValue) (i : ℕ) (x : CodeValue) (before : List CodeValue) → slice_get codes_of i ≡ Some x → length before ≡ i
+    → each_after (role_after p) before (drop i codes_of) ≡ role_report p i x ++ each_after (role_after p) (before ++ x ∷ []) (drop (i + 1) codes_of)
+role_first p codes_of i x before here many =
+    ap (each_after (role_after p) before) (drop_item codes_of i x here)
+    ∙ ap (λ n. role_report p n x ++ each_after (role_after p) (before ++ x ∷ []) (drop (i + 1) codes_of)) many
+
+pub code_longer : (before : List CodeValue) (x : CodeValue) (i : ℕ) → length before ≡ i → length (before ++ x ∷ []) ≡ i + 1
+code_longer before x i many = omega (arith, length-append before (x ∷ []), many)

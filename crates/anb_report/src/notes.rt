@@ -1,5 +1,5 @@
 //! What a role does with each message, in words.
-ghost use Rattle.std.specs.Prelude.{◌≡◌, ◌+◌, ◌≤◌, ◌<◌, ◌^◌, ◌++◌, ◌∷◌, map, length, filter, IfOk, OnOk};
+ghost use Rattle.std.specs.Prelude.{◌≡◌, ◌+◌, ◌≤◌, ◌<◌, ◌^◌, ◌++◌, ◌∷◌, map, length, drop, take, filter, IfOk, OnOk};
 ghost use Rattle.std.specs.List.{AllByRecursion};
 ghost use Rattle.anb_format.specs.Formats.{field_count};
 ghost use Rattle.anb_term.specs.View.{tree_of};
@@ -79,8 +79,8 @@ fn notes_in(
         ∷ notes_from formats.now protocol.now (map tree_of terms.now) 0 instrs.now) }
 {
     let mut out = Vec::new(alloc);
-    let first = &instrs[..to_message(instrs)];
-    out.push(notes_at(alloc, protocol, formats, terms, 0, first)?)?;
+    let notes = notes_at(alloc, protocol, formats, terms, 0, turn(instrs))?;
+    out.push(notes)?;
     put_notes(alloc, &mut out, protocol, formats, terms, instrs)?;
     Ok(out)
 }
@@ -102,7 +102,8 @@ fn put_notes(
 {
     let mut next = 0;
     for (i, instr) in instrs.iter().enumerate() {
-        put_first(alloc, out, protocol, formats, terms, next, &instrs[i..])?;
+        let rest = rest_of(instrs, i);
+        put_first(alloc, out, protocol, formats, terms, next, rest)?;
         next += count_written(formats, instr) as u32;
     }
     Ok(())
@@ -128,15 +129,42 @@ fn put_first(
     if !is_message(&instrs[0]) {
         return Ok(());
     }
-    let count = 1 + to_message(&instrs[1..]);
-    let notes = notes_at(alloc, protocol, formats, terms, next, &instrs[..count])?;
+    let notes = notes_at(alloc, protocol, formats, terms, next, message_turn(instrs))?;
     out.push(notes)?;
     Ok(())
 }
 
+/// The instructions from a place on.
+fn rest_of(instrs: &[Instr], start: usize) -> &[Instr]
+    requires { start ≤ length instrs.now }
+    ensures { result.now ≡ drop start instrs.now }
+{
+    let (_, rest) = instrs.split_at(start);
+    rest
+}
+
+/// The instructions up to the first message.
+fn turn(instrs: &[Instr]) -> &[Instr]
+    ensures { result.now ≡ up_to_message instrs.now }
+{
+    let (front, _) = instrs.split_at(to_message(instrs));
+    front
+}
+
+/// The first instruction, and what stands behind it up to a message.
+fn message_turn(instrs: &[Instr]) -> &[Instr]
+    requires { 0 < length instrs.now }
+    ensures { result.now ≡ take (1 + length (up_to_message (drop 1 instrs.now))) instrs.now }
+{
+    let rest = rest_of(instrs, 1);
+    let (front, _) = instrs.split_at(1 + to_message(rest));
+    front
+}
+
 /// How many instructions there are before the first message.
 fn to_message(instrs: &[Instr]) -> usize
-    ensures { result ≡ length (up_to_message instrs.now) }
+    ensures count { result ≡ length (up_to_message instrs.now) }
+    ensures within { result ≤ length instrs.now }
 {
     for (i, instr) in instrs.iter().enumerate() {
         if is_message(instr) {

@@ -25,6 +25,8 @@ pub fn report(alloc: Global, protocol: &Protocol, codes: &[RoleCode]) -> Result<
     requires { FitRoles protocol.now codes.now }
     ensures { IfOk result (λ text. text ≡ report protocol.now codes.now) }
 {
+    protocols_hold();
+    let _actions = protocol.messages();
     let made = protocol.made(alloc)?;
     let mut out = Vec::new(alloc);
     for (role, code) in codes.iter().enumerate() {
