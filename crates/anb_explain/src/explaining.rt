@@ -1,5 +1,5 @@
 //! A plan and a code for it, explained.
-ghost use Rattle.std.specs.Prelude.{◌≡◌, ◌<◌, ◌++◌, codes, length, map, IfOk};
+ghost use Rattle.std.specs.Prelude.{◌≡◌, ◌<◌, ◌++◌, codes, length, map, IfOk, Some};
 ghost use Rattle.std.specs.List.{AllByRecursion};
 ghost use Rattle.anb_term.specs.View.{tree_of};
 ghost use Rattle.anb_resolve.specs.Plans.{term_in};
@@ -8,7 +8,7 @@ ghost use Rattle.anb_resolve.specs.Views.{plan_event};
 ghost use Rattle.anb_code.specs.Verified.{count_registers};
 ghost use Rattle.anb_compile.specs.Fitting.{FitsRole};
 ghost use Rattle.anb_text.specs.Writing.{IsWritten};
-ghost use Rattle.anb_explain.specs.Explained.{IsExplained, explained_by, line};
+ghost use Rattle.anb_explain.specs.Explained.{IsExplained, explained_by, line, register_terms};
 ghost use Rattle.anb_explain.specs.Explanations.{AreOurs};
 
 use crate::code::write_code;
@@ -39,6 +39,18 @@ impl Model for Explanation {
     ghost coded = { coded_explanation };
 
     ghost view = { λ e. record { plan = e.plan; terms = map tree_of e.terms.items } };
+}
+
+impl Explanation {
+    ghost use Rattle.std.specs.Prelude.{◌≡◌, map};
+    ghost use Rattle.anb_term.specs.View.{tree_of};
+
+    /// The terms of the code's registers, in the order of writing.
+    pub fn terms(&self) -> &[Term]
+        ensures { map tree_of result.now ≡ self.now.terms }
+    {
+        self.terms.as_slice()
+    }
 }
 
 /// What a role does, by its plan and by a code for it, as a text.
@@ -72,6 +84,7 @@ pub fn explanation_of(
     ensures is { IfOk result (λ e. IsExplained protocol.now role code.now
         (explained_by protocol.now e.plan code.now e.terms)) }
     ensures ours { IfOk result (λ e. AreOurs protocol.now code.now e) }
+    ensures terms { IfOk result (λ e. register_terms protocol.now role code.now ≡ Some e.terms) }
 {
     terms_of_plans();
     let plan = protocol.plan(alloc, role)?;

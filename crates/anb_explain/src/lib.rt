@@ -11,5 +11,6 @@ mod explaining;
 mod plan;
 mod writing;
 
+pub use code::count_written;
 pub use examples::{needham_schroeder_is_explained, ping_is_explained};
 pub use explaining::{Explanation, explain, explanation_of, write_explanation};
