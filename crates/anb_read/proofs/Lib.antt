@@ -23,3 +23,4 @@ pub mod Literals
 pub mod Leveled
 pub mod Sizing
 pub mod Either
+pub mod GoingOn
