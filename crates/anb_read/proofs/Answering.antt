@@ -70,7 +70,7 @@ from_cause (Grammar at) front next h = record {
 from_cause (Deep at) front next h = record { deep = true; how = from_level front next.word h.1; is = λ others. ap Deep (sym h.0) }
 from_cause NoMemory front next h = absurd h
 
-stands : (why : ReadNo) (front : List Word) (next : Tok) → IsCause why front next → offset why ≡ next.at
+pub stands : (why : ReadNo) (front : List Word) (next : Tok) → IsCause why front next → offset why ≡ next.at
 stands (Token at) front next h = sym h.0
 stands (Grammar at) front next h = sym h.0
 stands (Deep at) front next h = sym h.0

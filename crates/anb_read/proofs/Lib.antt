@@ -24,3 +24,4 @@ pub mod Leveled
 pub mod Sizing
 pub mod Either
 pub mod GoingOn
+pub mod Standing

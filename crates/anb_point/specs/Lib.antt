@@ -1,0 +1,5 @@
+pub mod Laws
+pub mod Places
+pub mod Pointing
+pub mod Unread
+pub mod Words

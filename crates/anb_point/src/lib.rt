@@ -1,0 +1,10 @@
+//! What is said of a text that is refused: where in the text, why, and what would mend it.
+#![tactic(auto)]
+
+mod placing;
+mod pointing;
+mod unread;
+mod words;
+
+pub use unread::{unread_text, unread_texts_are_unique};
+
