@@ -1,8 +1,11 @@
 //! What is said of a text that is refused: where in the text, why, and what would mend it.
 #![tactic(auto)]
 
+mod items;
 mod placing;
 mod pointing;
+mod spots;
+mod tokens;
 mod unread;
 mod words;
 
