@@ -57,3 +57,8 @@ module _ (ws : List GrammarWord) (i : ℕ) (d : GrammarWord) (within : i < lengt
 
   pub inner_word : (i + 1 ≡ length ws → ⊥) → ((old ++ codes ", ") ++ text) ++ other_words (drop (i + 1) ws) ≡ old ++ other_words (drop i ws)
   inner_word e = next_word false (not_last (drop (i + 1) ws) (omega (arith, within, e, length-drop (i + 1) ws)))
+
+pub overlap_put : (old one first other second : List ℕ)
+    → ((((((old ++ one) ++ codes " begins with") ++ first) ++ codes ", ") ++ other) ++ codes " with") ++ second
+    ≡ old ++ (one ++ (codes " begins with" ++ (first ++ (codes ", " ++ (other ++ (codes " with" ++ second))))))
+overlap_put old one first other second = simp append_assoc

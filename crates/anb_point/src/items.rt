@@ -10,7 +10,7 @@ use anb_base::Text;
 use anb_format::Piece;
 use anb_syntax::{FormatItem, Sort, TypeItem};
 
-fn is_same(a: &[u8], b: &[u8]) -> bool
+pub(crate) fn is_same(a: &[u8], b: &[u8]) -> bool
     ensures { result ≡ bytes_eq a.now b.now }
 {
     a == b

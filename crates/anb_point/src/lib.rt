@@ -2,12 +2,18 @@
 #![tactic(auto)]
 
 mod items;
+mod mends;
 mod placing;
 mod pointing;
 mod spots;
 mod tokens;
 mod unread;
+mod unresolved;
 mod words;
 
 pub use unread::{unread_text, unread_texts_are_unique};
+pub use unresolved::{unresolved_text, unresolved_texts_are_unique};
+
+#[cfg(test)]
+mod tests;
 
