@@ -1,5 +1,5 @@
 -- Tokens of a text, and what is found among them.
-use Rattle.std.proofs.Common.{◌≡◌, ◌≢◌, ℕ, ◌+◌, ◌-◌, ◌<◌, List, [], ◌∷◌, length, drop, take, get_or, map, Bool, true, false, refl, ap, sym, ◌∙◌, arith, rules, length-drop}
+use Rattle.std.proofs.Common.{◌≡◌, ◌≢◌, ℕ, ◌+◌, ◌-◌, ◌<◌, List, [], ◌∷◌, ◌++◌, length, drop, take, get_or, map, Bool, true, false, refl, ap, sym, ◌∙◌, arith, rules, length-drop}
 use Rattle.std.specs.Prelude.{◌==◌}
 use Rattle.std.proofs.lemmas.List.{drop_more, take_all}
 use Rattle.anb_syntax.specs.Lexing.{Lexes}
@@ -9,8 +9,14 @@ use Rattle.anb_syntax.specs.Words.{Tok}
 use Rattle.anb_syntax.specs.declared.tokens.Next.{Next}
 use Rattle.anb_syntax.specs.declared.tokens.Next.TheVariants as next
 use Rattle.anb_syntax.specs.declared.tokens.Token.{Token}
+use Rattle.anb_syntax.proofs.Unique.{lexes_once}
+use Rattle.anb_syntax.specs.Grammar.{Narration}
+use Rattle.anb_resolve.specs.declared.refusals.ResolveNo.{ResolveNo}
 use Rattle.anb_read.proofs.Lexed.{lexed_end, lexed_bad}
-use Rattle.anb_point.specs.Spots.{is_spot, nth}
+use Rattle.anb_point.specs.Mends.{mend}
+use Rattle.anb_point.specs.Pointing.{pointed}
+use Rattle.anb_point.specs.Spots.{is_spot, nth, spot}
+use Rattle.anb_point.specs.Unresolved.{IsUnresolvedText, offset_in}
 use Rattle.anb_point.specs.declared.spots.Follower.{Follower}
 
 pub last_token : (x : List ℕ) (from : ℕ) (n : Next) → IsNext x from n → ((t : Token) → n ≢ next.Token t) → (last : Tok) × Lexes from (drop from x) (last ∷ [])
@@ -35,3 +41,27 @@ module _ (text x : List ℕ) (b : Follower) (all : List Token) (i : ℕ) (d : To
     where
       not_zero : (k : ℕ) → (k ≡ 0 → ⊥) → (k == 0) ≡ false
       not_zero k some = search (rules, some)
+
+-- ---- one text
+
+last_apart : (ts us : List Tok) (t u : Tok) → ts ++ t ∷ [] ≡ us ++ u ∷ [] → ts ≡ us
+last_apart [] [] t u e = refl
+last_apart [] (v ∷ us) t u e = absurd (not_nil us u (cc e))
+  where
+    not_nil : (us : List Tok) (u : Tok) → [] ≡ us ++ u ∷ [] → ⊥
+    not_nil [] u e = cc e
+    not_nil (v ∷ us) u e = cc e
+last_apart (v ∷ ts) [] t u e = absurd (not_nil ts t (cc e))
+  where
+    not_nil : (ts : List Tok) (t : Tok) → ts ++ t ∷ [] ≡ [] → ⊥
+    not_nil [] t e = cc e
+    not_nil (v ∷ ts) t e = cc e
+last_apart (v ∷ ts) (w ∷ us) t u e =
+    let first : v ≡ w = cc e in
+    let others : ts ++ t ∷ [] ≡ us ++ u ∷ [] = cc e in
+    ap (λ z. z ∷ ts) first ∙ ap (λ (l : List Tok). w ∷ l) (last_apart ts us t u others)
+
+pub resolved_once : (name x : List ℕ) (n : Narration) (why : ResolveNo) (reason text other : List ℕ) → IsUnresolvedText name x n why reason text → IsUnresolvedText name x n why reason other → text ≡ other
+resolved_once name x n why reason text other a b =
+    let same = last_apart a.tokens b.tokens a.has.last b.has.last (lexes_once 0 x (a.tokens ++ a.has.last ∷ []) (b.tokens ++ b.has.last ∷ []) a.has.lexes b.has.lexes) in
+    a.is ∙ ap (λ (ts : List Tok). pointed name x (offset_in x (spot n why ts)) reason (mend n why (spot n why ts))) same ∙ sym b.is

@@ -1,5 +1,5 @@
 -- Texts that are put together piece by piece.
-use Rattle.std.proofs.Common.{◌≡◌, ℕ, suc, ◌+◌, ◌-◌, ◌<◌, List, [], ◌∷◌, ◌++◌, length, drop, get_or, Bool, true, false, cond, refl, ap, sym, ◌∙◌, arith, append_assoc, length-drop}
+use Rattle.std.proofs.Common.{◌≡◌, ℕ, suc, ◌+◌, ◌-◌, ◌<◌, List, [], ◌∷◌, ◌++◌, length, drop, get_or, Bool, true, false, refl, ap, sym, ◌∙◌, arith, append_assoc, length-drop}
 use Rattle.std.specs.Prelude.{codes, replicate}
 use Rattle.std.proofs.lemmas.List.{append-nil, drop_more}
 use Rattle.anb_read.specs.declared.grammar.GrammarWord.{GrammarWord}
@@ -62,3 +62,9 @@ pub overlap_put : (old one first other second : List ℕ)
     → ((((((old ++ one) ++ codes " begins with") ++ first) ++ codes ", ") ++ other) ++ codes " with") ++ second
     ≡ old ++ (one ++ (codes " begins with" ++ (first ++ (codes ", " ++ (other ++ (codes " with" ++ second))))))
 overlap_put old one first other second = simp append_assoc
+
+pub sort_put : (old name text : List ℕ) → ((old ++ name) ++ codes " is declared as ") ++ text ≡ old ++ (name ++ (codes " is declared as " ++ text))
+sort_put old name text = simp append_assoc
+
+pub unknown_put : (old name text : List ℕ) → ((old ++ name) ++ codes " isn't declared") ++ text ≡ old ++ (name ++ (codes " isn't declared" ++ text))
+unknown_put old name text = simp append_assoc

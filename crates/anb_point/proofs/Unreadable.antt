@@ -1,6 +1,5 @@
 -- What is said of texts that are no narration.
-use Rattle.std.proofs.Common.{◌≡◌, ◌≢◌, ℕ, ◌+◌, ◌≤◌, List, [], ◌∷◌, ◌++◌, length, take, drop, Option, Some, None, refl, sym, ap, ◌∙◌, subst, inl, inr, arith, append_assoc}
-use Rattle.std.specs.Prelude.{codes}
+use Rattle.std.proofs.Common.{◌≡◌, ◌≢◌, ℕ, ◌+◌, List, length, drop, Some, None, refl, sym, ap, ◌∙◌, arith}
 use Rattle.std.proofs.lemmas.List.{drop_all}
 use Rattle.anb_syntax.specs.Lexing.{gap_len, token_here}
 use Rattle.anb_syntax.specs.Nexts.{IsNext}
@@ -8,14 +7,13 @@ use Rattle.anb_syntax.specs.Words.{Word}
 use Rattle.anb_syntax.specs.declared.tokens.Next.{Next}
 use Rattle.anb_syntax.specs.declared.tokens.Next.TheVariants as next
 use Rattle.anb_syntax.specs.declared.tokens.Token.{Token}
-use Rattle.anb_read.specs.Laws.{ExpectedAreUnique}
 use Rattle.anb_read.specs.Refusals.{offset, IsRefusal}
 use Rattle.anb_read.specs.declared.refusal.ReadNo.{ReadNo}
 use Rattle.anb_read.specs.declared.refusal.ReadNo.TheVariants as reading
 use Rattle.anb_read.proofs.GoingOn.{expected_once}
 use Rattle.anb_read.proofs.Standing.{refusal_begins}
 use Rattle.anb_point.specs.Pointing.{pointed}
-use Rattle.anb_point.specs.Unread.{AreWords, IsUnreadText, Mends, reason, unexpected}
+use Rattle.anb_point.specs.Unread.{AreWords, IsUnreadText, Mends, reason}
 use Rattle.anb_point.specs.Words.{expected_text}
 
 words_once : (x : List ℕ) (why : ReadNo) (mend other : List ℕ) → AreWords x why mend → AreWords x why other → mend ≡ other
@@ -58,4 +56,3 @@ module _ (x : List ℕ) (at : ℕ) (r : IsRefusal x (reading.Grammar at)) where
   none_there (next.Token t) i no_token = absurd (no_token t refl)
   none_there next.End i no_token = ap token_here (drop_all at x (omega (arith, nothing_at (length x) i)))
   none_there (next.Bad n) i no_token = ap (λ k. token_here (drop k x)) (sym (nothing_at n (sym i.0))) ∙ i.2
-

@@ -1,5 +1,5 @@
 -- What a narration declares of a name.
-use Rattle.std.specs.Prelude.{ℕ, List, [], ◌∷◌, Bool, true, false, Option, Some, None, ◌||◌, if◌then◌else◌}
+use Rattle.std.specs.Prelude.{ℕ, List, [], ◌∷◌, Bool, false, Option, Some, None, ◌||◌, if◌then◌else◌}
 use Rattle.std.specs.Str.{bytes_eq}
 use Rattle.anb_format.specs.declared.pieces.Piece.{Piece}
 use Rattle.anb_syntax.specs.Grammar.{FormatItem, TypeItem}

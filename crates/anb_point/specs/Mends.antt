@@ -1,5 +1,5 @@
 -- What would mend a narration that isn't well formed.
-use Rattle.std.specs.Prelude.{◌≡◌, ℕ, List, [], ◌∷◌, ◌++◌, length, Bool, true, false, ◌==◌, ◌||◌, codes, decimal, Option, Some, None, if◌then◌else◌}
+use Rattle.std.specs.Prelude.{◌≡◌, ℕ, List, [], ◌∷◌, ◌++◌, length, Bool, false, ◌==◌, ◌||◌, codes, decimal, Option, Some, None, if◌then◌else◌}
 use Rattle.std.specs.Str.{bytes_eq}
 use Rattle.anb_format.specs.Formats.{field_count}
 use Rattle.anb_format.specs.declared.pieces.FormatNo.{FormatNo}

@@ -1,5 +1,5 @@
 -- A message at a place of a text.
-use Rattle.std.specs.Prelude.{ℕ, ◌-◌, List, ◌∷◌, ◌++◌, length, map, take, replicate, ◌==◌, codes, decimal, max, if◌then◌else◌}
+use Rattle.std.specs.Prelude.{ℕ, ◌-◌, List, ◌++◌, length, map, replicate, ◌==◌, codes, decimal, if◌then◌else◌}
 use Rattle.anb_point.specs.Places.{place_at, before_at, line_at}
 
 -- a tab stands as it is, and a space for any other byte

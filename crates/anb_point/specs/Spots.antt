@@ -1,11 +1,9 @@
 -- Where in a text stands what its narration is refused for. All of it is said of the tokens of the text.
-use Rattle.std.specs.Prelude.{◌≡◌, ℕ, ◌+◌, ◌-◌, List, [], ◌∷◌, ◌++◌, Bool, true, false, ◌==◌, ◌&&◌, ◌||◌, not, Option, Some, None, if◌then◌else◌}
-use Rattle.std.specs.Str.{bytes_eq}
-use Rattle.anb_syntax.specs.Grammar.{FormatItem, Narration}
+use Rattle.std.specs.Prelude.{ℕ, ◌+◌, ◌-◌, List, [], ◌∷◌, ◌++◌, Bool, true, false, ◌==◌, ◌&&◌, ◌||◌, not, Option, Some, None, if◌then◌else◌}
+use Rattle.anb_syntax.specs.Grammar.{Narration}
 use Rattle.anb_syntax.specs.Lexing.{Lexes}
-use Rattle.anb_syntax.specs.Words.{Word, name, literal, sign, end, bad, Tok, head, tail, place, word_eqb, types_word, formats_word, knowledge_word, actions_word}
+use Rattle.anb_syntax.specs.Words.{Word, name, sign, Tok, head, tail, word_eqb, types_word, formats_word, knowledge_word, actions_word}
 use Rattle.anb_format.specs.Formats.{field_count}
-use Rattle.anb_format.specs.declared.pieces.Piece.{Piece}
 use Rattle.anb_syntax.specs.declared.narration.Sort.{Sort}
 use Rattle.anb_syntax.specs.declared.narration.Sort.TheVariants.{Agent}
 use Rattle.anb_point.specs.Items.{is_format, pieces_of, sort_of}

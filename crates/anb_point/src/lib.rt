@@ -16,4 +16,3 @@ pub use unresolved::{unresolved_text, unresolved_texts_are_unique};
 
 #[cfg(test)]
 mod tests;
-

@@ -55,12 +55,7 @@ fn put_heading(
 }
 
 /// Appends the source line, and the sign below what follows these bytes of it.
-fn put_shown(
-    out: &mut Vec<u8>,
-    line: usize,
-    before: &[u8],
-    source: &[u8],
-) -> Result<(), NoMemory>
+fn put_shown(out: &mut Vec<u8>, line: usize, before: &[u8], source: &[u8]) -> Result<(), NoMemory>
     ensures { OnOk result (out.new.items
         ≡ out.old.items ++ shown line before.now source.now) }
 {

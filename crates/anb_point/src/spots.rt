@@ -169,16 +169,11 @@ fn is_spot(name: &[u8], behind: Follower, text: &[u8], tokens: &[Token]) -> bool
 }
 
 /// The tokens from the k-th such place on, counted from 0.
-fn nth<'t>(
-    name: &[u8],
-    behind: Follower,
-    k: u32,
-    text: &[u8],
-    tokens: &'t [Token],
-) -> &'t [Token]
+fn nth<'t>(name: &[u8], behind: Follower, k: u32, text: &[u8], tokens: &'t [Token]) -> &'t [Token]
     requires { length tokens.now ≤ SMALL_FILE }
-    ensures { map (tok_of text.now) result.now
+    ensures tokens { map (tok_of text.now) result.now
         ≡ nth_in name.now behind k (map (tok_of text.now) tokens.now) }
+    ensures most { length result.now ≤ length tokens.now }
 {
     let mut left = k;
     for i in 0..tokens.len() {
@@ -246,8 +241,9 @@ fn used<'t>(text: &[u8], tokens: &'t [Token]) -> &'t [Token]
 /// A name a second time.
 fn second<'t>(name: &[u8], text: &[u8], tokens: &'t [Token]) -> &'t [Token]
     requires { length tokens.now ≤ SMALL_FILE }
-    ensures { map (tok_of text.now) result.now
+    ensures tokens { map (tok_of text.now) result.now
         ≡ second_in name.now (map (tok_of text.now) tokens.now) }
+    ensures most { length result.now ≤ length tokens.now }
 {
     let types = typed(text, tokens);
     let twice = nth(name, anything(), 1, text, types);
@@ -268,17 +264,25 @@ fn second<'t>(name: &[u8], text: &[u8], tokens: &'t [Token]) -> &'t [Token]
 /// The action of a number that counts from 1, by its sender.
 fn action<'t>(number: u32, text: &[u8], tokens: &'t [Token]) -> &'t [Token]
     requires { length tokens.now ≤ SMALL_FILE }
-    ensures { map (tok_of text.now) result.now
+    ensures tokens { map (tok_of text.now) result.now
         ≡ action_in number (map (tok_of text.now) tokens.now) }
+    ensures most { length result.now ≤ length tokens.now }
 {
-    nth(b"", a_sender(), number.saturating_sub(1), text, used(text, tokens))
+    nth(
+        b"",
+        a_sender(),
+        number.saturating_sub(1),
+        text,
+        used(text, tokens),
+    )
 }
 
 /// The first format or action that is too much, or the whole text.
 fn limit_spot<'t>(kind: Kind, text: &[u8], tokens: &'t [Token]) -> &'t [Token]
     requires { length tokens.now ≤ SMALL_FILE }
-    ensures { map (tok_of text.now) result.now
+    ensures tokens { map (tok_of text.now) result.now
         ≡ limit_spot kind (map (tok_of text.now) tokens.now) }
+    ensures most { length result.now ≤ length tokens.now }
 {
     match kind {
         Kind::Formats => nth(b"", a_format(), 64, text, tokens),
@@ -295,16 +299,15 @@ pub(crate) fn spot<'t>(
     tokens: &'t [Token],
 ) -> &'t [Token]
     requires { length tokens.now ≤ SMALL_FILE }
-    ensures { map (tok_of text.now) result.now
+    ensures tokens { map (tok_of text.now) result.now
         ≡ spot_in (narration_of narration.now) why.now (map (tok_of text.now) tokens.now) }
+    ensures most { length result.now ≤ length tokens.now }
 {
     let used = used(text, tokens);
     match why {
         ResolveNo::Limit(kind, _) => limit_spot(*kind, text, tokens),
         ResolveNo::Twice(name) => second(name.as_str().as_bytes(), text, tokens),
-        ResolveNo::Unknown(name) => {
-            nth(name.as_str().as_bytes(), anything(), 0, text, used)
-        }
+        ResolveNo::Unknown(name) => { nth(name.as_str().as_bytes(), anything(), 0, text, used) }
         ResolveNo::WrongSort(name) => {
             let name = name.as_str().as_bytes();
             nth(name, misused(narration, name), 0, text, used)

@@ -69,7 +69,8 @@ fn refusals_of_reading(rt: HostRuntime) -> Result<(), Fail> {
 }
 
 /// Declarations in front of an action, which is in line 11.
-const HEAD: &str = "Protocol: P;\nTypes:\n  Agent A, B;\n  Number NA;\nFormats:\n  m1 = \"M\" len len len;\n  \
+const HEAD: &str =
+    "Protocol: P;\nTypes:\n  Agent A, B;\n  Number NA;\nFormats:\n  m1 = \"M\" len len len;\n  \
      ok = \"K\";\nKnowledge:\n  A: B;\nActions:\n";
 
 #[test]

@@ -34,7 +34,11 @@ fn bytes_of(text: &[u8], token: Token) -> &[u8]
 {
     let (at, len) = (token.at as usize, token.len as usize);
     let rest = if at <= text.len() { &text[at..] } else { &[] };
-    if len <= rest.len() { &rest[..len] } else { rest }
+    if len <= rest.len() {
+        &rest[..len]
+    } else {
+        rest
+    }
 }
 
 /// Whether a token is this word.

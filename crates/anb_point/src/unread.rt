@@ -14,12 +14,7 @@ use std::alloc::Global;
 
 /// What is said of a text that is refused, which is in a file of this name. It takes the time of about
 /// thirty reads of what stands before the refused token.
-pub fn unread_text(
-    alloc: Global,
-    name: &Text,
-    text: &[u8],
-    why: ReadNo,
-) -> Result<Bytes, NoMemory>
+pub fn unread_text(alloc: Global, name: &Text, text: &[u8], why: ReadNo) -> Result<Bytes, NoMemory>
     requires size { length text.now ≤ SMALL_FILE }
     requires refused { IsRefusal text.now why }
     ensures { IfOk result (IsUnreadText name.now text.now why) }

@@ -1,6 +1,6 @@
 -- What the reader finds out about the words that it expects.
 use Rattle.std.proofs.Common.{◌≡◌, ℕ, ◌+◌, ◌<◌, ◌≤◌, List, [], ◌∷◌, ◌++◌, length, take, drop, get_or, Bool, true, false, Result, Ok, Err, refl, sym, ap, ◌∙◌, subst, inl, inr, arith, append_assoc, length-append, rules}
-use Rattle.std.specs.Prelude.{nat_lt}
+use Rattle.std.specs.Prelude.{nat_lt, not, ◌&&◌}
 use Rattle.std.specs.List.{prefix_len}
 use Rattle.std.proofs.lemmas.List.{take-map, take_more}
 use Rattle.std.proofs.lemmas.List.Sums.{prefix_len-drop_yes, prefix_len-drop_no, prefix_len-drop_all}
@@ -12,8 +12,8 @@ use Rattle.anb_syntax.proofs.Unique.{lexes_once}
 use Rattle.anb_read.specs.declared.grammar.GrammarWord.{GrammarWord}
 use Rattle.anb_read.specs.declared.grammar.GrammarWord.TheVariants as words
 use Rattle.anb_read.specs.declared.refusal.ReadNo.{ReadNo}
-use Rattle.anb_read.specs.Expected.{word_of, grammar_words, IsBefore, Chosen, AreExpected}
-use Rattle.anb_read.specs.Expecting.{is_earlier, before, passes, given, goes_on}
+use Rattle.anb_read.specs.Expected.{word_of, grammar_words, is_name_too, IsBefore, Chosen, Expects, AreExpected}
+use Rattle.anb_read.specs.Expecting.{is_earlier, before, passes, given, goes_on, expects}
 use Rattle.anb_read.specs.Places.{tok_of, toks}
 use Rattle.anb_read.specs.declared.places.Place.{Place}
 use Rattle.anb_read.specs.declared.places.Place.TheVariants as places
@@ -246,37 +246,49 @@ word_good words.End = refl
 
 -- what was answered of these words
 abbrev pub Answered : List Tok → List GrammarWord → List GrammarWord → Type 0
-Answered ts all words = Chosen (λ g. goes_on ts (word_of g) ≡ true) all words
+Answered ts all words = Chosen (λ g. expects ts g ≡ true) all words
 
-module _ (ts : List Tok) (all words : List GrammarWord) (n : ℕ) (d : GrammarWord) (within : n < length all) (b : Bool) (is : b ≡ goes_on ts (word_of (get_or all n d))) (so_far : Answered ts (take n all) words) where
+module _ (ts : List Tok) (all words : List GrammarWord) (n : ℕ) (d : GrammarWord) (within : n < length all) (b : Bool) (is : b ≡ expects ts (get_or all n d)) (so_far : Answered ts (take n all) words) where
   pub answered_yes : b ≡ true → (now : List GrammarWord) → now ≡ words ++ get_or all n d ∷ [] → Answered ts (take (n + 1) all) now
-  answered_yes e now h = rw (h, take_more all n d within) (chosen_yes (λ g. goes_on ts (word_of g) ≡ true) (take n all) words (get_or all n d) so_far (sym is ∙ e))
+  answered_yes e now h = rw (h, take_more all n d within) (chosen_yes (λ g. expects ts g ≡ true) (take n all) words (get_or all n d) so_far (sym is ∙ e))
 
   pub answered_no : b ≡ false → Answered ts (take (n + 1) all) words
-  answered_no e = rw (take_more all n d within) (chosen_no (λ g. goes_on ts (word_of g) ≡ true) (take n all) words (get_or all n d) so_far (λ yes. cc (sym is ∙ e, yes)))
+  answered_no e = rw (take_more all n d within) (chosen_no (λ g. expects ts g ≡ true) (take n all) words (get_or all n d) so_far (λ yes. cc (sym is ∙ e, yes)))
 
 chosen_as : {X : Type 0} (P Q : X → Type 0) (xs chosen : List X) → ((x : X) → P x → Q x) → ((x : X) → (P x → ⊥) → Q x → ⊥) → Chosen P xs chosen → Chosen Q xs chosen
 chosen_as P Q [] chosen f g h = h
 chosen_as P Q (x ∷ xs) chosen f g (inl h) = inl (f x h.0, (h.1.0, h.1.1, chosen_as P Q xs h.1.0 f g h.1.2))
 chosen_as P Q (x ∷ xs) chosen f g (inr h) = inr (g x h.0, chosen_as P Q xs chosen f g h.1)
 
-not_true : (b : Bool) → (b ≡ true → ⊥) → b ≡ false
-not_true true h = absurd (h refl)
-not_true false h = refl
+-- what is answered of a word and of names tells whether it is expected
+module _ (ts : List Tok) (front : List Word) (says : (g : GrammarWord) (b : Bool) → b ≡ goes_on ts (word_of g) → Decided b (Continues front (word_of g))) (g : GrammarWord) where
+  yes_expected : (too named on : Bool) → is_name_too g ≡ too → named ≡ goes_on ts (word_of words.Name) → on ≡ goes_on ts (word_of g) → (not (too && named) && on) ≡ true → Expects front g
+  yes_expected false named true e h k is = (says g true k, λ i. cc (e, i))
+  yes_expected true false true e h k is = (says g true k, λ i c. says words.Name false h c)
+  yes_expected false named false e h k is = cc is
+  yes_expected true false false e h k is = cc is
+  yes_expected true true on e h k is = cc is
+
+  not_expected : (too named on : Bool) → is_name_too g ≡ too → named ≡ goes_on ts (word_of words.Name) → on ≡ goes_on ts (word_of g) → ((not (too && named) && on) ≡ true → ⊥) → Expects front g → ⊥
+  not_expected false named true e h k is x = is refl
+  not_expected true false true e h k is x = is refl
+  not_expected too named false e h k is x = says g false k x.0
+  not_expected true true true e h k is x = x.1 e (says words.Name true h)
 
 -- what was answered of all words is what is expected
 pub all_answered : (x : List ℕ) (ts : List Tok) → Lexes 0 x ts → (why : ReadNo) → IsRefusal x why → (words : List GrammarWord) → Answered (before (offset why) ts) grammar_words words → AreExpected x why words
-all_answered x ts l why r words h =
+all_answered x ts l why r chosen h =
     let i = here x ts l why r.cause in
     let at : i.next.at ≡ offset why = sym i.at in
-    let says : (g : GrammarWord) (b : Bool) → b ≡ goes_on (before (offset why) ts) (word_of g) → Decided b (Continues i.front (word_of g))
+    let w = before (offset why) ts in
+    let says : (g : GrammarWord) (b : Bool) → b ≡ goes_on w (word_of g) → Decided b (Continues i.front (word_of g))
     = λ g. decided x ts l why r i.front i.next i.others i.refused.begins at (word_of g) (word_good g) in
     record {
       front = i.front;
       before = record { tokens = ts; lexes = l; next = i.next; others = i.others; begins = i.refused.begins; stands = at };
-      chosen = chosen_as (λ g. goes_on (before (offset why) ts) (word_of g) ≡ true) (λ g. Continues i.front (word_of g)) grammar_words words
-          (λ g e. says g true (sym e))
-          (λ g n. says g false (sym (not_true (goes_on (before (offset why) ts) (word_of g)) n)))
+      chosen = chosen_as (λ g. expects w g ≡ true) (Expects i.front) grammar_words chosen
+          (λ g. yes_expected w i.front says g (is_name_too g) (goes_on w (word_of words.Name)) (goes_on w (word_of g)) refl refl refl)
+          (λ g. not_expected w i.front says g (is_name_too g) (goes_on w (word_of words.Name)) (goes_on w (word_of g)) refl refl refl)
           h;
     }
 
@@ -300,5 +312,5 @@ module _ (x : List ℕ) (at : ℕ) (front other : List Word) (b : IsBefore x at 
 pub expected_once : (x : List ℕ) (why : ReadNo) (chosen others : List GrammarWord) → AreExpected x why chosen → AreExpected x why others → chosen ≡ others
 expected_once x why chosen others a b =
     let same = one_front x (offset why) a.front b.front a.before b.before in
-    let P : List Word → Type 0 = λ f. Chosen (λ w. Continues f (word_of w)) grammar_words others in
-    chosen_once (λ w. Continues a.front (word_of w)) grammar_words chosen others a.chosen (subst P (sym same) b.chosen)
+    let P : List Word → Type 0 = λ f. Chosen (Expects f) grammar_words others in
+    chosen_once (Expects a.front) grammar_words chosen others a.chosen (subst P (sym same) b.chosen)

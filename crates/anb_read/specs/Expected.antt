@@ -1,5 +1,5 @@
 -- The words of the grammar, and those of them with which a text could have gone on where it is refused.
-use Rattle.std.specs.Prelude.{◌≡◌, ◌⊎◌, ℕ, List, [], ◌∷◌, codes}
+use Rattle.std.specs.Prelude.{◌≡◌, ◌⊎◌, ℕ, List, [], ◌∷◌, Bool, true, false, codes}
 use Rattle.anb_base.specs.declared.content.Suite.TheVariants as suite
 use Rattle.anb_format.specs.declared.pieces.FieldKind.TheVariants as kind
 use Rattle.anb_syntax.specs.declared.narration.Sort.TheVariants as sort
@@ -54,6 +54,21 @@ grammar_words =
     ∷ words.Colon ∷ words.Equals ∷ words.Arrow ∷ words.Open ∷ words.Comma ∷ words.Close ∷ words.Semicolon
     ∷ words.Types ∷ words.Formats ∷ words.Knowledge ∷ words.Actions ∷ words.Goals ∷ words.End ∷ []
 
+-- words of the grammar that are names at other places
+abbrev pub is_name_too : GrammarWord → Bool
+is_name_too words.Sha256 = true
+is_name_too words.Sha512 = true
+is_name_too words.Len = true
+is_name_too words.Net = true
+is_name_too words.Hex = true
+is_name_too words.Rest = true
+is_name_too _ = false
+
+-- Some narration goes on with the word behind these. A word that is a name at other places is expected
+-- as itself only where names aren't.
+abbrev pub Expects : List Word → GrammarWord → Type 0
+Expects front w = Continues front (word_of w) × (is_name_too w ≡ true → Continues front (word_of words.Name) → ⊥)
+
 -- these are the words of the text before the token at this offset
 pub record IsBefore (x : List ℕ) (at : ℕ) (front : List Word) : Type 0 where
   pub tokens : List Tok
@@ -73,4 +88,4 @@ Chosen P (x ∷ xs) chosen = (P x × ((rest : List _) × (chosen ≡ x ∷ rest)
 pub record AreExpected (x : List ℕ) (why : ReadNo) (words : List GrammarWord) : Type 0 where
   pub front : List Word
   pub before : IsBefore x (offset why) front
-  pub chosen : Chosen (λ g. Continues front (word_of g)) grammar_words words
+  pub chosen : Chosen (Expects front) grammar_words words

@@ -1,7 +1,10 @@
 -- How the reader finds out what it expects.
-use Rattle.std.specs.Prelude.{ℕ, List, [], ◌∷◌, ◌++◌, take, nat_lt, Bool, true, false, Result, Err}
+use Rattle.std.specs.Prelude.{ℕ, List, [], ◌∷◌, ◌++◌, take, nat_lt, not, ◌&&◌, Bool, true, false, Result, Err}
 use Rattle.std.specs.List.{prefix_len}
 use Rattle.anb_syntax.specs.Words.{Word, Tok}
+use Rattle.anb_read.specs.Expected.{is_name_too, word_of}
+use Rattle.anb_read.specs.declared.grammar.GrammarWord.{GrammarWord}
+use Rattle.anb_read.specs.declared.grammar.GrammarWord.TheVariants.{Name}
 use Rattle.anb_read.specs.Productions.{narration_at}
 use Rattle.anb_read.specs.declared.refusal.ReadNo.{ReadNo}
 use Rattle.anb_read.specs.declared.refusal.ReadNo.TheVariants.{Grammar}
@@ -23,3 +26,6 @@ given x = record { word = x; at = 0 }
 
 abbrev pub goes_on : List Tok → Word → Bool
 goes_on w x = passes (narration_at 64 (w ++ given x ∷ []))
+
+abbrev pub expects : List Tok → GrammarWord → Bool
+expects w g = not (is_name_too g && goes_on w (word_of Name)) && goes_on w (word_of g)

@@ -4,9 +4,10 @@ ghost use Rattle.std.specs.Prelude.{◌≡◌, ◌≤◌, IfOk, List, ℕ, lengt
 ghost use Rattle.std.specs.List.{prefix_len};
 ghost use Rattle.anb_base.specs.declared.TheConstants.{SMALL_FILE};
 ghost use Rattle.anb_read.specs.Expected.{AreExpected, word_of};
-ghost use Rattle.anb_read.specs.Expecting.{goes_on, before};
+ghost use Rattle.anb_read.specs.Expecting.{before, expects, goes_on};
 ghost use Rattle.anb_read.specs.Laws.{ExpectedAreUnique};
 ghost use Rattle.anb_read.specs.Places.{toks};
+ghost use Rattle.anb_read.specs.declared.grammar.GrammarWord.TheVariants as grammar;
 ghost use Rattle.anb_read.specs.Refusals.{IsRefusal};
 
 use crate::grammar::{GrammarWord, grammar_words};
@@ -25,9 +26,10 @@ pub fn expected(alloc: Global, text: &[u8], why: ReadNo) -> Result<Vec<GrammarWo
 {
     let all = places(alloc, text)?;
     let front = before(&all, why.offset());
+    let named = goes_on(alloc, text, front, GrammarWord::Name)?;
     let mut words = Vec::new(alloc);
     for word in grammar_words() {
-        if goes_on(alloc, text, front, word)? {
+        if expects(alloc, text, front, named, word)? {
             words.push(word)?;
         }
     }
@@ -43,6 +45,24 @@ fn before(places: &[Place], at: u32) -> &[Place]
         n += 1;
     }
     &places[..n]
+}
+
+/// Whether a word is expected behind these tokens, where it is told whether names are.
+fn expects(
+    alloc: Global,
+    text: &[u8],
+    front: &[Place],
+    named: bool,
+    word: GrammarWord,
+) -> Result<bool, NoMemory>
+    requires size { length text.now ≤ SMALL_FILE }
+    requires named { named ≡ goes_on (toks text.now front.now) (word_of grammar.Name) }
+    ensures { IfOk result (λ yes. yes ≡ expects (toks text.now front.now) word) }
+{
+    if word.is_name_too() && named {
+        return Ok(false);
+    }
+    goes_on(alloc, text, front, word)
 }
 
 /// Whether some narration begins with these tokens and this word.

@@ -1,7 +1,7 @@
 //! The words of the grammar.
 
 ghost use Rattle.std.specs.Prelude.{◌≡◌, List, ℕ};
-ghost use Rattle.anb_read.specs.Expected.{grammar_words, word_of};
+ghost use Rattle.anb_read.specs.Expected.{grammar_words, is_name_too, word_of};
 ghost use Rattle.anb_read.specs.Places.{word_in};
 
 use crate::places::Word;
@@ -81,6 +81,17 @@ pub(crate) fn grammar_words() -> [GrammarWord; 30]
 }
 
 impl GrammarWord {
+    /// Whether the word is a name at other places.
+    pub(crate) fn is_name_too(self) -> bool
+        ensures { result ≡ is_name_too self }
+    {
+        match self {
+            GrammarWord::Sha256 | GrammarWord::Sha512 => true,
+            GrammarWord::Len | GrammarWord::Net | GrammarWord::Hex | GrammarWord::Rest => true,
+            _ => false,
+        }
+    }
+
     /// The word, and for names and literals one of them.
     pub(crate) fn word(self) -> Word<'static>
         ensures { (text : List ℕ) → word_in text result ≡ word_of self }

@@ -1,5 +1,5 @@
 use Rattle.std.proofs.Common.{◌≡◌, ◌+◌, ◌≤◌, drop}
-use Rattle.anb_point.specs.Places.{place_after, place_at}
+use Rattle.anb_point.specs.Places.{place_after}
 use Rattle.anb_point.proofs.placing.place.Given as goal
 
 abbrev pub invariant-loop-b : goal.invariant-loop-b

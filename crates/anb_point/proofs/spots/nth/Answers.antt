@@ -1,4 +1,4 @@
-use Rattle.std.proofs.Common.{◌≡◌, ◌+◌, ap, sym, ◌∙◌, drop, map}
+use Rattle.std.proofs.Common.{◌+◌, ap, ◌∙◌, drop, map}
 use Rattle.anb_syntax.specs.Views.{tok_of}
 use Rattle.anb_syntax.specs.declared.tokens.TokenKind.TheVariants.{Colon}
 use Rattle.anb_point.specs.Spots.{nth}

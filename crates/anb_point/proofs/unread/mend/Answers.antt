@@ -1,7 +1,4 @@
-use Rattle.std.proofs.Common.{ap, ◌∙◌, subst}
-use Rattle.std.proofs.Common.{List}
-use Rattle.anb_read.specs.Expected.{AreExpected}
-use Rattle.anb_read.specs.declared.grammar.GrammarWord.{GrammarWord}
+use Rattle.std.proofs.Common.{ap, ◌∙◌}
 use Rattle.anb_point.specs.Words.{expected_text}
 use Rattle.anb_point.proofs.Unreadable.{never_memory, words_mend}
 use Rattle.anb_point.proofs.unread.mend.Goals as goal

@@ -2,7 +2,6 @@ use Rattle.std.proofs.Common.{◌≡◌, ◌+◌, ◌-◌, ◌++◌, take, drop,
 use Rattle.std.specs.Prelude.{codes}
 use Rattle.anb_read.specs.declared.refusal.ReadNo.TheVariants.{Grammar}
 use Rattle.anb_read.proofs.Standing.{refusal_within}
-use Rattle.anb_syntax.specs.Lexing.{token_here}
 use Rattle.anb_point.specs.Unread.{unexpected}
 use Rattle.anb_point.proofs.Unreadable.{token_there, none_there}
 use Rattle.anb_point.proofs.unread.unexpected.Goals as goal

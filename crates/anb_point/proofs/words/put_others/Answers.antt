@@ -1,6 +1,5 @@
-use Rattle.std.proofs.Common.{◌≡◌, ◌+◌, ◌++◌, List, ℕ, drop, get_or, ap, sym, ◌∙◌, arith, subst}
-use Rattle.std.specs.Prelude.{codes}
-use Rattle.anb_point.specs.Words.{other_words, word_text}
+use Rattle.std.proofs.Common.{◌+◌, ◌++◌, List, ℕ, drop, ap, ◌∙◌}
+use Rattle.anb_point.specs.Words.{other_words}
 use Rattle.anb_point.proofs.Lines.{last_word, inner_word}
 use Rattle.anb_point.proofs.words.put_others.Goals.{then-i-words, else-i-words}
 use Rattle.anb_point.proofs.words.put_others.Goals as goal

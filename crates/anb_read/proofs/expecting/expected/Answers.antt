@@ -19,11 +19,11 @@ loop-word-preserved c =
     let within : c.loop-word.word-index < length all = rw c.grammar_words-word-items.ensures c.loop-word-test.true in
     elim c.if-branch.branch [
       | then-branch+in_ok-push w ↦
-          answered_yes ts all c.loop-word.words.items c.loop-word.word-index _ within c.in_ok-goes_on.field-0 c.in_ok-goes_on.ensures c.loop-word.invariant w.if-branch.true
+          answered_yes ts all c.loop-word.words.items c.loop-word.word-index _ within c.in_ok-expects.field-0 c.in_ok-expects.ensures c.loop-word.invariant w.if-branch.true
           c.if-branch.words.items (ap (λ v. v.items) w.words-is ∙ w.in_ok-push.ensures.items)
       | else-branch w ↦
           let P : List GrammarWord → Type 0 = λ words. Answered ts (take (c.loop-word.word-index + 1) all) words in
-          subst P (sym (ap (λ v. v.items) w.words-is)) (answered_no ts all c.loop-word.words.items c.loop-word.word-index _ within c.in_ok-goes_on.field-0 c.in_ok-goes_on.ensures c.loop-word.invariant w.if-branch.false)
+          subst P (sym (ap (λ v. v.items) w.words-is)) (answered_no ts all c.loop-word.words.items c.loop-word.word-index _ within c.in_ok-expects.field-0 c.in_ok-expects.ensures c.loop-word.invariant w.if-branch.false)
     ]
 
 pub returns : goal.returns
