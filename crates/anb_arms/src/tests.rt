@@ -49,22 +49,6 @@ fn branched(rt: &impl Abort, alloc: Global, rest: &str) -> Result<Branched, Fail
     }
 }
 
-/// Whether the text has a role with this name.
-fn has_role(b: &Branched, role: &Text) -> bool
-    ensures { result ≡ true → among (roles_in (branched_of b.now)) role.now ≡ true }
-{
-    match b.arms.as_slice() {
-        [one, ..] => is_among(one.roles(), role),
-        [] => false,
-    }
-}
-
-fn is_among(names: &[Text], role: &Text) -> bool
-    ensures { result ≡ among names.now role.now }
-{
-    names.iter().any(|name| name.as_str().as_bytes() == role.as_str().as_bytes())
-}
-
 /// Whether the role may be told this arm.
 fn may_be_told(b: &Branched, role: &Text, told: Option<u32>) -> bool
     ensures { result ≡ true → IsTold (branched_of b.now) role.now told }
@@ -110,7 +94,7 @@ fn played(
 ) -> Result<(PlayEnd, Vec<u8>, usize), Fail> {
     let b = branched(rt, alloc, rest)?;
     let role = Text::new(String::from_str(alloc, part.role)?);
-    assert!(rt; has_role(&b, &role));
+    assert!(rt; b.has_role(&role));
     assert!(rt; may_be_told(&b, &role, part.told));
     let codes = match compile_arms(alloc, &b, &role) {
         Ok(codes) => codes,
@@ -268,7 +252,7 @@ fn what_can_not_be_sent_is_told_with_its_arm(rt: HostRuntime) -> Result<(), Fail
          Actions: A -> B: yes(N); Actions: A -> B: no(h(M));";
     let b = branched(&rt, alloc, rest)?;
     let role = Text::new(String::from_str(alloc, "B")?);
-    assert!(rt; has_role(&b, &role));
+    assert!(rt; b.has_role(&role));
     let told = refusal(alloc, &b, &role)?;
     assert_eq!(rt; told.as_str(), "2 2 A");
     Ok(())

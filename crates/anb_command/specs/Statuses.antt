@@ -25,7 +25,7 @@ use Rattle.anb_values.specs.declared.refusal.ValuesNo.TheVariants as fitting
 use Rattle.anb_command.specs.declared.status.NarrationNo.{NarrationNo}
 use Rattle.anb_command.specs.declared.status.NarrationNo.TheVariants.{Read, Resolve}
 use Rattle.anb_command.specs.declared.status.Status.{Status}
-use Rattle.anb_command.specs.declared.status.Status.TheVariants.{Done, Usage, FileFault, FileLong, BadNarration, NoRole, CannotSend, BadValues, NoSeed, Unreached, Stopped, Waiting, Truncated, TooLarge, ReadFault, WriteFault, BadRoleFile, BadTranscript, Differs, Short, BadKind, Spent, LongMessage, BadTurn, NotAll, NotCertified, Parked, BadRecord, ChildFault, ChildEnded, ChildCut, ChildLong, ChildBad, NoMemory}
+use Rattle.anb_command.specs.declared.status.Status.TheVariants.{Done, Usage, FileFault, FileLong, BadNarration, NoRole, CannotSend, BadValues, NoSeed, Unreached, Stopped, Waiting, Truncated, TooLarge, ReadFault, WriteFault, BadRoleFile, BadTranscript, Differs, Short, BadKind, Spent, LongMessage, BadTurn, NotAll, BadBranch, ArmCannotSend, BadArm, NotCertified, Parked, BadRecord, ChildFault, ChildEnded, ChildCut, ChildLong, ChildBad, NoMemory}
 
 abbrev pub number_of : Status → ℕ
 number_of Done = 0
@@ -53,6 +53,9 @@ number_of (Spent frames) = 21
 number_of (LongMessage action len) = 22
 number_of (BadTurn turn) = 23
 number_of (NotAll report) = 24
+number_of (BadBranch why) = 25
+number_of (ArmCannotSend arm action role) = 26
+number_of (BadArm arm) = 27
 number_of (NotCertified why) = 28
 number_of (Parked event) = 29
 number_of (BadRecord why) = 30
@@ -178,6 +181,10 @@ text_of (Spent frames) = decimal frames ++ codes " frames handled"
 text_of (LongMessage action len) = codes "message of action " ++ (decimal action ++ (codes " has " ++ (decimal len ++ codes " bytes")))
 text_of (BadTurn turn) = codes "turn " ++ (decimal turn ++ codes " names no role")
 text_of (NotAll report) = codes "not all roles are done"
+text_of (BadBranch why) = codes "branch refused"
+text_of (ArmCannotSend arm action role) =
+    role ++ (codes " can't compose the message of action " ++ (decimal action ++ (codes " in arm " ++ decimal arm)))
+text_of (BadArm arm) = codes "arm " ++ (decimal arm ++ codes " doesn't fit")
 text_of (NotCertified why) = codes "not certified at instruction " ++ decimal (uncertified_at why)
 text_of (Parked event) = codes "parked at event " ++ decimal event
 text_of (BadRecord why) = codes "record refused"
@@ -233,6 +240,9 @@ phase_of NoSeed = before_reach
 phase_of (BadRoleFile why) = before_reach
 phase_of (BadTranscript line) = before_reach
 phase_of (BadTurn turn) = before_reach
+phase_of (BadBranch why) = before_reach
+phase_of (ArmCannotSend arm action role) = before_reach
+phase_of (BadArm arm) = before_reach
 phase_of (NotCertified why) = before_reach
 phase_of (BadRecord why) = before_reach
 phase_of (ChildFault role) = before_reach

@@ -22,7 +22,10 @@ pub data Asked : Type 0 where
   why : (narration : List ℕ) → Asked
   park : (narration role values key : List ℕ) → Place → Asked
   resume : (narration role parked key : List ℕ) → Place → Asked
-  chart : (narration : List ℕ) → Asked
+  chart : (narration : List ℕ) → (role : Option (List ℕ)) → Asked
+  branch : (narration role values : List ℕ) → (told : Option ℕ) → Place → Asked
+  check : (narration : List ℕ) → Asked
+  trace : (narration role values transcript : List ℕ) → Asked
 
 -- a name may be any word that isn't empty and doesn't begin with `-`
 abbrev pub is_operand : List ℕ → Bool
@@ -116,8 +119,42 @@ resume_in (narration ∷ role ∷ parked ∷ key ∷ place) =
 resume_in words = None
 
 abbrev pub chart_in : List (List ℕ) → Option Asked
-chart_in (narration ∷ []) = if is_operand narration then Some (chart narration) else None
+chart_in (narration ∷ []) = if is_operand narration then Some (chart narration None) else None
+chart_in (narration ∷ flag ∷ role ∷ []) =
+    if is_operand narration && bytes_eq flag (codes "--role") && is_operand role
+    then Some (chart narration (Some role)) else None
 chart_in words = None
+
+-- an arm has a number from 1 to 8, in decimal without a sign or leading zeros
+abbrev pub arm_of : Option ℕ → Option ℕ
+arm_of None = None
+arm_of (Some arm) = if nat_le 1 arm && nat_le arm 8 then Some arm else None
+
+abbrev pub branch_arm : (narration role values : List ℕ) → (arm : Option ℕ) → List (List ℕ) → Option Asked
+branch_arm narration role values None place = None
+branch_arm narration role values (Some arm) place = option_map (branch narration role values (Some arm)) (place_in place)
+
+-- before the place may stand `--arm` and the number of an arm
+abbrev pub branch_on : (narration role values : List ℕ) → List (List ℕ) → Option Asked
+branch_on narration role values (flag ∷ arm ∷ place) =
+    if bytes_eq flag (codes "--arm") then branch_arm narration role values (arm_of (number_of arm)) place
+    else option_map (branch narration role values None) (place_in (flag ∷ arm ∷ place))
+branch_on narration role values place = option_map (branch narration role values None) (place_in place)
+
+abbrev pub branch_in : List (List ℕ) → Option Asked
+branch_in (narration ∷ role ∷ values ∷ words) =
+    if is_operand narration && is_operand role && is_operand values then branch_on narration role values words else None
+branch_in words = None
+
+abbrev pub check_in : List (List ℕ) → Option Asked
+check_in (narration ∷ []) = if is_operand narration then Some (check narration) else None
+check_in words = None
+
+abbrev pub trace_in : List (List ℕ) → Option Asked
+trace_in (narration ∷ role ∷ values ∷ transcript ∷ []) =
+    if is_operand narration && is_operand role && is_operand values && is_operand transcript
+    then Some (trace narration role values transcript) else None
+trace_in words = None
 
 abbrev pub help_in : List (List ℕ) → Option Asked
 help_in [] = Some help
@@ -140,6 +177,9 @@ command_in command words =
     else if bytes_eq command (codes "park") then park_in words
     else if bytes_eq command (codes "resume") then resume_in words
     else if bytes_eq command (codes "chart") then chart_in words
+    else if bytes_eq command (codes "branch") then branch_in words
+    else if bytes_eq command (codes "check") then check_in words
+    else if bytes_eq command (codes "trace") then trace_in words
     else None
 
 abbrev pub asked_of : List (List ℕ) → Option Asked
@@ -162,7 +202,10 @@ files_of (Some (certify narration role code)) = narration ∷ code ∷ []
 files_of (Some (why narration)) = narration ∷ []
 files_of (Some (park narration role values key place)) = narration ∷ values ∷ key ∷ []
 files_of (Some (resume narration role parked key place)) = narration ∷ parked ∷ key ∷ []
-files_of (Some (chart narration)) = narration ∷ []
+files_of (Some (chart narration role)) = narration ∷ []
+files_of (Some (branch narration role values told place)) = narration ∷ values ∷ []
+files_of (Some (check narration)) = narration ∷ []
+files_of (Some (trace narration role values transcript)) = narration ∷ values ∷ transcript ∷ []
 
 -- the place that is reached
 abbrev pub place_of : Option Asked → Option Place
@@ -180,7 +223,10 @@ place_of (Some (certify narration role code)) = Some Stdio
 place_of (Some (why narration)) = Some Stdio
 place_of (Some (park narration role values key place)) = Some place
 place_of (Some (resume narration role parked key place)) = Some place
-place_of (Some (chart narration)) = Some Stdio
+place_of (Some (chart narration role)) = Some Stdio
+place_of (Some (branch narration role values told place)) = Some place
+place_of (Some (check narration)) = Some Stdio
+place_of (Some (trace narration role values transcript)) = Some Stdio
 
 -- whether the input is read
 abbrev pub is_reading : Option Asked → Bool
@@ -189,4 +235,5 @@ is_reading (Some (enact code values place)) = true
 is_reading (Some (host narration role values place)) = true
 is_reading (Some (park narration role values key place)) = true
 is_reading (Some (resume narration role parked key place)) = true
+is_reading (Some (branch narration role values told place)) = true
 is_reading asked = false

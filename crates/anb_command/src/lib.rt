@@ -22,15 +22,15 @@ pub use limits::{
     VALUES_LIMIT,
 };
 pub use line::tell;
-pub use over::run_over;
+pub use over::{run_over, status_of};
 pub use playable::{
-    Playable, codes_of, playable_in_file, playable_of, role_named, sendable_in_file,
+    Playable, codes_of, no_role, playable_in_file, playable_of, role_named, sendable_in_file,
 };
 pub use prepare::{Prepared, prepare_code, seed_of};
 pub use reaching::{reach, reach_stdio};
-pub use status::{CertifyNo, Due, Halt, NarrationNo, ParkNo, Report, Status};
+pub use status::{BranchNo, CertifyNo, Due, Halt, NarrationNo, ParkNo, Report, Status};
 pub use text::{reach_streams, write_text};
 pub use words::{
-    CertifyWords, Command, EnactWords, Endpoint, ParkWords, PlayWords, RehearseWords, ReplayWords,
-    ResumeWords, RoleText, is_operand,
+    BranchWords, CertifyWords, Command, EnactWords, Endpoint, ParkWords, PlayWords, RehearseWords,
+    ReplayWords, ResumeWords, RoleText, is_operand,
 };

@@ -3,6 +3,7 @@ ghost use Rattle.std.specs.Prelude.{◌≡◌, ◌++◌};
 ghost use Rattle.anb_command.specs.Statuses.{instruction_text, item_text, kind_text, uncertified_at, where_text, why_ill_formed, why_misshapen, why_unaccepted, why_unfit, why_unloaded, why_unread};
 
 use anb_base::{NoMemory, Place, Text};
+pub use anb_branch::BranchNo;
 pub use anb_certify::CertifyNo;
 use anb_code::CodeNo;
 use anb_format::FormatNo;
@@ -81,6 +82,14 @@ pub enum Status {
     BadTurn(u32),
     /// The schedule ends before all roles are done; the report is written.
     NotAll(Report),
+    /// The text is no lawful text with a choice.
+    BadBranch(BranchNo),
+    /// The first arm in which a role can't compose the message of an action that it sends, and the
+    /// first such action there. Arms and actions are numbered from 1.
+    ArmCannotSend { arm: u32, action: u32, role: Text },
+    /// The arm that the words name, of a role that doesn't choose or more than there are; 0 where the
+    /// role that chooses is told none.
+    BadArm(u32),
     /// The role file's code isn't certified.
     NotCertified(CertifyNo),
     /// The role waits for the arrival of this event, and its record was written.
@@ -176,6 +185,9 @@ impl Status {
             Status::LongMessage { .. } => 22,
             Status::BadTurn(_) => 23,
             Status::NotAll(_) => 24,
+            Status::BadBranch(_) => 25,
+            Status::ArmCannotSend { .. } => 26,
+            Status::BadArm(_) => 27,
             Status::NotCertified(_) => 28,
             Status::Parked(_) => 29,
             Status::BadRecord(_) => 30,
@@ -311,6 +323,17 @@ impl Status {
                 "",
             ),
             Status::NotAll(_) => ("not all roles are done", "", "", "", "", "", ""),
+            Status::BadBranch(_) => ("branch refused", "", "", "", "", "", ""),
+            Status::ArmCannotSend { arm, action, role } => (
+                role.as_str(),
+                " can't compose the message of action ",
+                first.format(*action),
+                " in arm ",
+                second.format(*arm),
+                "",
+                "",
+            ),
+            Status::BadArm(arm) => ("arm ", first.format(*arm), " doesn't fit", "", "", "", ""),
             Status::NotCertified(why) => (
                 "not certified at instruction ",
                 first.format(uncertified(*why)),

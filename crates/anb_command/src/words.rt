@@ -2,7 +2,7 @@
 ghost use Rattle.std.specs.Prelude.{◌≡◌, ◌<◌, ◌^◌, ℕ, decimal, is_some};
 ghost use Rattle.anb_text.specs.Reading.{number_of};
 ghost use Rattle.std.specs.Option.{option_map};
-ghost use Rattle.anb_command.specs.Words.{are_seconds, drill, drill_of, is_operand};
+ghost use Rattle.anb_command.specs.Words.{are_seconds, arm_of, drill, drill_of, is_operand};
 
 use anb_base::{NoMemory, Place, Text};
 use itoa::Buffer;
@@ -34,7 +34,13 @@ pub enum Command<'w> {
     Resume(ResumeWords<'w>),
     Chart {
         narration: &'w Text,
+        role: Option<&'w Text>,
     },
+    Branch(BranchWords<'w>),
+    Check {
+        narration: &'w Text,
+    },
+    Trace(ReplayWords<'w>),
 }
 
 /// What is written of a role.
@@ -63,13 +69,21 @@ pub struct EnactWords<'w> {
     pub endpoint: Endpoint<'w>,
 }
 
-/// What is asked of `replay`: the names of the files and of the role.
+/// What is asked of `replay` and of `trace`: the names of the files and of the role.
 #[derive(Clone, Copy)]
 pub struct ReplayWords<'w> {
     pub narration: &'w Text,
     pub name: &'w Text,
     pub values: &'w Text,
     pub transcript: &'w Text,
+}
+
+/// What is asked of `branch`: what is asked of `play`, and the number of the arm that the role is told
+/// to take, from 1 to 8.
+#[derive(Clone, Copy)]
+pub struct BranchWords<'w> {
+    pub play: PlayWords<'w>,
+    pub told: Option<u32>,
 }
 
 /// What is asked of `rehearse`: the names of the files.
@@ -119,6 +133,7 @@ impl<'w> Command<'w> {
     ghost use Rattle.anb_command.specs.Commands.{asked_by};
     ghost use Rattle.anb_command.specs.Words.{asked_of, command_in, enact_in, fmt_in, help_in, host_in, play_in, describe_in, replay_in};
     ghost use Rattle.anb_command.specs.Words.{certify_in, chart_in, drill_in, park_in, rehearse_in, resume_in, why_in};
+    ghost use Rattle.anb_command.specs.Words.{branch_in, branch_on, check_in, trace_in};
 
     /// Reads a whole word list.
     pub fn read(words: &'w [Text]) -> Option<Self>
@@ -149,6 +164,9 @@ impl<'w> Command<'w> {
             "park" => Self::read_park(words),
             "resume" => Self::read_resume(words),
             "chart" => Self::read_chart(words),
+            "branch" => Self::read_branch(words),
+            "check" => Self::read_check(words),
+            "trace" => Self::read_trace(words),
             _ => None,
         }
     }
@@ -348,9 +366,86 @@ impl<'w> Command<'w> {
         ensures { asked_by result ≡ chart_in words.now }
     {
         match words {
-            [narration] if is_operand(narration) => Some(Command::Chart { narration }),
+            [narration] if is_operand(narration) => {
+                Some(Command::Chart {
+                    narration,
+                    role: None,
+                })
+            }
+            [narration, flag, role]
+                if is_operand(narration) && flag.as_str() == "--role" && is_operand(role) => {
+                Some(Command::Chart {
+                    narration,
+                    role: Some(role),
+                })
+            }
             _ => None,
         }
+    }
+
+    fn read_branch(words: &'w [Text]) -> Option<Self>
+        ensures { asked_by result ≡ branch_in words.now }
+    {
+        let [narration, name, values, words @ ..] = words else {
+            return None;
+        };
+        if !(is_operand(narration) && is_operand(name) && is_operand(values)) {
+            return None;
+        }
+        Self::read_branch_on(narration, name, values, words)
+    }
+
+    /// The words behind the names of the files and of the role: an arm, where one is told, and the
+    /// place.
+    fn read_branch_on(
+        narration: &'w Text,
+        name: &'w Text,
+        values: &'w Text,
+        words: &'w [Text],
+    ) -> Option<Self>
+        ensures { asked_by result ≡ branch_on narration.now name.now values.now words.now }
+    {
+        let (told, place) = match words {
+            [flag, arm, place @ ..] if flag.as_str() == "--arm" => (Some(read_arm(arm)?), place),
+            place => (None, place),
+        };
+        let endpoint = Endpoint::read(place)?;
+        let play = PlayWords {
+            narration,
+            name,
+            values,
+            endpoint,
+        };
+        Some(Command::Branch(BranchWords { play, told }))
+    }
+
+    fn read_check(words: &'w [Text]) -> Option<Self>
+        ensures { asked_by result ≡ check_in words.now }
+    {
+        match words {
+            [narration] if is_operand(narration) => Some(Command::Check { narration }),
+            _ => None,
+        }
+    }
+
+    fn read_trace(words: &'w [Text]) -> Option<Self>
+        ensures { asked_by result ≡ trace_in words.now }
+    {
+        let [narration, name, values, transcript] = words else {
+            return None;
+        };
+        if !(is_operand(narration) && is_operand(name) && is_operand(values)) {
+            return None;
+        }
+        if !is_operand(transcript) {
+            return None;
+        }
+        Some(Command::Trace(ReplayWords {
+            narration,
+            name,
+            values,
+            transcript,
+        }))
     }
 
     fn read_help(words: &'w [Text]) -> Option<Self>
@@ -437,6 +532,18 @@ fn read_exchanges(word: &Text) -> Option<u32>
     let exchanges = read_number(word.as_str())?;
     if 1 <= exchanges && exchanges <= 200 {
         Some(exchanges)
+    } else {
+        None
+    }
+}
+
+/// The number of an arm that a word spells.
+fn read_arm(word: &Text) -> Option<u32>
+    ensures { result ≡ arm_of (number_of word.now) }
+{
+    let arm = read_number(word.as_str())?;
+    if 1 <= arm && arm <= 8 {
+        Some(arm)
     } else {
         None
     }

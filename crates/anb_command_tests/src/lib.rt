@@ -3,6 +3,8 @@
 #![tactic(auto)]
 
 #[cfg(test)]
+mod branch;
+#[cfg(test)]
 mod certify;
 #[cfg(test)]
 mod charts;

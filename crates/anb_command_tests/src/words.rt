@@ -381,7 +381,7 @@ fn help_names_each_command(rt: HostRuntime) -> Result<(), Fail> {
     assert_eq!(rt; ran.number, 0);
     assert_eq!(rt;
         ran.wire.written(),
-        b"anb fmt <narration>\nanb compile <narration> <role>\nanb explain <narration> <role>\nanb play <narration> <role> <values> [place]\nanb enact <rolefile> <values> [place]\nanb replay <narration> <role> <values> <transcript>\nanb host <narration> <role> <values> [place]\nanb rehearse <narration> <values> <schedule>\nanb drill <n>\nanb help\nanb certify <narration> <role> <rolefile>\nanb why <narration>\nanb park <narration> <role> <values> <key> [place]\nanb resume <narration> <role> <record> <key> [place]\nanb stage <narration> <folder>\nanb chart <narration>\n".as_slice()
+        b"anb fmt <narration>\nanb compile <narration> <role>\nanb explain <narration> <role>\nanb play <narration> <role> <values> [place]\nanb enact <rolefile> <values> [place]\nanb replay <narration> <role> <values> <transcript>\nanb host <narration> <role> <values> [place]\nanb rehearse <narration> <values> <schedule>\nanb drill <n>\nanb help\nanb branch <narration> <role> <values> [--arm <n>] [place]\nanb certify <narration> <role> <rolefile>\nanb why <narration>\nanb park <narration> <role> <values> <key> [place]\nanb resume <narration> <role> <record> <key> [place]\nanb stage <narration> <folder>\nanb chart <narration>\n".as_slice()
     );
     Ok(())
 }

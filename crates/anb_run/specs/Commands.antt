@@ -4,7 +4,8 @@ use Rattle.std.specs.Prelude.{ℕ, List, Option, Some, None}
 use Rattle.anb_base.specs.Wires.{WireState}
 use Rattle.anb_command.specs.declared.status.Status.{Status}
 use Rattle.anb_command.specs.Fetches.{Files}
-use Rattle.anb_command.specs.Words.{Asked, fmt, describe, play, enact, replay, host, rehearse, drill, help, certify, why, park, resume, chart}
+use Rattle.anb_command.specs.Words.{Asked, fmt, describe, play, enact, replay, host, rehearse, drill, help, branch, certify, why, park, resume, chart}
+use Rattle.anb_branch_commands.specs.BranchCommand.{CompletesBranch, DoesBranch}
 use Rattle.anb_many_commands.specs.HostCommand.{CompletesHost, DoesHost}
 use Rattle.anb_park_commands.specs.ParkCommand.{CompletesPark, DoesPark}
 use Rattle.anb_park_commands.specs.ResumeCommand.{CompletesResume, DoesResume}
@@ -43,6 +44,8 @@ Does (Some (rehearse narration values schedule)) told seed old new status =
     DoesRehearse narration values schedule told seed old new status
 Does (Some (drill exchanges)) told seed old new status = DoesDrill exchanges old new status
 Does (Some help) told seed old new status = DoesHelp old new status
+Does (Some (branch narration role values arm place)) told seed old new status =
+    DoesBranch narration role values arm told seed old new status
 Does (Some (certify narration role code)) told seed old new status =
     DoesCertify narration role code told old new status
 Does (Some (why narration)) told seed old new status = DoesWhy narration told old new status
@@ -70,6 +73,8 @@ Completes (Some (rehearse narration values schedule)) told seed old new status =
     CompletesRehearse narration values schedule told seed old new status
 Completes (Some (drill exchanges)) told seed old new status = CompletesDrill exchanges status
 Completes (Some help) told seed old new status = CompletesHelp status
+Completes (Some (branch narration role values arm place)) told seed old new status =
+    CompletesBranch narration role values arm told seed old new status
 Completes (Some (certify narration role code)) told seed old new status =
     CompletesCertify narration role code told status
 Completes (Some (why narration)) told seed old new status = CompletesWhy narration told status

@@ -25,6 +25,7 @@ mod laws;
 use crate::laws::{certified_files_play, compiled_files_play};
 pub use all::run_all;
 use anb_base::{Shelf, Sink, Text, Wire};
+use anb_branch_commands::branch;
 use anb_command::{Command, tell};
 pub use anb_command::{Due, Halt, NarrationNo, Status};
 use anb_many_commands::host;
@@ -90,6 +91,7 @@ pub fn run<F: Shelf, W: Wire, E: Sink>(
         Some(Command::Rehearse(words)) => rehearse(alloc, shelf, wire, words, seed),
         Some(Command::Drill(exchanges)) => drill(alloc, wire, exchanges),
         Some(Command::Help) => help(wire),
+        Some(Command::Branch(words)) => branch(alloc, shelf, wire, words, seed),
         Some(Command::Certify(words)) => certify(alloc, shelf, wire, words),
         Some(Command::Why { narration }) => why(alloc, shelf, wire, narration),
         Some(Command::Park(words)) => park(alloc, shelf, wire, words, seed),

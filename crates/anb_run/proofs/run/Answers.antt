@@ -4,7 +4,7 @@ use Rattle.anb_command.proofs.Causes.{wire_cause}
 use Rattle.anb_command.proofs.OverWire.{untouched}
 use Rattle.anb_run.proofs.Idle.{fetches_none}
 use Rattle.anb_run.proofs.run.Goals as goal
-use Rattle.anb_run.proofs.run.Goals.{in-None, in-Some-Fmt, in-Some-Describe, in-Some-Play, in-Some-Enact, in-Some-Replay, in-Some-Host, in-Some-Rehearse, in-Some-Drill, in-Some-Help, in-Some-Certify, in-Some-Why, in-Some-Park, in-Some-Resume, in-Some-Chart}
+use Rattle.anb_run.proofs.run.Goals.{in-None, in-Some-Fmt, in-Some-Describe, in-Some-Play, in-Some-Enact, in-Some-Replay, in-Some-Host, in-Some-Rehearse, in-Some-Drill, in-Some-Help, in-Some-Branch, in-Some-Certify, in-Some-Why, in-Some-Park, in-Some-Resume, in-Some-Chart}
 
 pub returns-clause-faults : goal.returns-clause-faults
 returns-clause-faults g c = elim c.match-read.branch [
@@ -18,6 +18,7 @@ returns-clause-faults g c = elim c.match-read.branch [
   | in-Some-Rehearse w ↦ rw (sym c.read.ensures, w.in-Some-Rehearse.is, w.in-Some-Rehearse.field-0-is, w.shelf-is, w.wire-is, w.status-is) (w.rehearse-status.ensures.faults)
   | in-Some-Drill w ↦ rw (sym c.read.ensures, w.in-Some-Drill.is, w.in-Some-Drill.field-0-is, w.shelf-is, w.wire-is, w.status-is) (wire_cause [] Stdio (g.F.Shelf.faults c.args.shelf.now) (g.F.Shelf.faults c.args.shelf.now) (g.W.Wire.state c.args.wire.now) (g.W.Wire.state w.drill-status.new.wire) w.drill-status.result w.drill-status.ensures.wire.cause)
   | in-Some-Help w ↦ rw (sym c.read.ensures, w.in-Some-Help.is, w.in-Some-Help.field-0-is, w.shelf-is, w.wire-is, w.status-is) (wire_cause [] Stdio (g.F.Shelf.faults c.args.shelf.now) (g.F.Shelf.faults c.args.shelf.now) (g.W.Wire.state c.args.wire.now) (g.W.Wire.state w.help-status.new.wire) w.help-status.result w.help-status.ensures.wire.cause)
+  | in-Some-Branch w ↦ rw (sym c.read.ensures, w.in-Some-Branch.is, w.in-Some-Branch.field-0-is, w.shelf-is, w.wire-is, w.status-is) (w.branch-status.ensures.faults)
   | in-Some-Certify w ↦ rw (sym c.read.ensures, w.in-Some-Certify.is, w.in-Some-Certify.field-0-is, w.shelf-is, w.wire-is, w.status-is) (w.certify-status.ensures.faults)
   | in-Some-Why w ↦ rw (sym c.read.ensures, w.in-Some-Why.is, w.in-Some-Why.field-0-is, w.shelf-is, w.wire-is, w.status-is) (w.why-status.ensures.faults)
   | in-Some-Park w ↦ rw (sym c.read.ensures, w.in-Some-Park.is, w.in-Some-Park.field-0-is, w.shelf-is, w.wire-is, w.status-is) (w.park-status.ensures.faults)
@@ -37,6 +38,7 @@ returns-clause-fetches g c = elim c.match-read.branch [
   | in-Some-Rehearse w ↦ rw (sym c.read.ensures, w.in-Some-Rehearse.is, w.in-Some-Rehearse.field-0-is, w.shelf-is) (w.rehearse-status.ensures.fetches)
   | in-Some-Drill w ↦ rw (sym c.read.ensures, w.in-Some-Drill.is, w.in-Some-Drill.field-0-is, w.shelf-is) (fetches_none _ _)
   | in-Some-Help w ↦ rw (sym c.read.ensures, w.in-Some-Help.is, w.in-Some-Help.field-0-is, w.shelf-is) (fetches_none _ _)
+  | in-Some-Branch w ↦ rw (sym c.read.ensures, w.in-Some-Branch.is, w.in-Some-Branch.field-0-is, w.shelf-is) (w.branch-status.ensures.fetches)
   | in-Some-Certify w ↦ rw (sym c.read.ensures, w.in-Some-Certify.is, w.in-Some-Certify.field-0-is, w.shelf-is) (w.certify-status.ensures.fetches)
   | in-Some-Why w ↦ rw (sym c.read.ensures, w.in-Some-Why.is, w.in-Some-Why.field-0-is, w.shelf-is) (w.why-status.ensures.fetches)
   | in-Some-Park w ↦ rw (sym c.read.ensures, w.in-Some-Park.is, w.in-Some-Park.field-0-is, w.shelf-is) (w.park-status.ensures.fetches)
@@ -56,6 +58,7 @@ returns-clause-touches g c = elim c.match-read.branch [
   | in-Some-Rehearse w ↦ rw (sym c.read.ensures, w.in-Some-Rehearse.is, w.in-Some-Rehearse.field-0-is, w.wire-is, w.status-is) (w.rehearse-status.ensures.touches)
   | in-Some-Drill w ↦ rw (sym c.read.ensures, w.in-Some-Drill.is, w.in-Some-Drill.field-0-is, w.wire-is, w.status-is) (w.drill-status.ensures.wire.touches)
   | in-Some-Help w ↦ rw (sym c.read.ensures, w.in-Some-Help.is, w.in-Some-Help.field-0-is, w.wire-is, w.status-is) (w.help-status.ensures.wire.touches)
+  | in-Some-Branch w ↦ rw (sym c.read.ensures, w.in-Some-Branch.is, w.in-Some-Branch.field-0-is, w.wire-is, w.status-is) (w.branch-status.ensures.touches)
   | in-Some-Certify w ↦ rw (sym c.read.ensures, w.in-Some-Certify.is, w.in-Some-Certify.field-0-is, w.wire-is, w.status-is) (w.certify-status.ensures.touches)
   | in-Some-Why w ↦ rw (sym c.read.ensures, w.in-Some-Why.is, w.in-Some-Why.field-0-is, w.wire-is, w.status-is) (w.why-status.ensures.touches)
   | in-Some-Park w ↦ rw (sym c.read.ensures, w.in-Some-Park.is, w.in-Some-Park.field-0-is, w.wire-is, w.status-is) (w.park-status.ensures.touches)
