@@ -2,7 +2,7 @@
 ghost use Rattle.std.specs.Prelude.{◌≡◌, ◌<◌, ◌++◌, codes, length, map, IfOk, Some};
 ghost use Rattle.std.specs.List.{AllByRecursion};
 ghost use Rattle.anb_term.specs.View.{tree_of};
-ghost use Rattle.anb_resolve.specs.Plans.{term_in};
+ghost use Rattle.anb_resolve.specs.Plans.{plan_of, term_in};
 ghost use Rattle.anb_resolve.specs.Texts.{IsTermOf};
 ghost use Rattle.anb_resolve.specs.Views.{plan_event};
 ghost use Rattle.anb_code.specs.Verified.{count_registers};
@@ -45,6 +45,13 @@ impl Explanation {
     ghost use Rattle.std.specs.Prelude.{◌≡◌, map};
     ghost use Rattle.anb_term.specs.View.{tree_of};
 
+    /// The events of the plan.
+    pub fn events(&self) -> &[Event]
+        ensures { map plan_event result.now ≡ self.now.plan }
+    {
+        self.plan.events()
+    }
+
     /// The terms of the code's registers, in the order of writing.
     pub fn terms(&self) -> &[Term]
         ensures { map tree_of result.now ≡ self.now.terms }
@@ -84,6 +91,7 @@ pub fn explanation_of(
     ensures is { IfOk result (λ e. IsExplained protocol.now role code.now
         (explained_by protocol.now e.plan code.now e.terms)) }
     ensures ours { IfOk result (λ e. AreOurs protocol.now code.now e) }
+    ensures plan { IfOk result (λ e. e.plan ≡ plan_of protocol.now role) }
     ensures terms { IfOk result (λ e. register_terms protocol.now role code.now ≡ Some e.terms) }
 {
     terms_of_plans();

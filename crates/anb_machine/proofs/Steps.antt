@@ -67,7 +67,7 @@ pub record IsAfter (s t : RunState) (ws : List (List ℕ)) (e i : ℕ) : Type 0 
   pub table : t.registers.items ≡ s.registers.items ++ ws
   pub room : vec_capacity s.registers ≤ vec_capacity t.registers
 
-rest_verified : (has : Op → Bool) (act : Act) (acts : List Act) (n : ℕ) → IsVerified has (act ∷ acts) n → IsVerified has acts (n + registers_of act)
+pub rest_verified : (has : Op → Bool) (act : Act) (acts : List Act) (n : ℕ) → IsVerified has (act ∷ acts) n → IsVerified has acts (n + registers_of act)
 rest_verified has takes acts n v = let none : n ≡ n + 0 = omega arith in subst (IsVerified has acts) none v
 rest_verified has draws acts n v = v
 rest_verified has receives acts n v = v

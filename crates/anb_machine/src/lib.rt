@@ -12,3 +12,4 @@ mod work;
 
 pub use machine::Machine;
 pub use turn::{Halt, Turn};
+pub use work::work as do_work;

@@ -1,4 +1,4 @@
-// Instructions that work on registers alone.
+//! Instructions that work on registers alone.
 ghost use Rattle.std.specs.Prelude.{◌≡◌, ◌≤◌, ◌++◌, length, true, false, vec_capacity, IfOk, OnErr, Some, None, option_map, if◌then◌else◌};
 ghost use Rattle.anb_format.specs.Formats.{field_count};
 ghost use Rattle.anb_plays.specs.Codes.{make, undo, equal};
@@ -14,7 +14,7 @@ use anb_term::{Algebra, Op};
 use std::alloc::Global;
 
 /// Does an instruction that works on registers. The answer is whether its demand is true.
-pub(crate) fn work<A: Algebra>(
+pub fn work<A: Algebra>(
     algebra: &A,
     alloc: Global,
     formats: &[Format],

@@ -29,7 +29,7 @@ use Rattle.anb_role_commands.proofs.Draws.{draws_as_made}
 -- ---- a code that fits plays its job
 
 -- as many initial values as the role knows
-count_known : (p : ProtocolValue) (role : ℕ) (code : CodeValue) (initial : List (List ℕ)) → FitsRole p role code → length initial ≡ length (take_texts code.instrs) → length initial ≡ length (known_by p role)
+pub count_known : (p : ProtocolValue) (role : ℕ) (code : CodeValue) (initial : List (List ℕ)) → FitsRole p role code → length initial ≡ length (take_texts code.instrs) → length initial ≡ length (known_by p role)
 count_known p role code initial fits each = each ∙ ap length fits.texts ∙ length-map (known_by p role) (term_text p)
 
 plays_in : (p : ProtocolValue) (role : ℕ) (code : CodeValue) (initial : List (List ℕ)) (seed : List ℕ) → FittingCodesPlay p → FitsRole p role code
@@ -39,7 +39,7 @@ plays_in p role code initial seed law fits count bytes session arrivals are_byte
     let J : Job = record { protocol = p; role = role; initial = initial; seed = seed } in
     (λ plays. both.1 q plays, λ is. subst (λ (r : Played (List ℕ)). PlayIn session J arrivals r) (sym is) both.0)
 
-plays_as : (p : ProtocolValue) (role : ℕ) (code : CodeValue) (initial : List (List ℕ)) (seed : List ℕ) → FittingCodesPlay p → FitsRole p role code
+pub plays_as : (p : ProtocolValue) (role : ℕ) (code : CodeValue) (initial : List (List ℕ)) (seed : List ℕ) → FittingCodesPlay p → FitsRole p role code
     → length initial ≡ length (known_by p role) → AllByRecursion IsBytes initial → IsRunBy PlayOf (record { protocol = p; role = role; initial = initial; seed = seed }) (play_by code initial seed)
 plays_as p role code initial seed law fits count bytes arrivals are_bytes q = plays_in p role code initial seed law fits count bytes 0 arrivals are_bytes q
 

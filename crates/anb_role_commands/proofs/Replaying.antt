@@ -241,7 +241,7 @@ no_wire_fault (replayed.Differs n d) = (λ never. absurd (cc), λ never. absurd 
 no_wire_fault (replayed.Short event) = (λ never. absurd (cc), λ never. absurd (cc))
 no_wire_fault (replayed.Stopped halt n) = (λ never. absurd (cc), λ never. absurd (cc))
 
-late_end : (end : ReplayEnd) → phase_of (status_of end) ≡ before_reach → ⊥
+pub late_end : (end : ReplayEnd) → phase_of (status_of end) ≡ before_reach → ⊥
 late_end replayed.NoMemory never = absurd (cc)
 late_end replayed.Follows never = absurd (cc)
 late_end (replayed.Differs n d) never = absurd (cc)
@@ -264,7 +264,7 @@ module _ (narration name values transcript : List ℕ) (host_seed : Option (List
     R = play_by code initial seed
 
     module _ (files : Files) (ready : IsComparable (Asks files) code initial seed lines) (end : ReplayEnd) (some : end ≢ replayed.NoMemory) (replays : Replays R lines end) where
-      compares : Compares ready.asked (status_of end)
+      pub compares : Compares ready.asked (status_of end)
       compares = record {
         plays = R;
         are = λ arrivals bytes. (ready.comes arrivals bytes (R arrivals)).1 refl;
@@ -283,7 +283,7 @@ module _ (narration name values transcript : List ℕ) (host_seed : Option (List
           let law = laws R lines in
           law.3 other.end other.some there ∙ sym (law.3 end some replays)
 
-      only_one : (due : Status) → Outcome files due → status_of end ≡ due
+      pub only_one : (due : Status) → Outcome files due → status_of end ≡ due
       only_one due (inl refusal) = not_both due ready.asked (one files (refused due) (given ready.asked) refusal ready.asks)
       only_one due (inr (other, asks, others)) =
           let is : other ≡ ready.asked = same_given other ready.asked (one files (given other) (given ready.asked) asks ready.asks) in

@@ -139,26 +139,20 @@ fn compare_over<W: Wire>(alloc: Global, wire: &mut W, comparison: &Comparison) -
     ensures wire { OverWire place.Stdio false result (W.state wire.old) (W.state wire.new) }
 {
     match reach_stdio(wire) {
-        Ok(()) => compare(alloc, comparison),
+        Ok(()) => compare(alloc, &comparison.prepared, &comparison.transcript),
         Err(status) => status,
     }
 }
 
 /// Compares the transcript with what the code does.
-fn compare(alloc: Global, comparison: &Comparison) -> Status
-    requires count { length comparison.now.prepared.initial
-        ≡ length (take_texts comparison.now.prepared.code.instrs) }
-    requires short { All (λ value. length value ≤ ARRIVAL) comparison.now.prepared.initial }
-    requires few { length comparison.now.transcript < 2 ^ 32 }
-    requires arrivals { All (λ arrival. length arrival ≤ ARRIVAL) (arrivals_of comparison.now.transcript) }
-    ensures { IsReplayed (play_by comparison.now.prepared.code
-        comparison.now.prepared.initial comparison.now.prepared.seed)
-        comparison.now.transcript result }
+pub fn compare(alloc: Global, prepared: &Prepared, transcript: &Transcript) -> Status
+    requires count { length prepared.now.initial ≡ length (take_texts prepared.now.code.instrs) }
+    requires short { All (λ value. length value ≤ ARRIVAL) prepared.now.initial }
+    requires few { length transcript.now < 2 ^ 32 }
+    requires arrivals { All (λ arrival. length arrival ≤ ARRIVAL) (arrivals_of transcript.now) }
+    ensures { IsReplayed (play_by prepared.now.code prepared.now.initial prepared.now.seed)
+        transcript.now result }
 {
-    let Comparison {
-        prepared,
-        transcript,
-    } = comparison;
     let initial = prepared.initial.as_slice();
     let mut machine = match Machine::start(alloc, &prepared.code, initial, &prepared.seed, 0) {
         Ok(machine) => machine,

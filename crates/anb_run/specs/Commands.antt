@@ -4,7 +4,7 @@ use Rattle.std.specs.Prelude.{ℕ, List, Option, Some, None}
 use Rattle.anb_base.specs.Wires.{WireState}
 use Rattle.anb_command.specs.declared.status.Status.{Status}
 use Rattle.anb_command.specs.Fetches.{Files}
-use Rattle.anb_command.specs.Words.{Asked, fmt, describe, play, enact, replay, host, rehearse, drill, help, branch, certify, why, park, resume, chart}
+use Rattle.anb_command.specs.Words.{Asked, fmt, describe, play, enact, replay, host, rehearse, drill, help, branch, certify, why, park, resume, chart, role_chart, check, trace}
 use Rattle.anb_branch_commands.specs.BranchCommand.{CompletesBranch, DoesBranch}
 use Rattle.anb_many_commands.specs.HostCommand.{CompletesHost, DoesHost}
 use Rattle.anb_park_commands.specs.ParkCommand.{CompletesPark, DoesPark}
@@ -13,10 +13,11 @@ use Rattle.anb_rehearsal_commands.specs.DrillCommand.{CompletesDrill, DoesDrill}
 use Rattle.anb_rehearsal_commands.specs.RehearseCommand.{CompletesRehearse, DoesRehearse}
 use Rattle.anb_reason_commands.specs.CertifyCommand.{CompletesCertify, DoesCertify}
 use Rattle.anb_reason_commands.specs.WhyCommand.{CompletesWhy, DoesWhy}
-use Rattle.anb_report_commands.specs.ReportCommands.{CompletesChart, DoesChart}
+use Rattle.anb_report_commands.specs.ReportCommands.{CompletesChart, CompletesRoleChart, DoesChart, DoesRoleChart}
 use Rattle.anb_role_commands.specs.EnactCommand.{CompletesEnact, DoesEnact}
 use Rattle.anb_role_commands.specs.PlayCommand.{CompletesPlay, DoesPlay}
 use Rattle.anb_role_commands.specs.ReplayCommand.{CompletesReplay, DoesReplay}
+use Rattle.anb_trace_commands.specs.TraceCommand.{CompletesTrace, DoesTrace}
 use Rattle.anb_text_commands.specs.TextCommands.{
   CompletesDescribe,
   CompletesFmt,
@@ -38,6 +39,8 @@ Does (Some (enact code values place)) told seed old new status =
     DoesEnact code values told seed old new status
 Does (Some (replay narration role values transcript)) told seed old new status =
     DoesReplay narration role values transcript seed told old new status
+Does (Some (trace narration role values transcript)) told seed old new status =
+    DoesTrace narration role values transcript seed told old new status
 Does (Some (host narration role values place)) told seed old new status =
     DoesHost narration role values told seed old new status
 Does (Some (rehearse narration values schedule)) told seed old new status =
@@ -54,6 +57,7 @@ Does (Some (park narration role values key place)) told seed old new status =
 Does (Some (resume narration role parked key place)) told seed old new status =
     DoesResume narration role parked key told old new status
 Does (Some (chart narration)) told seed old new status = DoesChart narration told old new status
+Does (Some (role_chart narration role)) told seed old new status = DoesRoleChart narration role told old new status
 
 -- where nothing failed
 abbrev pub Completes : Option Asked → Option Files → Option (List ℕ) → (old new : WireState) → Status → Type 0
@@ -67,6 +71,8 @@ Completes (Some (enact code values place)) told seed old new status =
     CompletesEnact code values told seed old new status
 Completes (Some (replay narration role values transcript)) told seed old new status =
     CompletesReplay narration role values transcript seed told status
+Completes (Some (trace narration role values transcript)) told seed old new status =
+    CompletesTrace narration role values transcript seed told old new status
 Completes (Some (host narration role values place)) told seed old new status =
     CompletesHost narration role values told seed old new status
 Completes (Some (rehearse narration values schedule)) told seed old new status =
@@ -83,3 +89,4 @@ Completes (Some (park narration role values key place)) told seed old new status
 Completes (Some (resume narration role parked key place)) told seed old new status =
     CompletesResume narration role parked key told old new status
 Completes (Some (chart narration)) told seed old new status = CompletesChart narration told status
+Completes (Some (role_chart narration role)) told seed old new status = CompletesRoleChart narration role told status

@@ -32,9 +32,10 @@ use anb_many_commands::host;
 use anb_park_commands::{park, resume};
 use anb_reason_commands::{certify, why};
 use anb_rehearsal_commands::{drill, rehearse};
-use anb_report_commands::chart;
+use anb_report_commands::{chart, chart_for};
 use anb_role_commands::{enact, play, replay};
 use anb_text_commands::{describe, fmt, help};
+use anb_trace_commands::trace;
 use std::alloc::Global;
 
 /// Does what the words ask for. The words are those after the program's name. The files are fetched
@@ -97,6 +98,11 @@ pub fn run<F: Shelf, W: Wire, E: Sink>(
         Some(Command::Park(words)) => park(alloc, shelf, wire, words, seed),
         Some(Command::Resume(words)) => resume(alloc, shelf, wire, words),
         Some(Command::Chart { narration }) => chart(alloc, shelf, wire, narration),
+        Some(Command::RoleChart { narration, role }) => {
+            chart_for(alloc, shelf, wire, narration, role)
+        }
+        Some(Command::Trace(words)) => trace(alloc, shelf, wire, words, seed),
+        Some(Command::Check { narration }) => check(alloc, shelf, wire, narration),
     };
     tell(err, &status);
     status

@@ -4,7 +4,7 @@ use Rattle.anb_command.proofs.Causes.{wire_cause}
 use Rattle.anb_command.proofs.OverWire.{untouched}
 use Rattle.anb_run.proofs.Idle.{fetches_none}
 use Rattle.anb_run.proofs.run.Goals as goal
-use Rattle.anb_run.proofs.run.Goals.{in-None, in-Some-Fmt, in-Some-Describe, in-Some-Play, in-Some-Enact, in-Some-Replay, in-Some-Host, in-Some-Rehearse, in-Some-Drill, in-Some-Help, in-Some-Branch, in-Some-Certify, in-Some-Why, in-Some-Park, in-Some-Resume, in-Some-Chart}
+use Rattle.anb_run.proofs.run.Goals.{in-None, in-Some-Fmt, in-Some-Describe, in-Some-Play, in-Some-Enact, in-Some-Replay, in-Some-Host, in-Some-Rehearse, in-Some-Drill, in-Some-Help, in-Some-Branch, in-Some-Certify, in-Some-Why, in-Some-Park, in-Some-Resume, in-Some-Chart, in-Some-RoleChart, in-Some-Check, in-Some-Trace}
 
 pub returns-clause-faults : goal.returns-clause-faults
 returns-clause-faults g c = elim c.match-read.branch [
@@ -24,6 +24,9 @@ returns-clause-faults g c = elim c.match-read.branch [
   | in-Some-Park w ↦ rw (sym c.read.ensures, w.in-Some-Park.is, w.in-Some-Park.field-0-is, w.shelf-is, w.wire-is, w.status-is) (w.park-status.ensures.faults)
   | in-Some-Resume w ↦ rw (sym c.read.ensures, w.in-Some-Resume.is, w.in-Some-Resume.field-0-is, w.shelf-is, w.wire-is, w.status-is) (w.resume-status.ensures.faults)
   | in-Some-Chart w ↦ rw (sym c.read.ensures, w.in-Some-Chart.is, w.in-Some-Chart.field-0-is, w.shelf-is, w.wire-is, w.status-is) (w.chart-status.ensures.faults)
+  | in-Some-RoleChart w ↦ rw (sym c.read.ensures, w.in-Some-RoleChart.is, w.in-Some-RoleChart.field-0-is, w.shelf-is, w.wire-is, w.status-is) (w.chart_for-status.ensures.faults)
+  | in-Some-Check w ↦ rw (sym c.read.ensures, w.in-Some-Check.is, w.in-Some-Check.field-0-is, w.shelf-is, w.wire-is, w.status-is) (w.check-status.ensures.faults)
+  | in-Some-Trace w ↦ rw (sym c.read.ensures, w.in-Some-Trace.is, w.in-Some-Trace.field-0-is, w.shelf-is, w.wire-is, w.status-is) (w.trace-status.ensures.faults)
 ]
 
 pub returns-clause-fetches : goal.returns-clause-fetches
@@ -44,6 +47,9 @@ returns-clause-fetches g c = elim c.match-read.branch [
   | in-Some-Park w ↦ rw (sym c.read.ensures, w.in-Some-Park.is, w.in-Some-Park.field-0-is, w.shelf-is) (w.park-status.ensures.fetches)
   | in-Some-Resume w ↦ rw (sym c.read.ensures, w.in-Some-Resume.is, w.in-Some-Resume.field-0-is, w.shelf-is) (w.resume-status.ensures.fetches)
   | in-Some-Chart w ↦ rw (sym c.read.ensures, w.in-Some-Chart.is, w.in-Some-Chart.field-0-is, w.shelf-is) (w.chart-status.ensures.fetches)
+  | in-Some-RoleChart w ↦ rw (sym c.read.ensures, w.in-Some-RoleChart.is, w.in-Some-RoleChart.field-0-is, w.shelf-is) (w.chart_for-status.ensures.fetches)
+  | in-Some-Check w ↦ rw (sym c.read.ensures, w.in-Some-Check.is, w.in-Some-Check.field-0-is, w.shelf-is) (w.check-status.ensures.fetches)
+  | in-Some-Trace w ↦ rw (sym c.read.ensures, w.in-Some-Trace.is, w.in-Some-Trace.field-0-is, w.shelf-is) (w.trace-status.ensures.fetches)
 ]
 
 pub returns-clause-touches : goal.returns-clause-touches
@@ -64,4 +70,7 @@ returns-clause-touches g c = elim c.match-read.branch [
   | in-Some-Park w ↦ rw (sym c.read.ensures, w.in-Some-Park.is, w.in-Some-Park.field-0-is, w.wire-is, w.status-is) (w.park-status.ensures.touches)
   | in-Some-Resume w ↦ rw (sym c.read.ensures, w.in-Some-Resume.is, w.in-Some-Resume.field-0-is, w.wire-is, w.status-is) (w.resume-status.ensures.touches)
   | in-Some-Chart w ↦ rw (sym c.read.ensures, w.in-Some-Chart.is, w.in-Some-Chart.field-0-is, w.wire-is, w.status-is) (w.chart-status.ensures.touches)
+  | in-Some-RoleChart w ↦ rw (sym c.read.ensures, w.in-Some-RoleChart.is, w.in-Some-RoleChart.field-0-is, w.wire-is, w.status-is) (w.chart_for-status.ensures.touches)
+  | in-Some-Check w ↦ rw (sym c.read.ensures, w.in-Some-Check.is, w.in-Some-Check.field-0-is, w.wire-is, w.status-is) (w.check-status.ensures.touches)
+  | in-Some-Trace w ↦ rw (sym c.read.ensures, w.in-Some-Trace.is, w.in-Some-Trace.field-0-is, w.wire-is, w.status-is) (w.trace-status.ensures.touches)
 ]

@@ -1,0 +1,4 @@
+pub mod Ending
+pub mod Placing
+pub mod Doing
+pub mod Running

@@ -1,0 +1,14 @@
+-- What holds of traces.
+use Rattle.std.specs.Prelude.{◌≡◌, ◌++◌, ℕ, List, length}
+use Rattle.anb_base.specs.declared.TheConstants.{ARRIVAL, WIDE}
+use Rattle.anb_code.specs.Taking.{take_texts}
+use Rattle.anb_code.specs.Verified.{IsVerifiedCode}
+use Rattle.anb_machine.specs.ByteRuns.{run_bytes}
+use Rattle.anb_trace.specs.Traces.{end_line, trace}
+use Rattle.anb_trace.specs.Words.{SubjectValue}
+
+-- the last line of a trace tells how the code's run ends
+abbrev pub TracesEndAsRuns : Type 0
+TracesEndAsRuns = (s : SubjectValue) (initial : List (List ℕ)) (seed : List ℕ) (arrivals : List (List ℕ))
+    → IsVerifiedCode ARRIVAL WIDE s.code → length initial ≡ length (take_texts s.code.instrs)
+    → (before reason : List ℕ) × (trace s initial seed arrivals ≡ before ++ end_line (run_bytes s.code initial seed 0 arrivals).end reason)

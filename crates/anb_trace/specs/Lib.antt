@@ -1,0 +1,5 @@
+pub mod Words
+pub mod Traces
+pub mod Laws
+-- for proofs alone
+pub mod Tracing

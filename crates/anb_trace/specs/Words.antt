@@ -1,0 +1,145 @@
+-- What a trace says of an event, of an instruction, and of why one failed.
+use Rattle.std.specs.Prelude.{ℕ, ◌+◌, ◌-◌, ◌==◌, ◌&&◌, ◌||◌, nat_lt, Bool, true, false, List, [], ◌∷◌, ◌++◌, drop, filter, codes, decimal, Option, Some, None, slice_get, if◌then◌else◌}
+use Rattle.std.specs.Option.{option_map_or}
+use Rattle.std.specs.List.{list_any}
+use Rattle.hex.specs.Hex.{encode_lower}
+use Rattle.anb_format.specs.Formats.{FormatValue}
+use Rattle.anb_term.specs.Tree.{Tree}
+use Rattle.anb_code.specs.declared.instr.Instr.{Instr}
+use Rattle.anb_code.specs.declared.instr.Instr.TheVariants.{Take, Fresh, Recv, Hash, Mac, Seal, Unseal, Wrap, Unwrap, Build, Parse, Equal, Send}
+use Rattle.anb_code.specs.CodeValue.{CodeValue}
+use Rattle.anb_code.specs.Registers.{count_written}
+use Rattle.anb_code.specs.Spelling.{name_at, raw_instr}
+use Rattle.anb_resolve.specs.Plans.{PlanEvent, to_know, to_make, to_send, to_receive}
+use Rattle.anb_resolve.specs.Protocols.{ActionValue, ProtocolValue}
+use Rattle.anb_resolve.specs.Texts.{term_text}
+use Rattle.anb_text.specs.Lines.{instr_line}
+use Rattle.anb_explain.specs.Explained.{is_message, line}
+use Rattle.anb_explain.specs.Explanations.{ExplanationValue}
+
+-- whom a trace is of: a role's plan, and a code for it with the terms of its registers, in the order of writing
+pub record SubjectValue : Type 0 where
+  pub protocol : ProtocolValue
+  pub plan : List PlanEvent
+  pub code : CodeValue
+  pub terms : List Tree
+
+abbrev pub subject_of : ProtocolValue → CodeValue → ExplanationValue → SubjectValue
+subject_of p code e = record { protocol = p; plan = e.plan; code = code; terms = e.terms }
+
+-- ---- events
+
+-- a role, where it is there
+abbrev pub role_at : ProtocolValue → ℕ → List ℕ
+role_at p role = option_map_or (λ name. name) (slice_get p.roles role) []
+
+-- the two roles of an action, by its number
+abbrev pub receiver : ProtocolValue → ℕ → List ℕ
+receiver p action = option_map_or (λ (a : ActionValue). role_at p a.to) (slice_get p.actions (action - 1)) []
+
+abbrev pub sender : ProtocolValue → ℕ → List ℕ
+sender p action = option_map_or (λ (a : ActionValue). role_at p a.from) (slice_get p.actions (action - 1)) []
+
+-- the number of an action, the partner, and the term of the message
+abbrev pub event_words : ProtocolValue → PlanEvent → List ℕ
+event_words p (to_send action t) =
+    codes ", action " ++ (decimal action ++ (codes ", to " ++ (receiver p action ++ (codes ": " ++ term_text p t))))
+event_words p (to_receive action t) =
+    codes ", action " ++ (decimal action ++ (codes ", from " ++ (sender p action ++ (codes ": " ++ term_text p t))))
+event_words p event = []
+
+-- the line of the event behind so many sends and receives
+abbrev pub event_line : ProtocolValue → List PlanEvent → ℕ → List ℕ
+event_line p plan events =
+    codes "event " ++ (decimal (events + 1) ++ line (option_map_or (event_words p) (slice_get (filter is_message plan) events) []))
+
+-- its bytes
+abbrev pub bytes_line : List ℕ → List ℕ
+bytes_line bytes = codes "  " ++ line (encode_lower bytes)
+
+-- ---- instructions
+
+-- a term and its bytes
+abbrev pub value_line : ProtocolValue → Tree → List ℕ → List ℕ
+value_line p t bytes = codes "    " ++ (term_text p t ++ (codes ": " ++ line (encode_lower bytes)))
+
+abbrev pub value_lines : ProtocolValue → List Tree → List (List ℕ) → List ℕ
+value_lines p ts [] = []
+value_lines p [] (bytes ∷ values) = []
+value_lines p (t ∷ ts) (bytes ∷ values) = value_line p t bytes ++ value_lines p ts values
+
+-- an instruction whose first register is this one, and what it writes
+abbrev pub instr_lines : SubjectValue → Instr → ℕ → List (List ℕ) → List ℕ
+instr_lines s instr first values =
+    codes "  " ++ (line (instr_line (raw_instr s.code.formats first instr)) ++ value_lines s.protocol (drop first s.terms) values)
+
+-- ---- why an instruction failed
+
+-- the term of a register
+abbrev pub term_at : SubjectValue → ℕ → List ℕ
+term_at s register = option_map_or (term_text s.protocol) (slice_get s.terms register) []
+
+-- the instruction that writes a register
+abbrev pub writer : List FormatValue → List Instr → ℕ → Option Instr
+writer formats [] register = None
+writer formats (instr ∷ instrs) register =
+    if nat_lt register (count_written formats instr) then Some instr else writer formats instrs (register - count_written formats instr)
+
+-- how the bytes of a register were had
+abbrev pub opened : Instr → List ℕ
+opened (Unseal k c) = codes "unsealed, but "
+opened (Unwrap k d c) = codes "unwrapped, but "
+opened instr = []
+
+-- of two registers that differ the one with the lesser number here has what is due: what is known or made anew, then
+-- what was built, then what came in
+abbrev pub rank : Instr → ℕ
+rank (Take text) = 0
+rank Fresh = 0
+rank Recv = 2
+rank (Unseal k c) = 2
+rank (Unwrap k d c) = 2
+rank (Parse f r) = 2
+rank instr = 1
+
+abbrev pub rank_at : CodeValue → ℕ → ℕ
+rank_at code register = option_map_or rank (writer code.formats code.instrs register) 0
+
+-- of a tie, the one that was written first
+abbrev pub comes_first : CodeValue → ℕ → ℕ → Bool
+comes_first code a b = nat_lt (rank_at code a) (rank_at code b) || ((rank_at code a == rank_at code b) && nat_lt a b)
+
+abbrev pub hex_at : List (List ℕ) → ℕ → List ℕ
+hex_at table register = option_map_or encode_lower (slice_get table register) []
+
+abbrev pub differing : SubjectValue → List (List ℕ) → ℕ → ℕ → List ℕ
+differing s table due came =
+    term_at s due ++ (codes " differs: " ++ (hex_at table due ++ (codes " is due, " ++ (hex_at table came ++ codes " came"))))
+
+-- `an` stands before a vowel, and before a letter alone whose name begins with one, as in `an m4`
+abbrev pub is_vowel : ℕ → Bool
+is_vowel letter = list_any (λ vowel. vowel == letter) (codes "aeiouAEIOU")
+
+abbrev pub sounds_open : ℕ → Bool
+sounds_open letter = is_vowel letter || list_any (λ other. other == letter) (codes "fhlmnrsxFHLMNRSX")
+
+abbrev pub is_letter : ℕ → Bool
+is_letter b = (nat_lt 64 b && nat_lt b 91) || (nat_lt 96 b && nat_lt b 123)
+
+abbrev pub takes_an : List ℕ → Bool
+takes_an [] = false
+takes_an (b ∷ []) = sounds_open b
+takes_an (b ∷ next ∷ rest) = if is_letter next then is_vowel b else sounds_open b
+
+abbrev pub article : List ℕ → List ℕ
+article name = if takes_an name then codes "an " else codes "a "
+
+-- why an instruction failed with these values of the registers
+abbrev pub why : SubjectValue → List (List ℕ) → Instr → List ℕ
+why s table (Unseal k c) = codes "can't unseal under " ++ term_at s k
+why s table (Unwrap k d c) = codes "can't unwrap under " ++ (term_at s k ++ (codes " with " ++ term_at s d))
+why s table (Parse f r) =
+    option_map_or opened (writer s.code.formats s.code.instrs r) []
+    ++ (codes "isn't " ++ (article (name_at s.code.formats f) ++ name_at s.code.formats f))
+why s table (Equal a b) = if comes_first s.code b a then differing s table b a else differing s table a b
+why s table instr = []

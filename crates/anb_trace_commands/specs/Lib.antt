@@ -1,0 +1,3 @@
+pub mod TraceCommand
+-- for proofs alone
+pub mod Tracing
