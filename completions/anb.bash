@@ -5,6 +5,7 @@ _anb_words() {
         fmt) echo narration ;;
         compile | explain) echo narration role ;;
         play | host) echo narration role values place ;;
+        branch) echo narration role values arm ;;
         replay) echo narration role values file ;;
         rehearse) echo narration values file ;;
         certify) echo narration role file ;;
@@ -31,7 +32,7 @@ _anb() {
     local word=${COMP_WORDS[COMP_CWORD]} before=${COMP_WORDS[COMP_CWORD-1]} kinds kind
     COMPREPLY=()
     if ((COMP_CWORD == 1)); then
-        mapfile -t COMPREPLY < <(compgen -W 'fmt compile explain play enact host replay rehearse drill certify why park resume stage chart help' -- "$word")
+        mapfile -t COMPREPLY < <(compgen -W 'fmt compile explain play enact host replay rehearse drill branch certify why park resume stage chart help' -- "$word")
         return
     fi
     read -ra kinds < <(_anb_words "${COMP_WORDS[1]}")
@@ -40,11 +41,13 @@ _anb() {
         narration) _anb_files "$word" anb ;;
         values) _anb_files "$word" values ;;
         role) mapfile -t COMPREPLY < <(compgen -W "$(_anb_roles "${COMP_WORDS[COMP_CWORD-1]}")" -- "$word") ;;
+        arm) mapfile -t COMPREPLY < <(compgen -W '--arm --dial --listen' -- "$word") ;;
         place) mapfile -t COMPREPLY < <(compgen -W '--dial --listen' -- "$word") ;;
         folder) compopt -o filenames; mapfile -t COMPREPLY < <(compgen -d -- "$word") ;;
         file) compopt -o filenames; mapfile -t COMPREPLY < <(compgen -f -- "$word") ;;
         *)
             case $before in
+                --arm) mapfile -t COMPREPLY < <(compgen -W '1 2 3 4 5 6 7 8' -- "$word") ;;
                 --dial | --listen | --timeout) ;;
                 *) [[ " ${COMP_WORDS[*]} " == *' --'[dl]* ]] && mapfile -t COMPREPLY < <(compgen -W '--timeout' -- "$word") ;;
             esac

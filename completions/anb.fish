@@ -15,7 +15,7 @@ end
 # Whether a place can stand here: behind all other words of these commands.
 function __anb_place
     set -l words (commandline -opc)
-    test (count $words) -ge 5; and contains -- $words[2] play host
+    test (count $words) -ge 5; and contains -- $words[2] play branch host
     or begin
         test (count $words) -ge 6; and contains -- $words[2] park resume
     end
@@ -34,6 +34,7 @@ complete -c anb -n __fish_use_subcommand -a host -d 'Serve many sessions of a ro
 complete -c anb -n __fish_use_subcommand -a replay -d 'Compare a transcript with a role'
 complete -c anb -n __fish_use_subcommand -a rehearse -d 'Rehearse all roles'
 complete -c anb -n __fish_use_subcommand -a drill -d 'Write the numbers of a drill'
+complete -c anb -n __fish_use_subcommand -a branch -d 'Play a role of a text with a choice'
 complete -c anb -n __fish_use_subcommand -a certify -d 'Certify the code of a role file'
 complete -c anb -n __fish_use_subcommand -a why -d 'Say why a narration is refused'
 complete -c anb -n __fish_use_subcommand -a park -d 'Play a role and park it'
@@ -42,9 +43,9 @@ complete -c anb -n __fish_use_subcommand -a chart -d 'Draw a narration'
 complete -c anb -n __fish_use_subcommand -a stage -d 'Relay among children of all roles'
 complete -c anb -n __fish_use_subcommand -a help -d 'List the commands'
 
-complete -c anb -n '__anb_at 1 fmt compile explain play host replay stage' -k -a '(__fish_complete_suffix .anb)'
-complete -c anb -n '__anb_at 2 compile explain play host replay' -a '(__anb_roles)' -d Role
-complete -c anb -n '__anb_at 3 play host replay' -k -a '(__fish_complete_suffix .values)'
+complete -c anb -n '__anb_at 1 fmt compile explain play branch host replay stage' -k -a '(__fish_complete_suffix .anb)'
+complete -c anb -n '__anb_at 2 compile explain play branch host replay' -a '(__anb_roles)' -d Role
+complete -c anb -n '__anb_at 3 play branch host replay' -k -a '(__fish_complete_suffix .values)'
 complete -c anb -n '__anb_at 4 replay' -F
 complete -c anb -n '__anb_at 2 stage' -a '(__fish_complete_directories)'
 complete -c anb -n '__anb_at 1 enact' -F
@@ -65,6 +66,7 @@ complete -c anb -n '__anb_at 2 resume' -a '(__anb_roles)' -d Role
 complete -c anb -n '__anb_at 3 resume' -F
 complete -c anb -n '__anb_at 4 resume' -F
 complete -c anb -n '__anb_at 1 chart' -k -a '(__fish_complete_suffix .anb)'
+complete -c anb -n '__anb_at 4 branch' -x -l arm -a '1 2 3 4 5 6 7 8' -d 'The arm that is taken'
 complete -c anb -n __anb_place -x -l dial -d 'Connect to host:port'
 complete -c anb -n __anb_place -x -l listen -d 'Wait for a connection at host:port'
 complete -c anb -n __anb_place -x -l timeout -d 'Seconds to wait'

@@ -28,7 +28,7 @@ A folder has the narration, `ROLE.values` for each role, `all.values` with a val
 
 Under each chart stands what a role **takes as it comes**: the received terms on which none of its checks depends, then or later, by the code that `anb explain` shows. A nonce of the partner is often among them, and rightly; a key or a ticket there deserves a thought. What came out of a seal is still from someone who had the seal's key. Nothing here is a claim that a protocol is secure, and some of these are known not to be.
 
-`peer/` has a role in Python, and one with mistakes; the [tutorial](../docs/TUTORIAL.md) uses them.
+`peer/` has a role in Python, and one with mistakes, and `offer/` a text with a choice; the [tutorial](../docs/TUTORIAL.md) uses them.
 """
 
 

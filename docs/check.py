@@ -12,6 +12,9 @@ that are passed over; where it has `chart`, the charts are those of docs/charts.
 that `compile` wrote is certified, and without one of its checks it is certified or refused. A role's transcript stands
 beside its values. What the gate runs of each example is a copy, in crates/anb_examples.
 
+Texts with a choice, `choice.anb` in a folder of their own: in each arm all roles play to their ends under `branch`, and
+the messages are those of the narration that the common actions and the arm are.
+
 Pages: in a fenced block that begins with a line `$ ...` each such line is a command for sh, and what follows is what
 it writes, errors too. The commands run in a folder of their own with a copy of examples/, block by block, with `anb` on
 the path. A fenced block with two words behind its fence, as ```anb mine.anb, is a file that the reader writes.
@@ -237,6 +240,13 @@ def check_gate(write):
     return len(faults)
 
 
+def summary(story, carried):
+    """What was carried, in one line."""
+    size = sum(map(len, carried))
+    sums = hashlib.sha256(b"".join(struct.pack(">I", len(message)) + message for message in carried)).hexdigest()
+    return f"{len(story.roles)} roles, {len(carried)} messages, {size} bytes, frames {sums}"
+
+
 def check_example(program, folder, commands, write):
     text = (folder / f"{folder.name}.anb").read_text()
     story = narration.Narration(text)
@@ -262,9 +272,26 @@ def check_example(program, folder, commands, write):
     if carried != [story.bytes_of(message, names) for _, _, message in story.actions]:
         raise ValueError("a message has other bytes than those computed apart")
     check_transcripts(story, folder, carried, write)
-    size = sum(map(len, carried))
-    sums = hashlib.sha256(b"".join(struct.pack(">I", len(message)) + message for message in carried)).hexdigest()
-    return f"{folder.name}: {len(story.roles)} roles, {len(carried)} messages, {size} bytes, frames {sums}"
+    return f"{folder.name}: {summary(story, carried)}"
+
+
+def arms_of(text):
+    """Who chooses in a text with a choice, and the narration of each arm."""
+    stem, chooser, arms = re.fullmatch(r"(.*)\bChoice:\s*(\w+);(.*)", re.sub(r"#[^\n]*", "", text), re.S).groups()
+    return chooser, [stem + arm for arm in re.split(r"\bActions:", arms)[1:]]
+
+
+def check_choice(program, folder):
+    """A line for each arm of a text with a choice."""
+    path = folder / "choice.anb"
+    chooser, arms = arms_of(path.read_text())
+    for number, text in enumerate(arms, 1):
+        story = narration.Narration(text)
+        told = {chooser: ["--arm", str(number)]}
+        carried = relay(program, story, lambda role: ["branch", path, role, values_file(folder, role), *told.get(role, [])])
+        if carried != [story.bytes_of(message, names_of(story, folder)) for _, _, message in story.actions]:
+            raise ValueError(f"arm {number}: a message has other bytes than those computed apart")
+        yield f"{folder.name}, arm {number}: {summary(story, carried)}"
 
 
 def check_examples(program, write):
@@ -272,10 +299,13 @@ def check_examples(program, write):
     commands = commands_of(program)
     narration.anbwire.check_vectors()
     lines = []
-    for folder in charts.folders():
+    for folder in charts.folders() + sorted(path.parent for path in EXAMPLES.glob("*/choice.anb")):
         signal.alarm(300)
         try:
-            lines.append(check_example(program, folder, commands, write))
+            if (folder / "choice.anb").exists():
+                lines += check_choice(program, folder) if "branch" in commands else []
+            else:
+                lines.append(check_example(program, folder, commands, write))
         except (ValueError, KeyError, OSError, narration.anbwire.Refused) as fault:
             print(f"{folder.name}: {fault}")
             faults += 1

@@ -109,23 +109,24 @@ sees_each b role law is other free =
     (unseen_none told (bytes_eq role b.chooser) (list_any (is_free b.stem role) b.arms) other free none) in
     each_as (λ arm. Told (told_by b.stem role arm)) (Sees b.stem role) b.arms (λ arm h. sees_by b.stem role arm h) (mapped_each (told_by b.stem role) Told b.arms all)
 
--- an arm has the formats and the suite of the first, and the role the same stem
+-- an arm has the formats, the suite and the names of the first, and the role the same stem
 pub record HasStem (stem : ℕ) (role : List ℕ) (one arm : ProtocolValue) : Type 0 where
   pub formats : arm.formats ≡ one.formats
   pub suite : arm.suite ≡ one.suite
+  pub atoms : arm.atoms ≡ one.atoms
   pub part : stem_part stem (plan_named arm role) ≡ stem_part stem (plan_named one role)
 
 have_stem : (stem : ℕ) (role : List ℕ) (one : ProtocolValue) (others : List ProtocolValue) → among one.roles role ≡ true → AllByRecursion (IsLike stem one) others → AllByRecursion (HasStem stem role one) others
 have_stem stem role one [] is all = tt
 have_stem stem role one (p ∷ others) is (like, all) = (
-  record { formats = like.formats; suite = like.suite; part = of_among (λ r. stem_part stem (plan_named p r) ≡ stem_part stem (plan_named one r)) one.roles role is like.plans },
+  record { formats = like.formats; suite = like.suite; atoms = like.atoms; part = of_among (λ r. stem_part stem (plan_named p r) ≡ stem_part stem (plan_named one r)) one.roles role is like.plans },
   have_stem stem role one others is all,
 )
 
 -- ---- plays
 
 module _ (stem : ℕ) (role : List ℕ) where
-  split_plan : (arm : ProtocolValue) (sees : Sees stem role arm)
+  pub split_plan : (arm : ProtocolValue) (sees : Sees stem role arm)
       → events_of arm (role_number arm.roles role) ≡ map event_of (stem_part stem (plan_named arm role)) ++ (recv sees.message ∷ map event_of sees.after)
   split_plan arm sees =
       let plan = plan_named arm role in
@@ -201,7 +202,7 @@ first_arm b role law is =
     go : (arms : List ProtocolValue) → 2 ≤ length arms → AreAlike b.stem arms → among (option_map_or (λ (p : ProtocolValue). p.roles) (slice_get arms 0) []) role ≡ true
         → (one : ProtocolValue) × (slice_get arms 0 ≡ Some one) × AllByRecursion (HasStem b.stem role one) arms
     go [] few alike at = absurd (omega (arith, few))
-    go (one ∷ others) few alike at = (one, refl, (record { formats = refl; suite = refl; part = refl }, have_stem b.stem role one others at alike))
+    go (one ∷ others) few alike at = (one, refl, (record { formats = refl; suite = refl; atoms = refl; part = refl }, have_stem b.stem role one others at alike))
 
 pub arms_alike : ArmsPlayAlike
 arms_alike b role law must i j p q at_p at_q init seed session arrivals few played plays =

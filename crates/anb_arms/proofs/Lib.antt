@@ -7,6 +7,7 @@ pub mod Members
 pub mod Refusals
 pub mod Agreeing
 pub mod Heads
+pub mod Knowing
 pub mod Cutting
 pub mod Seeing
 pub mod Choosing

@@ -50,7 +50,7 @@ chosen_within t xs some = by (position_from t 0 xs) refl where
   by (Some k) e = omega (arith, place_within t 0 xs k e)
 
 -- a name that stands among these has a place
-named_place : (names : List (List ℕ)) (x : List ℕ) (i : ℕ) → among names x ≡ true → (k : ℕ) × (position_from (λ y. bytes_eq y x) i names ≡ Some k)
+pub named_place : (names : List (List ℕ)) (x : List ℕ) (i : ℕ) → among names x ≡ true → (k : ℕ) × (position_from (λ y. bytes_eq y x) i names ≡ Some k)
 named_place [] x i is = cc
 named_place (y ∷ names) x i is = by (bytes_eq y x) is (named_place names x (i + 1)) where
   by : (b : Bool) → (b || among names x) ≡ true → (among names x ≡ true → (k : ℕ) × (position_from (λ z. bytes_eq z x) (i + 1) names ≡ Some k))

@@ -6,14 +6,14 @@ use Rattle.std.specs.List.{AllByRecursion, list_all}
 use Rattle.std.proofs.lemmas.List.Elements.{All-from_recursion}
 use Rattle.anb_resolve.specs.Names.{among}
 use Rattle.anb_resolve.specs.Protocols.{ProtocolValue, role_number}
-use Rattle.anb_compile.specs.Unsent.{AllSendAll}
+use Rattle.anb_resolve.specs.Plays.{IsSendable}
 use Rattle.anb_branch.specs.Lawful.{BranchedValue, IsLawful, IsLike, AreAlike, roles_in}
 use Rattle.anb_arms.specs.declared.compiling.ArmNo.{ArmNo}
 use Rattle.anb_arms.specs.declared.compiling.ArmNo.TheVariants.{CannotSend, NoMemory}
 use Rattle.anb_arms.specs.Arms.{RefusesArm, RefusesArms, HaveRole}
 use Rattle.anb_arms.proofs.Members.{both_true, number_within, among_others}
 
-pub refused_at : (arms : List ProtocolValue) (place number : ℕ) (arm : ProtocolValue) (no : ArmNo) → number ≡ place + 1 → slice_get arms place ≡ Some arm → All AllSendAll (take place arms)
+pub refused_at : (arms : List ProtocolValue) (place number : ℕ) (arm : ProtocolValue) (no : ArmNo) → number ≡ place + 1 → slice_get arms place ≡ Some arm → All IsSendable (take place arms)
     → RefusesArm arm number no → RefusesArms arms no
 refused_at arms place number arm (CannotSend n action name) is here all (same, refused) = record {
   place = place;

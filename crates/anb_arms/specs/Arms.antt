@@ -4,7 +4,8 @@ use Rattle.std.specs.List.{AllZip}
 use Rattle.anb_code.specs.CodeValue.{CodeValue}
 use Rattle.anb_resolve.specs.Protocols.{ProtocolValue, role_number}
 use Rattle.anb_compile.specs.Fitting.{FitsRole}
-use Rattle.anb_compile.specs.Unsent.{IsFirstUnsentOfAll, AllSendAll}
+use Rattle.anb_resolve.specs.Plays.{IsSendable}
+use Rattle.anb_compile.specs.Unsent.{IsFirstUnsentOfAll}
 use Rattle.anb_arms.specs.declared.compiling.ArmNo.{ArmNo}
 use Rattle.anb_arms.specs.declared.compiling.ArmNo.TheVariants.{CannotSend, NoMemory}
 
@@ -30,7 +31,7 @@ pub record IsFirstRefused (arms : List ProtocolValue) (number : ℕ) (no : ArmNo
   pub arm : ProtocolValue
   pub here : slice_get arms place ≡ Some arm
   pub refused : RefusesArm arm number no
-  pub first : All AllSendAll (take place arms)
+  pub first : All IsSendable (take place arms)
 
 abbrev pub RefusesArms : List ProtocolValue → ArmNo → Type 0
 RefusesArms arms (CannotSend number action name) =

@@ -6,6 +6,7 @@ use Rattle.anb_plays.specs.Plays.{Played}
 use Rattle.anb_resolve.specs.Names.{among}
 use Rattle.anb_resolve.specs.Protocols.{ProtocolValue, role_number}
 use Rattle.anb_resolve.specs.Plays.{IsPlay}
+use Rattle.anb_resolve.specs.Texts.{known_texts}
 use Rattle.anb_branch.specs.Lawful.{BranchedValue, IsLawful, roles_in, is_free}
 use Rattle.anb_arms.specs.Taken.{stem_receives}
 
@@ -23,3 +24,9 @@ ArmsPlayAlike = (b : BranchedValue) (role : List ℕ) → IsLawful b → MustSee
     → length arrivals ≤ stem_receives b role → (played : Played (List ℕ))
     → IsPlay p (role_number p.roles role) init seed session arrivals played
     → IsPlay q (role_number q.roles role) init seed session arrivals played
+
+-- what a role knows has the same texts in any two arms
+abbrev pub ArmsKnowAlike : Type 0
+ArmsKnowAlike = (b : BranchedValue) (role : List ℕ) → IsLawful b → among (roles_in b) role ≡ true
+    → (i j : ℕ) (p q : ProtocolValue) → slice_get b.arms i ≡ Some p → slice_get b.arms j ≡ Some q
+    → known_texts p (role_number p.roles role) ≡ known_texts q (role_number q.roles role)

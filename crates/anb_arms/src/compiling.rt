@@ -2,8 +2,9 @@
 ghost use Rattle.std.specs.Prelude.{◌≡◌, ◌<◌, ◌≤◌, ◌+◌, length, true, All, IfOk, OnOk, IfErr};
 ghost use Rattle.anb_resolve.specs.Names.{among};
 ghost use Rattle.anb_resolve.specs.Protocols.{role_number};
+ghost use Rattle.anb_resolve.specs.Plays.{IsSendable};
 ghost use Rattle.anb_compile.specs.Fitting.{FitsRole};
-ghost use Rattle.anb_compile.specs.Unsent.{AllSendAll, IsFirstUnsentOfAll};
+ghost use Rattle.anb_compile.specs.Unsent.{IsFirstUnsentOfAll};
 ghost use Rattle.anb_branch.specs.Lawful.{IsLawful, roles_in};
 ghost use Rattle.anb_branch.specs.Views.{branched_of};
 ghost use Rattle.anb_arms.specs.Arms.{FitArms, HaveRole, RefusesArm, RefusesArms};
@@ -55,7 +56,7 @@ pub fn compile_arms(alloc: Global, b: &Branched, role: &Text) -> Result<Vec<Role
     requires lawful { IsLawful (branched_of b.now) }
     requires is_role { among (roles_in (branched_of b.now)) role.now ≡ true }
     ensures fit { IfOk result (λ codes. FitArms (branched_of b.now).arms role.now codes.items) }
-    ensures sent { OnOk result (All AllSendAll (branched_of b.now).arms) }
+    ensures sendable { OnOk result (All IsSendable (branched_of b.now).arms) }
     ensures refused { IfErr result (RefusesArms (branched_of b.now).arms) }
 {
     codes_of(alloc, &b.arms, role)
@@ -66,7 +67,7 @@ fn codes_of(alloc: Global, arms: &[Protocol], role: &Text) -> Result<Vec<RoleCod
     requires few { length arms.now ≤ 8 }
     requires roles { HaveRole arms.now role.now }
     ensures fit { IfOk result (λ codes. FitArms arms.now role.now codes.items) }
-    ensures sent { OnOk result (All AllSendAll arms.now) }
+    ensures sendable { OnOk result (All IsSendable arms.now) }
     ensures refused { IfErr result (RefusesArms arms.now) }
 {
     let mut codes = Vec::new(alloc);
@@ -84,7 +85,7 @@ fn codes_of(alloc: Global, arms: &[Protocol], role: &Text) -> Result<Vec<RoleCod
 fn code_of(alloc: Global, arm: &Protocol, number: u32, role: &Text) -> Result<RoleCode, ArmNo>
     requires { role_number arm.now.roles role.now < length arm.now.roles }
     ensures fits { IfOk result (FitsRole arm.now (role_number arm.now.roles role.now)) }
-    ensures sent { OnOk result (AllSendAll arm.now) }
+    ensures sendable { OnOk result (IsSendable arm.now) }
     ensures refused { IfErr result (RefusesArm arm.now number) }
 {
     match compile_all(alloc, arm) {

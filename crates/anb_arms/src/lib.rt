@@ -8,8 +8,5 @@ mod signs;
 mod stem;
 
 pub use compiling::{ArmNo, compile_arms};
-pub use laws::arms_play_alike;
+pub use laws::{arms_know_alike, arms_play_alike, fitting_arms_play};
 pub use playing::branch_play;
-
-#[cfg(test)]
-mod tests;

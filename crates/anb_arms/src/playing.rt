@@ -233,7 +233,7 @@ fn play_code<W: Wire>(
 }
 
 /// A law: these are strings of bytes.
-fn are_bytes_all(values: &[Bytes])
+pub(crate) fn are_bytes_all(values: &[Bytes])
     ensures { AllByRecursion IsBytes values.now }
 {
     for value in values {
@@ -242,7 +242,7 @@ fn are_bytes_all(values: &[Bytes])
 }
 
 /// A law: in each arm the run of a fitting code is the role's play.
-fn all_play(arms: &[Protocol])
+pub(crate) fn all_play(arms: &[Protocol])
     ensures { AllByRecursion FittingCodesPlay arms.now }
 {
     for arm in arms {

@@ -3,6 +3,7 @@ ghost use Rattle.std.specs.Prelude.{◌≡◌};
 ghost use Rattle.anb_branch.specs.Lawful.{roles_in};
 ghost use Rattle.anb_branch.specs.Views.{branched_of};
 
+use crate::alike::among;
 use anb_base::Text;
 use anb_resolve::Protocol;
 
@@ -13,6 +14,20 @@ pub struct Branched {
     pub chooser: Text,
     pub stem: u32,
     pub arms: Vec<Protocol>,
+}
+
+impl Branched {
+    ghost use Rattle.std.specs.Prelude.{◌≡◌};
+    ghost use Rattle.anb_resolve.specs.Names.{among};
+    ghost use Rattle.anb_branch.specs.Lawful.{roles_in};
+    ghost use Rattle.anb_branch.specs.Views.{branched_of};
+
+    /// Whether there is a role with this name.
+    pub fn has_role(&self, name: &Text) -> bool
+        ensures { result ≡ among (roles_in (branched_of self.now)) name.now }
+    {
+        among(roles_in(self), name)
+    }
 }
 
 /// The roles in the order of arm 1.

@@ -15,8 +15,6 @@ mod parts;
 mod plans;
 mod refusal;
 mod splitting;
-#[cfg(test)]
-mod tests;
 
 pub use branched::Branched;
 pub use laws::{branch_refusals_are_unique, choices_are_unique, no_choice_is_refused};

@@ -1,20 +1,16 @@
 -- Steps of the walk, from the code's instructions and events, and its end.
-use Rattle.std.proofs.Common.{◌≡◌, ℕ, zero, suc, ◌+◌, ◌<◌, ◌≤◌, List, [], ◌∷◌, ◌++◌, length, map, drop, Bool, true, false, Option, Some, None, refl, sym, ap, ◌∙◌, subst, inl, inr, ◌⊎◌, ⊎_elim, arith, length-append}
+use Rattle.std.proofs.Common.{◌≡◌, ℕ, zero, suc, ◌+◌, ◌<◌, ◌≤◌, List, [], ◌∷◌, ◌++◌, length, map, drop, Bool, true, false, Option, Some, None, refl, sym, ap, ◌∙◌, subst, arith}
 use Rattle.std.specs.Prelude.{slice_get, ◌≢◌}
-use Rattle.std.specs.List.{filter_map, cons_option}
-use Rattle.std.specs.Str.{bytes_eq}
 use Rattle.std.proofs.lemmas.Slice.Eq.{bytes_eq-Decides}
 use Rattle.std.proofs.lemmas.List.{length-map, length-drop}
 use Rattle.anb_base.specs.declared.TheConstants.{ARRIVAL, WIDE}
-use Rattle.anb_base.specs.declared.content.Suite.{Suite}
-use Rattle.anb_format.specs.Formats.{FormatValue}
 use Rattle.anb_term.specs.Tree.{Tree}
 use Rattle.anb_term.proofs.Lists.{map-drop, slice_get-map}
-use Rattle.anb_algebra.specs.ByteMeaning.{byte_meaning, has_operator}
-use Rattle.anb_plays.specs.Plans.{Event, recv, known}
-use Rattle.anb_plays.specs.Codes.{Act, takes, draws, receives, sends, works, Work}
+use Rattle.anb_algebra.specs.ByteMeaning.{has_operator}
+use Rattle.anb_plays.specs.Plans.{Event, known}
+use Rattle.anb_plays.specs.Codes.{Act, takes, draws, receives, sends, works}
 use Rattle.anb_plays.specs.Exec.{HasTakes}
-use Rattle.anb_plays.specs.Fits.{Fits, start}
+use Rattle.anb_plays.specs.Fits.{start}
 use Rattle.anb_code.specs.declared.instr.Instr.{Instr}
 use Rattle.anb_code.specs.declared.instr.Instr.TheVariants.{Take, Fresh, Recv, Hash, Mac, Seal, Unseal, Wrap, Unwrap, Build, Parse, Equal, Send}
 use Rattle.anb_code.specs.CodeValue.{CodeValue}
@@ -26,7 +22,7 @@ use Rattle.anb_resolve.specs.declared.plans.Event as plans
 use Rattle.anb_resolve.specs.Protocols.{ProtocolValue}
 use Rattle.anb_resolve.specs.Plans.{PlanEvent, to_know, to_make, to_send, to_receive, plan_of}
 use Rattle.anb_resolve.specs.Plays.{event_of, events_of, meaning_of}
-use Rattle.anb_resolve.specs.Texts.{known_texts, known_by, term_text}
+use Rattle.anb_resolve.specs.Texts.{term_text}
 use Rattle.anb_resolve.specs.Views.{plan_event}
 use Rattle.anb_compile.specs.Emitting.{known_in}
 use Rattle.anb_compile.specs.Fitting.{FitsRole}
@@ -35,12 +31,11 @@ use Rattle.anb_compile.proofs.Protocols.{known_of_plan}
 use Rattle.anb_compile.proofs.Valuing.{left_events, is_operator}
 use Rattle.anb_certify.specs.declared.refusal.CertifyNo.{CertifyNo}
 use Rattle.anb_certify.specs.declared.refusal.CertifyNo.TheVariants.{Frame, Untrue, Sent, Loose, NoMemory}
-use Rattle.anb_certify.specs.Certified.{HasFrame, HasNames, IsCertified, Refuses, is_work, does_event, stray}
+use Rattle.anb_certify.specs.Certified.{HasFrame, IsCertified, Refuses, is_work, does_event, stray}
 use Rattle.anb_certify.specs.Numbered.{TableValue, IsLoose}
 use Rattle.anb_certify.specs.Statements.{CertifiedFits}
 use Rattle.anb_certify.specs.Walking.{Stands, IsAt}
-use Rattle.anb_certify.specs.Works.{AreTold}
-use Rattle.anb_certify.proofs.Framing.{events_left, ordered, works_on, meets, strays, none_left}
+use Rattle.anb_certify.proofs.Framing.{ordered, works_on, meets, strays, none_left}
 use Rattle.anb_certify.proofs.Walking.{does_one, heard, value_is}
 
 pub heard_is : (v u : TableValue) (t : Tree) → u.terms ≡ v.terms ++ t ∷ [] → u.did ≡ v.did → u ≡ heard v t

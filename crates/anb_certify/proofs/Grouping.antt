@@ -1,7 +1,6 @@
 -- Registers by the first of their term.
-use Rattle.std.proofs.Common.{◌≡◌, ℕ, zero, suc, ◌+◌, ◌<◌, ◌≤◌, List, [], ◌∷◌, ◌++◌, length, map, set, take, get_or, Bool, true, false, Option, Some, None, refl, sym, ap, ◌∙◌, subst, inl, inr, ◌⊎◌, ⊎_elim, arith, length-append}
+use Rattle.std.proofs.Common.{◌≡◌, ℕ, zero, suc, ◌+◌, ◌<◌, ◌≤◌, List, [], ◌∷◌, ◌++◌, length, map, set, get_or, Option, Some, None, refl, sym, ap, ◌∙◌, subst, inl, inr, ◌⊎◌, ⊎_elim, arith}
 use Rattle.std.specs.Prelude.{slice_get, unwrap_or}
-use Rattle.std.specs.List.{AllByRecursion}
 use Rattle.anb_term.specs.Tree.{Tree, leaf}
 use Rattle.anb_term.proofs.Lists.{slice_get-there, slice_get-within, slice_get-last, set-same, set-at}
 use Rattle.anb_plays.specs.Codes.{Work}
@@ -10,7 +9,7 @@ use Rattle.anb_intern.specs.Nodes.{operands_at, AreUnder, AreDistinct}
 use Rattle.anb_certify.specs.declared.works.Done.{Done}
 use Rattle.anb_certify.specs.Tied.{Did}
 use Rattle.anb_certify.specs.Works.{did_of, work_of, AreTold}
-use Rattle.anb_certify.specs.Numbered.{IsFirst, AreFirsts, AreSeen, AreGrouped, AreBegun}
+use Rattle.anb_certify.specs.Numbered.{IsFirst, AreFirsts, AreSeen, AreGrouped}
 use Rattle.anb_certify.proofs.Flagging.{operands_long}
 
 pub did_there : (done : List Done) (i : ℕ) (d : Done) → slice_get done i ≡ Some d → Did (map did_of done) d.at (work_of d.job)
@@ -26,14 +25,6 @@ lists_same (x ∷ xs) (y ∷ ys) e h =
     let f : Some y ≡ Some x = h 0 x refl in
     let s : x ≡ y = cc in
     let r = lists_same xs ys (omega (arith, e)) (λ i z k. h (suc i) z k) in cc
-
--- a flag where all are set
-pub flag_set : (flags : List Bool) (names : List ℕ) (i n : ℕ) → AllByRecursion (λ f. f ≡ true) flags → length flags ≡ length names → slice_get names i ≡ Some n → slice_get flags i ≡ Some true
-flag_set [] [] i n h e f = cc
-flag_set [] (m ∷ names) i n h e f = absurd (omega (arith, e))
-flag_set (b ∷ flags) [] i n h e f = cc
-flag_set (b ∷ flags) (m ∷ names) zero n h e f = ap Some h.0
-flag_set (b ∷ flags) (m ∷ names) (suc i) n h e f = flag_set flags names i n h.1 (omega (arith, e)) f
 
 abbrev none_yet : Option ℕ
 none_yet = None

@@ -11,10 +11,12 @@ pub mod Unique
 pub mod Telling
 pub mod Walking
 pub mod Linking
+pub mod Falling
 pub mod Placing
 pub mod Signing
 pub mod Grouping
 pub mod Ruling
+pub mod Progressing
 pub mod Framing
 pub mod Tabling
 pub mod Results

@@ -1,23 +1,21 @@
 -- Works looked up by the classes of their operands: what is linked is tied, and without a link nothing is left to tie.
-use Rattle.std.proofs.Common.{◌≡◌, ℕ, zero, suc, ◌+◌, ◌-◌, ◌<◌, ◌≤◌, List, [], ◌∷◌, ◌++◌, length, map, Bool, true, false, Option, Some, None, refl, sym, ap, ◌∙◌, subst, inl, inr, ◌⊎◌, ⊎_elim, arith, length-append}
-use Rattle.std.proofs.lemmas.List.{length-map}
+use Rattle.std.proofs.Common.{◌≡◌, ℕ, zero, suc, ◌+◌, ◌-◌, ◌<◌, List, [], ◌∷◌, ◌++◌, length, map, Bool, true, Option, Some, None, refl, sym, ap, ◌∙◌, subst, inl, inr, ◌⊎◌, ⊎_elim, arith}
 use Rattle.std.specs.Prelude.{slice_get}
 use Rattle.std.specs.List.{AllByRecursion}
 use Rattle.anb_term.specs.declared.term.Op.{Op}
-use Rattle.anb_term.specs.Operator.{arity, keys, undoable}
-use Rattle.anb_term.specs.Tree.{Tree, leaf, node, Trees, trees_of, list_of}
+use Rattle.anb_term.specs.Operator.{arity, keys}
+use Rattle.anb_term.specs.Tree.{Tree, leaf, node, trees_of, list_of}
 use Rattle.anb_term.specs.TreeSame.{list_of-trees_of}
 use Rattle.anb_term.specs.Lawful.{picked}
 use Rattle.anb_term.proofs.Lists.{slice_get-map, slice_get-there, slice_get-within, all_append}
 use Rattle.anb_plays.specs.Codes.{Work, make, undo, equal}
 use Rattle.anb_certify.specs.declared.links.Pair.{Pair}
-use Rattle.anb_certify.specs.Classes.{in_class, AreNamed, Saturated}
+use Rattle.anb_certify.specs.Classes.{in_class, Saturated}
 use Rattle.anb_certify.specs.Links.{IsTiedLink, AreTiedLinks, Linked, IsLinkOf, HasLinked, AreLinked, IsToLink}
 use Rattle.anb_certify.specs.Signs.{SignsValue, sign_of, Owns, HasSigned}
 use Rattle.anb_certify.specs.Tied.{Did, InPairs, Tied}
-use Rattle.anb_certify.specs.Works.{AreTold}
 use Rattle.anb_certify.proofs.Classing.{Classed, classed, turn, join, in_one, rules_tie}
-use Rattle.anb_certify.proofs.Fitting.{did_cases, picked_length, wider}
+use Rattle.anb_certify.proofs.Fitting.{did_cases}
 use Rattle.anb_certify.proofs.Tied.{node_is}
 
 -- one class, by the registers' names

@@ -1,12 +1,12 @@
 -- Lists that grow at their end.
-use Rattle.std.proofs.Common.{◌≡◌, ℕ, zero, suc, ◌+◌, ◌<◌, ◌≤◌, List, [], ◌∷◌, ◌++◌, length, map, take, drop, get_or, true, Option, Some, None, refl, sym, ap, ◌∙◌, subst, inl, inr, ◌⊎◌, ⊎_elim, arith, length-append}
+use Rattle.std.proofs.Common.{◌≡◌, ℕ, zero, suc, ◌+◌, ◌<◌, List, [], ◌∷◌, ◌++◌, length, map, take, get_or, true, Option, Some, None, refl, sym, ap, ◌∙◌, subst, inl, inr, ◌⊎◌, ⊎_elim, arith}
 use Rattle.std.specs.Prelude.{slice_get}
 use Rattle.std.specs.List.{AllByRecursion}
-use Rattle.std.proofs.lemmas.List.{take_more, drop_more}
+use Rattle.std.proofs.lemmas.List.{take_more}
 use Rattle.anb_term.specs.Lawful.{picked}
-use Rattle.anb_term.proofs.Lists.{map-append, slice_get-at, slice_get-within, slice_get-last}
+use Rattle.anb_term.proofs.Lists.{map-append, slice_get-at}
 use Rattle.anb_certify.specs.Classes.{in_class}
-use Rattle.anb_certify.specs.Links.{Linked, HasLinked, IsLinkOf}
+use Rattle.anb_certify.specs.Links.{HasLinked, IsLinkOf}
 use Rattle.anb_certify.specs.declared.links.Pair.{Pair}
 use Rattle.anb_certify.proofs.Classing.{in_one}
 

@@ -1,5 +1,5 @@
 -- The rules over exact classes: a register that passes keeps them.
-use Rattle.std.proofs.Common.{◌≡◌, ℕ, zero, suc, ◌+◌, ◌<◌, ◌≤◌, List, [], ◌∷◌, ◌++◌, length, map, set, take, Bool, true, false, cond, Option, Some, None, refl, sym, ap, ◌∙◌, subst, inl, inr, ◌⊎◌, ⊎_elim, arith}
+use Rattle.std.proofs.Common.{◌≡◌, ℕ, zero, suc, ◌+◌, ◌<◌, List, [], ◌∷◌, ◌++◌, length, map, set, take, Bool, true, false, Some, refl, sym, ap, ◌∙◌, subst, inl, inr, ◌⊎◌, ⊎_elim, arith}
 use Rattle.std.specs.Prelude.{slice_get, ◌↔◌}
 use Rattle.std.specs.List.{AllByRecursion, list_all}
 use Rattle.anb_term.specs.declared.term.Op.{Op}
@@ -8,11 +8,10 @@ use Rattle.anb_term.specs.Tree.{Tree, leaf, node, Trees, trees_of, list_of}
 use Rattle.anb_term.specs.TreeSame.{list_of-trees_of}
 use Rattle.anb_term.specs.Composes.{Composes}
 use Rattle.anb_term.specs.Lawful.{picked}
-use Rattle.anb_term.proofs.Lists.{slice_get-there, slice_get-within, set-other, set-same, set-at, all_take}
-use Rattle.anb_intern.specs.declared.node.NodeId.{NodeId}
+use Rattle.anb_term.proofs.Lists.{slice_get-there, slice_get-within, set-other, set-same, set-at}
 use Rattle.anb_intern.specs.declared.node.Node.{Node}
 use Rattle.anb_intern.specs.declared.node.Node.TheVariants.{Atom, Apply}
-use Rattle.anb_intern.specs.Nodes.{operands_at, tree_at, AreUnder, IsOver}
+use Rattle.anb_intern.specs.Nodes.{operands_at, tree_at, IsOver}
 use Rattle.anb_plays.specs.Codes.{Work, make, undo, equal}
 use Rattle.anb_certify.specs.Classes.{in_class, Saturated}
 use Rattle.anb_certify.specs.Decided.{composes}
@@ -20,6 +19,7 @@ use Rattle.anb_certify.specs.Flags.{all_flagged, is_wanted}
 use Rattle.anb_certify.specs.Tied.{Did, InPairs, Tied, KeepsRules}
 use Rattle.anb_certify.specs.Works.{AreTold}
 use Rattle.anb_certify.specs.Numbered.{AreGrouped, IsKnown, AreKnown, Passes}
+use Rattle.anb_certify.specs.Progress.{wanted_test, HaveKnown, StaySet}
 use Rattle.anb_certify.proofs.Classing.{Classed, classed, in_one}
 use Rattle.anb_certify.proofs.Deciding.{decides, decided, all_from, all_true}
 use Rattle.anb_certify.proofs.Fitting.{did_cases}
@@ -55,7 +55,7 @@ known_more : (did : List (ℕ × Work)) (names : List ℕ) (x : ℕ × Work) (d 
 known_more did names x d (inl k) = inl (k.0, k.1, k.2, did_more did x k.0 (make k.1 k.2) k.3, k.4)
 known_more did names x d (inr k) = inr (k.0, k.1, k.2, k.3, did_more did x k.0 (undo k.1 k.2 k.3) k.4, k.5)
 
-same_or_not : (a b : ℕ) → (a ≡ b) ⊎ (a ≡ b → ⊥)
+pub same_or_not : (a b : ℕ) → (a ≡ b) ⊎ (a ≡ b → ⊥)
 same_or_not zero zero = inl refl
 same_or_not zero (suc b) = inr (λ e. omega (arith, e))
 same_or_not (suc a) zero = inr (λ e. omega (arith, e))
@@ -82,15 +82,24 @@ undo_known did names flags at o ks n c h l e =
 pub equal_known : (did : List (ℕ × Work)) (names : List ℕ) (flags : List Bool) (at a b : ℕ) → AreKnown did names flags → AreKnown (did ++ (at, equal a b) ∷ []) names flags
 equal_known did names flags at a b h d = (λ e. known_more did names (at, equal a b) d ((h d).0 e), λ k. (h d).1 (own_equal did names at a b d k))
 
+-- the same of flags that are set only for what is known
+have_one : (did : List (ℕ × Work)) (names : List ℕ) (flags : List Bool) (c : ℕ) → HaveKnown did names flags → IsKnown did names c → HaveKnown did names (set flags c true)
+have_one did names flags c h own d e = ⊎_elim (λ a. subst (IsKnown did names) (sym a.0) own) (λ b. h d b) (set-at flags c d true true e)
+
+pub make_had : (did : List (ℕ × Work)) (names : List ℕ) (flags : List Bool) (at : ℕ) (o : Op) (ns : List ℕ) (c : ℕ) → Did did at (make o ns) → slice_get names at ≡ Some c → HaveKnown did names flags → HaveKnown did names (set flags c true)
+make_had did names flags at o ns c d e h = have_one did names flags c h (inl (at, o, ns, d, e))
+
+pub undo_had : (did : List (ℕ × Work)) (names : List ℕ) (flags : List Bool) (at : ℕ) (o : Op) (ks : List ℕ) (n c : ℕ) → Did did at (undo o ks n) → slice_get names n ≡ Some c → HaveKnown did names flags → HaveKnown did names (set flags c true)
+undo_had did names flags at o ks n c d e h = have_one did names flags c h (inr (at, o, ks, n, d, e))
+
+pub one_set : (flags : List Bool) (c : ℕ) → StaySet flags (set flags c true)
+one_set flags c n e = ⊎_elim (λ s. subst (λ z. slice_get (set flags c true) z ≡ Some true) s (set-same flags c true true (subst (λ z. slice_get flags z ≡ Some true) (sym s) e))) (λ d. set-other flags c n true true e d) (same_or_not c n)
+
 pub none_known : (names : List ℕ) (d : ℕ) → IsKnown [] names d → ⊥
 none_known names d (inl k) = absurd k.3
 none_known names d (inr k) = absurd k.4
 
 -- ---- what is wanted
-
-abbrev pub wanted_test : List Tree → Tree → Bool
-wanted_test ts (leaf n) = false
-wanted_test ts (node o us) = cond (undoable o) (list_all (composes ts) (take (keys o) (list_of us))) (list_all (composes ts) (list_of us))
 
 pub wanted_is : (S ts : List Tree) (flags : List Bool) (k : Node) → flags ≡ map (composes S) ts → IsOver (length ts) k → is_wanted flags k ≡ wanted_test S (tree_at ts k)
 wanted_is S ts flags (Atom n) is u = refl
@@ -103,7 +112,7 @@ wanted_is S ts flags (Apply o ids) is u =
     rw (a, b) refl
 
 module _ (did : List (ℕ × Work)) (ts : List Tree) (firsts names : List ℕ) (known : List Bool) (g : AreGrouped ts did firsts) (exact : (a b : ℕ) → Tied did a b ↔ (in_class names a b ≡ true))
-    (long : length names ≡ length firsts) (knows : AreKnown did names known) (i : ℕ) (t : Tree) (here : slice_get ts i ≡ Some t) (before : (k : ℕ) → k < i → KeepsRules did ts k) where
+    (long : length names ≡ length firsts) (i : ℕ) (t : Tree) (here : slice_get ts i ≡ Some t) (before : (k : ℕ) → k < i → KeepsRules did ts k) where
   one_term : (a b : ℕ) → Tied did a b → slice_get ts a ≡ slice_get ts b
   one_term a b h = tied_alike ts did g.told a b h
 
@@ -122,7 +131,7 @@ module _ (did : List (ℕ × Work)) (ts : List Tree) (firsts names : List ℕ) (
   below (suc f) zero l = absurd (omega (arith, l))
   below (suc f) (suc k) l = ⊎_elim (λ a. inl (omega (arith, a))) (λ b. inr (ap suc b)) (below f k (omega (arith, l)))
 
-  module _ (p : Passes firsts names known (wanted_test ts t) i) where
+  module _ (knows : HaveKnown did names known) (p : Passes firsts names known (wanted_test ts t) i) where
     first_tied : Tied did p.first i
     first_tied = (exact p.first i).1 (in_one names p.first i p.class p.of_first p.of_it)
 
@@ -134,7 +143,7 @@ module _ (did : List (ℕ × Work)) (ts : List Tree) (firsts names : List ℕ) (
         then k p.first i (back p.first k tied) first_tied
 
     known_here : wanted_test ts t ≡ true → IsKnown did names p.class
-    known_here w = (knows p.class).0 (p.as_wanted w)
+    known_here w = knows p.class (p.as_wanted w)
 
     of_class : (a : ℕ) → slice_get names a ≡ Some p.class → Tied did i a
     of_class a e = (exact i a).1 (in_one names i a p.class p.of_it e)
@@ -176,7 +185,7 @@ module _ (did : List (ℕ × Work)) (ts : List Tree) (firsts names : List ℕ) (
       others = λ o us ei u all. let e : t ≡ node o us = (let f : Some t ≡ Some (node o us) = sym here ∙ ei in cc) in by_other o us e (known_here (other_wanted o us e u all));
     }
 
-  module _ (keeps : KeepsRules did ts i) where
+  module _ (all : (c : ℕ) → IsKnown did names c → slice_get known c ≡ Some true) (keeps : KeepsRules did ts i) where
     there : (xs : List ℕ) → length xs ≡ length ts → (x : ℕ) × (slice_get xs i ≡ Some x)
     there xs l = slice_get-there xs i (omega (arith, l, slice_get-within ts i t here))
 
@@ -209,7 +218,7 @@ module _ (did : List (ℕ × Work)) (ts : List Tree) (firsts names : List ℕ) (
           is_first = f.1;
           of_first = name_of f.0 (first_is f.0 f.1) c.0 c.1;
           of_it = c.1;
-          as_wanted = λ w. (knows c.0).1 (known_by c.0 c.1 t refl w);
+          as_wanted = λ w. all c.0 (known_by c.0 c.1 t refl w);
         }
 
 -- ---- classes by the first of each term

@@ -1,14 +1,13 @@
 -- Signs, and who owns them.
-use Rattle.std.proofs.Common.{◌≡◌, ℕ, zero, suc, ◌+◌, ◌<◌, ◌≤◌, List, [], ◌∷◌, ◌++◌, length, map, set, Option, Some, None, refl, sym, ap, ◌∙◌, subst, inl, inr, ◌⊎◌, ⊎_elim, arith, length-append}
+use Rattle.std.proofs.Common.{◌≡◌, ℕ, zero, suc, ◌+◌, ◌<◌, ◌≤◌, List, [], ◌∷◌, ◌++◌, length, set, Option, Some, None, refl, sym, ap, ◌∙◌, subst, inl, inr, ◌⊎◌, ⊎_elim, arith, length-append}
 use Rattle.std.specs.Prelude.{slice_get, unwrap_or, replicate}
-use Rattle.std.specs.List.{AllByRecursion}
 use Rattle.anb_term.specs.declared.term.Op.{Op}
 use Rattle.anb_term.specs.Tree.{Tree, leaf, node, trees_of}
 use Rattle.anb_term.specs.Lawful.{picked}
 use Rattle.anb_term.proofs.Lists.{slice_get-append, slice_get-within, slice_get-last, set-other, set-same, set-at}
 use Rattle.anb_intern.specs.declared.node.NodeId.{NodeId}
 use Rattle.anb_intern.specs.Nodes.{operands_at, AreUnder, AreDistinct, HasPut}
-use Rattle.anb_certify.specs.Signs.{SignsValue, sign_of, Owned, Owns, HasSigned}
+use Rattle.anb_certify.specs.Signs.{sign_of, Owned, HasSigned}
 use Rattle.anb_certify.proofs.Fitting.{get_last}
 use Rattle.anb_certify.proofs.Flagging.{kept}
 

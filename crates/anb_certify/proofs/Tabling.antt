@@ -1,24 +1,21 @@
 -- Tables of registers by number.
-use Rattle.std.proofs.Common.{◌≡◌, ℕ, zero, suc, ◌+◌, ◌-◌, ◌<◌, ◌≤◌, List, [], ◌∷◌, ◌++◌, length, map, take, drop, Bool, true, false, Option, Some, None, refl, sym, ap, ◌∙◌, subst, inl, inr, ◌⊎◌, ⊎_elim, arith, length-append, take-append-drop, append_assoc}
-use Rattle.std.specs.Prelude.{slice_get, unwrap_or, ◌==◌, ◌↔◌, IsTrue, option_map, option_and_then}
+use Rattle.std.proofs.Common.{◌≡◌, ℕ, zero, suc, ◌<◌, List, [], ◌∷◌, ◌++◌, length, take, drop, Bool, true, false, Option, Some, None, refl, sym, ap, ◌∙◌, subst, ⊎_elim, arith, take-append-drop}
+use Rattle.std.specs.Prelude.{slice_get, unwrap_or, ◌==◌, ◌↔◌, IsTrue}
 use Rattle.std.proofs.lemmas.Bool.{eqb-true, eq-eqb}
 use Rattle.anb_term.specs.declared.term.Op.{Op}
-use Rattle.anb_term.specs.Operator.{arity, keys, undoable, op_eqb}
+use Rattle.anb_term.specs.Operator.{arity, keys}
 use Rattle.anb_term.specs.Tree.{Tree, leaf, node, trees_of, list_of, tree_eqb}
 use Rattle.anb_term.specs.TreeSame.{list_of-trees_of, tree_itself, tree_same}
-use Rattle.anb_term.specs.Lawful.{picked}
-use Rattle.anb_term.specs.FreeAlgebra.{terms, parts_of}
+use Rattle.anb_term.specs.FreeAlgebra.{parts_of}
 use Rattle.anb_term.specs.FreeLawful.{parts_are, free_lawful}
 use Rattle.anb_term.proofs.Lists.{slice_get-there, slice_get-within}
 use Rattle.anb_plays.specs.Codes.{equal}
 use Rattle.anb_intern.specs.declared.node.NodeId.{NodeId}
-use Rattle.anb_intern.specs.declared.node.Node.{Node}
-use Rattle.anb_intern.specs.declared.node.Node.TheVariants.{Atom, Apply}
-use Rattle.anb_intern.specs.Nodes.{operands_at, tree_at, AreUnder, IsOver, AreDistinct, HasPut}
+use Rattle.anb_intern.specs.Nodes.{operands_at, AreUnder, AreDistinct, HasPut}
 use Rattle.anb_intern.proofs.Putting.{under_last, operands_last}
 use Rattle.anb_certify.specs.Numbered.{IsWritten, Opens, TableValue}
 use Rattle.anb_certify.proofs.Flagging.{kept, operands_long, operands_take, operands_drop}
-use Rattle.anb_certify.proofs.Grouping.{at_register, one_number}
+use Rattle.anb_certify.proofs.Grouping.{at_register}
 use Rattle.anb_certify.proofs.Tied.{node_is}
 
 pub has_grown : (pool pool2 : List Tree) (t : Tree) → HasPut pool t pool2 → (m : List Tree) × (pool2 ≡ pool ++ m)

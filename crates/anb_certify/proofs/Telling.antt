@@ -1,17 +1,16 @@
 -- What was done tells of the registers' terms, and tied registers have one term.
-use Rattle.std.proofs.Common.{◌≡◌, ℕ, zero, suc, ◌+◌, ◌-◌, ◌<◌, ◌≤◌, List, [], ◌∷◌, ◌++◌, length, map, take, drop, Bool, true, false, Option, Some, None, refl, sym, ap, ◌∙◌, subst, inl, inr, ◌⊎◌, ⊎_elim, arith, length-append}
+use Rattle.std.proofs.Common.{◌≡◌, ℕ, ◌+◌, ◌-◌, ◌<◌, List, [], ◌∷◌, ◌++◌, length, Bool, true, false, Option, Some, None, refl, sym, ap, ◌∙◌, subst, inl, inr, ◌⊎◌, arith, length-append}
 use Rattle.std.proofs.lemmas.List.Elements.{recursion_from_All}
-use Rattle.std.specs.Prelude.{slice_get, option_and_then}
-use Rattle.std.specs.List.{AllByRecursion}
+use Rattle.std.specs.Prelude.{slice_get}
 use Rattle.anb_term.specs.declared.term.Op.{Op}
-use Rattle.anb_term.specs.Operator.{arity, keys, undoable}
-use Rattle.anb_term.specs.Tree.{Tree, node, Trees, trees_of, list_of, tree_eqb}
+use Rattle.anb_term.specs.Operator.{arity, keys}
+use Rattle.anb_term.specs.Tree.{Tree, node, trees_of, list_of, tree_eqb}
 use Rattle.anb_term.specs.TreeSame.{tree_same, tree_itself, list_of-trees_of}
 use Rattle.anb_term.specs.Lawful.{picked}
 use Rattle.anb_term.specs.FreeAlgebra.{terms, terms_over, parts_of}
 use Rattle.anb_term.specs.FreeLawful.{parts_are}
 use Rattle.anb_term.specs.Demand.{alike}
-use Rattle.anb_term.proofs.Lists.{slice_get-append, slice_get-there, slice_get-within}
+use Rattle.anb_term.proofs.Lists.{slice_get-append, slice_get-there}
 use Rattle.anb_term.proofs.Steps.{bound, chosen}
 use Rattle.anb_term.proofs.Demands.{alike_are}
 use Rattle.anb_plays.specs.Codes.{Work, make, undo, equal}

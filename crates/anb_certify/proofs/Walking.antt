@@ -1,31 +1,29 @@
 -- Steps along a code.
-use Rattle.std.proofs.Common.{◌≡◌, ℕ, zero, suc, ◌+◌, ◌<◌, List, [], ◌∷◌, ◌++◌, length, map, drop, Bool, true, false, Option, Some, None, refl, sym, ap, ◌∙◌, subst, inl, inr, ◌⊎◌, ⊎_elim, arith, length-append}
+use Rattle.std.proofs.Common.{◌≡◌, ℕ, zero, suc, ◌+◌, ◌<◌, List, [], ◌∷◌, ◌++◌, length, drop, Bool, true, false, Option, Some, None, refl, sym, ap, ◌∙◌, subst, inl, inr, arith, length-append}
 use Rattle.std.specs.Prelude.{slice_get}
 use Rattle.anb_term.specs.declared.term.Op.{Op}
 use Rattle.anb_term.specs.Tree.{Tree}
-use Rattle.anb_term.specs.Value.{RecipeTree, label, values, recipe_trees}
+use Rattle.anb_term.specs.Value.{label, values, recipe_trees}
 use Rattle.anb_term.specs.FreeAlgebra.{terms, terms_over}
 use Rattle.anb_term.specs.FreeLawful.{free_lawful}
 use Rattle.anb_term.proofs.Lists.{slice_get-there}
 use Rattle.anb_term.proofs.Frames.{values_more}
-use Rattle.anb_term.proofs.Steps.{consed}
 use Rattle.anb_algebra.specs.ByteMeaning.{has_operator}
 use Rattle.anb_plays.specs.Plans.{Event, know, fresh, send, recv, known}
-use Rattle.anb_plays.specs.Codes.{Act, takes, draws, receives, sends, works, Work, at_register, writes}
+use Rattle.anb_plays.specs.Codes.{Act, takes, draws, receives, sends, works, Work, writes}
 use Rattle.anb_plays.specs.Exec.{worked, IsReady, IsVerified, NoTakes, HasTakes, count_written}
-use Rattle.anb_plays.specs.Fits.{Place, Along, AnySend, AnyWork, AnyBorder, after_take, after_label, after_work, IsSound, SendsIt}
+use Rattle.anb_plays.specs.Fits.{Along, AnySend, AnyWork, AnyBorder, after_take, after_label, after_work, SendsIt}
 use Rattle.anb_plays.proofs.Registers.{values_join, register, work}
 use Rattle.anb_code.specs.CodeValue.{CodeValue}
 use Rattle.anb_resolve.specs.Protocols.{ProtocolValue}
 use Rattle.anb_resolve.specs.Plays.{meaning_of}
 use Rattle.anb_certify.specs.declared.refusal.CertifyNo.{CertifyNo}
 use Rattle.anb_certify.specs.declared.refusal.CertifyNo.TheVariants.{Untrue, Sent, Loose}
-use Rattle.anb_certify.specs.Along.{HaveTerms, IsTight, IsFirstLoose, then_did, Finds}
+use Rattle.anb_certify.specs.Along.{IsTight, IsFirstLoose, Finds}
 use Rattle.anb_certify.specs.Certified.{FindsOf, Refuses}
 use Rattle.anb_certify.specs.Numbered.{TableValue, HasWorked, IsLoose}
 use Rattle.anb_certify.specs.Tied.{AreEnough}
 use Rattle.anb_certify.specs.Walking.{Stands}
-use Rattle.anb_certify.specs.Works.{AreTold}
 use Rattle.anb_certify.proofs.Fitting.{get_last, values_length}
 use Rattle.anb_certify.proofs.Telling.{worked_any, told_more, told_next}
 

@@ -10,8 +10,10 @@ pub mod Classes
 -- for proofs alone
 pub mod Works
 pub mod Numbered
+pub mod Progress
 pub mod Signs
 pub mod Links
+pub mod Falling
 pub mod Walking
 pub mod Tables
 pub mod Flags

@@ -8,7 +8,7 @@ use Rattle.anb_plays.specs.Codes.{Work, make, undo}
 use Rattle.anb_plays.specs.Exec.{worked}
 use Rattle.anb_intern.specs.declared.node.NodeId.{NodeId}
 use Rattle.anb_certify.specs.Tied.{Did, Tied, KeepsRules}
-use Rattle.anb_intern.specs.Nodes.{operands_at, AreUnder}
+use Rattle.anb_intern.specs.Nodes.{operands_at}
 use Rattle.anb_certify.specs.declared.table.Table.{Table}
 use Rattle.anb_certify.specs.Works.{did_of, AreTold}
 
@@ -25,10 +25,6 @@ did_in table = map did_of table.done.items
 
 abbrev pub value_of : Table → TableValue
 value_of table = record { terms = terms_in table; did = did_in table }
-
--- its numbers are the pool's
-abbrev pub IsTable : Table → Type 0
-IsTable table = AreUnder (length table.pool) table.ids.items
 
 -- what a work writes stands in new registers, where its demand is true
 abbrev pub IsWritten : TableValue → Work → Bool → TableValue → Type 0

@@ -1,5 +1,5 @@
 -- A place on the way along a code.
-use Rattle.std.specs.Prelude.{◌≡◌, ℕ, ◌+◌, List, [], ◌∷◌, length, drop, Option}
+use Rattle.std.specs.Prelude.{◌≡◌, ℕ, ◌+◌, List, ◌∷◌, length, drop, Option}
 use Rattle.anb_plays.specs.Plans.{Event, known}
 use Rattle.anb_plays.specs.Codes.{Act, takes}
 use Rattle.anb_plays.specs.Exec.{HasTakes}

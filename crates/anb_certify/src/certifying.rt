@@ -12,7 +12,8 @@ ghost use Rattle.anb_resolve.specs.Protocols.{ProtocolValue};
 ghost use Rattle.anb_term.specs.View.{tree_of};
 ghost use Rattle.anb_certify.specs.Certified.{is_work, IsCertified, Refuses, HasFrame};
 ghost use Rattle.anb_certify.specs.declared.refusal.CertifyNo.TheVariants as refusal;
-ghost use Rattle.anb_certify.specs.Numbered.{did_in, terms_in, value_of, IsLoose, IsTable};
+ghost use Rattle.anb_certify.specs.Numbered.{did_in, terms_in, value_of, IsLoose};
+ghost use Rattle.anb_certify.specs.Progress.{IsTable};
 ghost use Rattle.anb_certify.specs.Tied.{AreEnough};
 ghost use Rattle.anb_certify.specs.Walking.{IsAt, Stands};
 ghost use Rattle.anb_certify.specs.Works.{work_of, AreTold};
@@ -30,7 +31,9 @@ use std::alloc::Global;
 
 /// Certifies a role's code, however it was made: what it compares ties its registers so that it fits
 /// the role's plan. Not every code that fits is certified. At each send, each receive and the end it
-/// looks at each instruction before it, and at each term that occurs so far.
+/// looks at what came since the last one; where some registers' terms were neither built nor undone,
+/// at each term so far; and where comparisons, one after another, don't tie each register to the first
+/// of its term, at each instruction so far, in rounds.
 pub fn certify(alloc: Global, p: &Protocol, role: u32, code: &RoleCode) -> Result<(), CertifyNo>
     requires { role < length p.now.roles }
     ensures certified { OnOk result (IsCertified p.now role code.now) }
@@ -71,7 +74,7 @@ fn walk(
     for i in 0..count {
         step(alloc, p, role, code, events, i, &mut next, &mut table)?;
     }
-    border(alloc, &table, count as u32 + 1)
+    border(alloc, &mut table, count as u32 + 1)
 }
 
 /// One instruction.
@@ -193,12 +196,14 @@ fn hear(alloc: Global, term: &Term, table: &mut Table) -> Result<(), CertifyNo>
 }
 
 /// The code is enough before an instruction.
-fn border(alloc: Global, table: &Table, at: u32) -> Result<(), CertifyNo>
-    requires table { IsTable table.now }
-    requires told { AreTold (terms_in table.now) (did_in table.now) }
-    ensures enough { OnOk result (AreEnough (did_in table.now) (terms_in table.now)) }
+fn border(alloc: Global, table: &mut Table, at: u32) -> Result<(), CertifyNo>
+    requires table { IsTable table.old }
+    requires told { AreTold (terms_in table.old) (did_in table.old) }
+    ensures table { OnOk result (IsTable table.new) }
+    ensures same { OnOk result (value_of table.new ≡ value_of table.old) }
+    ensures enough { OnOk result (AreEnough (did_in table.old) (terms_in table.old)) }
     ensures loose { IfErr result (λ no. no ≢ refusal.NoMemory → (i : ℕ)
-        × (no ≡ refusal.Loose at i) × IsLoose (did_in table.now) (terms_in table.now) i) }
+        × (no ≡ refusal.Loose at i) × IsLoose (did_in table.old) (terms_in table.old) i) }
 {
     match table.first_loose(alloc)? {
         None => Ok(()),

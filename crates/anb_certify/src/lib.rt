@@ -9,6 +9,7 @@ mod frames;
 mod laws;
 mod links;
 mod numbers;
+mod progress;
 mod reasons;
 mod refusal;
 mod rules;

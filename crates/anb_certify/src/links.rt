@@ -3,6 +3,7 @@ ghost use Rattle.std.specs.Prelude.{◌≡◌, ◌+◌, ◌<◌, ◌++◌, ◌�
 ghost use Rattle.anb_term.specs.Tree.{Tree};
 ghost use Rattle.anb_plays.specs.Codes.{Work};
 ghost use Rattle.anb_certify.specs.Classes.{AreNamed, Saturated};
+ghost use Rattle.anb_certify.specs.Falling.{LinkApart};
 ghost use Rattle.anb_certify.specs.Links.{AreLinked, AreTiedLinks, HasLinked, IsToLink};
 ghost use Rattle.anb_certify.specs.Signs.{classes_in, signs_in, IsSigns};
 ghost use Rattle.anb_certify.specs.Works.{work_of, did_of, AreTold};
@@ -25,6 +26,7 @@ pub(crate) fn links(alloc: Global, names: &[u32], done: &[Done]) -> Result<Vec<P
     requires named { AreNamed (map did_of done.now) names.now }
     ensures tied { IfOk result (λ links. AreTiedLinks (length names.now)
         (map did_of done.now) links.items) }
+    ensures apart { IfOk result (λ links. LinkApart names.now links.items) }
     ensures none { IfOk result (λ links. links.items ≡ []
         → Saturated (map did_of done.now) names.now) }
 {
@@ -56,6 +58,8 @@ fn link(
         × (length (classes_in made.new) ≡ length names.now)) }
     ensures undone { OnOk result (IsSigns undone.new
         × (length (classes_in undone.new) ≡ length names.now)) }
+    ensures apart { OnOk result (LinkApart names.now links.old.items
+        → LinkApart names.now links.new.items) }
     ensures linked { OnOk result ((did seen : List (ℕ × Work))
         → IsToLink did names.now d.now.at (work_of d.now.job)
         → AreLinked did seen names.now (signs_in made.old) (signs_in undone.old) links.old.items
@@ -97,7 +101,10 @@ fn link_all(
     requires first { (j : ℕ) → j < count → a + j < length names.now }
     requires second { (j : ℕ) → j < count → b + j < length names.now }
     requires few { length names.now < 4294967296 }
-    ensures { OnOk result (HasLinked names.now a b count links.old.items links.new.items) }
+    ensures linked { OnOk result
+        (HasLinked names.now a b count links.old.items links.new.items) }
+    ensures apart { OnOk result (LinkApart names.now links.old.items
+        → LinkApart names.now links.new.items) }
 {
     for j in 0..count as u32 {
         if names[(a + j) as usize] != names[(b + j) as usize] {

@@ -1,6 +1,6 @@
 //! Terms by their numbers in a pool: which of them are listed, and which compose from the listed ones.
 //! Each of these takes one look at each term of the pool, or at each that is handed in.
-ghost use Rattle.std.specs.Prelude.{◌≡◌, ◌++◌, ◌||◌, List, length, map, take, drop, replicate, false, IfOk};
+ghost use Rattle.std.specs.Prelude.{◌≡◌, ◌++◌, ◌||◌, List, length, map, take, drop, replicate, IfOk};
 ghost use Rattle.anb_term.specs.Tree.{Tree};
 ghost use Rattle.anb_term.specs.View.{tree_of};
 ghost use Rattle.anb_intern.specs.Nodes.{operands_at, AreUnder, IsOver};
@@ -35,18 +35,18 @@ pub(crate) fn marks(alloc: Global, pool: &Pool, ids: &[NodeId]) -> Result<Vec<bo
     ensures { IfOk result (λ flags.
         flags.items ≡ map (is_among (operands_at pool.now ids.now)) pool.now) }
 {
-    let mut flags = no_marks(alloc, pool.len() as usize)?;
+    let mut flags = same_flags(alloc, pool.len() as usize, false)?;
     for id in ids {
         flags[id.0 as usize] = true;
     }
     Ok(flags)
 }
 
-/// A flag for each number, none of them set.
-fn no_marks(alloc: Global, count: usize) -> Result<Vec<bool>, NoMemory>
-    ensures { IfOk result (λ flags. flags.items ≡ replicate count false) }
+/// So many flags, each of them this one.
+pub(crate) fn same_flags(alloc: Global, count: usize, flag: bool) -> Result<Vec<bool>, NoMemory>
+    ensures { IfOk result (λ flags. flags.items ≡ replicate count flag) }
 {
-    Ok(vec![in alloc; false; count]?)
+    Ok(vec![in alloc; flag; count]?)
 }
 
 /// For each number, whether its term composes from the terms with a mark.

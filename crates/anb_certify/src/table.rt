@@ -13,22 +13,26 @@ ghost use Rattle.anb_intern.specs.Nodes.{operands_at, tree_at, AreDistinct, AreU
 ghost use Rattle.anb_plays.specs.Codes.{make, undo};
 ghost use Rattle.anb_plays.specs.Exec.{worked, IsReady};
 ghost use Rattle.anb_certify.specs.Works.{work_of, AreTold};
-ghost use Rattle.anb_certify.specs.Numbered.{terms_in, did_in, value_of, HasWorked, IsLoose, IsTable, IsWritten, Opens};
+ghost use Rattle.anb_certify.specs.Numbered.{terms_in, did_in, value_of, HasWorked, IsLoose, IsWritten, Opens};
+ghost use Rattle.anb_certify.specs.Progress.{IsTable};
 ghost use Rattle.anb_certify.specs.Tied.{AreEnough};
 
 use crate::numbers::{back, front};
+use crate::progress::Progress;
 use crate::rules::first_loose;
 use crate::works::{Done, Job};
 use anb_intern::{Node, NodeId, Pool};
 use anb_term::{NoMemory, Op, Term};
 use std::alloc::Global;
 
-/// The terms of registers in the order of writing, and the jobs that were done.
+/// The terms of registers in the order of writing, the jobs that were done, and what the last border
+/// found of them.
 #[derive(Drop)]
 pub(crate) struct Table {
     pub(crate) pool: Pool,
     pub(crate) ids: Vec<NodeId>,
     pub(crate) done: Vec<Done>,
+    pub(crate) progress: Progress,
 }
 
 impl Table {
@@ -41,6 +45,7 @@ impl Table {
             pool: Pool::new(alloc),
             ids: Vec::new(alloc),
             done: Vec::new(alloc),
+            progress: Progress::new(alloc),
         }
     }
 
@@ -153,13 +158,32 @@ impl Table {
     }
 
     /// The first register that is loose, if any.
-    pub(crate) fn first_loose(&self, alloc: Global) -> Result<Option<u32>, NoMemory>
-        requires table { IsTable self.now }
-        requires told { AreTold (terms_in self.now) (did_in self.now) }
-        ensures { IfOk result (λ r. MatchOption r (AreEnough (did_in self.now) (terms_in self.now))
-            (λ i. IsLoose (did_in self.now) (terms_in self.now) i)) }
+    pub(crate) fn first_loose(&mut self, alloc: Global) -> Result<Option<u32>, NoMemory>
+        requires table { IsTable self.old }
+        requires told { AreTold (terms_in self.old) (did_in self.old) }
+        ensures same { OnOk result (value_of self.new ≡ value_of self.old) }
+        ensures loose { IfOk result (λ r. MatchOption r
+            (IsTable self.new × AreEnough (did_in self.old) (terms_in self.old))
+            (λ i. IsLoose (did_in self.old) (terms_in self.old) i)) }
     {
-        first_loose(alloc, &self.pool, &self.ids, &self.done)
+        if self.ids.len() > u32::MAX as usize {
+            return Err(NoMemory);
+        }
+        if self
+            .progress
+            .look(alloc, &self.pool, &self.ids, &self.done)?
+        {
+            return Ok(None);
+        }
+        let firsts = &self.progress.firsts;
+        let flags = &self.progress.flags;
+        match first_loose(alloc, &self.pool, &self.ids, &self.done, firsts, flags)? {
+            Some(r) => Ok(Some(r)),
+            None => {
+                self.progress.settle_all(alloc)?;
+                Ok(None)
+            }
+        }
     }
 }
 

@@ -56,7 +56,7 @@ fn write_participants<K: Sink>(alloc: Global, snk: &mut K, roles: &[Text]) -> Re
 }
 
 /// The line of a role.
-fn participant_text(alloc: Global, role: &Text) -> Result<Vec<u8>, NoMemory>
+pub fn participant_text(alloc: Global, role: &Text) -> Result<Vec<u8>, NoMemory>
     ensures { IfOk result (λ bytes. bytes.items ≡ participant_line role.now) }
 {
     let mut out = Vec::from_slice(alloc, b"    participant ")?;
@@ -137,7 +137,7 @@ fn put_note(
 }
 
 /// Appends the arrow of an action.
-fn put_arrow(
+pub fn put_arrow(
     alloc: Global,
     out: &mut Vec<u8>,
     protocol: &Protocol,
@@ -166,7 +166,7 @@ fn put_arrow(
 }
 
 /// Appends a role by its number.
-fn put_participant(out: &mut Vec<u8>, protocol: &Protocol, role: u32) -> Result<(), NoMemory>
+pub fn put_participant(out: &mut Vec<u8>, protocol: &Protocol, role: u32) -> Result<(), NoMemory>
     requires { role < length protocol.now.roles }
     ensures { OnOk result (out.new.items ≡ out.old.items ++ participant protocol.now role) }
 {

@@ -9,6 +9,6 @@ mod examples;
 mod laws;
 mod participants;
 
-pub use charting::write_chart;
+pub use charting::{participant_text, put_arrow, put_participant, write_chart};
 pub use examples::{ending_is_charted, mutual_is_charted};
 pub use laws::{participants_are_no_words, participants_are_told_apart};

@@ -11,7 +11,7 @@ use Rattle.anb_command.specs.Lines.{Tells}
 use Rattle.anb_command.specs.Pieces.{joined}
 use Rattle.anb_command.specs.Statuses.{line_of, text_of}
 use Rattle.anb_command.specs.declared.status.Status.{Status}
-use Rattle.anb_command.specs.declared.status.Status.TheVariants.{Done, Usage, CannotSend, ChildCut}
+use Rattle.anb_command.specs.declared.status.Status.TheVariants.{Done, Usage, CannotSend, ArmCannotSend, BadArm, ChildCut}
 
 -- what was put, and then a prefix of what comes next, are a prefix of the whole
 pub prefix_within : (a b c : Option (List ℕ)) (front next rest whole : List ℕ) → whole ≡ front ++ (next ++ rest) → Put a b front → PutPrefix b c next → PutPrefix a c whole
@@ -49,6 +49,17 @@ line_is status a b c d e f g other text = sym (rw (line_of-other status other, t
 pub cannot_send_text : (s : Status) (action : ℕ) (role name digits : List ℕ) → s ≡ CannotSend action role → name ≡ role → digits ≡ decimal action
     → text_of s ≡ name ++ (codes " can't compose the message of action " ++ (digits ++ []))
 cannot_send_text s action role name digits is name_is digits_are = rw (is, name_is, digits_are, append-nil) refl
+
+-- the same of one that can't be composed in an arm
+pub arm_cannot_send_text : (s : Status) (arm action : ℕ) (role name digits number : List ℕ) → s ≡ ArmCannotSend arm action role
+    → name ≡ role → digits ≡ decimal action → number ≡ decimal arm
+    → text_of s ≡ name ++ (codes " can't compose the message of action " ++ (digits ++ (codes " in arm " ++ (number ++ []))))
+arm_cannot_send_text s arm action role name digits number is name_is digits_are number_is = rw (is, name_is, digits_are, number_is, append-nil) refl
+
+-- the text of an arm that doesn't fit
+pub bad_arm_text : (s : Status) (arm : ℕ) (digits : List ℕ) → s ≡ BadArm arm → digits ≡ decimal arm
+    → text_of s ≡ codes "arm " ++ (digits ++ codes " doesn't fit")
+bad_arm_text s arm digits is digits_are = rw (is, digits_are) refl
 
 -- the text of a message that a child's output ends in
 pub child_cut_text : (s : Status) (action have need : ℕ) (a h n : List ℕ) → s ≡ ChildCut action have need

@@ -6,7 +6,7 @@ use Rattle.anb_command.specs.declared.words.Command.{Command}
 use Rattle.anb_command.specs.declared.words.Command.TheVariants as command
 use Rattle.anb_command.specs.declared.words.Endpoint.{Endpoint}
 use Rattle.anb_command.specs.declared.words.Endpoint.TheVariants as endpoint
-use Rattle.anb_command.specs.Words.{Asked, fmt, describe, play, enact, replay, host, rehearse, drill, help, certify, why, park, resume, chart, branch, check, trace}
+use Rattle.anb_command.specs.Words.{Asked, fmt, describe, play, enact, replay, host, rehearse, drill, help, certify, why, park, resume, chart, role_chart, branch, check, trace}
 
 abbrev pub place_by : Endpoint → Place
 place_by endpoint.Stdio = place.Stdio
@@ -31,8 +31,8 @@ asked_by (Some (command.Park words)) =
     Some (park words.play.narration.now words.play.name.now words.play.values.now words.key.now (place_by words.play.endpoint))
 asked_by (Some (command.Resume words)) =
     Some (resume words.narration.now words.name.now words.parked.now words.key.now (place_by words.endpoint))
-asked_by (Some (command.Chart narration None)) = Some (chart narration.now None)
-asked_by (Some (command.Chart narration (Some role))) = Some (chart narration.now (Some role.now))
+asked_by (Some (command.Chart narration)) = Some (chart narration.now)
+asked_by (Some (command.RoleChart narration role)) = Some (role_chart narration.now role.now)
 asked_by (Some (command.Branch words)) =
     Some (branch words.play.narration.now words.play.name.now words.play.values.now words.told (place_by words.play.endpoint))
 asked_by (Some (command.Check narration)) = Some (check narration.now)

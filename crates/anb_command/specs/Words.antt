@@ -22,7 +22,8 @@ pub data Asked : Type 0 where
   why : (narration : List ℕ) → Asked
   park : (narration role values key : List ℕ) → Place → Asked
   resume : (narration role parked key : List ℕ) → Place → Asked
-  chart : (narration : List ℕ) → (role : Option (List ℕ)) → Asked
+  chart : (narration : List ℕ) → Asked
+  role_chart : (narration role : List ℕ) → Asked
   branch : (narration role values : List ℕ) → (told : Option ℕ) → Place → Asked
   check : (narration : List ℕ) → Asked
   trace : (narration role values transcript : List ℕ) → Asked
@@ -119,10 +120,10 @@ resume_in (narration ∷ role ∷ parked ∷ key ∷ place) =
 resume_in words = None
 
 abbrev pub chart_in : List (List ℕ) → Option Asked
-chart_in (narration ∷ []) = if is_operand narration then Some (chart narration None) else None
+chart_in (narration ∷ []) = if is_operand narration then Some (chart narration) else None
 chart_in (narration ∷ flag ∷ role ∷ []) =
     if is_operand narration && bytes_eq flag (codes "--role") && is_operand role
-    then Some (chart narration (Some role)) else None
+    then Some (role_chart narration role) else None
 chart_in words = None
 
 -- an arm has a number from 1 to 8, in decimal without a sign or leading zeros
@@ -202,7 +203,8 @@ files_of (Some (certify narration role code)) = narration ∷ code ∷ []
 files_of (Some (why narration)) = narration ∷ []
 files_of (Some (park narration role values key place)) = narration ∷ values ∷ key ∷ []
 files_of (Some (resume narration role parked key place)) = narration ∷ parked ∷ key ∷ []
-files_of (Some (chart narration role)) = narration ∷ []
+files_of (Some (chart narration)) = narration ∷ []
+files_of (Some (role_chart narration role)) = narration ∷ []
 files_of (Some (branch narration role values told place)) = narration ∷ values ∷ []
 files_of (Some (check narration)) = narration ∷ []
 files_of (Some (trace narration role values transcript)) = narration ∷ values ∷ transcript ∷ []
@@ -223,7 +225,8 @@ place_of (Some (certify narration role code)) = Some Stdio
 place_of (Some (why narration)) = Some Stdio
 place_of (Some (park narration role values key place)) = Some place
 place_of (Some (resume narration role parked key place)) = Some place
-place_of (Some (chart narration role)) = Some Stdio
+place_of (Some (chart narration)) = Some Stdio
+place_of (Some (role_chart narration role)) = Some Stdio
 place_of (Some (branch narration role values told place)) = Some place
 place_of (Some (check narration)) = Some Stdio
 place_of (Some (trace narration role values transcript)) = Some Stdio

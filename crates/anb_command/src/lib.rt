@@ -22,9 +22,9 @@ pub use limits::{
     VALUES_LIMIT,
 };
 pub use line::tell;
-pub use over::run_over;
+pub use over::{run_over, status_of};
 pub use playable::{
-    Playable, codes_of, playable_in_file, playable_of, role_named, sendable_in_file,
+    Playable, codes_of, no_role, playable_in_file, playable_of, role_named, sendable_in_file,
 };
 pub use prepare::{Prepared, prepare_code, seed_of};
 pub use reaching::{reach, reach_stdio};

@@ -67,7 +67,7 @@ fn run_now<W: Wire>(alloc: Global, machine: &mut Machine<'_>, wire: &mut W) -> S
 }
 
 /// The status of a run that ended so.
-fn status_of(end: PlayEnd) -> Status
+pub fn status_of(end: PlayEnd) -> Status
     ensures { result ≡ status_of end }
 {
     match end {

@@ -89,7 +89,7 @@ pub fn role_named(alloc: Global, protocol: &Protocol, name: &Text) -> Result<u32
 }
 
 /// The status of a name that no role has.
-fn no_role(alloc: Global, name: &Text) -> Status
+pub fn no_role(alloc: Global, name: &Text) -> Status
     ensures { (result ≡ status.NoRole name.now) ⊎ (result ≡ status.NoMemory) }
 {
     match name.copy(alloc) {

@@ -34,7 +34,10 @@ pub enum Command<'w> {
     Resume(ResumeWords<'w>),
     Chart {
         narration: &'w Text,
-        role: Option<&'w Text>,
+    },
+    RoleChart {
+        narration: &'w Text,
+        role: &'w Text,
     },
     Branch(BranchWords<'w>),
     Check {
@@ -366,18 +369,10 @@ impl<'w> Command<'w> {
         ensures { asked_by result ≡ chart_in words.now }
     {
         match words {
-            [narration] if is_operand(narration) => {
-                Some(Command::Chart {
-                    narration,
-                    role: None,
-                })
-            }
+            [narration] if is_operand(narration) => Some(Command::Chart { narration }),
             [narration, flag, role]
                 if is_operand(narration) && flag.as_str() == "--role" && is_operand(role) => {
-                Some(Command::Chart {
-                    narration,
-                    role: Some(role),
-                })
+                Some(Command::RoleChart { narration, role })
             }
             _ => None,
         }

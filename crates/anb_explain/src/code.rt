@@ -4,7 +4,7 @@ ghost use Rattle.std.specs.List.{AllByRecursion};
 ghost use Rattle.anb_format.specs.Formats.{field_count};
 ghost use Rattle.anb_term.specs.View.{tree_of};
 ghost use Rattle.anb_code.specs.Registers.{count_written};
-ghost use Rattle.anb_code.specs.Verified.{HasItsFormat, count_registers};
+ghost use Rattle.anb_code.specs.Verified.{count_registers};
 ghost use Rattle.anb_resolve.specs.Texts.{IsTermOf, term_text};
 ghost use Rattle.anb_explain.specs.Explained.{code_text, line, note};
 ghost use Rattle.anb_text.specs.RoleFiles.{instr_lines};
@@ -56,12 +56,14 @@ pub(crate) fn write_code<K: Sink>(
 
 /// How many registers an instruction writes.
 pub fn count_written(formats: &[Format], instr: &Instr) -> usize
-    requires fields { AllByRecursion (λ format. field_count format.pieces ≤ 32) formats.now }
-    requires format { HasItsFormat formats.now instr.now }
+    requires { AllByRecursion (λ format. field_count format.pieces ≤ 32) formats.now }
     ensures { result ≡ count_written formats.now instr.now }
 {
     match instr {
-        Instr::Parse(f, _) => formats[*f as usize].arity() as usize,
+        Instr::Parse(f, _) => match formats.get(*f as usize) {
+            Some(format) => format.arity() as usize,
+            None => 0,
+        },
         Instr::Equal(_, _) | Instr::Send(_) => 0,
         _ => 1,
     }

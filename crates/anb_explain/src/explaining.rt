@@ -42,6 +42,9 @@ impl Model for Explanation {
 }
 
 impl Explanation {
+    ghost use Rattle.std.specs.Prelude.{◌≡◌, map};
+    ghost use Rattle.anb_term.specs.View.{tree_of};
+
     /// The events of the plan.
     pub fn events(&self) -> &[Event]
         ensures { map plan_event result.now ≡ self.now.plan }
@@ -49,7 +52,7 @@ impl Explanation {
         self.plan.events()
     }
 
-    /// The terms of the registers, in the order of writing.
+    /// The terms of the code's registers, in the order of writing.
     pub fn terms(&self) -> &[Term]
         ensures { map tree_of result.now ≡ self.now.terms }
     {

@@ -13,9 +13,9 @@ use Rattle.anb_read.specs.Places.{Fails}
 use Rattle.anb_read.proofs.Depth.{stands_at, begins_there}
 use Rattle.anb_read.proofs.Endings.{no_bad, front_tokens, not_all}
 use Rattle.anb_read.proofs.Offsets.{increasing}
-use Rattle.anb_read.proofs.Exact.{IsRefusedAs, IsRefused, compared, same_cut, viable_as, ok_is, is_ok, err_is, is_err}
+use Rattle.anb_read.proofs.Exact.{IsRefusedAs, IsRefused, IsFirst, compared, same_cut, viable_as, ok_is, is_ok, err_is, is_err}
 
-above : 0 < 64
+pub above : 0 < 64
 above = omega arith
 
 -- the level of a term, and the parentheses that are open
@@ -70,7 +70,7 @@ from_cause (Grammar at) front next h = record {
 from_cause (Deep at) front next h = record { deep = true; how = from_level front next.word h.1; is = λ others. ap Deep (sym h.0) }
 from_cause NoMemory front next h = absurd h
 
-stands : (why : ReadNo) (front : List Word) (next : Tok) → IsCause why front next → offset why ≡ next.at
+pub stands : (why : ReadNo) (front : List Word) (next : Tok) → IsCause why front next → offset why ≡ next.at
 stands (Token at) front next h = sym h.0
 stands (Grammar at) front next h = sym h.0
 stands (Deep at) front next h = sym h.0
@@ -97,16 +97,16 @@ module _ (x : List ℕ) (ts : List Tok) (l : Lexes 0 x ts) where
   }
 
   -- a cause in these tokens
-  record Here (why : ReadNo) : Type 0 where
-    deep : Bool
-    front : List Word
-    next : Tok
-    others : List Tok
-    refused : IsRefused 64 deep ts front (next ∷ others)
-    is : why ≡ fault deep (next ∷ others)
-    at : offset why ≡ next.at
+  pub record Here (why : ReadNo) : Type 0 where
+    pub deep : Bool
+    pub front : List Word
+    pub next : Tok
+    pub others : List Tok
+    pub refused : IsRefused 64 deep ts front (next ∷ others)
+    pub is : why ≡ fault deep (next ∷ others)
+    pub at : offset why ≡ next.at
 
-  here : (why : ReadNo) → HasCause x why → Here why
+  pub here : (why : ReadNo) → HasCause x why → Here why
   here why h =
       let k = from_cause why h.front h.next h.cause in
       let P : List Tok → Type 0 = λ us. Begins us h.front (h.next ∷ h.others) in
@@ -157,19 +157,23 @@ module _ (x : List ℕ) (ts : List Tok) (l : Lexes 0 x ts) where
             omega (arith, fault_at k.0 k.2, i.at, le);
       })
 
+  -- the text's refusal is the first of its tokens
+  pub first_here : (why : ReadNo) → IsRefusal x why → (i : Here why) → IsFirst 64 i.deep ts i.front (i.next ∷ i.others)
+  first_here why r i = record {
+    refused = i.refused;
+    first = λ other before after s. elim (compared (length i.front) (length before)) [
+      | inl h ↦ h
+      | inr h ↦
+          let c = caused other before after s in
+          let le = r.first (fault other after) c.has in
+          absurd (omega (arith, le, fault_at other after, i.at, earlier i.deep other i.front before (i.next ∷ i.others) after i.refused s h))
+    ];
+  }
+
   pub first_of : (why : ReadNo) → IsRefusal x why → narration_at 64 ts ≡ Err why
   first_of why r =
       let i = here why r.cause in
-      is_err 64 above ts why i.deep i.front (i.next ∷ i.others) (record {
-        refused = i.refused;
-        first = λ other before after s. elim (compared (length i.front) (length before)) [
-          | inl h ↦ h
-          | inr h ↦
-              let c = caused other before after s in
-              let le = r.first (fault other after) c.has in
-              absurd (omega (arith, le, fault_at other after, i.at, earlier i.deep other i.front before (i.next ∷ i.others) after i.refused s h))
-        ];
-      }) i.is
+      is_err 64 above ts why i.deep i.front (i.next ∷ i.others) (first_here why r i) i.is
 
   -- the tokens of a narration's text are read as it
   pub read_of : (n : Narration) → Text n x → (w : Written) × (rest : List Tok) × (narration_at 64 ts ≡ Ok (w, rest)) × (told w ≡ n)

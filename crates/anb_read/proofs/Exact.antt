@@ -49,7 +49,7 @@ whole_as [] = refl
 whole_as (x ∷ a) = (refl, whole_as a)
 
 -- what follows the shorter of two beginnings
-next_in : (a b : List Word) (w r s : List Tok) → Begins w a r → Begins w b s → length a < length b → (c : List Word) × (b ≡ a ++ head r ∷ c)
+pub next_in : (a b : List Word) (w r s : List Tok) → Begins w a r → Begins w b s → length a < length b → (c : List Word) × (b ≡ a ++ head r ∷ c)
 next_in a [] w r s g h lt = absurd (omega arith)
 next_in [] (y ∷ b) [] r s g h lt = absurd h
 next_in [] (y ∷ b) (t ∷ w) r s g h lt = (b, ap (λ z. z ∷ b) (sym h.0 ∙ ap head g))
@@ -58,7 +58,7 @@ next_in (x ∷ a) (y ∷ b) (t ∷ w) r s g h lt =
     let k = next_in a b w r s g.1 h.1 (omega arith) in
     (k.0, ap (λ z. z ∷ b) (sym h.0 ∙ g.0) ∙ ap (λ (zs : List Word). x ∷ zs) k.1)
 
-rest_in : (a b : List Word) (w r s : List Tok) → Begins w a r → Begins w b s → length a ≤ length b → (c : List Word) × (b ≡ a ++ c)
+pub rest_in : (a b : List Word) (w r s : List Tok) → Begins w a r → Begins w b s → length a ≤ length b → (c : List Word) × (b ≡ a ++ c)
 rest_in [] b w r s g h le = (b, refl)
 rest_in (x ∷ a) [] w r s g h le = absurd (omega arith)
 rest_in (x ∷ a) (y ∷ b) [] r s g h le = absurd g

@@ -23,3 +23,5 @@ pub mod Literals
 pub mod Leveled
 pub mod Sizing
 pub mod Either
+pub mod GoingOn
+pub mod Standing

@@ -43,19 +43,19 @@ token_long (b ∷ x) t e = elim (split (is_letter b) (Some (name (take (prefix_l
     others b x = cond (b == 34) (quoted (characters_here x)) (signs b x)
 
 -- where another token follows, this one is a token, and is passed over
-goes_on : (Others : ℕ → Type 0) (ts : List Tok) (y : List ℕ) (o : Option (Word × ℕ)) (w : Word) → o ≡ token_here y → (ts ≡ [] → ⊥) → LexesHere Others (ts ≡ []) y o w → (t : Word × ℕ) × (0 < t.1) × Others t.1
+goes_on : (Others : ℕ → Type 0) (ts : List Tok) (y : List ℕ) (o : Option (Word × ℕ)) (w : Word) → o ≡ token_here y → (ts ≡ [] → ⊥) → LexesHere Others (ts ≡ []) y o w → (t : Word × ℕ) × (token_here y ≡ Some t) × Others t.1
 goes_on Others ts [] None w e n h = absurd (n h.1)
 goes_on Others ts (b ∷ y) None w e n h = absurd (n h.1)
-goes_on Others ts [] (Some t) w e n h = (t, token_long [] t (sym e), h.1)
-goes_on Others ts (b ∷ y) (Some t) w e n h = (t, token_long (b ∷ y) t (sym e), h.1)
+goes_on Others ts [] (Some t) w e n h = (t, sym e, h.1)
+goes_on Others ts (b ∷ y) (Some t) w e n h = (t, sym e, h.1)
 
-not_empty : (b : List Word) (ts : List Tok) (u : Tok) (s : List Tok) → Begins ts b (u ∷ s) → ts ≡ [] → ⊥
+pub not_empty : (b : List Word) (ts : List Tok) (u : Tok) (s : List Tok) → Begins ts b (u ∷ s) → ts ≡ [] → ⊥
 not_empty [] ts u s g e = cc (g, e)
 not_empty (y ∷ b) [] u s g e = g
 not_empty (y ∷ b) (t ∷ ts) u s g e = cc (e)
 
 module _ (at : ℕ) (x : List ℕ) (t : Tok) (ts : List Tok) (l : Lexes at x (t ∷ ts)) (some : ts ≡ [] → ⊥) where
-  passed : (n : Word × ℕ) × (0 < n.1) × Lexes (at + gap_len x + n.1) (drop n.1 (drop (gap_len x) x)) ts
+  pub passed : (n : Word × ℕ) × (token_here (drop (gap_len x) x) ≡ Some n) × Lexes (at + gap_len x + n.1) (drop n.1 (drop (gap_len x) x)) ts
   passed = goes_on (λ n. Lexes (at + gap_len x + n) (drop n (drop (gap_len x) x)) ts) ts (drop (gap_len x) x) (token_here (drop (gap_len x) x)) t.word refl some l.1
 
 from_on : (at : ℕ) (x : List ℕ) (ts : List Tok) (b : List Word) (u : Tok) (s : List Tok) → Lexes at x ts → Begins ts b (u ∷ s) → at ≤ u.at
@@ -73,7 +73,7 @@ increasing at x (v ∷ ts) [] (z ∷ b) t u r s l g h lt =
     let e : v ≡ t = cc (g) in
     let i : v.at ≡ t.at = ap (λ (w : Tok). w.at) e in
     let k = passed at x v ts l (not_empty b ts u s h.1) in
-    omega (arith, l.0, k.1, from_on (at + gap_len x + k.0.1) (drop k.0.1 (drop (gap_len x) x)) ts b u s k.2 h.1)
+    omega (arith, l.0, token_long (drop (gap_len x) x) k.0 k.1, from_on (at + gap_len x + k.0.1) (drop k.0.1 (drop (gap_len x) x)) ts b u s k.2 h.1)
 increasing at x (v ∷ ts) (y ∷ a) (z ∷ b) t u r s l g h lt =
     let k = passed at x v ts l (not_empty b ts u s h.1) in
     increasing (at + gap_len x + k.0.1) (drop k.0.1 (drop (gap_len x) x)) ts a b t u r s k.2 g.1 h.1 (omega arith)

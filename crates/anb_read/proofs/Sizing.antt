@@ -40,9 +40,9 @@ heft_joined [] b = omega (arith, heft_none)
 heft_joined (x ∷ a) b = omega (arith, heft_more x (a ++ b), heft_more x a, heft_joined a b)
 
 -- a token, its length and what is left
-record Fits (y : List ℕ) (t : Word × ℕ) : Type 0 where
-  word : word_size t.0 ≤ t.1
-  within : t.1 ≤ length y
+pub record Fits (y : List ℕ) (t : Word × ℕ) : Type 0 where
+  pub word : word_size t.0 ≤ t.1
+  pub within : t.1 ≤ length y
 
 prefix_most : (p : ℕ → Bool) (x : List ℕ) → prefix_len p x ≤ length x
 prefix_most p [] = omega arith
@@ -75,7 +75,7 @@ arrows b x = cond (b == 45 && begins_with 62 x) (Some (sign 45, 2)) None
 abbrev signs : ℕ → List ℕ → Option (Word × ℕ)
 signs b x = cond (is_sign b) (Some (sign b, 1)) (arrows b x)
 
-token_fits : (y : List ℕ) (t : Word × ℕ) → token_here y ≡ Some t → Fits y t
+pub token_fits : (y : List ℕ) (t : Word × ℕ) → token_here y ≡ Some t → Fits y t
 token_fits [] t e = cc (e)
 token_fits (b ∷ x) t e = elim (split (is_letter b) (Some (name (take (prefix_len is_name_byte (b ∷ x)) (b ∷ x)), prefix_len is_name_byte (b ∷ x))) (cond (b == 34) (quoted (characters_here x)) (signs b x)) (Some t) e) [
   | inl c ↦ let s : (name (take (prefix_len is_name_byte (b ∷ x)) (b ∷ x)), prefix_len is_name_byte (b ∷ x)) ≡ t = cc (c.1) in

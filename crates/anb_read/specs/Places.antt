@@ -9,6 +9,7 @@ use Rattle.anb_read.specs.declared.places.Place.{Place}
 use Rattle.anb_read.specs.declared.places.Place.TheVariants as places
 use Rattle.anb_read.specs.declared.places.Word.{Word}
 use Rattle.anb_read.specs.declared.places.Word.TheVariants as words
+use Rattle.anb_read.specs.Expected.{word_of}
 use Rattle.anb_read.specs.declared.refusal.ReadNo.{ReadNo}
 use Rattle.anb_read.specs.declared.refusal.ReadNo.TheVariants.{Token, Grammar, Deep, NoMemory}
 
@@ -41,6 +42,7 @@ abbrev pub tok_of : List ℕ → Place → Tok
 tok_of text (places.At t) = record { word = kind_of t.kind t.len (drop t.at text); at = t.at }
 tok_of text (places.End at) = record { word = spec.end; at = at }
 tok_of text (places.Bad at) = record { word = spec.bad; at = at }
+tok_of text (places.Given g) = record { word = word_of g; at = 0 }
 
 abbrev pub toks : List ℕ → List Place → List Tok
 toks text ps = map (tok_of text) ps
@@ -48,6 +50,7 @@ toks text ps = map (tok_of text) ps
 abbrev pub word_in : List ℕ → Word → spec.Word
 word_in text (words.Name b) = spec.name b.now
 word_in text (words.Literal at) = spec.literal (literal_here (drop at text))
+word_in text words.Quotes = spec.literal []
 word_in text (words.Sign c) = spec.sign c
 word_in text words.End = spec.end
 word_in text words.Bad = spec.bad

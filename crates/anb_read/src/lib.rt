@@ -2,6 +2,8 @@
 //! first place from which no narration goes on.
 #![tactic(auto)]
 
+mod expecting;
+mod grammar;
 mod items;
 mod lists;
 mod places;
@@ -11,5 +13,7 @@ mod sections;
 mod single;
 mod terms;
 
+pub use expecting::{expected, expected_are_unique};
+pub use grammar::GrammarWord;
 pub use reader::{each_is_either, narrations_are_unique, none_is_both, read, refusals_are_unique};
 pub use refusal::ReadNo;

@@ -6,19 +6,22 @@ ghost use Rattle.anb_syntax.specs.Words.{head, tail};
 ghost use Rattle.anb_syntax.specs.Lexing.{Lexes};
 ghost use Rattle.anb_read.specs.Places.{kind_of, tok_of, toks, word_in};
 
+use crate::grammar::GrammarWord;
 use anb_syntax::{Next, Token, TokenKind, next_token};
 use std::alloc::{AllocError, Global};
 
-/// A token, or what stands behind the last one: the end, or an offset at which no token begins.
+/// A token, or what stands behind the last one: the end, or an offset at which no token begins; or a
+/// word that isn't in the text.
 #[derive(Clone, Copy, Debug, Drop)]
 pub(crate) enum Place {
     At(Token),
     End(u32),
     Bad(u32),
+    Given(GrammarWord),
 }
 
 impl Place {
-    /// Its offset.
+    /// Its offset, which is 0 where it isn't in the text.
     pub(crate) fn at(&self) -> u32
         ensures { (text : List ℕ) → result ≡ (tok_of text self.now).at }
     {
@@ -26,16 +29,18 @@ impl Place {
             Place::At(token) => token.at,
             Place::End(at) => *at,
             Place::Bad(at) => *at,
+            Place::Given(_) => 0,
         }
     }
 }
 
-/// A token as the grammar sees it: a name or a reserved word, the offset of a literal, the first
-/// byte of a sign, or what stands behind the last token.
+/// A token as the grammar sees it: a name or a reserved word, the offset of a literal, a literal
+/// without bytes, the first byte of a sign, or what stands behind the last token.
 #[derive(Clone, Copy)]
 pub(crate) enum Word<'t> {
     Name(&'t [u8]),
     Literal(u32),
+    Quotes,
     Sign(u8),
     End,
     Bad,
@@ -86,6 +91,7 @@ pub(crate) fn first<'t>(text: &'t [u8], places: &[Place]) -> Word<'t>
             Place::At(token) => word_of(text, *token),
             Place::End(_) => Word::End,
             Place::Bad(_) => Word::Bad,
+            Place::Given(word) => word.word(),
         },
     }
 }

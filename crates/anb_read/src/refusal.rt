@@ -4,6 +4,7 @@ ghost use Rattle.std.specs.Prelude.{◌≡◌, true, false};
 ghost use Rattle.anb_syntax.specs.Words.{place as place_of};
 ghost use Rattle.anb_read.specs.Productions.{fault};
 ghost use Rattle.anb_read.specs.Places.{toks};
+ghost use Rattle.anb_read.specs.Refusals.{offset as offset_of};
 
 use crate::places::{Place, Word, first};
 use anb_base::NoMemory;
@@ -20,6 +21,18 @@ pub enum ReadNo {
     Deep { at: u32 },
     /// No memory was left.
     NoMemory,
+}
+
+impl ReadNo {
+    /// Its offset in the text, which is 0 for want of memory.
+    pub fn offset(self) -> u32
+        ensures { result ≡ offset_of self }
+    {
+        match self {
+            Self::Token { at } | Self::Grammar { at } | Self::Deep { at } => at,
+            Self::NoMemory => 0,
+        }
+    }
 }
 
 impl From<NoMemory> for ReadNo {

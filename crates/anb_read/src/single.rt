@@ -188,7 +188,7 @@ pub(crate) fn is_piece(text: &[u8], places: &[Place]) -> bool
 {
     match first(text, places) {
         Word::Name(bytes) => kind_of_word(bytes).is_some(),
-        Word::Literal(_) => true,
+        Word::Literal(_) | Word::Quotes => true,
         _ => false,
     }
 }
@@ -245,6 +245,7 @@ pub(crate) fn piece<'p>(
             let bytes = literal(alloc, text, at)?;
             Ok((literal_piece(bytes), others(places)))
         }
+        Word::Quotes => Ok((Piece::Lit(Bytes::new(Vec::new(alloc))), others(places))),
         _ => Err(refusal(text, places)),
     }
 }

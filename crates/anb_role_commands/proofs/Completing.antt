@@ -1,5 +1,6 @@
 -- A play that hears all it waits for, and where everything agrees, is done.
-use Rattle.std.proofs.Common.{◌≡◌, ℕ, ◌+◌, ◌⊎◌, Bool, true, false, List, [], ◌∷◌, ◌++◌, Option, Some, None, refl, sym, ap, ◌∙◌, subst, inl, inr}
+use Rattle.std.proofs.Common.{◌≡◌, ◌≤◌, ℕ, ◌+◌, ◌⊎◌, Bool, true, false, List, [], ◌∷◌, ◌++◌, length, Option, Some, None, refl, sym, ap, ◌∙◌, subst, inl, inr}
+use Rattle.std.specs.Prelude.{All}
 use Rattle.std.proofs.lemmas.List.{append_cancel_left, append_cancel_right}
 use Rattle.anb_base.specs.Bytes.{IsBytes}
 use Rattle.anb_base.specs.Wires.{WireState}
@@ -13,8 +14,8 @@ use Rattle.anb_plays.specs.Plans.{Event, know, fresh, send, recv, known}
 use Rattle.anb_plays.specs.Plays.{End, done, Played, Walk, Play}
 use Rattle.anb_resolve.specs.Plays.{events_of, meaning_of}
 use Rattle.anb_role_commands.specs.Completions.{AgreesAfterEach, AgreesThroughout, HearsAll}
-use Rattle.anb_role_commands.specs.Jobs.{Job, JobIs}
-use Rattle.anb_command.specs.Outcomes.{IsOutcome, IsPlayed, LeavesAt, status_at}
+use Rattle.anb_role_commands.specs.Jobs.{IsRead, Job, JobIs}
+use Rattle.anb_command.specs.Outcomes.{IsOutcome, IsPlayed, LeavesAt, RunsOver, status_at}
 use Rattle.anb_role_commands.specs.PlayCommand.{CompletesPlay, DoesPlay, PlayOf}
 use Rattle.anb_command.specs.Statuses.{is_fault}
 use Rattle.anb_command.specs.Steps.{Answer, refused, given, HasOneAnswer}
@@ -61,24 +62,31 @@ leaves_later e left later rest heard more unused tail ends unused_is is leaves =
         let same : heard ≡ used = append_cancel_right heard used more (parts ∙ ap (λ (u : List (List ℕ)). used ++ u) unused_is) in
         append_cancel_left (frames used) rest later (sym read ∙ is ∙ ap (λ (h : List (List ℕ)). frames h ++ later) same)
 
-module _ (Prepares : Answer Job → Type 0) (one : HasOneAnswer Prepares) (exists : HasCut ARRIVAL) where
-  -- an input that has all is cut so that the play over it is done
-  completes_over : (left : List ℕ) (now written written_now : Option (List ℕ)) (s : Status)
-      → ((arrivals : List (List ℕ)) (tail : Tail) → IsBytes left → Cut ARRIVAL left arrivals tail → IsOutcome PlayOf Prepares left arrivals tail s now written written_now)
-      → (is_fault s ≡ true → s ≡ NoMemory) → (job : Job) (later : List ℕ) → IsBytes left → Prepares (given job) → HearsAll job left later
+-- An input begins with frames over which what is asked for is done, whatever else arrives.
+pub record HearsEnough {A : Type 0} (IsRunOf : A → List (List ℕ) → Played (List ℕ) → Type 0) (asked : A) (left later : List ℕ) : Type 0 where
+  pub heard : List (List ℕ)
+  pub short : All (λ (x : List ℕ). length x ≤ ARRIVAL) heard
+  pub is : left ≡ frames heard ++ later
+  pub finishes : (more : List (List ℕ)) (p : Played (List ℕ)) → IsRunOf asked (heard ++ more) p → Finishes p more
+
+module _ {A : Type 0} (IsRunOf : A → List (List ℕ) → Played (List ℕ) → Type 0) (exists : HasCut ARRIVAL) where
+  -- an input that has all is cut so that what is asked for is done over it
+  completes_over : (Prepares : Answer A → Type 0) → HasOneAnswer Prepares → (left : List ℕ) (now written written_now : Option (List ℕ)) (s : Status)
+      → ((arrivals : List (List ℕ)) (tail : Tail) → IsBytes left → Cut ARRIVAL left arrivals tail → IsOutcome IsRunOf Prepares left arrivals tail s now written written_now)
+      → (is_fault s ≡ true → s ≡ NoMemory) → (asked : A) (later : List ℕ) → IsBytes left → Prepares (given asked) → HearsEnough IsRunOf asked left later
       → ((s ≡ Done) × (now ≡ Some later)) ⊎ (s ≡ NoMemory)
-  completes_over left now written written_now s does only_memory job later bytes asks all = by (is_fault s) refl where
+  completes_over Prepares one left now written written_now s does only_memory asked later bytes asks all = by (is_fault s) refl where
     cut_later : (bs : List (List ℕ)) × (tail : Tail) × Cut ARRIVAL later bs tail
     cut_later = exists later (bytes_right (frames all.heard) later (subst IsBytes all.is bytes))
 
-    over : IsOutcome PlayOf Prepares left (all.heard ++ cut_later.0) cut_later.1 s now written written_now
+    over : IsOutcome IsRunOf Prepares left (all.heard ++ cut_later.0) cut_later.1 s now written written_now
     over = does (all.heard ++ cut_later.0) cut_later.1 bytes (cut_behind left later all.heard cut_later.0 cut_later.1 all.short all.is cut_later.2)
 
-    finished : (rest : List ℕ) (other : Job) → Prepares (given other) → now ≡ Some rest → (out : List ℕ) → IsPlayed PlayOf other left (all.heard ++ cut_later.0) cut_later.1 s out rest → (s ≡ Done) × (now ≡ Some later)
+    finished : (rest : List ℕ) (other : A) → Prepares (given other) → now ≡ Some rest → (out : List ℕ) → IsPlayed IsRunOf other left (all.heard ++ cut_later.0) cut_later.1 s out rest → (s ≡ Done) × (now ≡ Some later)
     finished rest other asks' now_is out played =
-        let is_job : other ≡ job = same_given other job (one (given other) (given job) asks' asks) in
-        let plays : PlayOf job (all.heard ++ cut_later.0) played.play = subst (λ (j : Job). PlayOf j (all.heard ++ cut_later.0) played.play) is_job played.plays in
-        let f = play_finishes (meaning_of job.protocol) (draw_of job.seed 0) (events_of job.protocol job.role) job.initial all.heard cut_later.0 played.play all.agrees plays in (
+        let is_asked : other ≡ asked = same_given other asked (one (given other) (given asked) asks' asks) in
+        let runs : IsRunOf asked (all.heard ++ cut_later.0) played.play = subst (λ (a : A). IsRunOf a (all.heard ++ cut_later.0) played.play) is_asked played.plays in
+        let f = all.finishes cut_later.0 played.play runs in (
           played.status_is ∙ ap (λ e. status_at e cut_later.1) f.ends,
           now_is ∙ ap Some (leaves_later played.play.end left later rest all.heard cut_later.0 played.play.left cut_later.1 f.ends f.leaves all.is played.leaves),
         )
@@ -88,22 +96,42 @@ module _ (Prepares : Answer Job → Type 0) (one : HasOneAnswer Prepares) (exist
     by false quiet =
         let outcome = over.is quiet in
         elim outcome.2 [
-          | inl refusal ↦ not_both s job (one (refused s) (given job) refusal.refuses asks)
+          | inl refusal ↦ not_both s asked (one (refused s) (given asked) refusal.refuses asks)
           | inr played ↦ inl (finished outcome.1 played.0 played.1 outcome.4 outcome.0 played.2)
         ]
 
-module _ (narration name values : List ℕ) (host_seed : Option (List ℕ)) (one : (files : Files) → HasOneAnswer (JobIs files narration name values host_seed)) (exists : HasCut ARRIVAL) where
-  completes_input : (files : Files) (left now written written_now : Option (List ℕ)) (s : Status)
-      → IfTold left (λ input. (arrivals : List (List ℕ)) (tail : Tail) → IsBytes input → Cut ARRIVAL input arrivals tail
-      → IsOutcome PlayOf (JobIs files narration name values host_seed) input arrivals tail s now written written_now)
-      → (is_fault s ≡ true → s ≡ NoMemory)
-      → IfTold left (λ input. (job : Job) (later : List ℕ) → IsBytes input → JobIs files narration name values host_seed (given job) → HearsAll job input later
-      → ((s ≡ Done) × (now ≡ Some later)) ⊎ (s ≡ NoMemory))
-  completes_input files None now written written_now s outcome only_memory = tt
-  completes_input files (Some left) now written written_now s outcome only_memory = λ job later bytes asks all.
-      completes_over (JobIs files narration name values host_seed) (one files) exists left now written written_now s outcome only_memory job later bytes asks all
+  -- what a command does that runs such things over the input
+  module _ (Hears : A → List ℕ → List ℕ → Type 0) (Prepares : Files → Answer A → Type 0) (one : (files : Files) → HasOneAnswer (Prepares files))
+      (enough : (files : Files) (asked : A) (left later : List ℕ) → Prepares files (given asked) → Hears asked left later → HearsEnough IsRunOf asked left later) where
+    completes_input : (files : Files) (left now written written_now : Option (List ℕ)) (s : Status)
+        → IfTold left (λ input. (arrivals : List (List ℕ)) (tail : Tail) → IsBytes input → Cut ARRIVAL input arrivals tail
+        → IsOutcome IsRunOf (Prepares files) input arrivals tail s now written written_now)
+        → (is_fault s ≡ true → s ≡ NoMemory)
+        → IfTold left (λ input. (asked : A) (later : List ℕ) → IsBytes input → Prepares files (given asked) → Hears asked input later
+        → ((s ≡ Done) × (now ≡ Some later)) ⊎ (s ≡ NoMemory))
+    completes_input files None now written written_now s outcome only_memory = tt
+    completes_input files (Some left) now written written_now s outcome only_memory = λ asked later bytes asks all.
+        completes_over (Prepares files) (one files) left now written written_now s outcome only_memory asked later bytes asks (enough files asked left later asks all)
 
+    pub completes_run : (Reads : Files → List ℕ → Type 0) (told : Option Files) (old new : WireState) (s : Status) → RunsOver IsRunOf Prepares Reads told old new s → (is_fault s ≡ true → s ≡ NoMemory)
+        → IfTold told (λ files. IfTold old.left (λ left. (asked : A) (later : List ℕ) → IsBytes left → Prepares files (given asked) → Hears asked left later
+        → ((s ≡ Done) × (new.left ≡ Some later)) ⊎ (s ≡ NoMemory)))
+    completes_run Reads told old new s does only_memory =
+        told_map told (λ files outcome. completes_input files old.left new.left old.written new.written s outcome only_memory) does.outcome
+
+-- ---- a play
+
+hears_enough : (job : Job) (left later : List ℕ) → HearsAll job left later → HearsEnough PlayOf job left later
+hears_enough job left later all = record {
+  heard = all.heard;
+  short = all.short;
+  is = all.is;
+  finishes = λ more p plays. play_finishes (meaning_of job.protocol) (draw_of job.seed 0) (events_of job.protocol job.role) job.initial all.heard more p all.agrees plays;
+}
+
+module _ (narration name values : List ℕ) (host_seed : Option (List ℕ)) (one : (files : Files) → HasOneAnswer (JobIs files narration name values host_seed)) (exists : HasCut ARRIVAL) where
   pub completes_play : (told : Option Files) (old new : WireState) (s : Status) → DoesPlay narration name values told host_seed old new s → (is_fault s ≡ true → s ≡ NoMemory)
       → CompletesPlay narration name values told host_seed old new s
   completes_play told old new s does only_memory =
-      told_map told (λ files outcome. completes_input files old.left new.left old.written new.written s outcome only_memory) does.outcome
+      completes_run PlayOf exists HearsAll (λ files. JobIs files narration name values host_seed) one (λ files job left later asks all. hears_enough job left later all)
+      (λ files. IsRead files narration name values) told old new s does only_memory

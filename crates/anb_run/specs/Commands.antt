@@ -4,7 +4,8 @@ use Rattle.std.specs.Prelude.{ℕ, List, Option, Some, None}
 use Rattle.anb_base.specs.Wires.{WireState}
 use Rattle.anb_command.specs.declared.status.Status.{Status}
 use Rattle.anb_command.specs.Fetches.{Files}
-use Rattle.anb_command.specs.Words.{Asked, fmt, describe, play, enact, replay, trace, host, rehearse, drill, help, certify, why, park, resume, chart}
+use Rattle.anb_command.specs.Words.{Asked, fmt, describe, play, enact, replay, host, rehearse, drill, help, branch, certify, why, park, resume, chart, role_chart, check, trace}
+use Rattle.anb_branch_commands.specs.BranchCommand.{CompletesBranch, DoesBranch}
 use Rattle.anb_many_commands.specs.HostCommand.{CompletesHost, DoesHost}
 use Rattle.anb_park_commands.specs.ParkCommand.{CompletesPark, DoesPark}
 use Rattle.anb_park_commands.specs.ResumeCommand.{CompletesResume, DoesResume}
@@ -12,7 +13,7 @@ use Rattle.anb_rehearsal_commands.specs.DrillCommand.{CompletesDrill, DoesDrill}
 use Rattle.anb_rehearsal_commands.specs.RehearseCommand.{CompletesRehearse, DoesRehearse}
 use Rattle.anb_reason_commands.specs.CertifyCommand.{CompletesCertify, DoesCertify}
 use Rattle.anb_reason_commands.specs.WhyCommand.{CompletesWhy, DoesWhy}
-use Rattle.anb_report_commands.specs.ReportCommands.{CompletesChart, DoesChart}
+use Rattle.anb_report_commands.specs.ReportCommands.{CompletesChart, CompletesRoleChart, DoesChart, DoesRoleChart}
 use Rattle.anb_role_commands.specs.EnactCommand.{CompletesEnact, DoesEnact}
 use Rattle.anb_role_commands.specs.PlayCommand.{CompletesPlay, DoesPlay}
 use Rattle.anb_role_commands.specs.ReplayCommand.{CompletesReplay, DoesReplay}
@@ -46,6 +47,8 @@ Does (Some (rehearse narration values schedule)) told seed old new status =
     DoesRehearse narration values schedule told seed old new status
 Does (Some (drill exchanges)) told seed old new status = DoesDrill exchanges old new status
 Does (Some help) told seed old new status = DoesHelp old new status
+Does (Some (branch narration role values arm place)) told seed old new status =
+    DoesBranch narration role values arm told seed old new status
 Does (Some (certify narration role code)) told seed old new status =
     DoesCertify narration role code told old new status
 Does (Some (why narration)) told seed old new status = DoesWhy narration told old new status
@@ -54,6 +57,7 @@ Does (Some (park narration role values key place)) told seed old new status =
 Does (Some (resume narration role parked key place)) told seed old new status =
     DoesResume narration role parked key told old new status
 Does (Some (chart narration)) told seed old new status = DoesChart narration told old new status
+Does (Some (role_chart narration role)) told seed old new status = DoesRoleChart narration role told old new status
 
 -- where nothing failed
 abbrev pub Completes : Option Asked → Option Files → Option (List ℕ) → (old new : WireState) → Status → Type 0
@@ -75,6 +79,8 @@ Completes (Some (rehearse narration values schedule)) told seed old new status =
     CompletesRehearse narration values schedule told seed old new status
 Completes (Some (drill exchanges)) told seed old new status = CompletesDrill exchanges status
 Completes (Some help) told seed old new status = CompletesHelp status
+Completes (Some (branch narration role values arm place)) told seed old new status =
+    CompletesBranch narration role values arm told seed old new status
 Completes (Some (certify narration role code)) told seed old new status =
     CompletesCertify narration role code told status
 Completes (Some (why narration)) told seed old new status = CompletesWhy narration told status
@@ -83,3 +89,4 @@ Completes (Some (park narration role values key place)) told seed old new status
 Completes (Some (resume narration role parked key place)) told seed old new status =
     CompletesResume narration role parked key told old new status
 Completes (Some (chart narration)) told seed old new status = CompletesChart narration told status
+Completes (Some (role_chart narration role)) told seed old new status = CompletesRoleChart narration role told status

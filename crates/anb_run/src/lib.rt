@@ -25,13 +25,14 @@ mod laws;
 use crate::laws::{certified_files_play, compiled_files_play};
 pub use all::run_all;
 use anb_base::{Shelf, Sink, Text, Wire};
+use anb_branch_commands::branch;
 use anb_command::{Command, tell};
 pub use anb_command::{Due, Halt, NarrationNo, Status};
 use anb_many_commands::host;
 use anb_park_commands::{park, resume};
 use anb_reason_commands::{certify, why};
 use anb_rehearsal_commands::{drill, rehearse};
-use anb_report_commands::chart;
+use anb_report_commands::{chart, chart_for};
 use anb_role_commands::{enact, play, replay};
 use anb_text_commands::{describe, fmt, help};
 use anb_trace_commands::trace;
@@ -87,16 +88,21 @@ pub fn run<F: Shelf, W: Wire, E: Sink>(
         Some(Command::Play(words)) => play(alloc, shelf, wire, words, seed),
         Some(Command::Enact(words)) => enact(alloc, shelf, wire, words, seed),
         Some(Command::Replay(words)) => replay(alloc, shelf, wire, words, seed),
-        Some(Command::Trace(words)) => trace(alloc, shelf, wire, words, seed),
         Some(Command::Host(words)) => host(alloc, shelf, wire, words, seed),
         Some(Command::Rehearse(words)) => rehearse(alloc, shelf, wire, words, seed),
         Some(Command::Drill(exchanges)) => drill(alloc, wire, exchanges),
         Some(Command::Help) => help(wire),
+        Some(Command::Branch(words)) => branch(alloc, shelf, wire, words, seed),
         Some(Command::Certify(words)) => certify(alloc, shelf, wire, words),
         Some(Command::Why { narration }) => why(alloc, shelf, wire, narration),
         Some(Command::Park(words)) => park(alloc, shelf, wire, words, seed),
         Some(Command::Resume(words)) => resume(alloc, shelf, wire, words),
         Some(Command::Chart { narration }) => chart(alloc, shelf, wire, narration),
+        Some(Command::RoleChart { narration, role }) => {
+            chart_for(alloc, shelf, wire, narration, role)
+        }
+        Some(Command::Trace(words)) => trace(alloc, shelf, wire, words, seed),
+        Some(Command::Check { narration }) => check(alloc, shelf, wire, narration),
     };
     tell(err, &status);
     status

@@ -4,17 +4,12 @@ ghost use Rattle.std.specs.Prelude.{◌≡◌, ◌<◌, map, true, IfSome};
 ghost use Rattle.anb_term.specs.Tree.{nodes, tree_size, trees_of, IsFormed, AreFormed};
 ghost use Rattle.anb_term.specs.View.{tree_of};
 
+use crate::notation::terms_of;
 use anb_basis::basis::{Basis, all_checks};
 use anb_basis::check::Check;
 use anb_close::Made;
 use anb_term::{NoMemory, Op, Term, Terms};
 use std::alloc::Global;
-
-const PAIR: Op = Op::Format { index: 0, arity: 2 };
-
-const OK: Op = Op::Format { index: 1, arity: 0 };
-
-const REPLY: Op = Op::Format { index: 2, arity: 1 };
 
 /// How many nodes a term has, where it is well formed and not deep.
 #[cycle(count)]
@@ -59,7 +54,7 @@ fn node_counts(ts: &[Term], depth: u32) -> Option<u64>
 }
 
 /// The basis of a frame, or none where the frame isn't fit for one.
-fn basis_of(alloc: Global, frame: &[Term]) -> Result<Basis, NoMemory> {
+fn basis_over(alloc: Global, frame: &[Term]) -> Result<Basis, NoMemory> {
     match node_counts(frame, 9) {
         None => Err(NoMemory),
         Some(n) => {
@@ -72,101 +67,122 @@ fn basis_of(alloc: Global, frame: &[Term]) -> Result<Basis, NoMemory> {
     }
 }
 
-fn node(op: Op, operands: Vec<Term>) -> Term {
-    Term::Node(op, Terms::new(operands))
+/// The basis of the frame of these terms.
+fn basis_of(alloc: Global, frame: &str) -> Result<Basis, NoMemory> {
+    let frame = terms_of(alloc, frame)?;
+    basis_over(alloc, &frame)
 }
 
-fn one(alloc: Global, op: Op, a: Term) -> Result<Term, NoMemory> {
-    Ok(node(op, vec![in alloc; a]?))
-}
-
-fn two(alloc: Global, op: Op, a: Term, b: Term) -> Result<Term, NoMemory> {
-    Ok(node(op, vec![in alloc; a, b]?))
+/// How many entries and checks a frame has.
+fn counts_of(alloc: Global, frame: &str) -> Result<(usize, usize), NoMemory> {
+    let basis = basis_of(alloc, frame)?;
+    Ok((basis.closure().entries().len(), basis.given().len()))
 }
 
 #[test]
 fn each_entry_has_at_most_one_check(rt: HostRuntime) -> Result<(), NoMemory> {
-    let alloc = rt.alloc();
-    let known = one(alloc, REPLY, Term::Atom(0))?;
-    let hash = one(alloc, Op::Hash, Term::Atom(0))?;
-    let late_hash = one(alloc, Op::Hash, Term::Atom(0))?;
-    let late = two(alloc, Op::Seal, Term::Atom(1), Term::Atom(0))?;
-    let under_itself = two(alloc, Op::Seal, Term::Atom(0), Term::Atom(0))?;
-    let body = two(alloc, PAIR, Term::Atom(0), Term::Atom(2))?;
-    let sealed = two(alloc, Op::Seal, Term::Atom(1), body)?;
-    let pair = two(alloc, PAIR, Term::Atom(0), Term::Atom(1))?;
-    let shared = one(alloc, Op::Hash, pair)?;
-    let composed = two(alloc, Op::Seal, shared, Term::Atom(2))?;
-    let wrapped = node(
-        Op::Wrap,
-        vec![in alloc; Term::Atom(0), Term::Atom(1), Term::Atom(2)]?,
-    );
-    let again = vec![in alloc; Term::Atom(0), Term::Atom(0), Term::Atom(0), Term::Atom(0)]?;
-    let table = vec![in alloc;
-        (vec![in alloc; Term::Atom(0), known]?, 2, 1),
-        (vec![in alloc; Term::Atom(1), Term::Atom(0), sealed]?, 6, 3),
-        (vec![in alloc; Term::Atom(0), late, Term::Atom(1)]?, 4, 2),
-        (vec![in alloc; late_hash, Term::Atom(0)]?, 2, 1),
-        (vec![in alloc; Term::Atom(0), hash]?, 2, 1),
-        (vec![in alloc; under_itself]?, 1, 0),
-        (
-            vec![in alloc; Term::Atom(0), Term::Atom(1), composed]?,
-            4,
-            1
-        ),
-        (vec![in alloc; Term::Atom(0), wrapped, Term::Atom(1)]?, 4, 1),
-        (vec![in alloc; node(OK, Vec::new(alloc))]?, 1, 1),
-        (again, 4, 3),
-    ]?;
-    for (frame, entries, checks) in &table {
-        let basis = basis_of(alloc, frame)?;
-        assert_eq!(rt; basis.closure().entries().len(), *entries);
-        assert_eq!(rt; basis.given().len(), *checks);
+    for (frame, entries, checks) in [
+        ("00r", 2, 1),
+        ("10102ps", 6, 3),
+        ("010s1", 4, 2),
+        ("0h0", 2, 1),
+        ("00h", 2, 1),
+        ("00s", 1, 0),
+        ("0101ph2s", 4, 1),
+        ("0012w1", 4, 1),
+        ("k", 1, 1),
+        ("0000", 4, 3),
+    ] {
+        let (found_entries, found_checks) = counts_of(rt.alloc(), frame)?;
+        assert_eq!(rt; found_entries, entries);
+        assert_eq!(rt; found_checks, checks);
     }
     Ok(())
 }
 
-/// What composes a term, or none where the term isn't fit to be composed.
-fn composed(alloc: Global, basis: &Basis, t: &Term) -> Result<Option<Made>, NoMemory> {
-    match node_count(t, 9) {
-        None => Ok(None),
-        Some(_) => basis.closure().compose(alloc, t),
+/// What composes a term.
+#[derive(Clone, Copy, Debug, PartialEq, Eq)]
+enum Maker {
+    Nothing,
+    Entry(u32),
+    Hash,
+    Other,
+}
+
+fn made_by(made: &Option<Made>) -> Maker {
+    match made {
+        None => Maker::Nothing,
+        Some(Made::Entry(entry)) => Maker::Entry(*entry),
+        Some(Made::Build(op, _)) => {
+            if *op == Op::Hash {
+                Maker::Hash
+            } else {
+                Maker::Other
+            }
+        }
+    }
+}
+
+/// What composes the last of these terms over a frame. Where there is none, or it isn't fit to be
+/// composed, nothing does.
+fn composition_of(alloc: Global, frame: &str, terms: &str) -> Result<Maker, NoMemory> {
+    let basis = basis_of(alloc, frame)?;
+    let terms = terms_of(alloc, terms)?;
+    let [term] = terms.as_slice() else {
+        return Ok(Maker::Nothing);
+    };
+    match node_count(term, 9) {
+        None => Ok(Maker::Nothing),
+        Some(_) => Ok(made_by(&basis.closure().compose(alloc, term)?)),
     }
 }
 
 #[test]
 fn a_term_is_taken_or_built_or_refused(rt: HostRuntime) -> Result<(), NoMemory> {
-    let alloc = rt.alloc();
-    let pair = two(alloc, PAIR, Term::Atom(0), Term::Atom(1))?;
-    let shared = one(alloc, Op::Hash, pair)?;
-    let sealed = two(alloc, Op::Seal, shared.copy(alloc)?, Term::Atom(2))?;
-    let frame = vec![in alloc; Term::Atom(0), Term::Atom(1), sealed]?;
-    let basis = basis_of(alloc, &frame)?;
-    let built = composed(alloc, &basis, &shared)?;
-    assert!(rt; matches!(built, Some(Made::Build(Op::Hash, _))));
-    assert!(rt;
-        matches!(
-            composed(alloc, &basis, &Term::Atom(2))?,
-            Some(Made::Entry(3))
-        )
-    );
-    assert!(rt; matches!(basis.given(), [Check::Open(_)]));
-
-    let own_key = two(alloc, Op::Seal, Term::Atom(0), Term::Atom(0))?;
-    let basis = basis_of(alloc, &vec![in alloc; own_key]?)?;
-    assert!(rt; composed(alloc, &basis, &Term::Atom(0))?.is_none());
+    for (frame, term, composition) in [
+        ("0101ph2s", "01ph", Maker::Hash),
+        ("0101ph2s", "2", Maker::Entry(3)),
+        ("00s", "0", Maker::Nothing),
+    ] {
+        assert_eq!(rt; composition_of(rt.alloc(), frame, term)?, composition);
+    }
     Ok(())
 }
 
+/// What a check does.
+#[derive(Clone, Copy, Debug, PartialEq, Eq)]
+enum Work {
+    Opens,
+    ComparesWithHash(u32),
+    ComparesWithOther,
+}
+
+fn work_of(check: &Check) -> Work {
+    match check {
+        Check::Open(_) => Work::Opens,
+        Check::Equal(entry, Made::Build(Op::Hash, _)) => Work::ComparesWithHash(*entry),
+        Check::Equal(_, _) => Work::ComparesWithOther,
+    }
+}
+
+/// What the only check of a frame does.
+fn only_work(alloc: Global, frame: &str) -> Result<Option<Work>, NoMemory> {
+    let basis = basis_of(alloc, frame)?;
+    match basis.given() {
+        [check] => Ok(Some(work_of(check))),
+        _ => Ok(None),
+    }
+}
+
 #[test]
-fn a_hash_is_compared_when_its_operand_comes(rt: HostRuntime) -> Result<(), NoMemory> {
-    let alloc = rt.alloc();
-    let hash = one(alloc, Op::Hash, Term::Atom(0))?;
-    let basis = basis_of(alloc, &vec![in alloc; hash]?)?;
-    assert!(rt; basis.given().is_empty());
-    let hash = one(alloc, Op::Hash, Term::Atom(0))?;
-    let basis = basis_of(alloc, &vec![in alloc; hash, Term::Atom(0)]?)?;
-    assert!(rt; matches!(basis.given(), [Check::Equal(0, Made::Build(Op::Hash, _))]));
+fn a_check_opens_or_compares(rt: HostRuntime) -> Result<(), NoMemory> {
+    for (frame, work) in [
+        ("0101ph2s", Some(Work::Opens)),
+        ("0h", None),
+        ("0h0", Some(Work::ComparesWithHash(0))),
+    ] {
+        assert_eq!(rt; only_work(rt.alloc(), frame)?, work);
+    }
     Ok(())
 }
 
@@ -175,11 +191,17 @@ fn a_late_key_opens_a_hundred_kept_bodies(rt: HostRuntime) -> Result<(), NoMemor
     let alloc = rt.alloc();
     let mut frame = Vec::new(alloc);
     for body in 1..101 {
-        frame.push(two(alloc, Op::Seal, Term::Atom(0), Term::Atom(body))?)?;
+        frame.push(sealed(alloc, body)?)?;
     }
     frame.push(Term::Atom(0))?;
-    let basis = basis_of(alloc, &frame)?;
+    let basis = basis_over(alloc, &frame)?;
     assert_eq!(rt; basis.closure().entries().len(), 201);
     assert_eq!(rt; basis.given().len(), 100);
     Ok(())
+}
+
+/// This atom sealed under atom 0.
+fn sealed(alloc: Global, body: u32) -> Result<Term, NoMemory> {
+    let operands = vec![in alloc; Term::Atom(0), Term::Atom(body)]?;
+    Ok(Term::Node(Op::Seal, Terms::new(operands)))
 }

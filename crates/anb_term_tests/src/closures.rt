@@ -1,11 +1,12 @@
 //! A closure by example.
 
-ghost use Rattle.std.specs.Prelude.{◌≡◌, true, IfOk};
-ghost use Rattle.anb_term.specs.Tree.{tree_size, IsFormed};
+ghost use Rattle.std.specs.Prelude.{◌≡◌, ◌<◌, ◌+◌, true, IfOk, IfSome};
+ghost use Rattle.anb_term.specs.Tree.{nodes, tree_size, IsFormed};
 ghost use Rattle.anb_term.specs.View.{tree_of};
+ghost use Rattle.anb_close.specs.Entries.{labels_of};
 
 use anb_close::closure::Closure;
-use anb_close::entry::Origin;
+use anb_close::entry::{Entry, Opening, Origin};
 use anb_close::made::Made;
 use anb_term::{NoMemory, Op, Term, Terms};
 use std::alloc::Global;
@@ -19,45 +20,85 @@ fn sealed(alloc: Global) -> Result<Term, NoMemory>
     Ok(Term::Node(Op::Seal, Terms::new(operands)))
 }
 
+/// Takes a term as the label of this number, and says whether it opened nothing.
+fn opens_nothing(
+    alloc: Global,
+    closure: &mut Closure,
+    term: &Term,
+    label: u32,
+) -> Result<bool, NoMemory>
+    requires formed { IsFormed (λ o. true) (tree_of term.now) }
+    requires few { nodes (labels_of closure.old) + tree_size (tree_of term.now) < 4294967295 }
+    ensures grows { IfOk result (λ s. nodes (labels_of closure.new)
+        ≡ nodes (labels_of closure.old) + tree_size (tree_of term.now)) }
+{
+    let step = closure.add(alloc, term)?;
+    Ok(step.label == label && step.opened.is_empty())
+}
+
+/// X, and X sealed under K, where neither opened anything.
+fn kept(alloc: Global) -> Result<Option<Closure>, NoMemory>
+    ensures size { IfOk result (λ r. IfSome r (λ c. nodes (labels_of c) ≡ 4)) }
+{
+    let mut closure = Closure::new(alloc);
+    let body = opens_nothing(alloc, &mut closure, &Term::Atom(0), 0)?;
+    let seal = sealed(alloc)?;
+    if opens_nothing(alloc, &mut closure, &seal, 1)? && body {
+        Ok(Some(closure))
+    } else {
+        Ok(None)
+    }
+}
+
+/// Whether entry 1, a seal, was opened into entry 3 by entry 2.
+fn is_opening(openings: &[Opening]) -> bool {
+    match openings {
+        [opening] => {
+            opening.op == Op::Seal
+                && opening.of == 1
+                && opening.first == 3
+                && matches!(opening.keys.as_slice(), [Made::Entry(2)])
+        }
+        _ => false,
+    }
+}
+
+/// Whether entry 3 is the first part of entry 1.
+fn has_body(entries: &[Entry]) -> bool {
+    match entries {
+        [_, _, _, body] => matches!(body.origin, Origin::Part { part: 0, of: 1, .. }),
+        _ => false,
+    }
+}
+
 #[test]
 fn a_late_key_opens_a_kept_entry(rt: HostRuntime) -> Result<(), NoMemory> {
     let alloc = rt.alloc();
-    let mut closure = Closure::new(alloc);
-    let known = closure.add(alloc, &Term::Atom(0))?;
-    assert!(rt; known.label == 0 && known.opened.is_empty());
-    let kept = closure.add(alloc, &sealed(alloc)?)?;
-    assert!(rt; kept.label == 1 && kept.opened.is_empty());
+    let Some(mut closure) = kept(alloc)? else {
+        assert!(rt; false, "something was opened");
+        return Ok(());
+    };
     assert!(rt; closure.compose(alloc, &Term::Atom(1))?.is_none());
     let late = closure.add(alloc, &Term::Atom(1))?;
-    assert!(rt; late.label == 2 && late.opened.len() == 1);
-    let opening = &late.opened.as_slice()[0];
-    assert!(rt; opening.op == Op::Seal && opening.of == 1 && opening.first == 3);
-    assert!(rt; matches!(opening.keys.as_slice(), [Made::Entry(2)]));
-    assert!(rt; closure.entries().len() == 4);
-    assert!(rt;
-        matches!(
-            closure.entries()[3].origin,
-            Origin::Part { part: 0, of: 1, .. }
-        )
-    );
-    assert!(rt;
-        matches!(
-            closure.compose(alloc, &Term::Atom(0))?,
-            Some(Made::Entry(0))
-        )
-    );
+    assert_eq!(rt; late.label, 2);
+    assert!(rt; is_opening(late.opened.as_slice()));
+    assert!(rt; has_body(closure.entries()));
+    let made = closure.compose(alloc, &Term::Atom(0))?;
+    assert!(rt; matches!(made, Some(Made::Entry(0))));
     Ok(())
 }
 
 #[test]
 fn the_last_label_is_taken_back(rt: HostRuntime) -> Result<(), NoMemory> {
     let alloc = rt.alloc();
-    let mut closure = Closure::new(alloc);
-    let _ = closure.add(alloc, &sealed(alloc)?)?;
-    let late = closure.add(alloc, &Term::Atom(1))?;
-    assert!(rt; late.opened.into_vec().len() == 1 && closure.entries().len() == 3);
+    let Some(mut closure) = kept(alloc)? else {
+        assert!(rt; false, "something was opened");
+        return Ok(());
+    };
+    let _ = closure.add(alloc, &Term::Atom(1))?;
+    assert_eq!(rt; closure.entries().len(), 4);
     closure.take_back();
-    assert!(rt; closure.entries().len() == 1);
-    assert!(rt; closure.compose(alloc, &Term::Atom(0))?.is_none());
+    assert_eq!(rt; closure.entries().len(), 2);
+    assert!(rt; closure.compose(alloc, &Term::Atom(1))?.is_none());
     Ok(())
 }

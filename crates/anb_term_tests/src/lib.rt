@@ -6,6 +6,8 @@ mod checks;
 #[cfg(test)]
 mod closures;
 #[cfg(test)]
+mod notation;
+#[cfg(test)]
 mod pools;
 #[cfg(test)]
 mod terms;

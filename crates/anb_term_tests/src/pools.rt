@@ -1,6 +1,6 @@
 //! A pool by example.
 
-ghost use Rattle.std.specs.Prelude.{◌≡◌, IfOk};
+ghost use Rattle.std.specs.Prelude.{◌≡◌, ◌<◌, length, IfOk};
 ghost use Rattle.anb_term.specs.Tree.{tree_size};
 ghost use Rattle.anb_term.specs.View.{tree_of};
 
@@ -17,21 +17,34 @@ fn hashed(alloc: Global, atom: u32) -> Result<Term, NoMemory>
     Ok(Term::Node(Op::Hash, Terms::new(operands)))
 }
 
+/// Puts the hash of an atom into the pool.
+fn put_hashed(alloc: Global, pool: &mut Pool, atom: u32) -> Result<NodeId, NoMemory> {
+    let term = hashed(alloc, atom)?;
+    pool.put_term(alloc, &term)
+}
+
+/// Whether the number is that of the hash of an atom.
+fn is_hashed(alloc: Global, pool: &Pool, number: NodeId, atom: u32) -> Result<bool, NoMemory>
+    requires { number.0 < length pool.now }
+{
+    let term = pool.term(alloc, number)?;
+    Ok(term.same(&hashed(alloc, atom)?))
+}
+
 #[test]
 fn equal_terms_have_equal_numbers(rt: HostRuntime) -> Result<(), NoMemory> {
     let alloc = rt.alloc();
     let mut pool = Pool::new(alloc);
     let atom = pool.put(Node::Atom(7))?;
-    assert!(rt; pool.len() == 1);
-    let hash = pool.put_term(alloc, &hashed(alloc, 7)?)?;
-    let again = pool.put_term(alloc, &hashed(alloc, 7)?)?;
-    assert!(rt; pool.len() == 2 && atom == NodeId(0) && hash == NodeId(1) && again == hash);
-    let other = pool.put_term(alloc, &hashed(alloc, 8)?)?;
-    assert!(rt; pool.len() == 4 && other == NodeId(3));
-    assert!(rt; pool.find(&Node::Atom(8)) == Some(NodeId(2)));
-    assert!(rt; pool.find(&Node::Atom(9)).is_none());
+    let hash = put_hashed(alloc, &mut pool, 7)?;
+    let again = put_hashed(alloc, &mut pool, 7)?;
+    assert_eq!(rt; [atom, hash, again], [NodeId(0), NodeId(1), NodeId(1)]);
+    assert_eq!(rt; put_hashed(alloc, &mut pool, 8)?, NodeId(3));
+    assert_eq!(rt; pool.len(), 4);
+    assert_eq!(rt; pool.find(&Node::Atom(8)), Some(NodeId(2)));
+    assert_eq!(rt; pool.find(&Node::Atom(9)), None);
     assert!(rt; matches!(pool.get(NodeId(3)), Node::Apply(Op::Hash, _)));
-    assert!(rt; pool.term(alloc, NodeId(3))?.same(&hashed(alloc, 8)?));
+    assert!(rt; is_hashed(alloc, &pool, NodeId(3), 8)?);
     Ok(())
 }
 
@@ -39,13 +52,13 @@ fn equal_terms_have_equal_numbers(rt: HostRuntime) -> Result<(), NoMemory> {
 fn a_pool_is_cut_and_filled_again(rt: HostRuntime) -> Result<(), NoMemory> {
     let alloc = rt.alloc();
     let mut pool = Pool::new(alloc);
-    let _ = pool.put_term(alloc, &hashed(alloc, 7)?)?;
-    let _ = pool.put_term(alloc, &hashed(alloc, 8)?)?;
-    assert!(rt; pool.len() == 4);
+    let _ = put_hashed(alloc, &mut pool, 7)?;
+    let _ = put_hashed(alloc, &mut pool, 8)?;
+    assert_eq!(rt; pool.len(), 4);
     pool.cut(2);
-    assert!(rt; pool.len() == 2 && pool.find(&Node::Atom(8)).is_none());
-    let kept = pool.put_term(alloc, &hashed(alloc, 7)?)?;
-    let new = pool.put_term(alloc, &hashed(alloc, 9)?)?;
-    assert!(rt; kept == NodeId(1) && new == NodeId(3));
+    assert_eq!(rt; pool.len(), 2);
+    assert_eq!(rt; pool.find(&Node::Atom(8)), None);
+    assert_eq!(rt; put_hashed(alloc, &mut pool, 7)?, NodeId(1));
+    assert_eq!(rt; put_hashed(alloc, &mut pool, 9)?, NodeId(3));
     Ok(())
 }

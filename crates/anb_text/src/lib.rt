@@ -24,6 +24,3 @@ pub use page::Page;
 pub use printing::{instr_text, instr_text_behind, print, write_role_file};
 pub use refusal::LoadNo;
 pub use writing::{WriteNo, write_bytes, write_part};
-
-#[cfg(test)]
-mod tests;

@@ -493,6 +493,3 @@ fn read_field(text: &[u8]) -> Option<(Piece, &[u8])>
     let kind = kind_of_word(word)?;
     Some((Piece::Field(kind), rest))
 }
-
-#[cfg(test)]
-mod tests;

@@ -46,6 +46,7 @@ const HELP: &str = concat!(
     "anb rehearse <narration> <values> <schedule>\n",
     "anb drill <n>\n",
     "anb help\n",
+    "anb branch <narration> <role> <values> [--arm <n>] [place]\n",
     "anb certify <narration> <role> <rolefile>\n",
     "anb why <narration>\n",
     "anb park <narration> <role> <values> <key> [place]\n",

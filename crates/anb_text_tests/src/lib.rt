@@ -1,10 +1,12 @@
-//! Worked examples of texts: tokens, narrations, values files and drills. The tests are the examples.
+//! Worked examples of texts: tokens, narrations, values files, role files and drills. The tests are the examples.
 #![tactic(auto)]
 
 #[cfg(test)]
 mod drills;
 #[cfg(test)]
 mod narrations;
+#[cfg(test)]
+mod role_files;
 #[cfg(test)]
 mod tokens;
 #[cfg(test)]

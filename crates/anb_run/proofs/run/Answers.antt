@@ -4,7 +4,7 @@ use Rattle.anb_command.proofs.Causes.{wire_cause}
 use Rattle.anb_command.proofs.OverWire.{untouched}
 use Rattle.anb_run.proofs.Idle.{fetches_none}
 use Rattle.anb_run.proofs.run.Goals as goal
-use Rattle.anb_run.proofs.run.Goals.{in-None, in-Some-Fmt, in-Some-Describe, in-Some-Play, in-Some-Enact, in-Some-Replay, in-Some-Trace, in-Some-Host, in-Some-Rehearse, in-Some-Drill, in-Some-Help, in-Some-Certify, in-Some-Why, in-Some-Park, in-Some-Resume, in-Some-Chart}
+use Rattle.anb_run.proofs.run.Goals.{in-None, in-Some-Fmt, in-Some-Describe, in-Some-Play, in-Some-Enact, in-Some-Replay, in-Some-Host, in-Some-Rehearse, in-Some-Drill, in-Some-Help, in-Some-Branch, in-Some-Certify, in-Some-Why, in-Some-Park, in-Some-Resume, in-Some-Chart, in-Some-RoleChart, in-Some-Check, in-Some-Trace}
 
 pub returns-clause-faults : goal.returns-clause-faults
 returns-clause-faults g c = elim c.match-read.branch [
@@ -14,16 +14,19 @@ returns-clause-faults g c = elim c.match-read.branch [
   | in-Some-Play w ↦ rw (sym c.read.ensures, w.in-Some-Play.is, w.in-Some-Play.field-0-is, w.shelf-is, w.wire-is, w.status-is) (w.play-status.ensures.faults)
   | in-Some-Enact w ↦ rw (sym c.read.ensures, w.in-Some-Enact.is, w.in-Some-Enact.field-0-is, w.shelf-is, w.wire-is, w.status-is) (w.enact-status.ensures.faults)
   | in-Some-Replay w ↦ rw (sym c.read.ensures, w.in-Some-Replay.is, w.in-Some-Replay.field-0-is, w.shelf-is, w.wire-is, w.status-is) (w.replay-status.ensures.faults)
-  | in-Some-Trace w ↦ rw (sym c.read.ensures, w.in-Some-Trace.is, w.in-Some-Trace.field-0-is, w.shelf-is, w.wire-is, w.status-is) (w.trace-status.ensures.faults)
   | in-Some-Host w ↦ rw (sym c.read.ensures, w.in-Some-Host.is, w.in-Some-Host.field-0-is, w.shelf-is, w.wire-is, w.status-is) (w.host-status.ensures.faults)
   | in-Some-Rehearse w ↦ rw (sym c.read.ensures, w.in-Some-Rehearse.is, w.in-Some-Rehearse.field-0-is, w.shelf-is, w.wire-is, w.status-is) (w.rehearse-status.ensures.faults)
   | in-Some-Drill w ↦ rw (sym c.read.ensures, w.in-Some-Drill.is, w.in-Some-Drill.field-0-is, w.shelf-is, w.wire-is, w.status-is) (wire_cause [] Stdio (g.F.Shelf.faults c.args.shelf.now) (g.F.Shelf.faults c.args.shelf.now) (g.W.Wire.state c.args.wire.now) (g.W.Wire.state w.drill-status.new.wire) w.drill-status.result w.drill-status.ensures.wire.cause)
   | in-Some-Help w ↦ rw (sym c.read.ensures, w.in-Some-Help.is, w.in-Some-Help.field-0-is, w.shelf-is, w.wire-is, w.status-is) (wire_cause [] Stdio (g.F.Shelf.faults c.args.shelf.now) (g.F.Shelf.faults c.args.shelf.now) (g.W.Wire.state c.args.wire.now) (g.W.Wire.state w.help-status.new.wire) w.help-status.result w.help-status.ensures.wire.cause)
+  | in-Some-Branch w ↦ rw (sym c.read.ensures, w.in-Some-Branch.is, w.in-Some-Branch.field-0-is, w.shelf-is, w.wire-is, w.status-is) (w.branch-status.ensures.faults)
   | in-Some-Certify w ↦ rw (sym c.read.ensures, w.in-Some-Certify.is, w.in-Some-Certify.field-0-is, w.shelf-is, w.wire-is, w.status-is) (w.certify-status.ensures.faults)
   | in-Some-Why w ↦ rw (sym c.read.ensures, w.in-Some-Why.is, w.in-Some-Why.field-0-is, w.shelf-is, w.wire-is, w.status-is) (w.why-status.ensures.faults)
   | in-Some-Park w ↦ rw (sym c.read.ensures, w.in-Some-Park.is, w.in-Some-Park.field-0-is, w.shelf-is, w.wire-is, w.status-is) (w.park-status.ensures.faults)
   | in-Some-Resume w ↦ rw (sym c.read.ensures, w.in-Some-Resume.is, w.in-Some-Resume.field-0-is, w.shelf-is, w.wire-is, w.status-is) (w.resume-status.ensures.faults)
   | in-Some-Chart w ↦ rw (sym c.read.ensures, w.in-Some-Chart.is, w.in-Some-Chart.field-0-is, w.shelf-is, w.wire-is, w.status-is) (w.chart-status.ensures.faults)
+  | in-Some-RoleChart w ↦ rw (sym c.read.ensures, w.in-Some-RoleChart.is, w.in-Some-RoleChart.field-0-is, w.shelf-is, w.wire-is, w.status-is) (w.chart_for-status.ensures.faults)
+  | in-Some-Check w ↦ rw (sym c.read.ensures, w.in-Some-Check.is, w.in-Some-Check.field-0-is, w.shelf-is, w.wire-is, w.status-is) (w.check-status.ensures.faults)
+  | in-Some-Trace w ↦ rw (sym c.read.ensures, w.in-Some-Trace.is, w.in-Some-Trace.field-0-is, w.shelf-is, w.wire-is, w.status-is) (w.trace-status.ensures.faults)
 ]
 
 pub returns-clause-fetches : goal.returns-clause-fetches
@@ -34,16 +37,19 @@ returns-clause-fetches g c = elim c.match-read.branch [
   | in-Some-Play w ↦ rw (sym c.read.ensures, w.in-Some-Play.is, w.in-Some-Play.field-0-is, w.shelf-is) (w.play-status.ensures.fetches)
   | in-Some-Enact w ↦ rw (sym c.read.ensures, w.in-Some-Enact.is, w.in-Some-Enact.field-0-is, w.shelf-is) (w.enact-status.ensures.fetches)
   | in-Some-Replay w ↦ rw (sym c.read.ensures, w.in-Some-Replay.is, w.in-Some-Replay.field-0-is, w.shelf-is) (w.replay-status.ensures.fetches)
-  | in-Some-Trace w ↦ rw (sym c.read.ensures, w.in-Some-Trace.is, w.in-Some-Trace.field-0-is, w.shelf-is) (w.trace-status.ensures.fetches)
   | in-Some-Host w ↦ rw (sym c.read.ensures, w.in-Some-Host.is, w.in-Some-Host.field-0-is, w.shelf-is) (w.host-status.ensures.fetches)
   | in-Some-Rehearse w ↦ rw (sym c.read.ensures, w.in-Some-Rehearse.is, w.in-Some-Rehearse.field-0-is, w.shelf-is) (w.rehearse-status.ensures.fetches)
   | in-Some-Drill w ↦ rw (sym c.read.ensures, w.in-Some-Drill.is, w.in-Some-Drill.field-0-is, w.shelf-is) (fetches_none _ _)
   | in-Some-Help w ↦ rw (sym c.read.ensures, w.in-Some-Help.is, w.in-Some-Help.field-0-is, w.shelf-is) (fetches_none _ _)
+  | in-Some-Branch w ↦ rw (sym c.read.ensures, w.in-Some-Branch.is, w.in-Some-Branch.field-0-is, w.shelf-is) (w.branch-status.ensures.fetches)
   | in-Some-Certify w ↦ rw (sym c.read.ensures, w.in-Some-Certify.is, w.in-Some-Certify.field-0-is, w.shelf-is) (w.certify-status.ensures.fetches)
   | in-Some-Why w ↦ rw (sym c.read.ensures, w.in-Some-Why.is, w.in-Some-Why.field-0-is, w.shelf-is) (w.why-status.ensures.fetches)
   | in-Some-Park w ↦ rw (sym c.read.ensures, w.in-Some-Park.is, w.in-Some-Park.field-0-is, w.shelf-is) (w.park-status.ensures.fetches)
   | in-Some-Resume w ↦ rw (sym c.read.ensures, w.in-Some-Resume.is, w.in-Some-Resume.field-0-is, w.shelf-is) (w.resume-status.ensures.fetches)
   | in-Some-Chart w ↦ rw (sym c.read.ensures, w.in-Some-Chart.is, w.in-Some-Chart.field-0-is, w.shelf-is) (w.chart-status.ensures.fetches)
+  | in-Some-RoleChart w ↦ rw (sym c.read.ensures, w.in-Some-RoleChart.is, w.in-Some-RoleChart.field-0-is, w.shelf-is) (w.chart_for-status.ensures.fetches)
+  | in-Some-Check w ↦ rw (sym c.read.ensures, w.in-Some-Check.is, w.in-Some-Check.field-0-is, w.shelf-is) (w.check-status.ensures.fetches)
+  | in-Some-Trace w ↦ rw (sym c.read.ensures, w.in-Some-Trace.is, w.in-Some-Trace.field-0-is, w.shelf-is) (w.trace-status.ensures.fetches)
 ]
 
 pub returns-clause-touches : goal.returns-clause-touches
@@ -54,14 +60,17 @@ returns-clause-touches g c = elim c.match-read.branch [
   | in-Some-Play w ↦ rw (sym c.read.ensures, w.in-Some-Play.is, w.in-Some-Play.field-0-is, w.wire-is, w.status-is) (w.play-status.ensures.touches)
   | in-Some-Enact w ↦ rw (sym c.read.ensures, w.in-Some-Enact.is, w.in-Some-Enact.field-0-is, w.wire-is, w.status-is) (w.enact-status.ensures.touches)
   | in-Some-Replay w ↦ rw (sym c.read.ensures, w.in-Some-Replay.is, w.in-Some-Replay.field-0-is, w.wire-is, w.status-is) (w.replay-status.ensures.touches)
-  | in-Some-Trace w ↦ rw (sym c.read.ensures, w.in-Some-Trace.is, w.in-Some-Trace.field-0-is, w.wire-is, w.status-is) (w.trace-status.ensures.touches)
   | in-Some-Host w ↦ rw (sym c.read.ensures, w.in-Some-Host.is, w.in-Some-Host.field-0-is, w.wire-is, w.status-is) (w.host-status.ensures.touches)
   | in-Some-Rehearse w ↦ rw (sym c.read.ensures, w.in-Some-Rehearse.is, w.in-Some-Rehearse.field-0-is, w.wire-is, w.status-is) (w.rehearse-status.ensures.touches)
   | in-Some-Drill w ↦ rw (sym c.read.ensures, w.in-Some-Drill.is, w.in-Some-Drill.field-0-is, w.wire-is, w.status-is) (w.drill-status.ensures.wire.touches)
   | in-Some-Help w ↦ rw (sym c.read.ensures, w.in-Some-Help.is, w.in-Some-Help.field-0-is, w.wire-is, w.status-is) (w.help-status.ensures.wire.touches)
+  | in-Some-Branch w ↦ rw (sym c.read.ensures, w.in-Some-Branch.is, w.in-Some-Branch.field-0-is, w.wire-is, w.status-is) (w.branch-status.ensures.touches)
   | in-Some-Certify w ↦ rw (sym c.read.ensures, w.in-Some-Certify.is, w.in-Some-Certify.field-0-is, w.wire-is, w.status-is) (w.certify-status.ensures.touches)
   | in-Some-Why w ↦ rw (sym c.read.ensures, w.in-Some-Why.is, w.in-Some-Why.field-0-is, w.wire-is, w.status-is) (w.why-status.ensures.touches)
   | in-Some-Park w ↦ rw (sym c.read.ensures, w.in-Some-Park.is, w.in-Some-Park.field-0-is, w.wire-is, w.status-is) (w.park-status.ensures.touches)
   | in-Some-Resume w ↦ rw (sym c.read.ensures, w.in-Some-Resume.is, w.in-Some-Resume.field-0-is, w.wire-is, w.status-is) (w.resume-status.ensures.touches)
   | in-Some-Chart w ↦ rw (sym c.read.ensures, w.in-Some-Chart.is, w.in-Some-Chart.field-0-is, w.wire-is, w.status-is) (w.chart-status.ensures.touches)
+  | in-Some-RoleChart w ↦ rw (sym c.read.ensures, w.in-Some-RoleChart.is, w.in-Some-RoleChart.field-0-is, w.wire-is, w.status-is) (w.chart_for-status.ensures.touches)
+  | in-Some-Check w ↦ rw (sym c.read.ensures, w.in-Some-Check.is, w.in-Some-Check.field-0-is, w.wire-is, w.status-is) (w.check-status.ensures.touches)
+  | in-Some-Trace w ↦ rw (sym c.read.ensures, w.in-Some-Trace.is, w.in-Some-Trace.field-0-is, w.wire-is, w.status-is) (w.trace-status.ensures.touches)
 ]

@@ -5,7 +5,7 @@ use Rattle.anb_lemmas.proofs.Each.{zip_and_last, take_next, all_of_next}
 use Rattle.anb_resolve.specs.Protocols.{ProtocolValue, role_number}
 use Rattle.anb_code.specs.CodeValue.{CodeValue}
 use Rattle.anb_compile.specs.Fitting.{FitsRole}
-use Rattle.anb_compile.specs.Unsent.{AllSendAll}
+use Rattle.anb_resolve.specs.Plays.{IsSendable}
 use Rattle.anb_arms.specs.Arms.{FitArms}
 use Rattle.anb_arms.proofs.Members.{item_at}
 use Rattle.anb_arms.proofs.Refusals.{refused_at}
@@ -15,7 +15,7 @@ pub returns-in-Err-clause-refused : goal.returns-in-Err-clause-refused
 returns-in-Err-clause-refused c =
     let i = c.loop-arm.arm-index in
     refused_at c.args.arms.now i _ c.arm-item.result c.in-Err.no (omega (arith, c.len.ensures, c.loop-arm.invariant.count))
-    (item_at c.args.arms.now i c.arm-item.result (omega (arith, c.loop-arm-test.true)) c.arm-item.is) c.loop-arm.invariant.sent c.in-Err.ensures.refused
+    (item_at c.args.arms.now i c.arm-item.result (omega (arith, c.loop-arm-test.true)) c.arm-item.is) c.loop-arm.invariant.sendable c.in-Err.ensures.refused
 
 pub loop-arm-preserved : goal.loop-arm-preserved
 loop-arm-preserved c =
@@ -32,10 +32,10 @@ loop-arm-preserved c =
     record {
       count = ap length pushed ∙ length-append old (c.in-Ok.code ∷ []) ∙ ap (λ k. k + 1) c.loop-arm.invariant.count;
       fit = subst P (sym next) (subst Q (sym pushed) (zip_and_last R (take i arms) old arm c.in-Ok.code c.loop-arm.invariant.fit c.in-Ok.ensures.fits));
-      sent = all_of_next AllSendAll arms i arm within c.arm-item.is c.in-Ok.ensures.sent c.loop-arm.invariant.sent;
+      sendable = all_of_next IsSendable arms i arm within c.arm-item.is c.in-Ok.ensures.sendable c.loop-arm.invariant.sendable;
     }
 
-pub returns-clause-sent : goal.returns-clause-sent
-returns-clause-sent c =
-    let P : List ProtocolValue → Type 0 = λ l. All AllSendAll l in
-    subst P (take_all c.loop-arm.arm-index c.args.arms.now (omega (arith, c.loop-arm-test.false, c.loop-arm.auto.arm-index-end))) c.loop-arm.invariant.sent
+pub returns-clause-sendable : goal.returns-clause-sendable
+returns-clause-sendable c =
+    let P : List ProtocolValue → Type 0 = λ l. All IsSendable l in
+    subst P (take_all c.loop-arm.arm-index c.args.arms.now (omega (arith, c.loop-arm-test.false, c.loop-arm.auto.arm-index-end))) c.loop-arm.invariant.sendable

@@ -1,6 +1,6 @@
 use Rattle.std.proofs.Common.{◌≡◌, take, length}
 use Rattle.std.specs.Prelude.{All}
-use Rattle.anb_compile.specs.Unsent.{AllSendAll}
+use Rattle.anb_resolve.specs.Plays.{IsSendable}
 use Rattle.anb_arms.specs.Arms.{FitArms}
 use Rattle.anb_arms.proofs.compiling.codes_of.Given as goal
 
@@ -8,5 +8,5 @@ abbrev pub invariant-loop-arm : goal.invariant-loop-arm
 invariant-loop-arm l = record {
   count : length l.codes.items ≡ l.arm-index;
   fit : FitArms (take l.arm-index l.arms) l.role l.codes.items;
-  sent : All AllSendAll (take l.arm-index l.arms);
+  sendable : All IsSendable (take l.arm-index l.arms);
 }

@@ -5,5 +5,5 @@ use Rattle.anb_arms.proofs.compiling.compile_arms.Goals as goal
 pub codes_of-requires-clause-roles : goal.codes_of-requires-clause-roles
 codes_of-requires-clause-roles c = rw c.deref.ensures.value (have_role (branched_of c.args.b.now) c.args.role.now c.requires.lawful c.requires.is_role)
 
-pub returns-clause-sent : goal.returns-clause-sent
-returns-clause-sent c = rw c.deref.ensures.value at c.codes_of.ensures.sent
+pub returns-clause-sendable : goal.returns-clause-sendable
+returns-clause-sendable c = rw c.deref.ensures.value at c.codes_of.ensures.sendable

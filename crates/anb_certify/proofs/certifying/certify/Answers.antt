@@ -1,4 +1,4 @@
-use Rattle.std.proofs.Common.{◌≡◌, List, sym, ap, ◌∙◌, subst}
+use Rattle.std.proofs.Common.{List, ◌∙◌, subst}
 use Rattle.anb_base.specs.declared.content.Suite.{Suite}
 use Rattle.anb_format.specs.Formats.{FormatValue}
 use Rattle.anb_algebra.specs.ByteMeaning.{byte_meaning}

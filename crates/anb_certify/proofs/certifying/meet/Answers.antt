@@ -1,21 +1,18 @@
-use Rattle.std.proofs.Common.{◌≡◌, ◌+◌, ◌∷◌, ◌++◌, [], ℕ, List, sym, ap, ◌∙◌, subst}
-use Rattle.anb_code.specs.CodeValue.{CodeValue}
+use Rattle.std.proofs.Common.{◌+◌, ◌∷◌, sym, subst}
 use Rattle.anb_code.specs.Meaning.{act_of}
 use Rattle.anb_code.specs.declared.instr.Instr.{Instr}
 use Rattle.anb_plays.specs.Plans as plays
-use Rattle.anb_plays.specs.Codes.{Act, sends}
-use Rattle.anb_resolve.specs.Protocols.{ProtocolValue}
 use Rattle.anb_resolve.specs.Plays.{event_of}
 use Rattle.anb_resolve.specs.Views.{plan_event}
 use Rattle.anb_resolve.specs.declared.plans.Event as plans
 use Rattle.anb_term.specs.View.{tree_of}
-use Rattle.anb_certify.specs.Numbered.{value_of}
-use Rattle.anb_certify.specs.Certified.{Refuses}
+use Rattle.anb_certify.specs.Numbered.{value_of, TableValue}
+use Rattle.anb_certify.specs.Tied.{AreEnough}
 use Rattle.anb_certify.specs.Walking.{Stands}
 use Rattle.anb_certify.proofs.Ending.{heard_is, refused_by}
 use Rattle.anb_certify.proofs.Framing.{does_an_event}
-use Rattle.anb_certify.proofs.Results.{on_ok, on_both, if_err}
-use Rattle.anb_certify.proofs.Walking.{know_on, fresh_on, receive_on, receive_loose, is_send, send_on, send_there, send_loose, sent}
+use Rattle.anb_certify.proofs.Results.{on_both, if_err}
+use Rattle.anb_certify.proofs.Walking.{know_on, fresh_on, receive_on, receive_loose, send_on, send_loose, sent}
 use Rattle.anb_certify.proofs.certifying.meet.Goals as goal
 
 pub returns-in-Know-clause-stands : goal.returns-in-Know-clause-stands
@@ -46,15 +43,19 @@ returns-in-Fresh-clause-stands c =
 
 pub returns-in-Ok-clause-stands : goal.returns-in-Ok-clause-stands
 returns-in-Ok-clause-stands c =
-    let v = value_of c.args.table.now in
+    let v = value_of c.border.new.table in
     let u = value_of c.hear-in-Ok.new.table in
     let n = c.args.at in
     let t = tree_of c.in-Recv.term in
+    let same = c.in-Ok.ensures.same in
+    let A : TableValue → Type 0 = λ x. AreEnough x.did x.terms in
     on_both c.hear-in-Ok.result
     (λ a b p role code acts es s.
     let act = act_of code.formats c.args.instr.now in
-    let E : plans.Event → Type 0 = λ e. Stands p role code (act ∷ acts) (event_of (plan_event e) ∷ es) n v in
-    subst (Stands p role code acts es (n + 1)) (sym (heard_is v u t a b)) (receive_on p role code act acts t es n v (does_an_event code.formats c.args.instr.now c.requires.event) c.in-Ok.ensures.enough (subst E c.in-Recv.is s)))
+    let E : plans.Event → Type 0 = λ e. Stands p role code (act ∷ acts) (event_of (plan_event e) ∷ es) n (value_of c.args.table.now) in
+    let V : TableValue → Type 0 = λ x. Stands p role code (act ∷ acts) (plays.recv t ∷ es) n x in
+    subst (Stands p role code acts es (n + 1)) (sym (heard_is v u t a b))
+    (receive_on p role code act acts t es n v (does_an_event code.formats c.args.instr.now c.requires.event) (subst A (sym same) c.in-Ok.ensures.enough) (subst V (sym same) (subst E c.in-Recv.is s))))
     c.hear-in-Ok.ensures.terms c.hear-in-Ok.ensures.did
 
 pub returns-in-Err-clause-refused : goal.returns-in-Err-clause-refused
@@ -81,12 +82,12 @@ returns-else-not-branch-clause-stands c =
     let n = c.args.at in
     let t = tree_of c.in-Send.term in
     let r = c.in-Send-instr.r in
-    on_ok c.border-in-Send.result
-    (λ enough p role code acts es s.
+    on_both c.border-in-Send.result
+    (λ enough same p role code acts es s.
     let E : plans.Event → Type 0 = λ e. Stands p role code (act_of code.formats c.args.instr.now ∷ acts) (event_of (plan_event e) ∷ es) n v in
     let I : Instr → Type 0 = λ x. Stands p role code (act_of code.formats x ∷ acts) (plays.send t ∷ es) n v in
-    send_on p role code acts r t es n v (c.in_ok-holds-in-Send.ensures.0 c.if-not-branch.false) enough (subst I c.in-Send-instr.is (subst E c.in-Send.is s)))
-    c.border-in-Send.ensures.enough
+    subst (Stands p role code acts es (n + 1)) (sym same) (send_on p role code acts r t es n v (c.in_ok-holds-in-Send.ensures.0 c.if-not-branch.false) enough (subst I c.in-Send-instr.is (subst E c.in-Send.is s))))
+    c.border-in-Send.ensures.enough c.border-in-Send.ensures.same
 
 pub returns-else-not-branch-clause-refused : goal.returns-else-not-branch-clause-refused
 returns-else-not-branch-clause-refused c =

@@ -1,4 +1,4 @@
-use Rattle.std.proofs.Common.{◌≡◌, ◌<◌, ◌≤◌, ◌+◌, ◌∷◌, ℕ, List, Option, Some, length, drop, map, sym, ap, ◌∙◌, subst, arith}
+use Rattle.std.proofs.Common.{◌≡◌, ◌<◌, ◌≤◌, ◌+◌, ◌∷◌, ℕ, List, Option, Some, length, drop, sym, ap, subst, arith}
 use Rattle.std.specs.Prelude.{slice_get, MatchOption, false}
 use Rattle.std.specs.List.{AllByRecursion}
 use Rattle.anb_base.specs.declared.TheConstants.{ARRIVAL, WIDE}
@@ -9,8 +9,7 @@ use Rattle.anb_plays.specs.Plans as plays
 use Rattle.anb_code.specs.declared.instr.Instr.{Instr}
 use Rattle.anb_code.specs.Meaning.{act_of, acts_of}
 use Rattle.anb_code.specs.Verified.{HasItsFormat}
-use Rattle.anb_resolve.specs.Plays.{event_of, events_of}
-use Rattle.anb_resolve.specs.Views.{plan_event}
+use Rattle.anb_resolve.specs.Plays.{events_of}
 use Rattle.anb_compile.proofs.Valuing.{few_fields, its_format}
 use Rattle.anb_certify.specs.declared.works.Job.{Job}
 use Rattle.anb_certify.specs.Certified.{is_work}

@@ -1,5 +1,4 @@
-use Rattle.std.proofs.Common.{◌≡◌, ◌+◌, ℕ, length, sym, ap, ◌∙◌, subst, arith}
-use Rattle.anb_base.specs.declared.TheConstants.{ARRIVAL, WIDE}
+use Rattle.std.proofs.Common.{◌≡◌, ◌+◌, ℕ, length, ap, subst, arith}
 use Rattle.anb_resolve.specs.Plays.{events_of}
 use Rattle.std.proofs.Common.{drop}
 use Rattle.anb_certify.specs.declared.refusal.CertifyNo.TheVariants.{Loose}

@@ -1,4 +1,5 @@
-use Rattle.anb_certify.specs.Numbered.{value_of, IsTable}
+use Rattle.anb_certify.specs.Numbered.{value_of}
+use Rattle.anb_certify.specs.Progress.{IsTable}
 use Rattle.anb_certify.specs.Walking.{IsAt}
 use Rattle.anb_certify.proofs.certifying.walk.Given as goal
 

@@ -1,4 +1,3 @@
-use Rattle.std.proofs.Common.{◌∷◌, sym, ◌∙◌}
 use Rattle.anb_algebra.specs.ByteMeaning.{has_operator}
 use Rattle.anb_certify.specs.Numbered.{value_of}
 use Rattle.anb_certify.specs.Works.{work_of}

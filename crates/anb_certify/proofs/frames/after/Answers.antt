@@ -1,4 +1,4 @@
-use Rattle.std.proofs.Common.{◌≡◌, ◌+◌, ◌<◌, ◌∷◌, length, map, drop, sym, ap, ◌∙◌, arith}
+use Rattle.std.proofs.Common.{◌+◌, ◌<◌, ◌∷◌, length, map, drop, sym, ap, ◌∙◌, arith}
 use Rattle.anb_term.proofs.Lists.{all_at, slice_get-at, slice_get-map}
 use Rattle.anb_resolve.specs.Plans.{term_in}
 use Rattle.anb_resolve.specs.Texts.{IsTermOf}

@@ -1,10 +1,8 @@
-use Rattle.std.proofs.Common.{◌≡◌, ◌<◌, ◌+◌, ◌-◌, ◌++◌, ◌∷◌, [], ℕ, List, length, sym, ap, ◌∙◌, subst, arith}
+use Rattle.std.proofs.Common.{◌≡◌, ◌<◌, ◌-◌, ◌++◌, ◌∷◌, [], ℕ, List, length, sym, ap, ◌∙◌, subst, arith}
 use Rattle.std.proofs.lemmas.List.Elements.{All-from_recursion}
 use Rattle.std.specs.List.{AllByRecursion}
 use Rattle.anb_term.specs.Operator.{arity, keys}
-use Rattle.anb_plays.specs.Codes.{Work, make, undo, equal}
 use Rattle.anb_certify.specs.declared.works.Job.{Job}
-use Rattle.anb_certify.specs.declared.links.Pair.{Pair}
 use Rattle.anb_certify.specs.Works.{work_of}
 use Rattle.anb_certify.specs.Links.{AreLinked, HasLinked, IsToLink}
 use Rattle.anb_certify.specs.Signs.{sign_of, signs_in, classes_in, HasSigned}
@@ -77,7 +75,7 @@ returns-in-Equal-clause-linked c =
     let G : Job → Type 0 = λ j. IsToLink did cs d.at (work_of j) in
     let R : Job → Type 0 = λ j. AreLinked did (seen ++ (d.at, work_of j) ∷ []) cs made undone c.link_all.new.links.items in
     subst R (sym c.in-Equal.is) (equal_linked did seen cs d.at c.in-Equal.a c.in-Equal.b made undone c.args.links.now.items c.link_all.new.links.items (subst G c.in-Equal.is g) h l))
-    c.link_all.ensures
+    c.link_all.ensures.linked
 
 pub returns-in_ok-first-in-Make-clause-linked : goal.returns-in_ok-first-in-Make-clause-linked
 returns-in_ok-first-in-Make-clause-linked c =
@@ -95,7 +93,7 @@ returns-in_ok-first-in-Make-clause-linked c =
     let G : Job → Type 0 = λ j. IsToLink did cs d.at (work_of j) in
     let R : Job → Type 0 = λ j. AreLinked did (seen ++ (d.at, work_of j) ∷ []) cs made2 undone new in
     subst R (sym c.in-Make.is) (make_linked did seen cs d.at c.in-Make.op c.in-Make.operands.items x made made2 undone c.args.links.now.items new (subst G c.in-Make.is g) h sg l))
-    c.link_all-in-Make.ensures
+    c.link_all-in-Make.ensures.linked
 
 pub returns-in_ok-first-in-Undo-clause-linked : goal.returns-in_ok-first-in-Undo-clause-linked
 returns-in_ok-first-in-Undo-clause-linked c =
@@ -118,4 +116,4 @@ returns-in_ok-first-in-Undo-clause-linked c =
     let G : Job → Type 0 = λ j. IsToLink did cs d.at (work_of j) in
     let R : Job → Type 0 = λ j. AreLinked did (seen ++ (d.at, work_of j) ∷ []) cs made undone2 new in
     subst R (sym c.in-Undo.is) (undo_linked did seen cs d.at o c.in-Undo.keys.items c.in-Undo.of x made undone undone2 old new (subst G c.in-Undo.is g) h sg (subst L count l)))
-    c.link_all-in-Undo.ensures
+    c.link_all-in-Undo.ensures.linked

@@ -1,4 +1,4 @@
-use Rattle.std.proofs.Common.{◌≡◌, ◌+◌, ◌++◌, ◌∷◌, [], ℕ, List, length, map, take, sym, ap, ◌∙◌, subst, arith}
+use Rattle.std.proofs.Common.{◌≡◌, ◌++◌, ◌∷◌, [], ℕ, List, length, map, take, sym, ap, ◌∙◌, subst, arith}
 use Rattle.std.proofs.lemmas.List.{length-map, take_all}
 use Rattle.anb_term.specs.Tree.{leaf}
 use Rattle.anb_term.proofs.Lists.{slice_get-at}
@@ -6,6 +6,7 @@ use Rattle.anb_plays.specs.Codes.{Work}
 use Rattle.anb_certify.specs.declared.links.Pair.{Pair}
 use Rattle.anb_certify.specs.declared.works.Done.{Done}
 use Rattle.anb_certify.specs.Works.{did_of, work_of}
+use Rattle.anb_certify.specs.Falling.{LinkApart}
 use Rattle.anb_certify.specs.Links.{AreLinked, IsToLink}
 use Rattle.anb_certify.specs.Signs.{signs_in}
 use Rattle.anb_certify.proofs.Grouping.{did_there}
@@ -23,6 +24,7 @@ loop-d-init c =
       made = (made.signs, ap length made.classes ∙ length-map cs leaf);
       undone = (undone.signs, ap length undone.classes ∙ length-map cs leaf);
       linked = subst P (sym c.new-links.ensures.items) (start_linked (map did_of c.args.done.now) cs (signs_in c.in_ok-made.made) (signs_in c.in_ok-undone.undone) made.classes undone.classes made.none undone.none);
+      apart = subst (LinkApart cs) (sym c.new-links.ensures.items) tt;
     }
 
 pub link-requires-clause-to_link : goal.link-requires-clause-to_link
@@ -59,6 +61,7 @@ loop-d-preserved c =
       made = c.in_ok-link.ensures.made;
       undone = c.in_ok-link.ensures.undone;
       linked = subst P (sym next) (c.in_ok-link.ensures.linked did (map did_of (take i c.args.done.now)) to_link c.loop-d.invariant.linked);
+      apart = c.in_ok-link.ensures.apart c.loop-d.invariant.apart;
     }
 
 pub returns-clause-none : goal.returns-clause-none

@@ -1,4 +1,4 @@
-use Rattle.std.proofs.Common.{◌≡◌, ◌<◌, ℕ, map}
+use Rattle.std.proofs.Common.{◌<◌, ℕ, map}
 use Rattle.anb_intern.specs.Nodes.{operands_at}
 use Rattle.anb_certify.specs.Tied.{KeepsRules}
 use Rattle.anb_certify.specs.Works.{did_of}

@@ -1,4 +1,4 @@
-use Rattle.std.proofs.Common.{◌++◌, ◌∷◌, [], None, sym, ap, ◌∙◌}
+use Rattle.std.proofs.Common.{◌++◌, ◌∷◌, [], sym, ap, ◌∙◌}
 use Rattle.anb_certify.proofs.Signing.{no_owner, one_none_more}
 use Rattle.anb_certify.proofs.signs.no_owners.Goals as goal
 

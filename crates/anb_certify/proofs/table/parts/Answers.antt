@@ -1,5 +1,4 @@
-use Rattle.std.proofs.Common.{◌≡◌, ◌∷◌, [], ◌++◌, ℕ, List, Option, Some, None, length, drop, sym, ap, ◌∙◌, subst}
-use Rattle.anb_term.specs.Tree.{Tree}
+use Rattle.std.proofs.Common.{◌≡◌, ◌++◌, List, Some, None, length, drop, sym, ap, ◌∙◌, subst}
 use Rattle.anb_term.specs.FreeAlgebra.{parts_of}
 use Rattle.anb_intern.specs.declared.node.NodeId.{NodeId}
 use Rattle.anb_intern.specs.declared.node.Node.{Node}

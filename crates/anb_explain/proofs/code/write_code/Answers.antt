@@ -10,8 +10,7 @@ use Rattle.anb_resolve.specs.Texts.{IsTermOf, term_text}
 use Rattle.anb_code.specs.declared.instr.Instr.{Instr}
 use Rattle.anb_code.specs.Registers.{count_written}
 use Rattle.anb_code.specs.Spelling.{raw_instr, raw_of}
-use Rattle.anb_code.specs.Verified.{HasItsFormat}
-use Rattle.anb_compile.proofs.Valuing.{few_fields, its_format}
+use Rattle.anb_compile.proofs.Valuing.{few_fields}
 use Rattle.anb_text.specs.Lines.{instr_line}
 use Rattle.anb_text.specs.RoleFiles.{instr_lines}
 use Rattle.anb_text.proofs.Written.{not_all, one_part, same_due}
@@ -19,20 +18,10 @@ use Rattle.anb_explain.specs.Explained.{code_text, line, note}
 use Rattle.anb_explain.proofs.Lines.{one_more, said, shown, shown_first}
 use Rattle.anb_explain.proofs.code.write_code.Goals as goal
 
-pub count_written-requires-clause-fields : goal.count_written-requires-clause-fields
-count_written-requires-clause-fields g c =
+pub count_written-requires : goal.count_written-requires
+count_written-requires g c =
     let P : List FormatValue → Type 0 = λ l. AllByRecursion (λ (format : FormatValue). field_count format.pieces ≤ 32) l in
     subst P (sym c.formats-formats.ensures.formats) (few_fields ARRIVAL WIDE c.args.code.now c.formats-formats.ensures.verified)
-
-pub count_written-requires-clause-format : goal.count_written-requires-clause-format
-count_written-requires-clause-format g c =
-    let x = c.instr-item.result in
-    let i = c.loop-i.i in
-    let items = c.instrs-instr-items.result.now in
-    let P : List Instr → Type 0 = λ l. slice_get l i ≡ Some x in
-    let here = subst P c.instrs-instr-items.ensures.instrs (slice_get-at items i x (omega arith) c.instr-item.is) in
-    let Q : List FormatValue → Type 0 = λ l. HasItsFormat l x in
-    subst Q (sym c.formats-formats.ensures.formats) (its_format ARRIVAL WIDE c.args.code.now i x c.instrs-instr-items.ensures.verified here)
 
 pub instr_text-line-requires-clause-terms : goal.instr_text-line-requires-clause-terms
 instr_text-line-requires-clause-terms g c =

@@ -83,3 +83,6 @@ returns-clause-ours c =
       terms = all_ours step;
       count = counted step;
     }
+
+pub returns-clause-terms : goal.returns-clause-terms
+returns-clause-terms c = have ((goal.at.returns-clause-terms c).In_ok-terms)

@@ -1,4 +1,4 @@
-use Rattle.std.proofs.Common.{◌≡◌, Some, sym, ap, ◌∙◌}
+use Rattle.std.proofs.Common.{sym, ap, ◌∙◌}
 use Rattle.std.specs.Prelude.{slice_get}
 use Rattle.anb_certify.proofs.Signing.{none_owned}
 use Rattle.anb_certify.proofs.signs.Signs.new.Goals as goal

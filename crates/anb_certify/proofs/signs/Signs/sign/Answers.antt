@@ -1,6 +1,6 @@
-use Rattle.std.proofs.Common.{◌≡◌, ◌<◌, ◌≤◌, ◌+◌, ◌++◌, ◌∷◌, [], List, ℕ, Some, length, sym, ap, ◌∙◌, subst, arith, inl, inr, ⊎_elim, length-append}
+use Rattle.std.proofs.Common.{◌≡◌, List, length, sym, ap, ◌∙◌, subst, arith, ⊎_elim}
 use Rattle.anb_term.specs.Lawful.{picked}
-use Rattle.anb_term.specs.Tree.{Tree, node, trees_of}
+use Rattle.anb_term.specs.Tree.{node, trees_of}
 use Rattle.anb_term.proofs.Lists.{slice_get-within}
 use Rattle.anb_intern.specs.declared.node.NodeId.{NodeId}
 use Rattle.anb_intern.specs.Nodes.{operands_at, AreUnder}

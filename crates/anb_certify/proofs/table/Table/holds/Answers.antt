@@ -19,7 +19,7 @@ returns-in-Some c =
     let M : Option NodeId → Type 0 = λ o. MatchOption o ((i : ℕ) → slice_get s.pool i ≡ Some t → ⊥) (λ (id : NodeId). slice_get s.pool id.0 ≡ Some t) in
     let stored = subst M c.in-Some.is c.in_ok-id.ensures in
     let below : c.args.r < length s.ids.items = omega (arith, c.requires.there, operands_long s.pool s.ids.items) in
-    has_term s.pool s.ids.items c.requires.table c.len.ensures.distinct c.args.r x c.in-Some.id t (get_here s.ids.items c.args.r x below ∙ ap Some (sym c.index.ensures)) stored
+    has_term s.pool s.ids.items c.requires.table.under c.len.ensures.distinct c.args.r x c.in-Some.id t (get_here s.ids.items c.args.r x below ∙ ap Some (sym c.index.ensures)) stored
 
 pub returns-in-None : goal.returns-in-None
 returns-in-None c =
@@ -29,4 +29,4 @@ returns-in-None c =
     let none = subst M c.in-None.is c.in_ok-id.ensures in
     let below : c.args.r < length s.ids.items = omega (arith, c.requires.there, operands_long s.pool s.ids.items) in
     let x = slice_get-there s.ids.items c.args.r below in
-    (λ h. cc, λ h. absurd (no_term s.pool s.ids.items c.requires.table c.len.ensures.distinct c.args.r x.0 t x.1 none h))
+    (λ h. cc, λ h. absurd (no_term s.pool s.ids.items c.requires.table.under c.len.ensures.distinct c.args.r x.0 t x.1 none h))

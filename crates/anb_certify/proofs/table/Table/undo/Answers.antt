@@ -1,13 +1,15 @@
-use Rattle.std.proofs.Common.{◌≡◌, ◌<◌, ◌++◌, ◌∷◌, [], ℕ, List, Vec, Global, Option, Some, None, length, refl, sym, ap, ◌∙◌, subst, arith}
-use Rattle.std.specs.Prelude.{slice_get, option_map, option_and_then, IfSome}
+use Rattle.std.proofs.Common.{◌≡◌, ◌<◌, ◌++◌, ℕ, List, Vec, Global, Option, Some, length, refl, sym, ap, ◌∙◌, subst, arith}
+use Rattle.std.specs.Prelude.{option_map, option_and_then, IfSome}
 use Rattle.anb_term.specs.Lawful.{picked}
-use Rattle.anb_term.specs.Tree.{Tree}
 use Rattle.anb_term.specs.FreeAlgebra.{parts_of}
 use Rattle.anb_intern.specs.declared.node.NodeId.{NodeId}
 use Rattle.anb_intern.specs.Nodes.{operands_at, tree_at, AreUnder, IsOver}
 use Rattle.anb_intern.proofs.Nodes.{over_more}
 use Rattle.std.specs.List.{AllByRecursion}
 use Rattle.std.proofs.lemmas.List.Elements.{recursion_from_All}
+use Rattle.anb_certify.specs.Numbered.{did_in}
+use Rattle.anb_certify.specs.Progress.{found_in}
+use Rattle.anb_certify.proofs.Progressing.{registers_come}
 use Rattle.anb_certify.proofs.Fitting.{picked_length}
 use Rattle.anb_certify.proofs.Tabling.{more_here}
 use Rattle.anb_certify.proofs.Flagging.{operands_long}
@@ -27,7 +29,7 @@ get-requires c =
     let s = c.args.self.now in
     let x = c.index.result.now in
     let below : c.args.of < length s.ids.items = omega (arith, c.requires.ready.1.3, operands_long s.pool s.ids.items) in
-    under_there (length s.pool) s.ids.items c.args.of x c.requires.table (get_here s.ids.items c.args.of x below ∙ ap Some (sym c.index.ensures))
+    under_there (length s.pool) s.ids.items c.args.of x c.requires.table.under (get_here s.ids.items c.args.of x below ∙ ap Some (sym c.index.ensures))
 
 pub parts-requires : goal.parts-requires
 parts-requires c =
@@ -41,12 +43,16 @@ returns-in-Some-clause-table c =
     let s = c.args.self.now in
     let x = c.index.result.now in
     let below : c.args.of < length s.ids.items = omega (arith, c.requires.ready.1.3, operands_long s.pool s.ids.items) in
-    let there = under_there (length s.pool) s.ids.items c.args.of x c.requires.table (get_here s.ids.items c.args.of x below ∙ ap Some (sym c.index.ensures)) in
+    let there = under_there (length s.pool) s.ids.items c.args.of x c.requires.table.under (get_here s.ids.items c.args.of x below ∙ ap Some (sym c.index.ensures)) in
     let over = over_more x.0 (length s.pool) c.get.result.now (omega (arith, there)) c.get.ensures.before in
     let M : Option (Vec NodeId Global) → Type 0 = λ o. IfSome o (λ ids. (n : ℕ) → IsOver n c.get.result.now → AreUnder n ids.items) in
     let under = subst M c.in-Some.is c.in_ok-ids.ensures.under (length s.pool) over in
     let are = c.in_ok-extend_from_slice-in-Some.ensures.items ∙ ap (λ l. s.ids.items ++ l) c.deref-in-Some.ensures.value in
-    subst (AreUnder (length s.pool)) (sym are) (more_here s.pool s.ids.items c.in-Some.ids.items c.requires.table under).0
+    let more = more_here s.pool s.ids.items c.in-Some.ids.items c.requires.table.under under in
+    record {
+      under = subst (AreUnder (length s.pool)) (sym are) more.0;
+      progress = registers_come s.ids.items _ c.in-Some.ids.items (operands_at s.pool s.ids.items) _ (operands_at s.pool c.in-Some.ids.items) (did_in s) (found_in s.progress) are (ap (operands_at s.pool) are ∙ more.1) c.requires.table.progress;
+    }
 
 pub returns-in-Some-clause-written : goal.returns-in-Some-clause-written
 returns-in-Some-clause-written c =
@@ -55,12 +61,12 @@ returns-in-Some-clause-written c =
     let ks = c.deref-2.result.now in
     let below : c.args.of < length s.ids.items = omega (arith, c.requires.ready.1.3, operands_long s.pool s.ids.items) in
     let here = get_here s.ids.items c.args.of x below ∙ ap Some (sym c.index.ensures) in
-    let there = under_there (length s.pool) s.ids.items c.args.of x c.requires.table here in
+    let there = under_there (length s.pool) s.ids.items c.args.of x c.requires.table.under here in
     let over = over_more x.0 (length s.pool) c.get.result.now (omega (arith, there)) c.get.ensures.before in
     let M : Option (Vec NodeId Global) → Type 0 = λ o. IfSome o (λ ids. (n : ℕ) → IsOver n c.get.result.now → AreUnder n ids.items) in
     let under = subst M c.in-Some.is c.in_ok-ids.ensures.under (length s.pool) over in
     let key_are = c.deref-2.ensures.value ∙ c.in_ok-keys.ensures ∙ ap (λ (l : List NodeId). picked l c.args.keys.now) c.deref.ensures.value in
-    let key_under = subst (AreUnder (length s.pool)) (sym key_are) (under_picked (length s.pool) s.ids.items c.args.keys.now c.requires.table) in
+    let key_under = subst (AreUnder (length s.pool)) (sym key_are) (under_picked (length s.pool) s.ids.items c.args.keys.now c.requires.table.under) in
     let term = at_register s.pool s.ids.items c.args.of x (tree_at s.pool c.get.result.now) here c.get.ensures.stands in
     let parts = c.in_ok-ids.ensures.parts s.pool c.len.ensures.distinct over key_under ∙ ap (option_map (λ (ids : Vec NodeId Global). operands_at s.pool ids.items)) c.in-Some.is in
     let key_terms : operands_at s.pool ks ≡ picked (operands_at s.pool s.ids.items) c.args.keys.now = ap (operands_at s.pool) key_are ∙ operands_picked s.pool s.ids.items c.args.keys.now in
@@ -69,7 +75,7 @@ returns-in-Some-clause-written c =
       λ f. (
         operands_at s.pool c.in-Some.ids.items,
         ap (option_and_then (parts_of c.args.op (picked (operands_at s.pool s.ids.items) c.args.keys.now))) term ∙ ap (λ l. parts_of c.args.op l (tree_at s.pool c.get.result.now)) (sym key_terms) ∙ parts,
-        ap (operands_at s.pool) are ∙ (more_here s.pool s.ids.items c.in-Some.ids.items c.requires.table under).1,
+        ap (operands_at s.pool) are ∙ (more_here s.pool s.ids.items c.in-Some.ids.items c.requires.table.under under).1,
         refl,
       ),
     )
@@ -81,10 +87,10 @@ returns-clause-written c =
     let ks = c.deref-2.result.now in
     let below : c.args.of < length s.ids.items = omega (arith, c.requires.ready.1.3, operands_long s.pool s.ids.items) in
     let here = get_here s.ids.items c.args.of x below ∙ ap Some (sym c.index.ensures) in
-    let there = under_there (length s.pool) s.ids.items c.args.of x c.requires.table here in
+    let there = under_there (length s.pool) s.ids.items c.args.of x c.requires.table.under here in
     let over = over_more x.0 (length s.pool) c.get.result.now (omega (arith, there)) c.get.ensures.before in
     let key_are = c.deref-2.ensures.value ∙ c.in_ok-keys.ensures ∙ ap (λ (l : List NodeId). picked l c.args.keys.now) c.deref.ensures.value in
-    let key_under = subst (AreUnder (length s.pool)) (sym key_are) (under_picked (length s.pool) s.ids.items c.args.keys.now c.requires.table) in
+    let key_under = subst (AreUnder (length s.pool)) (sym key_are) (under_picked (length s.pool) s.ids.items c.args.keys.now c.requires.table.under) in
     let term = at_register s.pool s.ids.items c.args.of x (tree_at s.pool c.get.result.now) here c.get.ensures.stands in
     let parts = c.in_ok-ids.ensures.parts s.pool c.len.ensures.distinct over key_under ∙ ap (option_map (λ (ids : Vec NodeId Global). operands_at s.pool ids.items)) c.in-None.is in
     let key_terms : operands_at s.pool ks ≡ picked (operands_at s.pool s.ids.items) c.args.keys.now = ap (operands_at s.pool) key_are ∙ operands_picked s.pool s.ids.items c.args.keys.now in

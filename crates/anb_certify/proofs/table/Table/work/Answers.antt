@@ -1,9 +1,11 @@
-use Rattle.std.proofs.Common.{◌≡◌, ◌++◌, ◌∷◌, [], ℕ, List, length, map, sym, ap, ◌∙◌, true, arith}
+use Rattle.std.proofs.Common.{◌≡◌, ◌++◌, ◌∷◌, [], ℕ, List, length, map, sym, ap, ◌∙◌, arith}
 use Rattle.anb_plays.specs.Codes.{Work}
 use Rattle.anb_term.proofs.Lists.{map-append}
 use Rattle.anb_certify.specs.Works.{did_of, work_of}
-use Rattle.anb_certify.specs.Numbered.{did_in}
+use Rattle.anb_certify.specs.Numbered.{did_in, terms_in}
+use Rattle.anb_certify.specs.Progress.{found_in}
 use Rattle.anb_certify.proofs.Flagging.{operands_long}
+use Rattle.anb_certify.proofs.Progressing.{work_comes}
 use Rattle.anb_certify.proofs.table.Table.work.Goals as goal
 
 pub returns-clause-works : goal.returns-clause-works
@@ -19,4 +21,13 @@ returns-clause-works c e =
       terms = wrote.2;
       did = ap (map did_of) c.in_ok-push.ensures.items ∙ map-append did_of c.write.new.self.done.items (_ ∷ []) ∙ ap (λ l. l ++ (c.len-at.result, work_of c.args.job) ∷ []) wrote.3 ∙ ap B at
           ∙ ap D (sym (operands_long s.pool s.ids.items));
+    }
+
+pub returns-clause-table : goal.returns-clause-table
+returns-clause-table c =
+    let t = c.in_ok-works.ensures.table in
+    let w = c.write.new.self in
+    record {
+      under = t.under;
+      progress = work_comes w.ids.items (terms_in w) (did_in w) _ ((c.len-at.result, work_of c.args.job) ∷ []) (found_in w.progress) (ap (map did_of) c.in_ok-push.ensures.items ∙ map-append did_of w.done.items (_ ∷ [])) t.progress;
     }

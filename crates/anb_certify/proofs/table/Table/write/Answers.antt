@@ -1,4 +1,4 @@
-use Rattle.std.proofs.Common.{◌≡◌, ◌<◌, ℕ, length, Bool, true, false, Some, sym, ap, ◌∙◌, subst, arith}
+use Rattle.std.proofs.Common.{◌<◌, length, true, false, Some, sym, ap, ◌∙◌, subst, arith}
 use Rattle.anb_plays.specs.Exec.{IsReady}
 use Rattle.anb_certify.specs.declared.works.Job.{Job}
 use Rattle.anb_certify.specs.Numbered.{IsWritten, value_of, terms_in}
@@ -32,7 +32,7 @@ returns-then-index-clause-written c =
     let x = c.index.result.now in
     let y = c.index-in-Equal.result.now in
     let W : Job → Type 0 = λ j. IsWritten (value_of s) (work_of j) true (value_of s) in
-    let terms = equal_terms s.pool s.ids.items c.requires.table c.len.ensures.distinct a b x y (get_here s.ids.items a x la ∙ ap Some (sym c.index.ensures)) (get_here s.ids.items b y lb ∙ ap Some (sym c.index-in-Equal.ensures)) in
+    let terms = equal_terms s.pool s.ids.items c.requires.table.under c.len.ensures.distinct a b x y (get_here s.ids.items a x la ∙ ap Some (sym c.index.ensures)) (get_here s.ids.items b y lb ∙ ap Some (sym c.index-in-Equal.ensures)) in
     subst W (sym c.in-Equal.is) (same_written a b (value_of s) (terms.0 c.if-index.true))
 
 pub returns-else-index-clause-written : goal.returns-else-index-clause-written
@@ -47,5 +47,5 @@ returns-else-index-clause-written c =
     let x = c.index.result.now in
     let y = c.index-in-Equal.result.now in
     let W : Job → Type 0 = λ j. IsWritten (value_of s) (work_of j) false (value_of s) in
-    let terms = equal_terms s.pool s.ids.items c.requires.table c.len.ensures.distinct a b x y (get_here s.ids.items a x la ∙ ap Some (sym c.index.ensures)) (get_here s.ids.items b y lb ∙ ap Some (sym c.index-in-Equal.ensures)) in
+    let terms = equal_terms s.pool s.ids.items c.requires.table.under c.len.ensures.distinct a b x y (get_here s.ids.items a x la ∙ ap Some (sym c.index.ensures)) (get_here s.ids.items b y lb ∙ ap Some (sym c.index-in-Equal.ensures)) in
     subst W (sym c.in-Equal.is) (other_written a b (value_of s) (terms.1 c.if-index.false))

@@ -1,0 +1,5 @@
+pub mod Seats
+pub mod Tasks
+pub mod Preparing
+pub mod Completing
+pub mod Straight

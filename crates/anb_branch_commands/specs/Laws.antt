@@ -1,0 +1,25 @@
+-- What `branch` plays is what `play` plays of the narration of an arm.
+use Rattle.std.specs.Prelude.{◌≡◌, ℕ, List, Option, Some, slice_get}
+use Rattle.anb_resolve.specs.Protocols.{ProtocolValue}
+use Rattle.anb_branch.specs.Branching.{BranchedText, straights}
+use Rattle.anb_command.specs.declared.limits.TheConstants.{NARRATION_LIMIT}
+use Rattle.anb_command.specs.Fetches.{Files}
+use Rattle.anb_command.specs.Files.{HasFile}
+use Rattle.anb_command.specs.Steps.{given}
+use Rattle.anb_role_commands.specs.Jobs.{JobIs}
+use Rattle.anb_branch_commands.specs.BranchCommand.{job_in}
+use Rattle.anb_branch_commands.specs.BranchJobs.{BranchJob, BranchJobIs}
+
+-- Let a role of a text with a choice be played, and let the stem with one arm behind it stand in a
+-- file. Then `play` of that file, with the same role, values file and seed, plays the same job in
+-- that arm.
+abbrev pub ArmsAreNarrations : Type 0
+ArmsAreNarrations = (files : Files) (branched role values : List ℕ) (told : Option ℕ)
+    → (host_seed : Option (List ℕ)) (job : BranchJob)
+    → BranchJobIs files branched role values told host_seed (given job)
+    → (text : List ℕ) → (tells : BranchedText text job.branched)
+    → (place : ℕ) (arm : ProtocolValue) (straight : List ℕ)
+    → slice_get job.branched.arms place ≡ Some arm
+    → slice_get (straights text tells.marks tells.spans) place ≡ Some straight
+    → (name : List ℕ) → HasFile files name NARRATION_LIMIT straight
+    → JobIs files name role values host_seed (given (job_in job arm))

@@ -1,0 +1,121 @@
+//! What came of a run, beside what its case expects.
+
+use crate::case::{Case, No};
+use crate::running::Ran;
+use anb_base::{MemWire, read_full};
+use std::alloc::{AllocError, Global};
+
+/// The faults of a wire: their statuses and their lines.
+const FAULTS: [(u8, &str); 3] = [
+    (9, "anb: can't reach stdio\n"),
+    (14, "anb: read failed\n"),
+    (15, "anb: write failed\n"),
+];
+
+/// How what is written goes with an output that is expected.
+#[derive(Clone, Copy)]
+pub(crate) enum Fit {
+    /// It is the output.
+    Whole,
+    /// The output begins with it.
+    Part,
+    /// It may be anything.
+    Any,
+}
+
+/// Whether the run ended with a fault of the wire.
+pub(crate) fn is_fault(ran: &Ran) -> bool {
+    FAULTS.iter().any(|(number, line)| ran.number == *number
+        && ran.err.written() == line.as_bytes())
+}
+
+/// What came and isn't what the case expects, where there is such a thing.
+pub(crate) fn difference(
+    alloc: Global,
+    case: Case,
+    ran: &mut Ran,
+    fit: Fit,
+) -> Result<Option<String>, No> {
+    let Some(status) = case.number("status")? else {
+        return Err(No::Value("status"));
+    };
+    if u32::from(ran.number) != status || !has_line(alloc, case, ran)? {
+        let line = String::from_utf8_lossy(alloc, ran.err.written())?;
+        return Ok(Some(format!(in alloc; "status {} with the line {line:?}", ran.number)?));
+    }
+    match &mut ran.wire {
+        Some(wire) => wire_difference(alloc, case, wire, fit),
+        None => Ok(None),
+    }
+}
+
+fn has_line(alloc: Global, case: Case, ran: &Ran) -> Result<bool, No> {
+    if let Some(begin) = case.text(alloc, "line begins")? {
+        return Ok(ran.err.written().starts_with(begin.as_bytes()));
+    }
+    match case.text(alloc, "line")? {
+        Some(line) => Ok(ran.err.written() == line.as_bytes()),
+        None => Ok(ran.err.written().is_empty()),
+    }
+}
+
+/// The same of what the wire tells.
+fn wire_difference(
+    alloc: Global,
+    case: Case,
+    wire: &mut MemWire,
+    fit: Fit,
+) -> Result<Option<String>, No> {
+    if !has_output(alloc, case, wire.written(), fit)? {
+        return Ok(Some(told(alloc, "output", wire.written())?));
+    }
+    if let Some(reached) = case.text(alloc, "reached")?
+        && wire.reached() != reached.as_bytes()
+    {
+        return Ok(Some(told(alloc, "reached", wire.reached())?));
+    }
+    match case.bytes(alloc, "left")? {
+        Some(left) => left_difference(alloc, wire, &left),
+        None => Ok(None),
+    }
+}
+
+/// Whether what is written goes with one of the outputs, or with nothing where none is expected.
+pub(crate) fn has_output(alloc: Global, case: Case, written: &[u8], fit: Fit) -> Result<bool, No> {
+    let outputs = case.all_bytes(alloc, "output")?;
+    if outputs.is_empty() {
+        return Ok(goes_with(written, b"", fit));
+    }
+    Ok(outputs.iter().any(|output| goes_with(written, output, fit)))
+}
+
+fn goes_with(written: &[u8], output: &[u8], fit: Fit) -> bool {
+    match fit {
+        Fit::Whole => written == output,
+        Fit::Part => output.starts_with(written),
+        Fit::Any => true,
+    }
+}
+
+/// What is left of the input and isn't this, where that is so.
+fn left_difference(alloc: Global, wire: &mut MemWire, left: &[u8]) -> Result<Option<String>, No> {
+    let mut buffer = vec![in alloc; 0u8; left.len() + 1]?;
+    let Ok(count) = read_full(wire, &mut buffer) else {
+        return Ok(Some(String::from_str(alloc, "a read that fails")?));
+    };
+    let came = &buffer[..count];
+    if came == left {
+        return Ok(None);
+    }
+    Ok(Some(told(alloc, "left", came)?))
+}
+
+/// A key with bytes that came.
+pub(crate) fn told(alloc: Global, key: &str, bytes: &[u8]) -> Result<String, AllocError> {
+    let mut told = String::from_str(alloc, key)?;
+    told.push_str(" hex:")?;
+    for byte in bytes {
+        write!(told, " {byte:02x}")?;
+    }
+    Ok(told)
+}

@@ -1,0 +1,9 @@
+pub mod Items
+pub mod Laws
+pub mod Mends
+pub mod Places
+pub mod Pointing
+pub mod Spots
+pub mod Unread
+pub mod Unresolved
+pub mod Words

@@ -1,0 +1,141 @@
+-- One item more of a list, and the terms of registers.
+use Rattle.std.proofs.Common.{◌≡◌, ℕ, zero, suc, ◌+◌, ◌-◌, ◌≤◌, ◌<◌, List, [], ◌∷◌, ◌++◌, length, map, drop, take, get_or, Bool, true, false, Some, None, IsTrue, refl, sym, ap, ◌∙◌, arith}
+use Rattle.std.specs.Prelude.{slice_get, ◌||◌, if◌then◌else◌, sum_by}
+use Rattle.std.specs.List.{list_any, range_with_len}
+use Rattle.std.proofs.lemmas.List.Sums.{sum_by-cons}
+use Rattle.anb_format.specs.Formats.{FormatValue}
+use Rattle.anb_resolve.specs.Protocols.{ProtocolValue}
+use Rattle.anb_code.specs.declared.instr.Instr.{Instr}
+use Rattle.anb_code.specs.Registers.{count_written}
+use Rattle.anb_code.specs.Verified.{count_registers}
+use Rattle.anb_explain.proofs.Loops.{drop_item}
+use Rattle.std.proofs.lemmas.List.{take_all}
+use Rattle.anb_report.specs.Noting.{notes_at, notes_first, notes_from, up_to_message}
+use Rattle.anb_report.specs.Looking.{is_among, is_message, looked_at, looks_at, opened_by, with_parts, written_by}
+use Rattle.anb_term.specs.declared.term.Term.{Term}
+use Rattle.anb_term.specs.Tree.{Tree, tree_eqb}
+use Rattle.anb_term.specs.TreeSame.{term_of-tree_of, tree_same, tree_itself}
+use Rattle.anb_term.specs.View.{tree_of, term_of}
+
+-- numbers from one on up to another
+pub first_of : (a b : ℕ) → a < b → range_with_len a (b - a) ≡ a ∷ range_with_len (a + 1) (b - (a + 1))
+first_of a b h = let n : b - a ≡ suc (b - (a + 1)) = omega (arith, h) in ap (range_with_len a) n
+
+pub none_left : (a b : ℕ) → b ≤ a → range_with_len a (b - a) ≡ []
+none_left a b h = let n : b - a ≡ 0 = omega (arith, h) in ap (range_with_len a) n
+
+pub first_split : (xs : List ℕ) → 1 ≤ length xs → xs ≡ get_or xs 0 0 ∷ take (length xs - 1) (drop 1 xs)
+first_split [] h = absurd (omega (arith, h))
+first_split (x ∷ xs) h = ap (λ l. x ∷ l) (sym (take_all (length (x ∷ xs) - 1) xs (omega arith)))
+
+-- ---- up to the next message
+
+pub turn_taken : (instrs : List Instr) → take (length (up_to_message instrs)) instrs ≡ up_to_message instrs
+turn_taken [] = refl
+turn_taken (x ∷ instrs) = one (is_message x) (turn_taken instrs)
+  where
+    one : (b : Bool) → take (length (up_to_message instrs)) instrs ≡ up_to_message instrs
+        → take (length (if b then [] else x ∷ up_to_message instrs)) (x ∷ instrs) ≡ (if b then [] else x ∷ up_to_message instrs)
+    one true ih = refl
+    one false ih = ap (λ l. x ∷ l) ih
+
+take_more : (n : ℕ) (x : Instr) (instrs : List Instr) → take (1 + n) (x ∷ instrs) ≡ x ∷ take n instrs
+take_more n x instrs = let e : 1 + n ≡ suc n = omega arith in ap (λ k. take k (x ∷ instrs)) e
+
+pub fewer_taken : (formats : List FormatValue) (k : ℕ) (instrs : List Instr) → count_registers formats (take k instrs) ≤ count_registers formats instrs
+fewer_taken formats zero instrs = omega arith
+fewer_taken formats (suc k) [] = omega arith
+fewer_taken formats (suc k) (x ∷ instrs) = omega (arith, fewer_taken formats k instrs, sum_by-cons (count_written formats) x instrs, sum_by-cons (count_written formats) x (take k instrs))
+
+pub turn_fewer : (formats : List FormatValue) (instrs : List Instr) → count_registers formats (up_to_message instrs) ≤ count_registers formats instrs
+turn_fewer formats instrs = let e = ap (count_registers formats) (turn_taken instrs) in omega (arith, e, fewer_taken formats (length (up_to_message instrs)) instrs)
+
+-- ---- the terms of registers
+
+either_true : (a b : Bool) → b ≡ true → (a || b) ≡ true
+either_true true b e = refl
+either_true false b e = e
+
+one_term : (x y : Term) → tree_of x ≡ tree_of y → x ≡ y
+one_term x y e = sym (term_of-tree_of x) ∙ ap term_of e ∙ term_of-tree_of y
+
+-- a test that tells whether two terms are one
+pub told : (b : Bool) (x y : Term) → (IsTrue b → x ≡ y) → (x ≡ y → IsTrue b) → b ≡ tree_eqb (tree_of x) (tree_of y)
+told true x y same is = sym (ap (λ z. tree_eqb (tree_of x) (tree_of z)) (sym (same refl)) ∙ tree_itself (tree_of x))
+told false x y same is = differ (tree_eqb (tree_of x) (tree_of y)) refl
+  where
+    differ : (c : Bool) → tree_eqb (tree_of x) (tree_of y) ≡ c → false ≡ tree_eqb (tree_of x) (tree_of y)
+    differ true e = let no : IsTrue false = is (one_term x y (tree_same (tree_of x) (tree_of y) e)) in cc
+    differ false e = sym e
+
+pub mapped_length : (terms : List Term) → length (map tree_of terms) ≡ length terms
+mapped_length [] = refl
+mapped_length (t ∷ terms) = ap suc (mapped_length terms)
+
+-- one of the terms is told so
+pub any_term : (terms : List Term) (r : ℕ) (test : Tree → Bool) (t : Term) → slice_get terms r ≡ Some t → test (tree_of t) ≡ true → list_any test (map tree_of terms) ≡ true
+any_term terms r test t e is = any_here test terms r t e is
+  where
+    any_here : (test : Tree → Bool) (ts : List Term) (i : ℕ) (x : Term) → slice_get ts i ≡ Some x → test (tree_of x) ≡ true → list_any test (map tree_of ts) ≡ true
+    any_here test [] i x e is = cc
+    any_here test (y ∷ ys) zero x e is = let s : y ≡ x = cc in ap (λ b. b || list_any test (map tree_of ys)) (ap (λ z. test (tree_of z)) s ∙ is)
+    any_here test (y ∷ ys) (suc i) x e is = either_true (test (tree_of y)) (list_any test (map tree_of ys)) (any_here test ys i x e is)
+
+-- ---- one instruction more
+
+pub fewer_left : (formats : List FormatValue) (i : ℕ) (instrs : List Instr) → count_registers formats (drop i instrs) ≤ count_registers formats instrs
+fewer_left formats zero instrs = omega arith
+fewer_left formats (suc i) [] = omega arith
+fewer_left formats (suc i) (x ∷ instrs) = omega (arith, fewer_left formats i instrs, sum_by-cons (count_written formats) x instrs)
+
+module _ (formats : List FormatValue) (instrs : List Instr) (i : ℕ) (x : Instr) (here : slice_get instrs i ≡ Some x) where
+  abbrev rest : List Instr
+  rest = drop (i + 1) instrs
+
+  pub count_first : count_registers formats (drop i instrs) ≡ count_written formats x + count_registers formats rest
+  count_first = ap (count_registers formats) (drop_item instrs i x here) ∙ sum_by-cons (count_written formats) x rest
+
+  module _ (next end : ℕ) (by : end ≡ next + count_written formats x) where
+    width : end - next ≡ count_written formats x
+    width = omega (arith, by)
+
+    pub written_first : (test : Instr → Bool) → written_by formats test next (drop i instrs) ≡ (if test x then range_with_len next (end - next) else []) ++ written_by formats test end rest
+    written_first test =
+        ap (written_by formats test next) (drop_item instrs i x here)
+        ∙ ap (λ n. (if test x then range_with_len next n else []) ++ written_by formats test (next + count_written formats x) rest) (sym width)
+        ∙ ap (λ n. (if test x then range_with_len next (end - next) else []) ++ written_by formats test n rest) (sym by)
+
+    pub parts_first : (seen : List ℕ)
+        → with_parts formats seen next (drop i instrs) ≡ with_parts formats (seen ++ (if list_any (is_among seen) (opened_by x) then range_with_len next (end - next) else [])) end rest
+    parts_first seen =
+        ap (with_parts formats seen next) (drop_item instrs i x here)
+        ∙ ap (λ n. with_parts formats (seen ++ (if list_any (is_among seen) (opened_by x) then range_with_len next n else [])) (next + count_written formats x) rest) (sym width)
+        ∙ ap (λ n. with_parts formats (seen ++ (if list_any (is_among seen) (opened_by x) then range_with_len next (end - next) else [])) n rest) (sym by)
+
+    pub looked_first : (opened : Bool) (seen : List ℕ) → seen ≡ looked_at formats opened end rest → seen ++ looks_at opened seen next x ≡ looked_at formats opened next (drop i instrs)
+    looked_first opened seen e =
+        ap (λ l. l ++ looks_at opened l next x) (e ∙ ap (λ n. looked_at formats opened n rest) by)
+        ∙ ap (looked_at formats opened next) (sym (drop_item instrs i x here))
+
+  pub notes_then : (p : ProtocolValue) (terms : List Tree) (next end : ℕ) → end ≡ next + count_written formats x
+      → notes_from formats p terms next (drop i instrs) ≡ notes_first formats p terms next (drop i instrs) ++ notes_from formats p terms end rest
+  notes_then p terms next end by =
+      let at = drop_item instrs i x here in
+      ap (notes_from formats p terms next) at
+      ∙ ap (λ (l : List Instr). notes_first formats p terms next l ++ notes_from formats p terms (next + count_written formats x) rest) (sym at)
+      ∙ ap (λ n. notes_first formats p terms next (drop i instrs) ++ notes_from formats p terms n rest) (sym by)
+
+pub message_notes : (formats : List FormatValue) (p : ProtocolValue) (terms : List Tree) (next : ℕ) (instrs : List Instr) (x : Instr) → 0 < length instrs → x ≡ get_or instrs 0 x → is_message x ≡ true
+    → notes_first formats p terms next instrs ≡ notes_at formats p terms next (take (1 + length (up_to_message (drop 1 instrs))) instrs) ∷ []
+message_notes formats p terms next [] x h e is = absurd (omega (arith, h))
+message_notes formats p terms next (y ∷ instrs) x h e is =
+    let t : is_message y ≡ true = ap is_message (sym e) ∙ is in
+    ap (λ b. if b then notes_at formats p terms next (y ∷ up_to_message instrs) ∷ [] else []) t
+    ∙ ap (λ l. notes_at formats p terms next l ∷ []) (ap (λ l. y ∷ l) (sym (turn_taken instrs)) ∙ sym (take_more (length (up_to_message instrs)) y instrs))
+
+pub other_notes : (formats : List FormatValue) (p : ProtocolValue) (terms : List Tree) (next : ℕ) (instrs : List Instr) (x : Instr) → 0 < length instrs → x ≡ get_or instrs 0 x → is_message x ≡ false
+    → notes_first formats p terms next instrs ≡ []
+other_notes formats p terms next [] x h e is = refl
+other_notes formats p terms next (y ∷ instrs) x h e is =
+    let t : is_message y ≡ false = ap is_message (sym e) ∙ is in
+    ap (λ b. if b then notes_at formats p terms next (y ∷ up_to_message instrs) ∷ [] else []) t

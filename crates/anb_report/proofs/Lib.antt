@@ -1,0 +1,4 @@
+pub mod Items
+pub mod Lines
+pub mod Free
+pub mod Asking

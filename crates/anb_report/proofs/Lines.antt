@@ -1,0 +1,103 @@
+-- Lines, part by part, and the lines of one action more.
+use Rattle.std.proofs.Common.{◌≡◌, ℕ, ◌+◌, ◌<◌, List, [], ◌∷◌, ◌++◌, length, map, drop, get_or, Bool, true, false, Some, cond, refl, sym, ap, ◌∙◌, subst, arith, append_assoc, length-append}
+use Rattle.std.specs.Prelude.{codes, count_by, decimal, slice_get}
+use Rattle.std.proofs.lemmas.List.Sums.{sum_by-append, sum_by-cons}
+use Rattle.std.proofs.lemmas.Option.{get_or_from_slice_get}
+use Rattle.anb_term.specs.Tree.{Tree}
+use Rattle.anb_code.specs.CodeValue.{CodeValue}
+use Rattle.anb_resolve.specs.declared.parts.Action.{Action}
+use Rattle.anb_resolve.specs.Choices.{each_after}
+use Rattle.anb_resolve.specs.Plans.{made_at, names_made_at}
+use Rattle.anb_resolve.specs.Protocols.{ActionValue, ProtocolValue}
+use Rattle.anb_resolve.specs.Texts.{atom_name}
+use Rattle.anb_resolve.specs.Views.{action_value}
+use Rattle.anb_chart.specs.Charts as chart
+use Rattle.anb_explain.specs.Explained.{line}
+use Rattle.anb_explain.proofs.Lines.{counted_one}
+use Rattle.anb_explain.proofs.Loops.{drop_item, item_drop}
+use Rattle.anb_report.specs.Noting.{register_texts}
+use Rattle.anb_report.specs.RoleCharts.{noted_lines, noted_text}
+use Rattle.anb_report.specs.Reporting.{action_lines, action_text, is_own, notes_line, role_after, role_report, start_lines, unchecked_line}
+
+pub event_put : (old event action peer text new : List ℕ)
+    → (((((((((old ++ codes "  event ") ++ event) ++ codes ", action ") ++ action) ++ codes ", ") ++ peer) ++ codes ": ") ++ text) ++ new) ++ 10 ∷ []
+    ≡ old ++ line (codes "  event " ++ (event ++ (codes ", action " ++ (action ++ (codes ", " ++ (peer ++ (codes ": " ++ (text ++ new))))))))
+event_put old event action peer text new = simp append_assoc
+
+pub start_some : (notes : List (List ℕ)) → 0 < length notes → start_lines notes ≡ codes "  event 0, at the beginning\n" ++ notes_line notes
+start_some [] some = absurd (omega (arith, some))
+start_some (note ∷ notes) some = refl
+
+pub unchecked_some : (p : ProtocolValue) (terms : List Tree) (old : List ℕ) (rs : List ℕ) → 0 < length rs
+    → ((old ++ codes "  takes unchecked: ") ++ register_texts p terms rs) ++ 10 ∷ [] ≡ old ++ unchecked_line p terms rs
+unchecked_some p terms old [] some = absurd (omega (arith, some))
+unchecked_some p terms old (r ∷ rs) some =
+    ap (λ l. l ++ 10 ∷ []) (append_assoc old (codes "  takes unchecked: ") (register_texts p terms (r ∷ rs)))
+    ∙ append_assoc old (codes "  takes unchecked: " ++ register_texts p terms (r ∷ rs)) (10 ∷ [])
+
+pub note_put : (old from note : List ℕ) → ((((old ++ codes "    Note over ") ++ from) ++ codes ": ") ++ note) ++ 10 ∷ [] ≡ old ++ chart.line (codes "Note over " ++ (from ++ (codes ": " ++ note)))
+note_put old from note = simp append_assoc
+
+-- ---- one action more
+
+pub counted_on : (test : ActionValue → Bool) (before : List ActionValue) (a : ActionValue) → count_by test (before ++ a ∷ []) ≡ count_by test before + counted_one (test a)
+counted_on test before a = omega (arith, sum_by-append (λ x. cond (test x) 1 0) before (a ∷ []), sum_by-cons (λ x. cond (test x) 1 0) a [])
+
+module _ (p : ProtocolValue) (actions : List Action) (i : ℕ) (x : Action) (here : slice_get actions i ≡ Some x) (made : List (List (List ℕ)))
+    (before : List ActionValue) (many : length before ≡ i) (due : drop i made ≡ each_after (names_made_at p) before (map action_value (drop i actions))) where
+  abbrev value : ActionValue
+  value = action_value x
+
+  abbrev later : List ActionValue
+  later = map action_value (drop (i + 1) actions)
+
+  abbrev its_names : List (List ℕ)
+  its_names = map (atom_name p) (made_at p before value)
+
+  item : map action_value (drop i actions) ≡ value ∷ later
+  item = ap (map action_value) (drop_item actions i x here)
+
+  there : (slice_get made i ≡ Some its_names) × (drop (i + 1) made ≡ each_after (names_made_at p) (before ++ value ∷ []) later)
+  there = item_drop made (each_after (names_made_at p) (before ++ value ∷ []) later) i its_names (due ∙ ap (each_after (names_made_at p) before) item)
+
+  pub lines_first : (role : ℕ) (notes : List (List (List ℕ))) (event : ℕ) (names : List (List ℕ)) → event ≡ count_by (is_own role) before → names ≡ get_or made i names
+      → each_after (action_text p role notes) before (map action_value (drop i actions))
+      ≡ action_lines p role notes (event + 1) (i + 1) value names ++ each_after (action_text p role notes) (before ++ value ∷ []) later
+  lines_first role notes event names own given =
+      let these : its_names ≡ names = sym (given ∙ get_or_from_slice_get made i its_names names there.0) in
+      ap (each_after (action_text p role notes) before) item
+      ∙ ap (λ l. l ++ each_after (action_text p role notes) (before ++ value ∷ []) later)
+      (ap (λ n. action_lines p role notes (n + 1) (length before + 1) value its_names) (sym own)
+      ∙ ap (λ n. action_lines p role notes (event + 1) (n + 1) value its_names) many ∙ ap (action_lines p role notes (event + 1) (i + 1) value) these)
+
+  pub made_on : drop (i + 1) made ≡ each_after (names_made_at p) (before ++ value ∷ []) later
+  made_on = there.1
+
+  pub many_on : length (before ++ value ∷ []) ≡ i + 1
+  many_on = omega (arith, length-append before (value ∷ []), many)
+
+-- ---- one arrow more, with notes
+
+module _ (p : ProtocolValue) (actions : List Action) (i : ℕ) (x : Action) (here : slice_get actions i ≡ Some x) (before : List ActionValue) (many : length before ≡ i) where
+  pub noted_first : (role : ℕ) (notes : List (List (List ℕ))) (event : ℕ) → event ≡ count_by (is_own role) before
+      → each_after (noted_text p role notes) before (map action_value (drop i actions))
+      ≡ noted_lines p role notes (event + 1) (i + 1) (action_value x) ++ each_after (noted_text p role notes) (before ++ action_value x ∷ []) (map action_value (drop (i + 1) actions))
+  noted_first role notes event own =
+      let later = map action_value (drop (i + 1) actions) in
+      ap (λ (l : List Action). each_after (noted_text p role notes) before (map action_value l)) (drop_item actions i x here)
+      ∙ ap (λ l. l ++ each_after (noted_text p role notes) (before ++ action_value x ∷ []) later)
+      (ap (λ n. noted_lines p role notes (n + 1) (length before + 1) (action_value x)) (sym own) ∙ ap (λ n. noted_lines p role notes (event + 1) (n + 1) (action_value x)) many)
+
+pub one_longer : (before : List ActionValue) (a : ActionValue) (i : ℕ) → length before ≡ i → length (before ++ a ∷ []) ≡ i + 1
+one_longer before a i many = omega (arith, length-append before (a ∷ []), many)
+
+-- ---- one role more
+
+pub role_first : (p : ProtocolValue) (codes_of : List CodeValue) (i : ℕ) (x : CodeValue) (before : List CodeValue) → slice_get codes_of i ≡ Some x → length before ≡ i
+    → each_after (role_after p) before (drop i codes_of) ≡ role_report p i x ++ each_after (role_after p) (before ++ x ∷ []) (drop (i + 1) codes_of)
+role_first p codes_of i x before here many =
+    ap (each_after (role_after p) before) (drop_item codes_of i x here)
+    ∙ ap (λ n. role_report p n x ++ each_after (role_after p) (before ++ x ∷ []) (drop (i + 1) codes_of)) many
+
+pub code_longer : (before : List CodeValue) (x : CodeValue) (i : ℕ) → length before ≡ i → length (before ++ x ∷ []) ≡ i + 1
+code_longer before x i many = omega (arith, length-append before (x ∷ []), many)

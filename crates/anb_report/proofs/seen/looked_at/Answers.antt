@@ -1,0 +1,40 @@
+use Rattle.std.proofs.Common.{◌≡◌, ◌+◌, ◌-◌, drop, length, ap, ◌∙◌, arith}
+use Rattle.anb_code.specs.Registers.{count_written}
+use Rattle.anb_code.specs.Verified.{count_registers}
+use Rattle.anb_term.proofs.Lists.{slice_get-at}
+use Rattle.anb_report.specs.Looking.{looked_at}
+use Rattle.anb_report.proofs.Items.{count_first, fewer_left, looked_first}
+use Rattle.anb_report.proofs.seen.looked_at.Goals as goal
+
+pub overflow_sub-next : goal.overflow_sub-next
+overflow_sub-next c =
+    let formats = c.args.formats.now in
+    let instrs = c.args.instrs.now in
+    let i = length instrs - 1 - c.loop-k.k in
+    let x = c.index-instrs-count.result in
+    let here = slice_get-at instrs i x (omega arith) c.index-instrs-count.is in
+    let behind : length instrs - c.loop-k.k ≡ i + 1 = omega arith in
+    let left = ap (λ n. count_registers formats (drop n instrs)) behind in
+    omega (arith, c.loop-k.invariant.few, left, count_first formats instrs i x here, fewer_left formats i instrs, c.count_written.ensures)
+
+pub loop-k-preserved : goal.loop-k-preserved
+loop-k-preserved c =
+    let formats = c.args.formats.now in
+    let instrs = c.args.instrs.now in
+    let opened = c.args.opened in
+    let i = length instrs - 1 - c.loop-k.k in
+    let x = c.index-instrs-count.result in
+    let next = c.loop-k.next in
+    let here = slice_get-at instrs i x (omega arith) c.index-instrs-count.is in
+    let behind : length instrs - c.loop-k.k ≡ i + 1 = omega arith in
+    let at : i ≡ length instrs - (c.loop-k.k + 1) = omega arith in
+    let left = ap (λ n. count_registers formats (drop n instrs)) behind in
+    let all = ap (λ n. count_registers formats (drop n instrs)) at in
+    let first = count_first formats instrs i x here in
+    let by : next ≡ next - c.count_written.result + count_written formats x = omega (arith, c.loop-k.invariant.few, left, first, fewer_left formats i instrs, c.count_written.ensures) in
+    let due = c.loop-k.invariant.due ∙ ap (λ n. looked_at formats opened next (drop n instrs)) behind in
+    record {
+      due = c.in_ok-put_looks.ensures ∙ looked_first formats instrs i x here (next - c.count_written.result) next by opened c.loop-k.seen.items due
+          ∙ ap (λ n. looked_at formats opened (next - c.count_written.result) (drop n instrs)) at;
+      few = omega (arith, c.loop-k.invariant.few, left, all, first, fewer_left formats i instrs, c.count_written.ensures);
+    }

@@ -1,0 +1,7 @@
+pub mod Looking
+pub mod Noting
+pub mod Reporting
+pub mod RoleCharts
+pub mod Laws
+-- for proofs alone
+pub mod Collecting

@@ -1,0 +1,20 @@
+//! What each role of a protocol does with what it receives, as a text for a person.
+//!
+//! The text has a part for each role: its events, what it opens, checks and learns at each, and which
+//! parts of arrivals it takes unchecked. It is told of codes that fit the roles. Each line ends with
+//! the byte 0A.
+#![tactic(auto)]
+
+mod charting;
+mod laws;
+mod lists;
+mod notes;
+mod registers;
+mod reporting;
+mod seen;
+
+pub use charting::role_chart;
+pub use laws::unchecked_is_free;
+pub use notes::{Notes, notes_of};
+pub use reporting::report;
+pub use seen::unchecked;
