@@ -4,6 +4,7 @@ pub mod Fetches
 pub mod Files
 pub mod Lines
 pub mod Outcomes
+pub mod Phases
 pub mod Reaches
 pub mod Refusing
 pub mod Roles

@@ -28,7 +28,7 @@ pub use playable::{
 };
 pub use prepare::{Prepared, prepare_code, seed_of};
 pub use reaching::{reach, reach_stdio};
-pub use status::{BranchNo, CertifyNo, Due, Halt, NarrationNo, ParkNo, Report, Status};
+pub use status::{BranchNo, CertifyNo, Due, Halt, NarrationNo, ParkNo, Report, Status, ill_formed};
 pub use text::{reach_streams, write_text};
 pub use words::{
     BranchWords, CertifyWords, Command, EnactWords, Endpoint, ParkWords, PlayWords, RehearseWords,

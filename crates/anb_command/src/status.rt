@@ -418,8 +418,8 @@ fn unread(why: ReadNo, digits: &mut Buffer) -> (&str, &str)
     }
 }
 
-/// Why a narration isn't well formed.
-fn ill_formed<'a>(
+/// Why a narration isn't well formed, in pieces.
+pub fn ill_formed<'a>(
     why: &'a ResolveNo,
     digits: &'a mut Buffer,
 ) -> (&'a str, &'a str, &'a str, &'a str)

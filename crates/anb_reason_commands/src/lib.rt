@@ -83,7 +83,7 @@ fn why_text<F: Shelf>(alloc: Global, shelf: &mut F, narration: &Text) -> Result<
 }
 
 /// Why a narration is refused, or that all its roles can send.
-fn reason_text(alloc: Global, protocol: &Protocol) -> Result<Bytes, NoMemory>
+pub fn reason_text(alloc: Global, protocol: &Protocol) -> Result<Bytes, NoMemory>
     ensures { IfOk result (IsReasonText protocol.now) }
 {
     match reason(alloc, protocol)? {

@@ -1,0 +1,86 @@
+-- What `check` does: it says where and why a narration's text is refused, or reports on its roles.
+use Rattle.std.specs.Prelude.{◌≡◌, ◌⊎◌, ℕ, true, false, List, [], take, Option}
+use Rattle.anb_base.specs.Moves.{Put}
+use Rattle.anb_base.specs.Wires.{WireState}
+use Rattle.anb_syntax.specs.Grammar.{Narration}
+use Rattle.anb_syntax.specs.Text.{Text}
+use Rattle.anb_resolve.specs.Protocols.{ProtocolValue, protocol_of}
+use Rattle.anb_code.specs.CodeValue.{CodeValue}
+use Rattle.anb_compile.specs.Fitting.{FitRoles}
+use Rattle.anb_point.specs.Unread.{IsUnreadText}
+use Rattle.anb_point.specs.Unresolved.{IsUnresolvedText}
+use Rattle.anb_report.specs.Reporting.{report}
+use Rattle.anb_command.specs.declared.limits.TheConstants.{NARRATION_LIMIT}
+use Rattle.anb_command.specs.declared.status.NarrationNo.TheVariants.{Read, Resolve}
+use Rattle.anb_command.specs.declared.status.Status.{Status}
+use Rattle.anb_command.specs.declared.status.Status.TheVariants.{Done, FileFault, BadNarration, CannotSend, Unreached, WriteFault, NoMemory}
+use Rattle.anb_command.specs.Fetches.{Files, IfTold}
+use Rattle.anb_command.specs.Files.{FileIs, NarrationIs, ProtocolIs}
+use Rattle.anb_command.specs.Roles.{SendableOf}
+use Rattle.anb_command.specs.Statuses.{is_fault, why_ill_formed}
+use Rattle.anb_command.specs.Steps.{Answer, refused, given, InTurn}
+use Rattle.anb_reason_commands.specs.WhyCommand.{IsReasonText}
+
+-- the protocol that a text tells, where all its roles can send
+abbrev pub SendableOfText : List ℕ → Answer ProtocolValue → Type 0
+SendableOfText x = InTurn (NarrationIs x) (λ n. InTurn (ProtocolIs n) SendableOf)
+
+-- What is said of a text, in a file of this name, that is refused with this status: the place and what
+-- would mend it; and of a narration in which a role can't send, why.
+abbrev pub SaidOf : (name x : List ℕ) → Status → List ℕ → Type 0
+SaidOf name x (BadNarration (Read why)) said = IsUnreadText name x why said
+SaidOf name x (BadNarration (Resolve why)) said =
+    (n : Narration) × Text n x × IsUnresolvedText name x n why (why_ill_formed why) said
+SaidOf name x (CannotSend action role) said = (n : Narration) × Text n x × IsReasonText (protocol_of n) said
+SaidOf name x status said = ⊥
+
+-- the report on all roles, by a code for each that fits it
+pub record IsReport (p : ProtocolValue) (said : List ℕ) : Type 0 where
+  pub codes : List CodeValue
+  pub fit : FitRoles p codes
+  pub is : said ≡ report p codes
+
+-- the status of a text, and what is said of it
+abbrev pub IsVerdict : (name x : List ℕ) → Status → List ℕ → Type 0
+IsVerdict name x status said =
+    (SendableOfText x (refused status) × SaidOf name x status said)
+    ⊎ ((p : ProtocolValue) × SendableOfText x (given p) × (status ≡ Done) × IsReport p said)
+
+module _ (files : Files) (narration : List ℕ) where
+  -- of the text in the file
+  abbrev pub IsVerdictOnFile : Status → List ℕ → Type 0
+  IsVerdictOnFile status said =
+      (x : List ℕ) × FileIs files narration NARRATION_LIMIT (given x) × IsVerdict narration x status said
+
+  -- an outcome, where no fault comes: the file is too long, or the verdict on its text
+  abbrev pub Tells : Status → List ℕ → Type 0
+  Tells status out =
+      (FileIs files narration NARRATION_LIMIT (refused status) × (out ≡ [])) ⊎ IsVerdictOnFile status out
+
+  abbrev pub TellsPart : List ℕ → Type 0
+  TellsPart out = (status : Status) × (said : List ℕ) × IsVerdictOnFile status said × ((n : ℕ) × (out ≡ take n said))
+
+  -- what is written where a fault comes, or memory is wanting
+  abbrev pub TellsLess : Status → List ℕ → Type 0
+  TellsLess WriteFault out = TellsPart out
+  TellsLess NoMemory out = out ≡ []
+  TellsLess (Unreached place) out = out ≡ []
+  TellsLess (FileFault name) out = out ≡ []
+  TellsLess status out = ⊥
+
+  pub record IsTelling (result : Status) (written written_now : Option (List ℕ)) : Type 0 where
+    -- the status and what is written are an outcome
+    pub is : is_fault result ≡ false → (out : List ℕ) × Tells result out × Put written written_now out
+    -- and each outcome has this status
+    pub only : is_fault result ≡ false → (status : Status) (out : List ℕ) → Tells status out → result ≡ status
+    pub cut_short : is_fault result ≡ true → (out : List ℕ) × TellsLess result out × Put written written_now out
+
+module _ (narration : List ℕ) (told : Option Files) where
+  abbrev pub DoesCheck : (old new : WireState) → Status → Type 0
+  DoesCheck old new status = IfTold told (λ files. IsTelling files narration status old.written new.written)
+
+  -- where nothing failed the status is that of the verdict, or memory was wanting
+  abbrev pub CompletesCheck : Status → Type 0
+  CompletesCheck status =
+      IfTold told (λ files. (x : List ℕ) → FileIs files narration NARRATION_LIMIT (given x)
+      → ((said : List ℕ) × IsVerdict narration x status said) ⊎ (status ≡ NoMemory))

@@ -1,0 +1,3 @@
+pub mod CheckCommand
+-- for proofs alone
+pub mod Telling

@@ -1,0 +1,104 @@
+//! The verdict on a narration's text: a status, and what is said of the text.
+ghost use Rattle.std.specs.Prelude.{◌≡◌, ◌≤◌, ◌++◌, length, IfOk};
+ghost use Rattle.anb_syntax.specs.Grammar.{IsSpellable};
+ghost use Rattle.anb_syntax.specs.Sizes.{size};
+ghost use Rattle.anb_syntax.specs.Text.{Text as IsTextOf};
+ghost use Rattle.anb_syntax.specs.Views.{narration_of};
+ghost use Rattle.anb_command.specs.declared.limits.TheConstants.{NARRATION_LIMIT};
+ghost use Rattle.anb_command.specs.Statuses.{why_ill_formed};
+ghost use Rattle.anb_check_commands.specs.CheckCommand.{IsVerdict};
+ghost use Rattle.anb_check_commands.specs.Telling.{IsLast, IsVerdictOnNarration, IsVerdictOnProtocol};
+
+use anb_base::{Bytes, NoMemory, Text};
+use anb_command::{NarrationNo, Status, codes_of, ill_formed};
+use anb_point::{unread_text, unresolved_text};
+use anb_read::{ReadNo, read};
+use anb_reason_commands::reason_text;
+use anb_report::report;
+use anb_resolve::{Protocol, ResolveNo, resolve, small_is_countable};
+use anb_syntax::Narration;
+use itoa::Buffer;
+use std::alloc::Global;
+
+/// The status of a narration's text, and what is said of it.
+#[derive(Drop)]
+pub(crate) struct Verdict {
+    pub(crate) status: Status,
+    pub(crate) said: Bytes,
+}
+
+/// The verdict on the text in the file of this name.
+pub(crate) fn verdict_on(alloc: Global, name: &Text, text: &[u8]) -> Result<Verdict, NoMemory>
+    requires { length text.now ≤ NARRATION_LIMIT }
+    ensures is { IfOk result (λ v. IsVerdict name.now text.now v.status v.said) }
+    ensures last { IfOk result (λ v. IsLast v.status) }
+{
+    match read(alloc, text) {
+        Ok(narration) => verdict_on_narration(alloc, name, text, &narration),
+        Err(ReadNo::NoMemory) => Err(NoMemory),
+        Err(why) => Ok(Verdict {
+            said: unread_text(alloc, name, text, why)?,
+            status: Status::BadNarration(NarrationNo::Read(why)),
+        }),
+    }
+}
+
+/// The verdict on the narration of a text.
+fn verdict_on_narration(
+    alloc: Global,
+    name: &Text,
+    text: &[u8],
+    narration: &Narration,
+) -> Result<Verdict, NoMemory>
+    requires within { length text.now ≤ NARRATION_LIMIT }
+    requires told { IsTextOf (narration_of narration.now) text.now }
+    requires spellable { IsSpellable (narration_of narration.now) }
+    requires small { size (narration_of narration.now) ≤ NARRATION_LIMIT }
+    ensures is { IfOk result (λ v.
+        IsVerdictOnNarration name.now text.now (narration_of narration.now) v.status v.said) }
+    ensures last { IfOk result (λ v. IsLast v.status) }
+{
+    small_is_countable();
+    match resolve(alloc, narration) {
+        Ok(protocol) => verdict_on_protocol(alloc, &protocol),
+        Err(ResolveNo::NoMemory) => Err(NoMemory),
+        Err(why) => {
+            let reason = reason_of(alloc, &why)?;
+            Ok(Verdict {
+                said: unresolved_text(alloc, name, text, narration, &why, &reason)?,
+                status: Status::BadNarration(NarrationNo::Resolve(why)),
+            })
+        }
+    }
+}
+
+/// Why a narration isn't well formed.
+fn reason_of(alloc: Global, why: &ResolveNo) -> Result<Vec<u8>, NoMemory>
+    ensures { IfOk result (λ v. v.items ≡ why_ill_formed why.now) }
+{
+    let mut digits = Buffer::new();
+    let (first, second, third, fourth) = ill_formed(why, &mut digits);
+    let mut out = Vec::from_slice(alloc, first.as_bytes())?;
+    out.extend_from_slice(second.as_bytes())?;
+    out.extend_from_slice(third.as_bytes())?;
+    out.extend_from_slice(fourth.as_bytes())?;
+    Ok(out)
+}
+
+/// The verdict on a protocol: a report on its roles, or why one of them can't send.
+fn verdict_on_protocol(alloc: Global, protocol: &Protocol) -> Result<Verdict, NoMemory>
+    ensures is { IfOk result (λ v. IsVerdictOnProtocol protocol.now v.status v.said) }
+    ensures last { IfOk result (λ v. IsLast v.status) }
+{
+    match codes_of(alloc, protocol) {
+        Ok(codes) => Ok(Verdict {
+            said: report(alloc, protocol, &codes)?,
+            status: Status::Done,
+        }),
+        Err(Status::NoMemory) => Err(NoMemory),
+        Err(status) => Ok(Verdict {
+            said: reason_text(alloc, protocol)?,
+            status,
+        }),
+    }
+}
