@@ -106,13 +106,13 @@ file_one files name limit (given text) (refused t) x y =
     let long : limit < length text = rw is at y.1.long in absurd (omega (arith, long, x.short))
 file_one files name limit (given text) (given other) x y = let same : Some text ≡ Some other = sym x.holds ∙ y.holds in ap given (let is : text ≡ other = cc in is)
 
-narration_one : NarrationsAreUnique → RefusalsAreUnique → NoneIsBoth → (text : List ℕ) → HasOneAnswer (NarrationIs text)
+pub narration_one : NarrationsAreUnique → RefusalsAreUnique → NoneIsBoth → (text : List ℕ) → HasOneAnswer (NarrationIs text)
 narration_one narrations refusals none text (refused s) (refused t) (why, is, x) (other, js, y) = ap refused (is ∙ ap (λ w. BadNarration (Read w)) (refusals text why other x y) ∙ sym js)
 narration_one narrations refusals none text (refused s) (given n) (why, is, x) y = absurd (none text n why y x)
 narration_one narrations refusals none text (given n) (refused t) x (why, is, y) = absurd (none text n why x y)
 narration_one narrations refusals none text (given m) (given n) x y = ap given (narrations text m n x y)
 
-protocol_one : (n : Narration) → HasOneAnswer (ProtocolIs n)
+pub protocol_one : (n : Narration) → HasOneAnswer (ProtocolIs n)
 protocol_one n (refused s) (refused t) (why, is, x) (other, js, y) =
     let same : Some why ≡ Some other = sym x ∙ y in
     let e : why ≡ other = cc in ap refused (is ∙ ap (λ w. BadNarration (Resolve w)) e ∙ sym js)

@@ -1,0 +1,124 @@
+-- From a verdict to what `check` does.
+use Rattle.std.proofs.Common.{◌≡◌, ◌⊎◌, ℕ, Bool, true, false, List, [], ◌∷◌, take, Option, Some, None, refl, ap, sym, ◌∙◌, subst, inl, inr}
+use Rattle.anb_base.specs.Moves.{Put, Rose}
+use Rattle.anb_base.specs.Wires.{WireState}
+use Rattle.anb_base.specs.declared.place.Place.TheVariants.{Stdio}
+use Rattle.anb_read.specs.Laws.{NarrationsAreUnique, RefusalsAreUnique, NoneIsBoth}
+use Rattle.anb_resolve.specs.Protocols.{ProtocolValue}
+use Rattle.anb_command.specs.declared.limits.TheConstants.{NARRATION_LIMIT}
+use Rattle.anb_command.specs.declared.status.Status.{Status}
+use Rattle.anb_command.specs.declared.status.Status.TheVariants.{Done, FileFault, FileLong, Unreached, WriteFault, NoMemory}
+use Rattle.anb_command.specs.Causes.{HasWireCause}
+use Rattle.anb_command.specs.Fetches.{Files, IfTold}
+use Rattle.anb_command.specs.Files.{FileIs, HasFile, HasLonger, NarrationIs, ProtocolIs}
+use Rattle.anb_command.specs.OverWire.{OverWire}
+use Rattle.anb_command.specs.Phases.{told_phase}
+use Rattle.anb_command.specs.Reaches.{Reaches}
+use Rattle.anb_command.specs.Roles.{SendableOf}
+use Rattle.anb_command.specs.Statuses.{after_reach, is_fault}
+use Rattle.anb_command.specs.Steps.{HasOneAnswer, IsFailure, refused, given}
+use Rattle.anb_command.specs.Touches.{Touches}
+use Rattle.anb_command.specs.Writing.{IsWritten}
+use Rattle.anb_command.proofs.Chains.{told_map}
+use Rattle.anb_command.proofs.Ones.{file_one, is_one, narration_one, not_both, protocol_one, same_given, same_refusal, send_one, then_one}
+use Rattle.anb_command.proofs.Written.{faulty, put_nothing}
+use Rattle.anb_check_commands.specs.CheckCommand.{CompletesCheck, DoesCheck, IsTelling, IsVerdict, IsVerdictOnFile, SendableOfText, Tells}
+use Rattle.anb_check_commands.specs.Telling.{IsLast, IsTold, ended_by}
+
+-- ---- what was written, by how writing ended
+
+module _ (status : Status) (last : IsLast status) (S T : WireState) where
+  pub told_cause : (writing result : Status) → result ≡ ended_by status writing → HasWireCause (Some Stdio) S T writing → (HasWireCause (Some Stdio) S T status) → HasWireCause (Some Stdio) S T result
+  told_cause Done result is cause own = subst (λ (t : Status). HasWireCause (Some Stdio) S T t) (sym is) own
+  told_cause WriteFault result is cause own = subst (λ (t : Status). HasWireCause (Some Stdio) S T t) (sym is) cause
+  told_cause (Unreached at) result is cause own = subst (λ (t : Status). HasWireCause (Some Stdio) S T t) (sym is) cause
+  told_cause writing result is cause own = cc
+
+module _ (narrations : NarrationsAreUnique) (refusals : RefusalsAreUnique) (none : NoneIsBoth) (narration : List ℕ) where
+  text_one : (x : List ℕ) → HasOneAnswer (SendableOfText x)
+  text_one x =
+      then_one (NarrationIs x) _ (narration_one narrations refusals none x) (λ n.
+      then_one (ProtocolIs n) SendableOf (protocol_one n) (λ p. then_one _ _ (send_one p) (λ u. is_one p)))
+
+  same_verdict : (x : List ℕ) (s t : Status) (said other : List ℕ) → IsVerdict narration x s said → IsVerdict narration x t other → s ≡ t
+  same_verdict x s t said other (inl (due, is)) (inl (also, js)) = same_refusal s t (text_one x (refused s) (refused t) due also)
+  same_verdict x s t said other (inl (due, is)) (inr (p, also, done, report)) = not_both s p (text_one x (refused s) (given p) due also)
+  same_verdict x s t said other (inr (p, due, done, report)) (inl (also, js)) = not_both t p (text_one x (refused t) (given p) also due)
+  same_verdict x s t said other (inr (p, due, done, report)) (inr (q, also, done', report')) = done ∙ sym done'
+
+  module _ (files : Files) where
+    same_file : (x y : List ℕ) → FileIs files narration NARRATION_LIMIT (given x) → FileIs files narration NARRATION_LIMIT (given y) → x ≡ y
+    same_file x y f g = same_given x y (file_one files narration NARRATION_LIMIT (given x) (given y) f g)
+
+    same_status : (s t : Status) (out other : List ℕ) → Tells files narration s out → Tells files narration t other → s ≡ t
+    same_status s t out other (inl (due, is)) (inl (also, js)) = same_refusal s t (file_one files narration NARRATION_LIMIT (refused s) (refused t) due also)
+    same_status s t out other (inl (due, is)) (inr (y, g, on)) = not_both s y (file_one files narration NARRATION_LIMIT (refused s) (given y) due g)
+    same_status s t out other (inr (x, f, on)) (inl (also, js)) = not_both t x (file_one files narration NARRATION_LIMIT (refused t) (given x) also f)
+    same_status s t out other (inr (x, f, on)) (inr (y, g, also)) =
+        same_verdict x s t out other on (subst (λ (z : List ℕ). IsVerdict narration z t other) (sym (same_file x y f g)) also)
+
+    module _ (w now : Option (List ℕ)) where
+      concluded : (s : Status) (out : List ℕ) → is_fault s ≡ false → Tells files narration s out → Put w now out → IsTelling files narration s w now
+      concluded s out calm tells put = record {
+        is = λ _. (out, tells, put);
+        only = λ _ t other also. same_status s t out other tells also;
+        cut_short = λ fault. faulty (sym fault ∙ calm);
+      }
+
+      unmoved : now ≡ w → Put w now []
+      unmoved e = subst (λ (v : Option (List ℕ)). Put w v []) (sym e) (put_nothing w)
+
+      by_writing : (status : Status) (said : List ℕ) → IsLast status → IsVerdictOnFile files narration status said → (writing : Status) → IsWritten said writing w now
+          → IsTelling files narration (ended_by status writing) w now
+      by_writing status said last on Done put = concluded status said last.calm (inr on) put
+      by_writing status said last on WriteFault (n, within, put) = record { is = faulty; only = faulty; cut_short = λ _. (take n said, (status, said, on, (n, refl)), put) }
+      by_writing status said last on (Unreached at) same = record { is = faulty; only = faulty; cut_short = λ _. ([], refl, unmoved same) }
+      by_writing status said last on _ never = absurd never
+
+      telling : (status : Status) (said : List ℕ) (result : Status) → IsLast status → IsVerdictOnFile files narration status said → IsTold status said result w now
+          → IsTelling files narration result w now
+      telling status said result last on told =
+          subst (λ (t : Status). IsTelling files narration t w now) (sym told.ends) (by_writing status said last on told.writing told.writes)
+
+    no_memory : (w : Option (List ℕ)) → IsTelling files narration NoMemory w w
+    no_memory w = record { is = faulty; only = faulty; cut_short = λ _. ([], refl, put_nothing w) }
+
+    no_file : (w : Option (List ℕ)) (s : Status) (P : List ℕ → Type 0) → IsFailure s P ((s ≡ FileLong narration) × HasLonger files narration NARRATION_LIMIT) → IsTelling files narration s w w
+    no_file w (FileFault file) P fails = record { is = faulty; only = faulty; cut_short = λ _. ([], refl, put_nothing w) }
+    no_file w NoMemory P fails = no_memory w
+    no_file w s P (is, longer) = concluded w w s [] (ap is_fault is) (inl ((is, longer), refl)) (put_nothing w)
+
+  -- ---- `check`
+
+  module _ (told : Option Files) where
+    pub does_told : (w now : Option (List ℕ)) (x : List ℕ) (status : Status) (said : List ℕ) (result : Status) → IfTold told (λ files. HasFile files narration NARRATION_LIMIT x)
+        → IsVerdict narration x status said → IsLast status → IsTold status said result w now → IfTold told (λ files. IsTelling files narration result w now)
+    does_told w now x status said result file verdict last is = told_map told (λ files f. telling files w now status said result last (x, f, verdict) is) file
+
+    pub does_without_memory : (w : Option (List ℕ)) (x : List ℕ) → IfTold told (λ files. HasFile files narration NARRATION_LIMIT x) → IfTold told (λ files. IsTelling files narration NoMemory w w)
+    does_without_memory w x file = told_map told (λ files f. no_memory files w) file
+
+  pub does_without_file : (told : Option Files) (w : Option (List ℕ)) (s : Status) (P : List ℕ → Type 0) → IsFailure s P ((s ≡ FileLong narration) × IfTold told (λ files. HasLonger files narration NARRATION_LIMIT))
+      → IfTold told (λ files. IsTelling files narration s w w)
+  does_without_file None w s P fails = tt
+  does_without_file (Some files) w s P fails = no_file files w s P fails
+
+  -- where nothing failed
+  pub completes_check : (told : Option Files) (w now : Option (List ℕ)) (s : Status) → IfTold told (λ files. IsTelling files narration s w now) → (is_fault s ≡ true → s ≡ NoMemory) → CompletesCheck narration told s
+  completes_check told w now s does only_memory = told_map told (λ files tells x f. by files tells x f (is_fault s) refl) does where
+    from : (files : Files) (x : List ℕ) → FileIs files narration NARRATION_LIMIT (given x) → ((out : List ℕ) × Tells files narration s out × Put w now out)
+        → ((said : List ℕ) × IsVerdict narration x s said) ⊎ (s ≡ NoMemory)
+    from files x f (out, inl (due, is), put) = not_both s x (file_one files narration NARRATION_LIMIT (refused s) (given x) due f)
+    from files x f (out, inr (y, g, verdict), put) = inl (out, subst (λ (z : List ℕ). IsVerdict narration z s out) (same_file files y x g f) verdict)
+
+    by : (files : Files) → IsTelling files narration s w now → (x : List ℕ) → FileIs files narration NARRATION_LIMIT (given x) → (b : Bool) → is_fault s ≡ b
+        → ((said : List ℕ) × IsVerdict narration x s said) ⊎ (s ≡ NoMemory)
+    by files tells x f true fault = inr (only_memory fault)
+    by files tells x f false calm = from files x f (tells.is calm)
+
+-- ---- a file that couldn't be had
+
+pub early_phase : (s : Status) (P : List ℕ → Type 0) (narration : List ℕ) (Q : Type 0) (r : Option (List ℕ)) → IsFailure s P ((s ≡ FileLong narration) × Q) → Reaches (Some Stdio) (told_phase s) r r
+early_phase (FileFault file) P narration Q r fails = refl
+early_phase NoMemory P narration Q r fails = inl refl
+early_phase s P narration Q r (is, q) = subst (λ (t : Status). Reaches (Some Stdio) (told_phase t) r r) (sym is) refl
