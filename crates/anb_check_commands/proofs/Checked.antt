@@ -1,38 +1,21 @@
 -- From a verdict to what `check` does.
-use Rattle.std.proofs.Common.{◌≡◌, ◌⊎◌, ℕ, Bool, true, false, List, [], ◌∷◌, take, Option, Some, None, refl, ap, sym, ◌∙◌, subst, inl, inr}
-use Rattle.anb_base.specs.Moves.{Put, Rose}
-use Rattle.anb_base.specs.Wires.{WireState}
-use Rattle.anb_base.specs.declared.place.Place.TheVariants.{Stdio}
+use Rattle.std.proofs.Common.{◌≡◌, ◌⊎◌, ℕ, Bool, true, false, List, [], take, Option, Some, None, refl, ap, sym, ◌∙◌, subst, inl, inr}
+use Rattle.anb_base.specs.Moves.{Put}
 use Rattle.anb_read.specs.Laws.{NarrationsAreUnique, RefusalsAreUnique, NoneIsBoth}
-use Rattle.anb_resolve.specs.Protocols.{ProtocolValue}
 use Rattle.anb_command.specs.declared.limits.TheConstants.{NARRATION_LIMIT}
 use Rattle.anb_command.specs.declared.status.Status.{Status}
 use Rattle.anb_command.specs.declared.status.Status.TheVariants.{Done, FileFault, FileLong, Unreached, WriteFault, NoMemory}
-use Rattle.anb_command.specs.Causes.{HasWireCause}
 use Rattle.anb_command.specs.Fetches.{Files, IfTold}
 use Rattle.anb_command.specs.Files.{FileIs, HasFile, HasLonger, NarrationIs, ProtocolIs}
-use Rattle.anb_command.specs.OverWire.{OverWire}
-use Rattle.anb_command.specs.Phases.{told_phase}
-use Rattle.anb_command.specs.Reaches.{Reaches}
 use Rattle.anb_command.specs.Roles.{SendableOf}
-use Rattle.anb_command.specs.Statuses.{after_reach, is_fault}
+use Rattle.anb_command.specs.Statuses.{is_fault}
 use Rattle.anb_command.specs.Steps.{HasOneAnswer, IsFailure, refused, given}
-use Rattle.anb_command.specs.Touches.{Touches}
 use Rattle.anb_command.specs.Writing.{IsWritten}
 use Rattle.anb_command.proofs.Chains.{told_map}
 use Rattle.anb_command.proofs.Ones.{file_one, is_one, narration_one, not_both, protocol_one, same_given, same_refusal, send_one, then_one}
 use Rattle.anb_command.proofs.Written.{faulty, put_nothing}
-use Rattle.anb_check_commands.specs.CheckCommand.{CompletesCheck, DoesCheck, IsTelling, IsVerdict, IsVerdictOnFile, SendableOfText, Tells}
+use Rattle.anb_check_commands.specs.CheckCommand.{CompletesCheck, IsTelling, IsVerdict, IsVerdictOnFile, SendableOfText, Tells}
 use Rattle.anb_check_commands.specs.Telling.{IsLast, IsTold, ended_by}
-
--- ---- what was written, by how writing ended
-
-module _ (status : Status) (last : IsLast status) (S T : WireState) where
-  pub told_cause : (writing result : Status) → result ≡ ended_by status writing → HasWireCause (Some Stdio) S T writing → (HasWireCause (Some Stdio) S T status) → HasWireCause (Some Stdio) S T result
-  told_cause Done result is cause own = subst (λ (t : Status). HasWireCause (Some Stdio) S T t) (sym is) own
-  told_cause WriteFault result is cause own = subst (λ (t : Status). HasWireCause (Some Stdio) S T t) (sym is) cause
-  told_cause (Unreached at) result is cause own = subst (λ (t : Status). HasWireCause (Some Stdio) S T t) (sym is) cause
-  told_cause writing result is cause own = cc
 
 module _ (narrations : NarrationsAreUnique) (refusals : RefusalsAreUnique) (none : NoneIsBoth) (narration : List ℕ) where
   text_one : (x : List ℕ) → HasOneAnswer (SendableOfText x)
@@ -115,10 +98,3 @@ module _ (narrations : NarrationsAreUnique) (refusals : RefusalsAreUnique) (none
         → ((said : List ℕ) × IsVerdict narration x s said) ⊎ (s ≡ NoMemory)
     by files tells x f true fault = inr (only_memory fault)
     by files tells x f false calm = from files x f (tells.is calm)
-
--- ---- a file that couldn't be had
-
-pub early_phase : (s : Status) (P : List ℕ → Type 0) (narration : List ℕ) (Q : Type 0) (r : Option (List ℕ)) → IsFailure s P ((s ≡ FileLong narration) × Q) → Reaches (Some Stdio) (told_phase s) r r
-early_phase (FileFault file) P narration Q r fails = refl
-early_phase NoMemory P narration Q r fails = inl refl
-early_phase s P narration Q r (is, q) = subst (λ (t : Status). Reaches (Some Stdio) (told_phase t) r r) (sym is) refl

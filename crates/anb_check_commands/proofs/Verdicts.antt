@@ -1,25 +1,22 @@
 -- The verdict on a text from those on its parts.
-use Rattle.std.proofs.Common.{◌≡◌, ◌⊎◌, ℕ, false, List, Some, None, refl, sym, ap, ◌∙◌, subst, inl, inr}
+use Rattle.std.proofs.Common.{◌≡◌, ℕ, List, Some, None, Result, Ok, Err, refl, sym, subst, inl, inr}
+use Rattle.std.specs.Prelude.{IfOk}
 use Rattle.anb_base.specs.declared.TheConstants.{ARRIVAL, WIDE}
 use Rattle.anb_syntax.specs.Grammar.{Narration}
 use Rattle.anb_syntax.specs.Text.{Text}
 use Rattle.anb_read.specs.Refusals.{IsRefusal}
 use Rattle.anb_read.specs.declared.refusal.ReadNo.{ReadNo}
 use Rattle.anb_resolve.specs.Checks.{fault}
-use Rattle.anb_resolve.specs.Plays.{IsSendable}
 use Rattle.anb_resolve.specs.Protocols.{ProtocolValue, protocol_of}
 use Rattle.anb_resolve.specs.declared.refusals.ResolveNo.{ResolveNo}
 use Rattle.anb_point.specs.Unread.{IsUnreadText}
 use Rattle.anb_point.specs.Unresolved.{IsUnresolvedText}
 use Rattle.anb_command.specs.declared.status.NarrationNo.TheVariants.{Read, Resolve}
 use Rattle.anb_command.specs.declared.status.Status.{Status}
-use Rattle.anb_command.specs.declared.status.Status.TheVariants.{BadNarration, CannotSend, Done}
-use Rattle.anb_command.specs.Roles.{AllSend}
+use Rattle.anb_command.specs.declared.status.Status.TheVariants.{BadNarration}
 use Rattle.anb_command.specs.Statuses.{why_ill_formed}
-use Rattle.anb_command.specs.Steps.{refused, given}
-use Rattle.anb_reason_commands.specs.WhyCommand.{IsReasonText}
-use Rattle.anb_check_commands.specs.CheckCommand.{IsReport, IsVerdict, SaidOf, SendableOfText}
-use Rattle.anb_check_commands.specs.Telling.{IsLast, IsVerdictOnNarration, IsVerdictOnProtocol}
+use Rattle.anb_check_commands.specs.CheckCommand.{IsVerdict, SaidOf}
+use Rattle.anb_check_commands.specs.Telling.{IsVerdictOnNarration, IsVerdictOnProtocol}
 
 module _ (name x : List ℕ) where
   -- a text that is no narration
@@ -43,7 +40,11 @@ module _ (name x : List ℕ) where
     of_narration s said (inl (why, is, status, text)) = ill_formed s said why is status text
     of_narration s said (inr (well, on)) = of_protocol s said well on
 
--- ---- statuses
+  -- and one whose protocol this is
+  pub well : (n : Narration) (p : ProtocolValue) (s : Status) (said : List ℕ) → fault ARRIVAL WIDE n ≡ None → p ≡ protocol_of n → IsVerdictOnProtocol p s said → IsVerdictOnNarration name x n s said
+  well n p s said formed is on = inr (formed, subst (λ (q : ProtocolValue). IsVerdictOnProtocol q s said) is on)
 
-pub last_refusal : (p : ProtocolValue) (s : Status) → AllSend p (refused s) → IsLast s
-last_refusal p s (role, action, sender, first, named, is) = subst IsLast (sym is) (record { calm = refl; late = refl })
+-- of what was had
+pub if_ok_map : {A B : Type 0} (r : Result A B) (P Q : A → Type 0) → ((a : A) → P a → Q a) → IfOk r P → IfOk r Q
+if_ok_map (Ok a) P Q each p = each a p
+if_ok_map (Err e) P Q each p = tt

@@ -95,10 +95,10 @@ fn verdict_on_protocol(alloc: Global, protocol: &Protocol) -> Result<Verdict, No
             said: report(alloc, protocol, &codes)?,
             status: Status::Done,
         }),
-        Err(Status::NoMemory) => Err(NoMemory),
-        Err(status) => Ok(Verdict {
+        Err(Status::CannotSend { action, role }) => Ok(Verdict {
             said: reason_text(alloc, protocol)?,
-            status,
+            status: Status::CannotSend { action, role },
         }),
+        Err(_) => Err(NoMemory),
     }
 }
