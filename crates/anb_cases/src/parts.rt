@@ -128,13 +128,22 @@ fn add_entry(alloc: Global, part: &mut Part, line: &str) -> Result<bool, AllocEr
 }
 
 /// Whether an entry with this key may stand behind those of the part. Outputs that may come stand
-/// one behind another.
+/// one behind another. How a line begins is said by each case itself, so that no row's line is
+/// passed over.
 fn takes(part: &Part, key: &str, hex: bool) -> bool {
     let known = match part.kind {
         Kind::Names => !hex,
+        Kind::Group if key == "line begins" => false,
         _ => BYTES.contains(&key) || (!hex && WORDS.contains(&key)),
     };
-    known && (key == "output" || !part.entries.iter().any(|entry| entry.key.as_str() == key))
+    known && (key == "output" || !part.entries.iter().any(|entry| is_same(&entry.key, key)))
+}
+
+/// Whether two entries with these keys say one thing.
+fn is_same(one: &str, other: &str) -> bool {
+    one == other
+        || one.strip_suffix(" begins") == Some(other)
+        || other.strip_suffix(" begins") == Some(one)
 }
 
 fn add_row(part: &mut Part, row: &str) -> Result<bool, AllocError> {

@@ -1,19 +1,27 @@
 -- From one instruction of a trace to the next.
-use Rattle.std.proofs.Common.{◌≡◌, ℕ, ◌+◌, ◌≤◌, List, [], ◌∷◌, ◌++◌, length, map, take, drop, Bool, true, false, cond, Some, refl, sym, ap, ◌∙◌, subst, arith, append-nil}
+use Rattle.std.proofs.Common.{◌≡◌, ℕ, ◌+◌, ◌≤◌, List, [], ◌∷◌, ◌++◌, length, map, take, drop, Bool, true, false, cond, Option, Some, Err, refl, sym, ap, ◌∙◌, subst, arith, append-nil}
 use Rattle.std.specs.Prelude.{slice_get}
 use Rattle.std.proofs.lemmas.List.{drop_all}
+use Rattle.anb_base.specs.declared.TheConstants.{ARRIVAL, WIDE}
 use Rattle.anb_seal.specs.Streams.{draw_of}
 use Rattle.anb_algebra.specs.ByteMeaning.{has_operator}
 use Rattle.anb_term.specs.declared.term.Op.{Op}
 use Rattle.anb_plays.specs.Codes.{Act, takes, draws, receives, sends, works}
 use Rattle.anb_plays.specs.Exec.{IsVerified}
 use Rattle.anb_plays.specs.Plays.{done}
+use Rattle.anb_plays.proofs.Exec.{takes_ready}
 use Rattle.anb_code.specs.declared.instr.Instr.{Instr}
-use Rattle.anb_code.specs.Meaning.{act_of}
+use Rattle.anb_code.specs.Meaning.{act_of, acts_of}
 use Rattle.anb_code.specs.Registers.{count_written}
+use Rattle.anb_code.specs.Taking.{take_texts}
+use Rattle.anb_code.specs.Verified.{IsVerifiedCode}
 use Rattle.anb_explain.proofs.Loops.{drop_item}
 use Rattle.anb_machine.specs.Standing.{registers_of}
 use Rattle.anb_machine.proofs.Steps.{rest_verified}
+use Rattle.anb_machine.proofs.Verified.{has_takes}
+use Rattle.anb_text.specs.declared.writing.WriteNo.TheVariants as WriteNo
+use Rattle.anb_text.specs.Writing.{IsWritten}
+use Rattle.anb_text.proofs.Written.{Due, not_all, put_nothing}
 use Rattle.anb_trace.specs.declared.steps.Standing.{Standing}
 use Rattle.anb_trace.specs.declared.steps.Told.{Told}
 use Rattle.anb_trace.specs.Traces.{end_line, told_all}
@@ -57,7 +65,7 @@ module _ (s : SubjectValue) (seed : List ℕ) where
           (rest_verified (has_operator s.code.formats) (act_of s.code.formats x) acts (length old.registers.items) (left_here left))
 
       module _ (tells : Tells s seed x first at old part new) where
-        told_next : coming old first at ≡ part.text.items ++ cond part.goes_on (coming new (first + count_written s.code.formats x) (at + 1)) []
+        pub told_next : coming old first at ≡ part.text.items ++ cond part.goes_on (coming new (first + count_written s.code.formats x) (at + 1)) []
         told_next =
             ap (λ (l : List Instr). told_all s (draw_of seed 0) l old.registers.items first old.events at old.drawn old.arrivals.now) next
             ∙ tells (λ table events drawn arrivals. told_all s (draw_of seed 0) (drop (at + 1) s.code.instrs) table (first + count_written s.code.formats x) events (at + 1) drawn arrivals)
@@ -67,3 +75,20 @@ module _ (s : SubjectValue) (seed : List ℕ) where
 
         pub stops : part.goes_on ≡ false → coming old first at ≡ part.text.items
         stops off = told_next ∙ ap (λ (b : Bool). part.text.items ++ cond b (coming new (first + count_written s.code.formats x) (at + 1)) []) off ∙ append-nil part.text.items
+
+-- all is left at the beginning
+pub left_first : (s : SubjectValue) (seed : List ℕ) → IsVerifiedCode ARRIVAL WIDE s.code → (t : Standing) → length t.registers.items ≡ length (take_texts s.code.instrs) → IsLeft s seed t 0
+left_first s seed verified t count =
+    let has = has_operator s.code.formats in
+    let code = s.code in
+    subst (IsVerified has (acts_of code)) (sym count) (takes_ready has (acts_of code) 0 (length (take_texts code.instrs)) (has_takes ARRIVAL WIDE code verified))
+
+-- where memory is wanting, nothing more is written
+pub wanting : (whole : List ℕ) (a b : Option (List ℕ)) (f g : ℕ) (rest : List ℕ) → Due whole a b f g rest → IsWritten whole (Err WriteNo.NoMemory) a b f g
+wanting whole a b f g rest due =
+    not_all whole a b b f g g [] rest due WriteNo.NoMemory (record {
+      whole = tt;
+      part = (0, omega arith, put_nothing b);
+      cause = λ never. absurd (cc);
+      never_falls = omega arith;
+    })
