@@ -67,7 +67,7 @@ fn charted(alloc: Global, narration: &str, fails: u32) -> Result<(u8, MemWire), 
     let mut shelf = MemShelf::new(alloc, files, Vec::new(alloc))?;
     let fails = Vec::from_slice(alloc, &[fails])?;
     let mut wire = MemWire::new(alloc, bytes(alloc, b"")?, 1024, 4096, fails)?;
-    let status = chart(alloc, &mut shelf, &mut wire, &text(alloc, "n")?);
+    let status = chart(alloc, &mut shelf, &mut wire, &text(alloc, "n")?, None);
     Ok((status.number(), wire))
 }
 

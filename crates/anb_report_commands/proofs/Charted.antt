@@ -14,7 +14,7 @@ use Rattle.anb_command.proofs.Chains.{first_refused, told_map}
 use Rattle.anb_command.proofs.Failing.{IsFailure-map}
 use Rattle.anb_command.proofs.Ones.{RefusesQuietly, is_one, is_quiet, not_both, narration_in_file_quiet, one_settled, protocol_in_file_one, protocol_quiet, same_refusal, then_one, then_quiet}
 use Rattle.anb_command.proofs.Written.{completes_text, the_one, told_refusal, written}
-use Rattle.anb_report_commands.specs.ReportCommands.{ChartOf, ChartText, CompletesChart}
+use Rattle.anb_report_commands.specs.ReportCommands.{ChartOf, ChartText, CompletesWholeChart}
 
 -- ---- one text
 
@@ -77,5 +77,5 @@ module _ (narrations : NarrationsAreUnique) (refusals : RefusalsAreUnique) (none
 
 -- where nothing failed
 pub completes_chart : (told : Option Files) (narration : List ℕ) (w now : Option (List ℕ)) (s : Status) → IfTold told (λ files. IsWritingOne (ChartText files narration) s w now)
-    → (is_fault s ≡ true → s ≡ NoMemory) → CompletesChart narration told s
+    → (is_fault s ≡ true → s ≡ NoMemory) → CompletesWholeChart narration told s
 completes_chart told narration w now s does only_memory = told_map told (λ files one. completes_text (ChartText files narration) w now s one.writes only_memory) does

@@ -1,5 +1,5 @@
 -- Commands that show a protocol to a person.
-use Rattle.std.specs.Prelude.{◌≡◌, ℕ, List, Option}
+use Rattle.std.specs.Prelude.{◌≡◌, ℕ, List, Option, Some, None}
 use Rattle.anb_base.specs.Wires.{WireState}
 use Rattle.anb_resolve.specs.Protocols.{ProtocolValue}
 use Rattle.anb_chart.specs.Charts.{chart}
@@ -21,12 +21,12 @@ abbrev pub ChartText : Files → List ℕ → Answer (List ℕ) → Type 0
 ChartText files narration = InTurn (ProtocolInFile files narration) ChartOf
 
 module _ (narration : List ℕ) (told : Option Files) where
-  abbrev pub DoesChart : (old new : WireState) → Status → Type 0
-  DoesChart old new status =
+  abbrev pub DoesWholeChart : (old new : WireState) → Status → Type 0
+  DoesWholeChart old new status =
       IfTold told (λ files. IsWritingOne (ChartText files narration) status old.written new.written)
 
-  abbrev pub CompletesChart : Status → Type 0
-  CompletesChart status = IfTold told (λ files. CompletesText (ChartText files narration) status)
+  abbrev pub CompletesWholeChart : Status → Type 0
+  CompletesWholeChart status = IfTold told (λ files. CompletesText (ChartText files narration) status)
 
 -- ---- the chart for a role
 
@@ -51,3 +51,13 @@ module _ (narration role : List ℕ) (told : Option Files) where
 
   abbrev pub CompletesRoleChart : Status → Type 0
   CompletesRoleChart status = IfTold told (λ files. CompletesText (RoleChartText files narration role) status)
+
+-- ---- `chart`, where a role may be named
+
+abbrev pub DoesChart : (narration : List ℕ) → (role : Option (List ℕ)) → Option Files → (old new : WireState) → Status → Type 0
+DoesChart narration None told old new status = DoesWholeChart narration told old new status
+DoesChart narration (Some role) told old new status = DoesRoleChart narration role told old new status
+
+abbrev pub CompletesChart : (narration : List ℕ) → (role : Option (List ℕ)) → Option Files → Status → Type 0
+CompletesChart narration None told status = CompletesWholeChart narration told status
+CompletesChart narration (Some role) told status = CompletesRoleChart narration role told status

@@ -5,6 +5,7 @@ ghost use Rattle.std.specs.Prelude.{◌≡◌, [], ◌∷◌, Some, false, IfErr
 ghost use Rattle.anb_base.specs.declared.place.Place.TheVariants as place;
 ghost use Rattle.anb_chart.specs.Charts.{chart};
 ghost use Rattle.anb_command.specs.Causes.{HasCause, NoneRose};
+ghost use Rattle.std.specs.Option.{option_map};
 ghost use Rattle.anb_base.specs.Moves.{Rose};
 ghost use Rattle.anb_command.specs.Fetches.{Fetches, IfTold};
 ghost use Rattle.anb_command.specs.OverWire.{OnlyWrites, OverWire};
@@ -13,7 +14,7 @@ ghost use Rattle.anb_command.specs.Statuses.{IsEarly, phase_of};
 ghost use Rattle.anb_command.specs.Steps.{IsFailure, given, refused};
 ghost use Rattle.anb_command.specs.Touches.{Touches};
 ghost use Rattle.anb_command.specs.Writing.{IsWritingOne};
-ghost use Rattle.anb_report_commands.specs.ReportCommands.{ChartOf, CompletesChart, CompletesRoleChart, DoesChart, DoesRoleChart, RoleChartText};
+ghost use Rattle.anb_report_commands.specs.ReportCommands.{ChartOf, CompletesChart, CompletesRoleChart, CompletesWholeChart, DoesChart, DoesRoleChart, DoesWholeChart, RoleChartText};
 ghost use Rattle.anb_text.specs.Writing.{IsWritten};
 
 use anb_base::{Bytes, Failed, NoMemory, Place, Shelf, Text, Wire};
@@ -25,18 +26,47 @@ use anb_resolve::Protocol;
 use anb_text::WriteNo;
 use std::alloc::Global;
 
-/// Writes the chart of the protocol in the file, in Mermaid's language.
+/// Writes the chart of the protocol in the file, in Mermaid's language; where a role is named, with what
+/// it checks and learns.
 pub fn chart<F: Shelf, W: Wire>(
     alloc: Global,
     shelf: &mut F,
     wire: &mut W,
     narration: &Text,
+    role: Option<&Text>,
 ) -> Status
-    ensures does { DoesChart narration.now (F.files shelf.old)
+    ensures does { DoesChart narration.now (option_map (λ name. name.now) role) (F.files shelf.old)
         (W.state wire.old) (W.state wire.new) result }
     ensures completes { NoneRose (narration.now ∷ []) (F.faults shelf.old) (F.faults shelf.new)
         (W.state wire.old) (W.state wire.new)
-        → CompletesChart narration.now (F.files shelf.old) result }
+        → CompletesChart narration.now (option_map (λ name. name.now) role)
+        (F.files shelf.old) result }
+    ensures faults { HasCause (narration.now ∷ []) (Some place.Stdio)
+        (F.faults shelf.old) (F.faults shelf.new) (W.state wire.old) (W.state wire.new) result }
+    ensures fetches { Fetches (narration.now ∷ [])
+        (F.files shelf.old) (F.files shelf.new) (F.faults shelf.old) (F.faults shelf.new) }
+    ensures reached { Reaches (Some place.Stdio) (phase_of result)
+        (W.state wire.old).reached (W.state wire.new).reached }
+    ensures touches { Touches false (phase_of result) (W.state wire.old) (W.state wire.new) }
+{
+    match role {
+        None => chart_whole(alloc, shelf, wire, narration),
+        Some(role) => chart_for(alloc, shelf, wire, narration, role),
+    }
+}
+
+/// Writes the chart of the protocol in the file.
+fn chart_whole<F: Shelf, W: Wire>(
+    alloc: Global,
+    shelf: &mut F,
+    wire: &mut W,
+    narration: &Text,
+) -> Status
+    ensures does { DoesWholeChart narration.now (F.files shelf.old)
+        (W.state wire.old) (W.state wire.new) result }
+    ensures completes { NoneRose (narration.now ∷ []) (F.faults shelf.old) (F.faults shelf.new)
+        (W.state wire.old) (W.state wire.new)
+        → CompletesWholeChart narration.now (F.files shelf.old) result }
     ensures faults { HasCause (narration.now ∷ []) (Some place.Stdio)
         (F.faults shelf.old) (F.faults shelf.new) (W.state wire.old) (W.state wire.new) result }
     ensures fetches { Fetches (narration.now ∷ [])
@@ -82,7 +112,7 @@ fn write_lines<W: Wire>(alloc: Global, wire: &mut W, protocol: &Protocol) -> Res
 }
 
 /// Writes the chart of the protocol in the file, with what the role with this name checks and learns.
-pub fn chart_for<F: Shelf, W: Wire>(
+fn chart_for<F: Shelf, W: Wire>(
     alloc: Global,
     shelf: &mut F,
     wire: &mut W,

@@ -53,7 +53,7 @@ Does (Some (park narration role values key place)) told seed old new status =
     DoesPark narration role values key seed told old new status
 Does (Some (resume narration role parked key place)) told seed old new status =
     DoesResume narration role parked key told old new status
-Does (Some (chart narration)) told seed old new status = DoesChart narration told old new status
+Does (Some (chart narration role)) told seed old new status = DoesChart narration role told old new status
 
 -- where nothing failed
 abbrev pub Completes : Option Asked → Option Files → Option (List ℕ) → (old new : WireState) → Status → Type 0
@@ -82,4 +82,4 @@ Completes (Some (park narration role values key place)) told seed old new status
     CompletesPark narration role values key seed told old new status
 Completes (Some (resume narration role parked key place)) told seed old new status =
     CompletesResume narration role parked key told old new status
-Completes (Some (chart narration)) told seed old new status = CompletesChart narration told status
+Completes (Some (chart narration role)) told seed old new status = CompletesChart narration role told status

@@ -96,7 +96,7 @@ pub fn run<F: Shelf, W: Wire, E: Sink>(
         Some(Command::Why { narration }) => why(alloc, shelf, wire, narration),
         Some(Command::Park(words)) => park(alloc, shelf, wire, words, seed),
         Some(Command::Resume(words)) => resume(alloc, shelf, wire, words),
-        Some(Command::Chart { narration }) => chart(alloc, shelf, wire, narration),
+        Some(Command::Chart { narration, role }) => chart(alloc, shelf, wire, narration, role),
     };
     tell(err, &status);
     status

@@ -4,7 +4,7 @@ use Rattle.anb_command.proofs.Causes.{early_cause, early_reaches, only_memory, w
 use Rattle.anb_command.proofs.Failing.{IsFailure-map}
 use Rattle.anb_command.proofs.OverWire.{untouched}
 use Rattle.anb_report_commands.proofs.Charted.{completes_chart, refuses_chart, writes_chart}
-use Rattle.anb_report_commands.proofs.chart.Goals as goal
+use Rattle.anb_report_commands.proofs.chart_whole.Goals as goal
 
 pub returns-in-Ok-clause-does : goal.returns-in-Ok-clause-does
 returns-in-Ok-clause-does g c =
