@@ -11,4 +11,4 @@ loop-role-preserved c =
     let n = length c.args.protocol.now.roles in
     let out = c.loop-role.out.items in
     let later = flat_map f (range_with_len (i + 1) (n - (i + 1))) in
-    ap (λ l. l ++ later) c.in_ok-put_plan_formats.ensures ∙ append_assoc out (f i) later ∙ ap (λ l. out ++ flat_map f l) (sym (first_of i n (omega (arith, c.count_roles.ensures)))) ∙ c.loop-role.invariant
+    ap (λ l. l ++ later) c.in_ok-put_plan_formats.ensures ∙ append_assoc out (f i) later ∙ ap (λ l. out ++ flat_map f l) (sym (first_of i n (omega (arith, c.count_roles-role-end.ensures)))) ∙ c.loop-role.invariant
