@@ -35,11 +35,11 @@ pub fn chart<F: Shelf, W: Wire>(
     narration: &Text,
     role: Option<&Text>,
 ) -> Status
-    ensures does { DoesChart narration.now (option_map (λ name. name.now) role) (F.files shelf.old)
+    ensures does { DoesChart narration.now (option_map (λ name. name.now) role.entry) (F.files shelf.old)
         (W.state wire.old) (W.state wire.new) result }
     ensures completes { NoneRose (narration.now ∷ []) (F.faults shelf.old) (F.faults shelf.new)
         (W.state wire.old) (W.state wire.new)
-        → CompletesChart narration.now (option_map (λ name. name.now) role)
+        → CompletesChart narration.now (option_map (λ name. name.now) role.entry)
         (F.files shelf.old) result }
     ensures faults { HasCause (narration.now ∷ []) (Some place.Stdio)
         (F.faults shelf.old) (F.faults shelf.new) (W.state wire.old) (W.state wire.new) result }
