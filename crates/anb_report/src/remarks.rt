@@ -123,11 +123,7 @@ fn put_format_of(out: &mut Vec<usize>, op: Op) -> Result<(), NoMemory>
     Ok(())
 }
 
-fn put_unused_formats(
-    out: &mut Vec<u8>,
-    formats: &[Format],
-    used: &[usize],
-) -> Result<(), NoMemory>
+fn put_unused_formats(out: &mut Vec<u8>, formats: &[Format], used: &[usize]) -> Result<(), NoMemory>
     ensures { OnOk result (out.new.items ≡ out.old.items
         ++ flat_map (unused_format formats.now used.now) (range_with_len 0 (length formats.now))) }
 {
@@ -155,12 +151,7 @@ fn is_used(used: &[usize], i: usize) -> bool
     used.contains(&i)
 }
 
-fn put_unused(
-    out: &mut Vec<u8>,
-    formats: &[Format],
-    there: bool,
-    i: usize,
-) -> Result<(), NoMemory>
+fn put_unused(out: &mut Vec<u8>, formats: &[Format], there: bool, i: usize) -> Result<(), NoMemory>
     ensures { OnOk result (out.new.items ≡ out.old.items ++ unused there (name_at formats.now i)) }
 {
     if there {

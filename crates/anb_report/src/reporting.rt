@@ -76,7 +76,15 @@ fn put_role(
     let taken = unchecked(alloc, code)?;
     put_head(out, protocol, role)?;
     put_start(out, notes_at(&notes, 0))?;
-    put_events(alloc, out, protocol, role, protocol.messages(), made, &notes)?;
+    put_events(
+        alloc,
+        out,
+        protocol,
+        role,
+        protocol.messages(),
+        made,
+        &notes,
+    )?;
     put_unchecked(alloc, out, protocol, terms, &taken)
 }
 
@@ -103,7 +111,11 @@ fn put_head(out: &mut Vec<u8>, protocol: &Protocol, role: u32) -> Result<(), NoM
 }
 
 /// Appends the name of a role.
-pub(crate) fn put_role_name(out: &mut Vec<u8>, protocol: &Protocol, role: u32) -> Result<(), NoMemory>
+pub(crate) fn put_role_name(
+    out: &mut Vec<u8>,
+    protocol: &Protocol,
+    role: u32,
+) -> Result<(), NoMemory>
     ensures { OnOk result (out.new.items ≡ out.old.items ++ role_name protocol.now role) }
 {
     if let Some(name) = protocol.roles().get(role as usize) {

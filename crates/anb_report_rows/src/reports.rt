@@ -218,7 +218,12 @@ fn a_ticket_is_forwarded_unseen(rt: HostRuntime) -> Result<(), Fail> {
 fn parts_are_checked_in_wholes_and_later(rt: HostRuntime) -> Result<(), Fail> {
     let hashes = [HASHES_REPORT].as_slice();
     check(&rt, rt.alloc(), HASHES, hashes)?;
-    let held = [HELD_REPORT, "note: role A never receives\n", "note: role B never sends\n"].as_slice();
+    let held = [
+        HELD_REPORT,
+        "note: role A never receives\n",
+        "note: role B never sends\n",
+    ]
+    .as_slice();
     check(&rt, rt.alloc(), HELD, held)
 }
 
@@ -248,7 +253,10 @@ fn check_chart(
     let Ok(text) = role_chart(alloc, &protocol, role, &code) else {
         panic!(rt; "no memory");
     };
-    assert_eq!(rt; str::from_utf8(text.as_slice()), str::from_utf8(want.as_bytes()));
+    assert_eq!(rt;
+        str::from_utf8(text.as_slice()),
+        str::from_utf8(want.as_bytes())
+    );
     Ok(())
 }
 

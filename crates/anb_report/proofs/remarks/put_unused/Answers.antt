@@ -1,4 +1,3 @@
-use Rattle.std.proofs.Common.{◌∙◌}
 use Rattle.anb_code.specs.Spelling.{name_at}
 use Rattle.anb_report.proofs.Lines.{unused_put}
 use Rattle.anb_report.proofs.remarks.put_unused.Goals as goal

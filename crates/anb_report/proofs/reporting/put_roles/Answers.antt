@@ -1,4 +1,4 @@
-use Rattle.std.proofs.Common.{◌≡◌, ◌+◌, ◌≤◌, [], ◌∷◌, ◌++◌, length, drop, sym, ap, ◌∙◌, arith, append_assoc}
+use Rattle.std.proofs.Common.{◌+◌, ◌≤◌, [], ◌∷◌, ◌++◌, length, drop, sym, ap, ◌∙◌, arith, append_assoc}
 use Rattle.anb_term.proofs.Lists.{slice_get-at}
 use Rattle.anb_resolve.specs.Choices.{each_after}
 use Rattle.anb_report.specs.Reporting.{role_after, role_report}
