@@ -14,7 +14,7 @@ use Rattle.anb_code.specs.declared.instr.Instr.TheVariants.{Take, Fresh, Recv, H
 use Rattle.anb_code.specs.Meaning.{act_of}
 use Rattle.anb_code.specs.Registers.{pieces_at}
 use Rattle.anb_report.specs.Laws.{SameCourse, exec_changed, UncheckedIsFree}
-use Rattle.anb_report.specs.Looking.{brings, demanded, is_among, is_other, looked_at, seen_whole, unchecked, written_by}
+use Rattle.anb_report.specs.Looking.{brings, demanded, is_among, is_other, looked_at, seen_whole, written_by}
 use Rattle.anb_report.proofs.Free.{Keeps, among_front, asks, course}
 
 -- ---- acts and instructions look at the same

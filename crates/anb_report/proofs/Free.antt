@@ -1,22 +1,21 @@
 -- Where only registers that no demand depends on get other values, no demand turns out otherwise.
-use Rattle.std.proofs.Common.{◌≡◌, ℕ, zero, suc, ◌+◌, ◌-◌, ◌<◌, List, [], ◌∷◌, ◌++◌, length, map, Bool, true, false, IsTrue, Option, Some, None, refl, sym, ap, ◌∙◌, subst, arith, append_assoc, length-append}
-use Rattle.std.specs.Prelude.{◌||◌, ◌&&◌, slice_get, nat_eq, option_and_then, if◌then◌else◌}
-use Rattle.std.specs.List.{AllByRecursion, list_any}
+use Rattle.std.proofs.Common.{◌≡◌, ℕ, zero, suc, ◌+◌, ◌-◌, ◌<◌, List, [], ◌∷◌, ◌++◌, length, Bool, true, false, Option, Some, None, refl, sym, ap, ◌∙◌, subst, arith, append_assoc, length-append}
+use Rattle.std.specs.Prelude.{◌||◌, slice_get, nat_eq, option_and_then, if◌then◌else◌}
+use Rattle.std.specs.List.{AllByRecursion}
 use Rattle.std.proofs.lemmas.Bool.{eq-eqb}
 use Rattle.std.proofs.lemmas.List.{append-nil}
 use Rattle.std.proofs.lemmas.List.Elements.{recursion_from_All}
 use Rattle.std.proofs.lemmas.List.Folds.{list_any-append}
 use Rattle.anb_term.specs.declared.term.Op.{Op}
-use Rattle.anb_term.specs.Operator.{arity, keys, undoable}
+use Rattle.anb_term.specs.Operator.{arity, keys}
 use Rattle.anb_term.specs.Value.{Meaning}
 use Rattle.anb_term.specs.Lawful.{Lawful, picked}
 use Rattle.anb_term.specs.Demand.{alike}
 use Rattle.anb_term.proofs.Lists.{slice_get-there}
 use Rattle.anb_term.proofs.Values.{counted}
 use Rattle.anb_plays.specs.Codes.{Act, takes, draws, receives, sends, works, Work, make, undo, equal}
-use Rattle.anb_plays.specs.Plays.{Played, stopped, ends, says}
-use Rattle.anb_plays.specs.Runs.{says_if}
-use Rattle.anb_plays.specs.Exec.{exec, on_written, worked, count_written, IsReady, IsVerified, NoTakes}
+use Rattle.anb_plays.specs.Plays.{Played, says}
+use Rattle.anb_plays.specs.Exec.{exec, worked, count_written, IsReady, IsVerified, NoTakes}
 use Rattle.anb_report.specs.Looking.{is_among}
 use Rattle.anb_report.specs.Laws.{SameCourse, changed, exec_changed}
 
@@ -161,8 +160,8 @@ module _ {A : Type 0} (m : Meaning A) (lawful : Lawful m) (change : ℕ → A �
       let less_keeps = fewer (asks next (works (make o ns) ∷ acts)) later (later_less next acts (make o ns)) keeps in
       let less_same = less T U (asks next (works (make o ns) ∷ acts)) later (later_less next acts (make o ns)) s in
       let here : is_among later (length T) ≡ true → m.built o (picked T ns) ≡ change (length U) (m.built o (picked U ns)) = λ asked.
-          ap (m.built o) (picked_same T U ns (made_same next acts (make o ns) T U s (subst (λ n. is_among later n ≡ true) long asked)))
-          ∙ sym (less_keeps (length U) (m.built o (picked U ns)) (subst (λ n. is_among later n ≡ true) s.long asked)) in
+      ap (m.built o) (picked_same T U ns (made_same next acts (make o ns) T U s (subst (λ n. is_among later n ≡ true) long asked)))
+      ∙ sym (less_keeps (length U) (m.built o (picked U ns)) (subst (λ n. is_among later n ≡ true) s.long asked)) in
       let n : length (T ++ m.built o (picked T ns) ∷ []) ≡ next + 1 = omega (arith, length-append T (m.built o (picked T ns) ∷ []), long) in
       ih (T ++ m.built o (picked T ns) ∷ []) (U ++ change (length U) (m.built o (picked U ns)) ∷ []) (next + 1) e (at + 1) i arrivals n none verified.1 less_keeps (one_more T U _ _ later less_same here)
   course_work acts ih T U next e at i arrivals (undo o ks n) long none verified keeps s =

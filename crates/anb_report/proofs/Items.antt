@@ -1,6 +1,6 @@
 -- One item more of a list, and the terms of registers.
-use Rattle.std.proofs.Common.{◌≡◌, ℕ, zero, suc, ◌+◌, ◌-◌, ◌≤◌, ◌<◌, List, [], ◌∷◌, ◌++◌, length, map, drop, take, get_or, Bool, true, false, Some, None, IsTrue, refl, sym, ap, ◌∙◌, arith}
-use Rattle.std.specs.Prelude.{slice_get, ◌||◌, if◌then◌else◌, sum_by}
+use Rattle.std.proofs.Common.{◌≡◌, ℕ, zero, suc, ◌+◌, ◌-◌, ◌≤◌, ◌<◌, List, [], ◌∷◌, ◌++◌, length, map, drop, take, get_or, Bool, true, false, Some, IsTrue, refl, sym, ap, ◌∙◌, arith}
+use Rattle.std.specs.Prelude.{slice_get, ◌||◌, if◌then◌else◌}
 use Rattle.std.specs.List.{list_any, range_with_len}
 use Rattle.std.proofs.lemmas.List.Sums.{sum_by-cons}
 use Rattle.anb_format.specs.Formats.{FormatValue}
@@ -72,15 +72,6 @@ pub mapped_length : (terms : List Term) → length (map tree_of terms) ≡ lengt
 mapped_length [] = refl
 mapped_length (t ∷ terms) = ap suc (mapped_length terms)
 
--- one of the terms is told so
-pub any_term : (terms : List Term) (r : ℕ) (test : Tree → Bool) (t : Term) → slice_get terms r ≡ Some t → test (tree_of t) ≡ true → list_any test (map tree_of terms) ≡ true
-any_term terms r test t e is = any_here test terms r t e is
-  where
-    any_here : (test : Tree → Bool) (ts : List Term) (i : ℕ) (x : Term) → slice_get ts i ≡ Some x → test (tree_of x) ≡ true → list_any test (map tree_of ts) ≡ true
-    any_here test [] i x e is = cc
-    any_here test (y ∷ ys) zero x e is = let s : y ≡ x = cc in ap (λ b. b || list_any test (map tree_of ys)) (ap (λ z. test (tree_of z)) s ∙ is)
-    any_here test (y ∷ ys) (suc i) x e is = either_true (test (tree_of y)) (list_any test (map tree_of ys)) (any_here test ys i x e is)
-
 -- ---- one instruction more
 
 pub fewer_left : (formats : List FormatValue) (i : ℕ) (instrs : List Instr) → count_registers formats (drop i instrs) ≤ count_registers formats instrs
@@ -139,3 +130,9 @@ other_notes formats p terms next [] x h e is = refl
 other_notes formats p terms next (y ∷ instrs) x h e is =
     let t : is_message y ≡ false = ap is_message (sym e) ∙ is in
     ap (λ b. if b then notes_at formats p terms next (y ∷ up_to_message instrs) ∷ [] else []) t
+
+-- an item of a list is told so
+pub any_at : {A B : Type 0} (view : A → B) (test : B → Bool) (xs : List A) (i : ℕ) (x : A) → slice_get xs i ≡ Some x → test (view x) ≡ true → list_any test (map view xs) ≡ true
+any_at view test [] i x e is = cc
+any_at view test (y ∷ ys) zero x e is = let s : y ≡ x = cc in ap (λ b. b || list_any test (map view ys)) (ap (λ z. test (view z)) s ∙ is)
+any_at view test (y ∷ ys) (suc i) x e is = either_true (test (view y)) (list_any test (map view ys)) (any_at view test ys i x e is)

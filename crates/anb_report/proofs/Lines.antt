@@ -1,5 +1,5 @@
 -- Lines, part by part, and the lines of one action more.
-use Rattle.std.proofs.Common.{◌≡◌, ℕ, ◌+◌, ◌<◌, List, [], ◌∷◌, ◌++◌, length, map, drop, get_or, Bool, true, false, Some, cond, refl, sym, ap, ◌∙◌, subst, arith, append_assoc, length-append}
+use Rattle.std.proofs.Common.{◌≡◌, ℕ, ◌+◌, ◌<◌, List, [], ◌∷◌, ◌++◌, length, map, drop, get_or, Bool, true, false, Some, cond, refl, sym, ap, ◌∙◌, arith, append_assoc, length-append}
 use Rattle.std.specs.Prelude.{codes, count_by, decimal, slice_get}
 use Rattle.std.proofs.lemmas.List.Sums.{sum_by-append, sum_by-cons}
 use Rattle.std.proofs.lemmas.Option.{get_or_from_slice_get}
@@ -16,6 +16,7 @@ use Rattle.anb_explain.specs.Explained.{line}
 use Rattle.anb_explain.proofs.Lines.{counted_one}
 use Rattle.anb_explain.proofs.Loops.{drop_item, item_drop}
 use Rattle.anb_report.specs.Noting.{register_texts}
+use Rattle.anb_report.specs.Remarks.{is_repeated, repeated, unused}
 use Rattle.anb_report.specs.RoleCharts.{noted_lines, noted_text}
 use Rattle.anb_report.specs.Reporting.{action_lines, action_text, is_own, notes_line, role_after, role_report, start_lines, unchecked_line}
 
@@ -37,6 +38,14 @@ unchecked_some p terms old (r ∷ rs) some =
 
 pub note_put : (old from note : List ℕ) → ((((old ++ codes "    Note over ") ++ from) ++ codes ": ") ++ note) ++ 10 ∷ [] ≡ old ++ chart.line (codes "Note over " ++ (from ++ (codes ": " ++ note)))
 note_put old from note = simp append_assoc
+
+pub unused_put : (old : List ℕ) (there : Bool) (name : List ℕ) → there ≡ false → ((old ++ codes "note: nothing uses the format ") ++ name) ++ 10 ∷ [] ≡ old ++ unused there name
+unused_put old there name e =
+    rw e (ap (λ l. l ++ 10 ∷ []) (append_assoc old (codes "note: nothing uses the format ") name) ∙ append_assoc old (codes "note: nothing uses the format " ++ name) (10 ∷ []))
+
+pub repeated_put : (actions : List ActionValue) (old : List ℕ) (i : ℕ) → is_repeated actions i ≡ true
+    → (((((old ++ codes "note: actions ") ++ decimal (i + 1)) ++ codes " and ") ++ decimal (i + 2)) ++ codes " have the same message") ++ 10 ∷ [] ≡ old ++ repeated actions i
+repeated_put actions old i e = rw e (simp append_assoc)
 
 -- ---- one action more
 

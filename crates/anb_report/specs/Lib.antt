@@ -1,5 +1,7 @@
 pub mod Looking
 pub mod Noting
+pub mod Names
+pub mod Remarks
 pub mod Reporting
 pub mod RoleCharts
 pub mod Laws

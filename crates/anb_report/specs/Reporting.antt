@@ -10,10 +10,9 @@ use Rattle.anb_resolve.specs.Texts.{atom_name, term_text}
 use Rattle.anb_code.specs.CodeValue.{CodeValue}
 use Rattle.anb_explain.specs.Explained.{line, register_terms}
 use Rattle.anb_report.specs.Looking.{unchecked}
+use Rattle.anb_report.specs.Names.{role_name}
+use Rattle.anb_report.specs.Remarks.{remarks}
 use Rattle.anb_report.specs.Noting.{notes_of, register_texts}
-
-abbrev pub role_name : ProtocolValue → ℕ → List ℕ
-role_name p role = option_map_or (λ name. name) (slice_get p.roles role) []
 
 -- a role sends or receives an action's message
 abbrev pub is_own : ℕ → ActionValue → Bool
@@ -93,9 +92,9 @@ terms_in p role code = unwrap_or (register_terms p role code) []
 abbrev pub role_report : ProtocolValue → ℕ → CodeValue → List ℕ
 role_report p role code = role_text p role code (terms_in p role code)
 
--- the codes are those of the roles in order
+-- the codes are those of the roles in order; below stands what is noted of the protocol
 abbrev pub role_after : ProtocolValue → List CodeValue → CodeValue → List ℕ
 role_after p before code = role_report p (length before) code
 
 abbrev pub report : ProtocolValue → List CodeValue → List ℕ
-report p codes = each_after (role_after p) [] codes
+report p codes = each_after (role_after p) [] codes ++ remarks p

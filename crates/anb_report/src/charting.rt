@@ -116,7 +116,16 @@ fn put_actions(
 {
     let mut event = 0;
     for (i, action) in actions.iter().enumerate() {
-        put_noted(alloc, out, protocol, role, notes, event + 1, i as u32 + 1, action)?;
+        put_noted(
+            alloc,
+            out,
+            protocol,
+            role,
+            notes,
+            event + 1,
+            i as u32 + 1,
+            action,
+        )?;
         if is_own(role, action) {
             event += 1;
         }

@@ -10,6 +10,7 @@ mod laws;
 mod lists;
 mod notes;
 mod registers;
+mod remarks;
 mod reporting;
 mod seen;
 

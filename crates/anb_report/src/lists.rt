@@ -92,7 +92,8 @@ fn term_at(terms: &[Term], r: u32) -> Option<&Term>
     None
 }
 
-fn is_same(one: &Term, other: &Term) -> bool
+/// Whether two terms are one.
+pub(crate) fn is_same(one: &Term, other: &Term) -> bool
     ensures { result ≡ tree_eqb (tree_of one.now) (tree_of other.now) }
 {
     one.same(other)

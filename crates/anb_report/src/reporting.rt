@@ -1,5 +1,5 @@
 //! The report of all roles.
-ghost use Rattle.std.specs.Prelude.{◌≡◌, ◌<◌, ◌++◌, map, length, count_by, decimal, IfOk, OnOk};
+ghost use Rattle.std.specs.Prelude.{◌≡◌, ◌<◌, ◌++◌, [], map, length, count_by, decimal, IfOk, OnOk};
 ghost use Rattle.std.specs.List.{AllByRecursion};
 ghost use Rattle.anb_term.specs.View.{tree_of};
 ghost use Rattle.anb_compile.specs.Fitting.{FitsRole, FitRoles};
@@ -7,10 +7,13 @@ ghost use Rattle.anb_resolve.specs.Laws.{HoldsOf};
 ghost use Rattle.anb_resolve.specs.Plans.{names_made};
 ghost use Rattle.anb_resolve.specs.Texts.{IsTermOf};
 ghost use Rattle.anb_resolve.specs.Views.{action_value};
-ghost use Rattle.anb_report.specs.Reporting.{action_lines, counted, event_line, events_text, head_line, is_own, new_for, notes_at_event, notes_line, peer, report, role_name, role_report, start_lines, unchecked_line, with_new};
+ghost use Rattle.anb_resolve.specs.Choices.{each_after};
+ghost use Rattle.anb_report.specs.Names.{role_name};
+ghost use Rattle.anb_report.specs.Reporting.{action_lines, counted, event_line, events_text, head_line, is_own, new_for, notes_at_event, notes_line, peer, report, role_after, role_report, start_lines, unchecked_line, with_new};
 
 use crate::lists::put_terms;
 use crate::notes::{Notes, notes_of};
+use crate::remarks::put_remarks;
 use crate::seen::unchecked;
 use anb_base::{Bytes, NoMemory, Text};
 use anb_code::RoleCode;
@@ -25,14 +28,30 @@ pub fn report(alloc: Global, protocol: &Protocol, codes: &[RoleCode]) -> Result<
     requires { FitRoles protocol.now codes.now }
     ensures { IfOk result (λ text. text ≡ report protocol.now codes.now) }
 {
+    let mut out = Vec::new(alloc);
+    put_roles(alloc, &mut out, protocol, codes)?;
+    put_remarks(alloc, &mut out, protocol)?;
+    Ok(Bytes::new(out))
+}
+
+/// Appends the report on each role.
+fn put_roles(
+    alloc: Global,
+    out: &mut Vec<u8>,
+    protocol: &Protocol,
+    codes: &[RoleCode],
+) -> Result<(), NoMemory>
+    requires { FitRoles protocol.now codes.now }
+    ensures { OnOk result (out.new.items
+        ≡ out.old.items ++ each_after (role_after protocol.now) [] codes.now) }
+{
     protocols_hold();
     let _actions = protocol.messages();
     let made = protocol.made(alloc)?;
-    let mut out = Vec::new(alloc);
     for (role, code) in codes.iter().enumerate() {
-        put_role(alloc, &mut out, protocol, role as u32, &made, code)?;
+        put_role(alloc, out, protocol, role as u32, &made, code)?;
     }
-    Ok(Bytes::new(out))
+    Ok(())
 }
 
 /// Appends the report on one role.
@@ -57,7 +76,15 @@ fn put_role(
     let taken = unchecked(alloc, code)?;
     put_head(out, protocol, role)?;
     put_start(out, notes_at(&notes, 0))?;
-    put_events(alloc, out, protocol, role, protocol.messages(), made, &notes)?;
+    put_events(
+        alloc,
+        out,
+        protocol,
+        role,
+        protocol.messages(),
+        made,
+        &notes,
+    )?;
     put_unchecked(alloc, out, protocol, terms, &taken)
 }
 
@@ -83,7 +110,12 @@ fn put_head(out: &mut Vec<u8>, protocol: &Protocol, role: u32) -> Result<(), NoM
     Ok(())
 }
 
-fn put_role_name(out: &mut Vec<u8>, protocol: &Protocol, role: u32) -> Result<(), NoMemory>
+/// Appends the name of a role.
+pub(crate) fn put_role_name(
+    out: &mut Vec<u8>,
+    protocol: &Protocol,
+    role: u32,
+) -> Result<(), NoMemory>
     ensures { OnOk result (out.new.items ≡ out.old.items ++ role_name protocol.now role) }
 {
     if let Some(name) = protocol.roles().get(role as usize) {
@@ -124,7 +156,8 @@ fn put_counted(out: &mut Vec<u8>, count: usize) -> Result<(), NoMemory>
     Ok(())
 }
 
-fn put_number(out: &mut Vec<u8>, n: usize) -> Result<(), NoMemory>
+/// Appends a number.
+pub(crate) fn put_number(out: &mut Vec<u8>, n: usize) -> Result<(), NoMemory>
     ensures { OnOk result (out.new.items ≡ out.old.items ++ decimal n) }
 {
     let mut buffer = Buffer::new();

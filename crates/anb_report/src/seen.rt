@@ -20,11 +20,7 @@ pub fn unchecked(alloc: Global, code: &RoleCode) -> Result<Vec<u32>, NoMemory>
     unchecked_in(alloc, code.formats(), code.instrs())
 }
 
-fn unchecked_in(
-    alloc: Global,
-    formats: &[Format],
-    instrs: &[Instr],
-) -> Result<Vec<u32>, NoMemory>
+fn unchecked_in(alloc: Global, formats: &[Format], instrs: &[Instr]) -> Result<Vec<u32>, NoMemory>
     requires fields { AllByRecursion (λ format. field_count format.pieces ≤ 32) formats.now }
     requires few { count_registers formats.now instrs.now < 2 ^ 32 }
     ensures { IfOk result (λ rs. rs.items ≡ unchecked formats.now instrs.now) }
@@ -74,12 +70,7 @@ fn looked_at(
 
 /// Appends what an instruction looks at that writes this register first, where later ones look at
 /// these.
-fn put_looks(
-    seen: &mut Vec<u32>,
-    opened: bool,
-    next: u32,
-    instr: &Instr,
-) -> Result<(), NoMemory>
+fn put_looks(seen: &mut Vec<u32>, opened: bool, next: u32, instr: &Instr) -> Result<(), NoMemory>
     ensures { OnOk result (seen.new.items
         ≡ seen.old.items ++ looks_at opened seen.old.items next instr.now) }
 {
@@ -142,16 +133,11 @@ fn put_parts(seen: &mut Vec<u32>, formats: &[Format], instrs: &[Instr]) -> Resul
 }
 
 /// Appends the registers from one on up to another, where an instruction opens one of these.
-fn put_parts_of(
-    seen: &mut Vec<u32>,
-    start: u32,
-    end: u32,
-    instr: &Instr,
-) -> Result<(), NoMemory>
+fn put_parts_of(seen: &mut Vec<u32>, start: u32, end: u32, instr: &Instr) -> Result<(), NoMemory>
     requires { start ≤ end }
     ensures { OnOk result (seen.new.items ≡ seen.old.items
         ++ (if list_any (is_among seen.old.items) (opened_by instr.now)
-            then range_with_len start (end - start) else [])) }
+        then range_with_len start (end - start) else [])) }
 {
     if opens_one(seen, instr) {
         put_between(seen, start, end)?;

@@ -1,5 +1,5 @@
 -- Commands that show a protocol to a person.
-use Rattle.std.specs.Prelude.{◌≡◌, ℕ, List, Option}
+use Rattle.std.specs.Prelude.{◌≡◌, ℕ, List, Option, Some, None}
 use Rattle.anb_base.specs.Wires.{WireState}
 use Rattle.anb_resolve.specs.Protocols.{ProtocolValue}
 use Rattle.anb_chart.specs.Charts.{chart}

@@ -117,6 +117,33 @@ const HELD_REPORT: &str = concat!(
     "  takes nothing unchecked\n",
 );
 
+/// B sends nothing, C only hears, the format `n` has no use, and A says the same twice.
+const REMARKED: &[u8] =
+    b"Protocol: Remarked; Types: Agent A, B, C; Number N; Formats: m = \"M\" len; n = \"N\" len; Knowledge: A: A, N; B: A; C: A; Actions: A -> B: m(N); A -> B: m(N); A -> C: N;";
+
+const REMARKS: &str = concat!(
+    "role A: 3 actions\n",
+    "  event 1, action 1, to B: m(N)\n",
+    "  event 2, action 2, to B: m(N)\n",
+    "  event 3, action 3, to C: N\n",
+    "  takes nothing unchecked\n",
+    "role B: 2 actions\n",
+    "  event 1, action 1, from A: m(N)\n",
+    "    learns N\n",
+    "  event 2, action 2, from A: m(N)\n",
+    "    checks m(N)\n",
+    "  takes nothing unchecked\n",
+    "role C: 1 action\n",
+    "  event 1, action 3, from A: N\n",
+    "    learns N\n",
+    "  takes unchecked: N\n",
+    "note: nothing uses the format n\n",
+    "note: role A never receives\n",
+    "note: role B never sends\n",
+    "note: role C never sends\n",
+    "note: actions 1 and 2 have the same message\n",
+);
+
 /// The chart for B, who knows A.
 const B_KNOWN_CHART: &str = concat!(
     "sequenceDiagram\n",
@@ -191,8 +218,19 @@ fn a_ticket_is_forwarded_unseen(rt: HostRuntime) -> Result<(), Fail> {
 fn parts_are_checked_in_wholes_and_later(rt: HostRuntime) -> Result<(), Fail> {
     let hashes = [HASHES_REPORT].as_slice();
     check(&rt, rt.alloc(), HASHES, hashes)?;
-    let held = [HELD_REPORT].as_slice();
+    let held = [
+        HELD_REPORT,
+        "note: role A never receives\n",
+        "note: role B never sends\n",
+    ]
+    .as_slice();
     check(&rt, rt.alloc(), HELD, held)
+}
+
+#[test]
+fn what_stands_out_is_noted(rt: HostRuntime) -> Result<(), Fail> {
+    let remarks = [REMARKS].as_slice();
+    check(&rt, rt.alloc(), REMARKED, remarks)
 }
 
 /// Whether the chart of a narration for a role is this text.
@@ -215,7 +253,10 @@ fn check_chart(
     let Ok(text) = role_chart(alloc, &protocol, role, &code) else {
         panic!(rt; "no memory");
     };
-    assert_eq!(rt; str::from_utf8(text.as_slice()), str::from_utf8(want.as_bytes()));
+    assert_eq!(rt;
+        str::from_utf8(text.as_slice()),
+        str::from_utf8(want.as_bytes())
+    );
     Ok(())
 }
 

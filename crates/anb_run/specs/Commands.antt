@@ -6,6 +6,7 @@ use Rattle.anb_command.specs.declared.status.Status.{Status}
 use Rattle.anb_command.specs.Fetches.{Files}
 use Rattle.anb_command.specs.Words.{Asked, fmt, describe, play, enact, replay, host, rehearse, drill, help, branch, certify, why, park, resume, chart, role_chart, check, trace}
 use Rattle.anb_branch_commands.specs.BranchCommand.{CompletesBranch, DoesBranch}
+use Rattle.anb_check_commands.specs.CheckCommand.{CompletesCheck, DoesCheck}
 use Rattle.anb_many_commands.specs.HostCommand.{CompletesHost, DoesHost}
 use Rattle.anb_park_commands.specs.ParkCommand.{CompletesPark, DoesPark}
 use Rattle.anb_park_commands.specs.ResumeCommand.{CompletesResume, DoesResume}
@@ -58,6 +59,7 @@ Does (Some (resume narration role parked key place)) told seed old new status =
     DoesResume narration role parked key told old new status
 Does (Some (chart narration)) told seed old new status = DoesChart narration told old new status
 Does (Some (role_chart narration role)) told seed old new status = DoesRoleChart narration role told old new status
+Does (Some (check narration)) told seed old new status = DoesCheck narration told old new status
 
 -- where nothing failed
 abbrev pub Completes : Option Asked → Option Files → Option (List ℕ) → (old new : WireState) → Status → Type 0
@@ -90,3 +92,4 @@ Completes (Some (resume narration role parked key place)) told seed old new stat
     CompletesResume narration role parked key told old new status
 Completes (Some (chart narration)) told seed old new status = CompletesChart narration told status
 Completes (Some (role_chart narration role)) told seed old new status = CompletesRoleChart narration role told status
+Completes (Some (check narration)) told seed old new status = CompletesCheck narration told status

@@ -7,6 +7,8 @@ use Rattle.anb_stage.specs.Children.{Child}
 use Rattle.anb_command.specs.declared.status.Status.{Status}
 use Rattle.anb_command.specs.Causes.{HasCause, NoneRose}
 use Rattle.anb_command.specs.Fetches.{Files}
+use Rattle.anb_command.specs.Phases.{phase_in}
+use Rattle.anb_command.specs.Statuses.{Phase, phase_of}
 use Rattle.anb_command.specs.Words.{Asked, asked_of, files_of, is_reading, place_of}
 use Rattle.anb_stage_commands.specs.StageCommand.{CompletesStage, DoesStage, HasStageCause, NoChildRose}
 use Rattle.anb_stage_commands.specs.Words.{Staged, staged_of}
@@ -30,6 +32,11 @@ all_places None asked = place_of asked
 abbrev pub all_reading : Option Staged → Option Asked → Bool
 all_reading (Some s) asked = false
 all_reading None asked = is_reading asked
+
+-- when a status comes
+abbrev pub all_phase : Option Staged → Option Asked → Status → Phase
+all_phase (Some s) asked status = phase_of status
+all_phase None asked status = phase_in asked status
 
 -- by the files, the seed, the children and the wire
 module _ (asked : Option Asked) (told : Option Files) (seed : Option (List ℕ)) (children children_now : ℕ → Child) (old new : WireState) (status : Status) where

@@ -5,12 +5,12 @@ ghost use Rattle.anb_command.specs.Causes.{NoneRose};
 ghost use Rattle.anb_command.specs.Fetches.{Fetches};
 ghost use Rattle.anb_command.specs.Lines.{Tells};
 ghost use Rattle.anb_command.specs.Reaches.{Reaches};
-ghost use Rattle.anb_command.specs.Statuses.{line_of, phase_of};
+ghost use Rattle.anb_command.specs.Statuses.{line_of};
 ghost use Rattle.anb_command.specs.Touches.{Touches};
 ghost use Rattle.anb_command.specs.Words.{asked_of};
 ghost use Rattle.anb_command.specs.declared.status.Status.TheVariants.{Usage};
 ghost use Rattle.anb_stage_commands.specs.Words.{staged_of};
-ghost use Rattle.anb_run.specs.Stages.{CompletesAny, DoesAny, HasAnyCause, IsAsked, all_files, all_places, all_reading};
+ghost use Rattle.anb_run.specs.Stages.{CompletesAny, DoesAny, HasAnyCause, IsAsked, all_files, all_phase, all_places, all_reading};
 
 use crate::run;
 use anb_base::{Shelf, Sink, Text, Wire};
@@ -49,9 +49,11 @@ pub fn run_all<F: Shelf, P: Spawner, W: Wire, E: Sink>(
     ensures fetches { Fetches (all_files (staged_of words.now) (asked_of words.now))
         (F.files shelf.old) (F.files shelf.new) (F.faults shelf.old) (F.faults shelf.new) }
     ensures reached { Reaches (all_places (staged_of words.now) (asked_of words.now))
-        (phase_of result) (W.state wire.old).reached (W.state wire.new).reached }
+        (all_phase (staged_of words.now) (asked_of words.now) result)
+        (W.state wire.old).reached (W.state wire.new).reached }
     ensures touches { Touches (all_reading (staged_of words.now) (asked_of words.now))
-        (phase_of result) (W.state wire.old) (W.state wire.new) }
+        (all_phase (staged_of words.now) (asked_of words.now) result)
+        (W.state wire.old) (W.state wire.new) }
     ensures line { Tells (line_of result)
         (E.written err.old) (E.written err.new) (E.faults err.old) (E.faults err.new) }
     ensures beside_line { E.kept err.new ≡ E.kept err.old }

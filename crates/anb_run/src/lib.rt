@@ -10,8 +10,9 @@ ghost use Rattle.std.specs.Prelude.{◌≡◌, ◌↔◌, None};
 ghost use Rattle.anb_command.specs.Causes.{HasCause, NoneRose};
 ghost use Rattle.anb_command.specs.Fetches.{Fetches};
 ghost use Rattle.anb_command.specs.Lines.{Tells};
+ghost use Rattle.anb_command.specs.Phases.{phase_in};
 ghost use Rattle.anb_command.specs.Reaches.{Reaches};
-ghost use Rattle.anb_command.specs.Statuses.{line_of, phase_of};
+ghost use Rattle.anb_command.specs.Statuses.{line_of};
 ghost use Rattle.anb_command.specs.Touches.{Touches};
 ghost use Rattle.anb_command.specs.Words.{asked_of, files_of, is_reading, place_of};
 ghost use Rattle.anb_command.specs.declared.status.Status.TheVariants.{Usage};
@@ -26,6 +27,7 @@ use crate::laws::{certified_files_play, compiled_files_play};
 pub use all::run_all;
 use anb_base::{Shelf, Sink, Text, Wire};
 use anb_branch_commands::branch;
+use anb_check_commands::check;
 use anb_command::{Command, tell};
 pub use anb_command::{Due, Halt, NarrationNo, Status};
 use anb_many_commands::host;
@@ -65,9 +67,9 @@ pub fn run<F: Shelf, W: Wire, E: Sink>(
     // What else is touched, and what is told.
     ensures fetches { Fetches (files_of (asked_of words.now))
         (F.files shelf.old) (F.files shelf.new) (F.faults shelf.old) (F.faults shelf.new) }
-    ensures reached { Reaches (place_of (asked_of words.now)) (phase_of result)
+    ensures reached { Reaches (place_of (asked_of words.now)) (phase_in (asked_of words.now) result)
         (W.state wire.old).reached (W.state wire.new).reached }
-    ensures touches { Touches (is_reading (asked_of words.now)) (phase_of result)
+    ensures touches { Touches (is_reading (asked_of words.now)) (phase_in (asked_of words.now) result)
         (W.state wire.old) (W.state wire.new) }
     ensures line { Tells (line_of result)
         (E.written err.old) (E.written err.new) (E.faults err.old) (E.faults err.new) }

@@ -1,4 +1,4 @@
-use Rattle.std.proofs.Common.{[], ◌∷◌, ◌++◌, map, sym, ap, ◌∙◌, arith}
+use Rattle.std.proofs.Common.{[], ◌∷◌, ◌++◌, map, ap, ◌∙◌, arith}
 use Rattle.anb_term.specs.View.{tree_of}
 use Rattle.anb_code.specs.Verified.{count_registers}
 use Rattle.anb_report.specs.Noting.{notes_at, notes_from}

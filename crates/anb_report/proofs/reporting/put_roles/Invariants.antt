@@ -2,11 +2,11 @@ use Rattle.std.proofs.Common.{◌≡◌, List, [], ◌++◌, length, drop}
 use Rattle.anb_code.specs.CodeValue.{CodeValue}
 use Rattle.anb_resolve.specs.Choices.{each_after}
 use Rattle.anb_report.specs.Reporting.{role_after}
-use Rattle.anb_report.proofs.reporting.report.Given as goal
+use Rattle.anb_report.proofs.reporting.put_roles.Given as goal
 
 abbrev pub invariant-loop-role : goal.invariant-loop-role
 invariant-loop-role l = record {
   before : List CodeValue;
   many : length before ≡ l.role;
-  due : l.out.items ++ each_after (role_after l.protocol) before (drop l.role l.codes) ≡ each_after (role_after l.protocol) [] l.codes;
+  due : l.out.items ++ each_after (role_after l.protocol) before (drop l.role l.codes) ≡ l.initial.out.items ++ each_after (role_after l.protocol) [] l.codes;
 }

@@ -1,0 +1,8 @@
+use Rattle.std.proofs.Common.{◌≡◌, map, take, false}
+use Rattle.std.specs.List.{list_any}
+use Rattle.anb_resolve.specs.Views.{action_value}
+use Rattle.anb_report.specs.Remarks.{is_to}
+use Rattle.anb_report.proofs.remarks.receives.Given as goal
+
+abbrev pub invariant-loop-action : goal.invariant-loop-action
+invariant-loop-action l = list_any (is_to l.role) (map action_value (take l.action-index l.actions)) ≡ false
