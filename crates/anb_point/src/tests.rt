@@ -165,3 +165,58 @@ fn declarations_that_are_refused(rt: HostRuntime) -> Result<(), Fail> {
     }
     Ok(())
 }
+
+/// A part so many times.
+fn repeated(alloc: Global, part: &str, count: usize) -> Result<String, Fail> {
+    let mut text = String::new(alloc);
+    for _ in 0..count {
+        text.push_str(part)?;
+    }
+    Ok(text)
+}
+
+#[test]
+fn levels_counts_and_widths(rt: HostRuntime) -> Result<(), Fail> {
+    let alloc = rt.alloc();
+    let hashes = repeated(alloc, "h(", 64)?;
+    let deep = said(
+        alloc,
+        &[
+            "Protocol: P; Types: Actions: A -> B:\n",
+            hashes.as_str(),
+            "x",
+        ],
+    )?;
+    let spaces = repeated(alloc, " ", 128)?;
+    let hashed = hashes.as_str();
+    let below = spaces.as_str();
+    let wanted = format!(in alloc;
+        "t.anb:2:129: this term is at level 65\n    2 | {hashed}x\n      | {below}^\na term has 64 levels at most\n"
+    )?;
+    assert_eq!(rt; deep.as_str(), wanted.as_str());
+    let formats = repeated(alloc, "f = \"F\";\n", 65)?;
+    let many = said(
+        alloc,
+        &[
+            "Protocol: P;\nTypes:\nFormats:\n",
+            formats.as_str(),
+            "Actions:\n",
+        ],
+    )?;
+    assert_eq!(rt;
+        many.as_str(),
+        "t.anb:68:1: why\n   68 | f = \"F\";\n      | ^\nat most 64\n"
+    );
+    let wide = said(
+        alloc,
+        &[
+            "Protocol: P; Types: Agent A, B; Number N; Formats: x = \"X\" hex;\n",
+            "Knowledge: A: N; Actions:\nA -> B: x(x(x(x(x(x(x(x(N))))))));\n",
+        ],
+    )?;
+    assert_eq!(rt;
+        wide.as_str(),
+        "t.anb:3:1: why\n    3 | A -> B: x(x(x(x(x(x(x(x(N))))))));\n      | ^\na term has at most 67108864 bytes\n"
+    );
+    Ok(())
+}
