@@ -6,7 +6,7 @@ _anb_words() {
         compile | explain) echo narration role ;;
         play | host) echo narration role values place ;;
         branch) echo narration role values arm ;;
-        replay) echo narration role values file ;;
+        replay | trace) echo narration role values file ;;
         rehearse) echo narration values file ;;
         certify) echo narration role file ;;
         why) echo narration ;;
@@ -32,7 +32,7 @@ _anb() {
     local word=${COMP_WORDS[COMP_CWORD]} before=${COMP_WORDS[COMP_CWORD-1]} kinds kind
     COMPREPLY=()
     if ((COMP_CWORD == 1)); then
-        mapfile -t COMPREPLY < <(compgen -W 'fmt compile explain play enact host replay rehearse drill branch certify why park resume stage chart help' -- "$word")
+        mapfile -t COMPREPLY < <(compgen -W 'fmt compile explain play enact host replay rehearse drill branch certify why park resume stage chart trace help' -- "$word")
         return
     fi
     read -ra kinds < <(_anb_words "${COMP_WORDS[1]}")

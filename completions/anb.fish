@@ -40,13 +40,14 @@ complete -c anb -n __fish_use_subcommand -a why -d 'Say why a narration is refus
 complete -c anb -n __fish_use_subcommand -a park -d 'Play a role and park it'
 complete -c anb -n __fish_use_subcommand -a resume -d 'Go on from a parked session'
 complete -c anb -n __fish_use_subcommand -a chart -d 'Draw a narration'
+complete -c anb -n __fish_use_subcommand -a trace -d 'Tell step by step what a role does'
 complete -c anb -n __fish_use_subcommand -a stage -d 'Relay among children of all roles'
 complete -c anb -n __fish_use_subcommand -a help -d 'List the commands'
 
-complete -c anb -n '__anb_at 1 fmt compile explain play branch host replay stage' -k -a '(__fish_complete_suffix .anb)'
-complete -c anb -n '__anb_at 2 compile explain play branch host replay' -a '(__anb_roles)' -d Role
-complete -c anb -n '__anb_at 3 play branch host replay' -k -a '(__fish_complete_suffix .values)'
-complete -c anb -n '__anb_at 4 replay' -F
+complete -c anb -n '__anb_at 1 fmt compile explain play branch host replay trace stage' -k -a '(__fish_complete_suffix .anb)'
+complete -c anb -n '__anb_at 2 compile explain play branch host replay trace' -a '(__anb_roles)' -d Role
+complete -c anb -n '__anb_at 3 play branch host replay trace' -k -a '(__fish_complete_suffix .values)'
+complete -c anb -n '__anb_at 4 replay trace' -F
 complete -c anb -n '__anb_at 2 stage' -a '(__fish_complete_directories)'
 complete -c anb -n '__anb_at 1 enact' -F
 complete -c anb -n '__anb_at 2 enact' -k -a '(__fish_complete_suffix .values)'

@@ -53,6 +53,7 @@ const HELP: &str = concat!(
     "anb resume <narration> <role> <record> <key> [place]\n",
     "anb stage <narration> <folder>\n",
     "anb chart <narration>\n",
+    "anb trace <narration> <role> <values> <transcript>\n",
 );
 
 /// The canonical text of the narration in the file.

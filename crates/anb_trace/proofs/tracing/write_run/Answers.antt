@@ -8,8 +8,7 @@ use Rattle.anb_term.proofs.Lists.{slice_get-at}
 use Rattle.anb_plays.specs.Plays.{done}
 use Rattle.anb_code.specs.declared.instr.Instr.{Instr}
 use Rattle.anb_code.specs.Registers.{count_written}
-use Rattle.anb_code.specs.Verified.{HasItsFormat}
-use Rattle.anb_compile.proofs.Valuing.{few_fields, its_format}
+use Rattle.anb_compile.proofs.Valuing.{few_fields}
 use Rattle.anb_machine.proofs.Verified.{few_at}
 use Rattle.anb_text.proofs.Written.{due_as, last_part, not_all, one_part, same_due}
 use Rattle.anb_trace.specs.declared.steps.Standing.{Standing}
@@ -63,19 +62,10 @@ returns-in-Err-write_bytes-clause-written g c =
     let part : List ℕ = told.text.items in
     not_all _ _ _ _ _ _ _ part _ (same_due _ _ _ _ _ _ _ next c.loop-at.invariant.due) c.in-Err-write_bytes.no (rw (sym c.deref.ensures.value) c.in-Err-write_bytes.ensures.written)
 
-pub count_written-requires-clause-fields : goal.count_written-requires-clause-fields
-count_written-requires-clause-fields g c =
+pub count_written-requires : goal.count_written-requires
+count_written-requires g c =
     let P : List FormatValue → Type 0 = λ l. AllByRecursion (λ (format : FormatValue). field_count format.pieces ≤ 32) l in
     subst P (sym c.formats-formats.ensures.formats) (few_fields ARRIVAL WIDE c.args.subject.now.code.now c.formats-formats.ensures.verified)
-
-pub count_written-requires-clause-format : goal.count_written-requires-clause-format
-count_written-requires-clause-format g c =
-    let x = c.instr-item.result in
-    let i = c.loop-at.at in
-    let P : List Instr → Type 0 = λ l. slice_get l i ≡ Some x in
-    let here = subst P c.instrs-instr-items.ensures.instrs (slice_get-at c.instrs-instr-items.result.now i x (omega arith) c.instr-item.is) in
-    let Q : List FormatValue → Type 0 = λ l. HasItsFormat l x in
-    subst Q (sym c.formats-formats.ensures.formats) (its_format ARRIVAL WIDE c.args.subject.now.code.now i x c.formats-formats.ensures.verified here)
 
 pub overflow_add-first : goal.overflow_add-first
 overflow_add-first g c =
