@@ -36,7 +36,7 @@ module _ (p : ProtocolValue) (role : ℕ) (code : CodeValue) (initial : List (Li
   -- a text of the code's run, behind a replay that ends with this status
   pub record IsDueAs (status : Status) (text : List ℕ) : Type 0 where
     pub some : status ≢ NoMemory
-  pub replayed : IsReplayed (play_by code initial seed) lines status
+    pub replayed : IsReplayed (play_by code initial seed) lines status
     pub terms : List Tree
     pub are : register_terms p role code ≡ Some terms
     pub is : text ≡ trace (subject_by (job_by p role initial seed) code terms) initial seed (arrivals_of lines) ++ differing_line status

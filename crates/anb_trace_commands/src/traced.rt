@@ -29,6 +29,7 @@ use anb_text::{WriteNo, write_part};
 use anb_trace::{traces_end_as_runs, write_trace};
 use anb_transcript::{Transcript, TranscriptLine, one_reading, one_replay};
 use anb_values::one_fit;
+use itoa::Buffer;
 use std::alloc::Global;
 
 /// Tells what the role does over the arrivals of a transcript. The status is that of `replay`.
@@ -207,11 +208,12 @@ fn write_both<K: Sink>(
 fn differing_line(alloc: Global, status: &Status) -> Result<Vec<u8>, NoMemory>
     ensures { IfOk result (λ bytes. bytes.items ≡ differing_line status.now) }
 {
-    match status {
-        Status::Differs { line, .. } => {
-            let text = format!(in alloc; "transcript line {line} differs\n")?;
-            Ok(text.into_bytes())
-        }
-        _ => Ok(Vec::new(alloc)),
+    let mut out = Vec::new(alloc);
+    if let Status::Differs { line, .. } = status {
+        let mut buffer = Buffer::new();
+        out.extend_from_slice(b"transcript line ")?;
+        out.extend_from_slice(buffer.format(*line).as_bytes())?;
+        out.extend_from_slice(b" differs\n")?;
     }
+    Ok(out)
 }
