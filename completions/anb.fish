@@ -40,6 +40,7 @@ complete -c anb -n __fish_use_subcommand -a why -d 'Say why a narration is refus
 complete -c anb -n __fish_use_subcommand -a park -d 'Play a role and park it'
 complete -c anb -n __fish_use_subcommand -a resume -d 'Go on from a parked session'
 complete -c anb -n __fish_use_subcommand -a chart -d 'Draw a narration'
+complete -c anb -n __fish_use_subcommand -a check -d 'Say why a narration is refused, or what its roles check'
 complete -c anb -n __fish_use_subcommand -a trace -d 'Tell step by step what a role does'
 complete -c anb -n __fish_use_subcommand -a stage -d 'Relay among children of all roles'
 complete -c anb -n __fish_use_subcommand -a help -d 'List the commands'
@@ -66,7 +67,9 @@ complete -c anb -n '__anb_at 1 resume' -k -a '(__fish_complete_suffix .anb)'
 complete -c anb -n '__anb_at 2 resume' -a '(__anb_roles)' -d Role
 complete -c anb -n '__anb_at 3 resume' -F
 complete -c anb -n '__anb_at 4 resume' -F
-complete -c anb -n '__anb_at 1 chart' -k -a '(__fish_complete_suffix .anb)'
+complete -c anb -n '__anb_at 1 chart check' -k -a '(__fish_complete_suffix .anb)'
+complete -c anb -n '__anb_at 2 chart' -a --role
+complete -c anb -n '__anb_at 3 chart' -a '(__anb_roles)' -d Role
 complete -c anb -n '__anb_at 4 branch' -x -l arm -a '1 2 3 4 5 6 7 8' -d 'The arm that is taken'
 complete -c anb -n __anb_place -x -l dial -d 'Connect to host:port'
 complete -c anb -n __anb_place -x -l listen -d 'Wait for a connection at host:port'
