@@ -5,7 +5,7 @@ use Rattle.anb_base.specs.Wires.{WireState}
 use Rattle.anb_code.specs.CodeValue.{CodeValue}
 use Rattle.anb_explain.specs.Explained.{register_terms}
 use Rattle.anb_explain.specs.Explanations.{ExplanationValue}
-use Rattle.anb_resolve.specs.Plans.{plan_of}
+use Rattle.anb_resolve.specs.Plans.{PlanEvent, plan_of}
 use Rattle.anb_resolve.specs.Protocols.{ProtocolValue}
 use Rattle.anb_text.specs.Writing.{IsWritten}
 use Rattle.anb_text.specs.declared.writing.WriteNo.{WriteNo}
@@ -22,8 +22,8 @@ use Rattle.anb_command.specs.OverWire.{OnlyWrites}
 use Rattle.anb_role_commands.specs.Comparing.{IsReplayed}
 use Rattle.anb_role_commands.specs.Playing.{play_by}
 use Rattle.anb_role_commands.specs.ReplayCommand.{status_of}
-use Rattle.anb_trace_commands.specs.TraceCommand.{differing_line}
-use Rattle.anb_trace_commands.specs.Tracing.{EndsAs, HasComeOf, IsDueAs, ended_by}
+use Rattle.anb_trace_commands.specs.TraceCommand.{differing_line, subject_by}
+use Rattle.anb_trace_commands.specs.Tracing.{EndsAs, HasComeOf, IsDueAs, ended_by, job_by}
 
 module _ (p : ProtocolValue) (role : ℕ) (code : CodeValue) (initial : List (List ℕ)) (seed : List ℕ) (lines : List TranscriptLine) where
   -- the text that is written
@@ -35,7 +35,8 @@ module _ (p : ProtocolValue) (role : ℕ) (code : CodeValue) (initial : List (Li
     replayed = replays;
     terms = e.terms;
     are = terms;
-    is = rw (plan, same) refl;
+    is = ap (λ (events : List PlanEvent). trace (record { protocol = p; plan = events; code = code; terms = e.terms }) initial seed arrivals ++ differing_line s) plan
+        ∙ ap (λ (all : List (List ℕ)). trace (subject_by (job_by p role initial seed) code e.terms) initial seed all ++ differing_line s) same;
   }
 
   module _ (w now : Option (List ℕ)) where

@@ -1,4 +1,4 @@
-use Rattle.std.proofs.Common.{◌++◌, ℕ, List, inl, inr, refl, sym, subst}
+use Rattle.std.proofs.Common.{◌++◌, ℕ, List, inl, inr, refl, sym, ◌∙◌, subst}
 use Rattle.anb_command.specs.declared.status.Status.{Status}
 use Rattle.anb_trace.specs.Traces.{trace}
 use Rattle.anb_trace.specs.Words.{subject_of}
@@ -7,21 +7,21 @@ use Rattle.anb_trace_commands.specs.Tracing.{EndsAs, HasComeOf, IsDueAs}
 use Rattle.anb_trace_commands.proofs.Due.{come_so, due_so, ends_so, only_same}
 use Rattle.anb_trace_commands.proofs.traced.trace_now.Goals as goal
 
-pub returns-in-Ok-arrivals_of-clause-comes : goal.returns-in-Ok-arrivals_of-clause-comes
-returns-in-Ok-arrivals_of-clause-comes g c =
+pub returns-clause-comes : goal.returns-clause-comes
+returns-clause-comes g c =
     let t = c.args.tracing in
-    let due = due_so t.protocol t.role t.prepared.code t.prepared.initial t.prepared.seed t.transcript c.in-Ok-compared.status c.in-Ok.explanation c.in-Ok-arrivals_of.arrivals.items c.in-Ok-compared.ensures.some c.in-Ok-compared.ensures.replayed c.in-Ok.ensures.plan c.in-Ok.ensures.terms c.in-Ok-arrivals_of.ensures in
-    subst (λ (s : Status). HasComeOf t.protocol t.role t.prepared.code t.prepared.initial t.prepared.seed t.transcript s (g.W.Wire.state c.args.wire.now).written (g.W.Wire.state c.write_lines.new.wire).written) (sym c.ended_by.ensures)
-    (come_so t.protocol t.role t.prepared.code t.prepared.initial t.prepared.seed t.transcript _ _ c.write_lines.result c.in-Ok-compared.status _ _ _ due c.write_lines.ensures.writes)
+    let due = due_so t.protocol t.role t.prepared.code t.prepared.initial t.prepared.seed t.transcript c.in-Ok-compared.status c.in-Ok.explanation _ c.in-Ok-compared.ensures.some c.in-Ok-compared.ensures.replayed c.in-Ok.ensures.plan c.in-Ok.ensures.terms (c.deref.ensures ∙ c.in-Ok-arrivals_of.ensures) in
+    subst (λ (s : Status). HasComeOf t.protocol t.role t.prepared.code t.prepared.initial t.prepared.seed t.transcript s (g.W.Wire.state c.args.wire.now).written (g.W.Wire.state c.write_lines-written.new.wire).written) (sym c.ended_by.ensures)
+    (come_so t.protocol t.role t.prepared.code t.prepared.initial t.prepared.seed t.transcript _ _ c.write_lines-written.result c.in-Ok-compared.status _ _ _ due c.write_lines-written.ensures.writes)
 
-pub returns-in-Ok-arrivals_of-clause-ends : goal.returns-in-Ok-arrivals_of-clause-ends
-returns-in-Ok-arrivals_of-clause-ends g c =
+pub returns-clause-ends : goal.returns-clause-ends
+returns-clause-ends g c =
     let t = c.args.tracing in
-    subst (λ (s : Status). EndsAs s (g.W.Wire.state c.args.wire.now) (g.W.Wire.state c.write_lines.new.wire)) (sym c.ended_by.ensures)
-    (ends_so t.protocol t.role t.prepared.code t.prepared.initial t.prepared.seed t.transcript c.write_lines.result c.in-Ok-compared.status _ _ _ c.in-Ok-compared.ensures.replayed c.write_lines.ensures.writes)
+    subst (λ (s : Status). EndsAs s (g.W.Wire.state c.args.wire.now) (g.W.Wire.state c.write_lines-written.new.wire)) (sym c.ended_by.ensures)
+    (ends_so t.protocol t.role t.prepared.code t.prepared.initial t.prepared.seed t.transcript c.write_lines-written.result c.in-Ok-compared.status _ _ _ c.in-Ok-compared.ensures.replayed c.write_lines-written.ensures.writes)
 
-pub returns-in-Ok-arrivals_of-clause-only : goal.returns-in-Ok-arrivals_of-clause-only
-returns-in-Ok-arrivals_of-clause-only g c = c.write_lines.ensures.only
+pub returns-clause-only : goal.returns-clause-only
+returns-clause-only g c = c.write_lines-written.ensures.only
 
 pub returns-in-Err-clause-comes : goal.returns-in-Err-clause-comes
 returns-in-Err-clause-comes g c = inl refl
