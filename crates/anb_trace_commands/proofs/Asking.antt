@@ -1,5 +1,5 @@
 -- From the steps before a trace to what is asked.
-use Rattle.std.proofs.Common.{◌≡◌, ℕ, List, length, Option, Some, None, refl, ap, sym, ◌∙◌, subst, inl, inr}
+use Rattle.std.proofs.Common.{◌≡◌, ℕ, List, length, Option, refl, sym, subst, inl, inr}
 use Rattle.std.specs.List.{AllByRecursion}
 use Rattle.anb_base.specs.Bytes.{IsBytes}
 use Rattle.anb_code.specs.CodeValue.{CodeValue}
@@ -17,7 +17,7 @@ use Rattle.anb_command.specs.Roles.{Part, PartInFile}
 use Rattle.anb_command.specs.Steps.{refused, given}
 use Rattle.anb_command.proofs.Chains.{told_map}
 use Rattle.anb_command.proofs.Preparing.{told_both}
-use Rattle.anb_role_commands.specs.Jobs.{Job, JobIs}
+use Rattle.anb_role_commands.specs.Jobs.{JobIs}
 use Rattle.anb_role_commands.specs.ReplayCommand.{ComparisonIs, IsReadToCompare}
 use Rattle.anb_role_commands.proofs.Preparing.{count_known, job_given, plays_as}
 use Rattle.anb_trace_commands.specs.Tracing.{IsTraceable, job_by}
