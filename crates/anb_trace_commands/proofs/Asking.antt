@@ -30,10 +30,10 @@ module _ (narration name values transcript : List ℕ) (host_seed : Option (List
       (first : IfTold told (λ files. PartInFile files narration name (given part)))
       (errand : IfTold told (λ files. ErrandOf files values host_seed code (given (record { code = same; initial = initial; seed = seed })))) where
     -- what is played
-    pub job_asked : IfTold told (λ files. JobIs files narration name values host_seed (given (job_by p role initial seed)))
+    job_asked : IfTold told (λ files. JobIs files narration name values host_seed (given (job_by p role initial seed)))
     job_asked = told_both told (λ files f e. inr (part, f, job_given values host_seed p role code fits files initial seed (subst (λ (c : CodeValue). ErrandOf files values host_seed code (given (record { code = c; initial = initial; seed = seed }))) is e))) first errand
 
-    pub fits_same : FitsRole p role same
+    fits_same : FitsRole p role same
     fits_same = subst (FitsRole p role) (sym is) fits
 
     pub traceable : FittingCodesPlay p → length initial ≡ length (take_texts same.instrs) → AllByRecursion IsBytes initial → (lines : List TranscriptLine) → AllByRecursion IsBytes (arrivals_of lines)
