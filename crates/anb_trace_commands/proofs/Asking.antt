@@ -1,5 +1,5 @@
 -- From the steps before a trace to what is asked.
-use Rattle.std.proofs.Common.{◌≡◌, ℕ, List, length, Option, Some, None, refl, ap, sym, ◌∙◌, subst, inl, inr}
+use Rattle.std.proofs.Common.{◌≡◌, ℕ, List, length, Option, refl, sym, subst, inl, inr}
 use Rattle.std.specs.List.{AllByRecursion}
 use Rattle.anb_base.specs.Bytes.{IsBytes}
 use Rattle.anb_code.specs.CodeValue.{CodeValue}
@@ -17,7 +17,7 @@ use Rattle.anb_command.specs.Roles.{Part, PartInFile}
 use Rattle.anb_command.specs.Steps.{refused, given}
 use Rattle.anb_command.proofs.Chains.{told_map}
 use Rattle.anb_command.proofs.Preparing.{told_both}
-use Rattle.anb_role_commands.specs.Jobs.{Job, JobIs}
+use Rattle.anb_role_commands.specs.Jobs.{JobIs}
 use Rattle.anb_role_commands.specs.ReplayCommand.{ComparisonIs, IsReadToCompare}
 use Rattle.anb_role_commands.proofs.Preparing.{count_known, job_given, plays_as}
 use Rattle.anb_trace_commands.specs.Tracing.{IsTraceable, job_by}
@@ -30,10 +30,10 @@ module _ (narration name values transcript : List ℕ) (host_seed : Option (List
       (first : IfTold told (λ files. PartInFile files narration name (given part)))
       (errand : IfTold told (λ files. ErrandOf files values host_seed code (given (record { code = same; initial = initial; seed = seed })))) where
     -- what is played
-    pub job_asked : IfTold told (λ files. JobIs files narration name values host_seed (given (job_by p role initial seed)))
+    job_asked : IfTold told (λ files. JobIs files narration name values host_seed (given (job_by p role initial seed)))
     job_asked = told_both told (λ files f e. inr (part, f, job_given values host_seed p role code fits files initial seed (subst (λ (c : CodeValue). ErrandOf files values host_seed code (given (record { code = c; initial = initial; seed = seed }))) is e))) first errand
 
-    pub fits_same : FitsRole p role same
+    fits_same : FitsRole p role same
     fits_same = subst (FitsRole p role) (sym is) fits
 
     pub traceable : FittingCodesPlay p → length initial ≡ length (take_texts same.instrs) → AllByRecursion IsBytes initial → (lines : List TranscriptLine) → AllByRecursion IsBytes (arrivals_of lines)

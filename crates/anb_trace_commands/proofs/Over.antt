@@ -8,7 +8,7 @@ use Rattle.anb_transcript.specs.declared.following.ReplayEnd.{ReplayEnd}
 use Rattle.anb_transcript.specs.declared.following.ReplayEnd.TheVariants as replayed
 use Rattle.anb_transcript.specs.declared.transcript.TranscriptLine.{TranscriptLine}
 use Rattle.anb_command.specs.declared.status.Status.{Status}
-use Rattle.anb_command.specs.declared.status.Status.TheVariants.{Unreached, WriteFault, NoMemory}
+use Rattle.anb_command.specs.declared.status.Status.TheVariants.{Done, Unreached, WriteFault, NoMemory}
 use Rattle.anb_command.specs.OverWire.{DidNotReach, HasReached, OnlyWrites, OverWire}
 use Rattle.anb_command.specs.Statuses.{after_reach, at_any_time, at_reach, before_reach, phase_of}
 use Rattle.anb_command.proofs.OverWire.{not_reached, text_done, text_failed, text_wanting, written_unreached}
@@ -19,7 +19,7 @@ use Rattle.anb_trace_commands.specs.Tracing.{EndsAs, HasComeOf}
 -- ---- a place that was reached, and what was written there
 
 module _ (S T : WireState) (at_place : HasReached Stdio S T) (U : WireState) (writes : OnlyWrites T U) where
-  abbrev done_so : OverWire Stdio false _ S U
+  abbrev done_so : OverWire Stdio false Done S U
   done_so = text_done Stdio S T at_place U writes
 
   replayed_so : (end : ReplayEnd) → OverWire Stdio false (status_of end) S U

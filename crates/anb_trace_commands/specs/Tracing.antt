@@ -1,5 +1,5 @@
 -- For proofs alone: what a trace needs, and what has come of one.
-use Rattle.std.specs.Prelude.{◌≡◌, ◌≢◌, ◌⊎◌, ℕ, List, [], ◌++◌, Option, Some}
+use Rattle.std.specs.Prelude.{◌≡◌, ◌≢◌, ◌⊎◌, ℕ, List, [], ◌++◌, Option, Some, Result, Ok, Err}
 use Rattle.std.specs.List.{AllByRecursion}
 use Rattle.anb_base.specs.Bytes.{IsBytes}
 use Rattle.anb_base.specs.Moves.{Put, PutPrefix, Rose}
@@ -8,6 +8,8 @@ use Rattle.anb_code.specs.CodeValue.{CodeValue}
 use Rattle.anb_explain.specs.Explained.{register_terms}
 use Rattle.anb_resolve.specs.Protocols.{ProtocolValue}
 use Rattle.anb_term.specs.Tree.{Tree}
+use Rattle.anb_text.specs.declared.writing.WriteNo.{WriteNo}
+use Rattle.anb_text.specs.declared.writing.WriteNo.TheVariants as writing
 use Rattle.anb_trace.specs.Traces.{trace}
 use Rattle.anb_transcript.specs.Replays.{arrivals_of}
 use Rattle.anb_transcript.specs.declared.following.ReplayEnd.{ReplayEnd}
@@ -57,3 +59,9 @@ abbrev pub EndsAs : Status → (old new : WireState) → Type 0
 EndsAs status old new =
     ((end : ReplayEnd) × (status ≡ status_of end))
     ⊎ (((status ≡ WriteFault) × Rose old.write_faults new.write_faults) ⊎ (status ≡ NoMemory))
+
+-- the status of a trace that was written so, behind a replay with this status
+abbrev pub ended_by : Result (Unit {0}) WriteNo → Status → Status
+ended_by (Ok y) status = status
+ended_by (Err writing.Failed) status = WriteFault
+ended_by (Err writing.NoMemory) status = NoMemory

@@ -1,5 +1,5 @@
 //! A trace that is written to the standard streams.
-ghost use Rattle.std.specs.Prelude.{◌≡◌, ◌<◌, ◌≤◌, ◌^◌, ◌++◌, ◌⊎◌, [], ◌∷◌, length, All, IfOk, Some, false};
+ghost use Rattle.std.specs.Prelude.{◌≡◌, ◌≢◌, ◌<◌, ◌≤◌, ◌^◌, ◌++◌, ◌⊎◌, [], ◌∷◌, length, All, IfOk, Some, false};
 ghost use Rattle.anb_base.specs.declared.TheConstants.{ARRIVAL};
 ghost use Rattle.anb_base.specs.declared.place.Place.TheVariants as place;
 ghost use Rattle.anb_code.specs.Taking.{take_texts};
@@ -9,14 +9,17 @@ ghost use Rattle.anb_text.specs.Writing.{IsWritten};
 ghost use Rattle.anb_trace.specs.Traces.{trace};
 ghost use Rattle.anb_trace.specs.Words.{subject_of};
 ghost use Rattle.anb_transcript.specs.Replays.{arrivals_of};
+ghost use Rattle.anb_command.specs.declared.status.Status.TheVariants as status;
 ghost use Rattle.anb_command.specs.Causes.{HasCause, NoneRose};
 ghost use Rattle.anb_command.specs.Fetches.{Fetches};
 ghost use Rattle.anb_command.specs.OverWire.{OnlyWrites, OverWire};
 ghost use Rattle.anb_command.specs.Reaches.{Reaches};
 ghost use Rattle.anb_command.specs.Statuses.{before_reach, phase_of};
 ghost use Rattle.anb_command.specs.Touches.{Touches};
+ghost use Rattle.anb_role_commands.specs.Comparing.{IsReplayed};
+ghost use Rattle.anb_role_commands.specs.Playing.{play_by};
 ghost use Rattle.anb_trace_commands.specs.TraceCommand.{CompletesTrace, DoesTrace, differing_line};
-ghost use Rattle.anb_trace_commands.specs.Tracing.{EndsAs, HasComeOf};
+ghost use Rattle.anb_trace_commands.specs.Tracing.{EndsAs, HasComeOf, ended_by};
 
 use crate::files::{Tracing, prepare};
 use anb_base::{Bytes, NoMemory, Shelf, Sink, Wire};
@@ -119,26 +122,50 @@ fn trace_now<W: Wire>(alloc: Global, wire: &mut W, tracing: Tracing) -> Status
         Ok(explanation) => explanation,
         Err(NoMemory) => return Status::NoMemory,
     };
-    let status = compare(alloc, &prepared, &transcript);
+    let status = match compared(alloc, &prepared, &transcript) {
+        Ok(status) => status,
+        Err(NoMemory) => return Status::NoMemory,
+    };
     let arrivals = match arrivals_of(alloc, transcript) {
         Ok(arrivals) => arrivals,
         Err(NoMemory) => return Status::NoMemory,
     };
-    match status {
-        Status::NoMemory => Status::NoMemory,
-        status => match write_lines(
-            alloc,
-            wire,
-            &protocol,
-            &prepared,
-            &explanation,
-            &arrivals,
-            &status,
-        ) {
-            Ok(()) => status,
-            Err(WriteNo::Failed) => Status::WriteFault,
-            Err(WriteNo::NoMemory) => Status::NoMemory,
-        },
+    let written = write_lines(
+        alloc,
+        wire,
+        &protocol,
+        &prepared,
+        &explanation,
+        &arrivals,
+        &status,
+    );
+    ended_by(written, status)
+}
+
+/// The status of the replay.
+fn compared(alloc: Global, prepared: &Prepared, transcript: &Transcript) -> Result<Status, NoMemory>
+    requires count { length prepared.now.initial ≡ length (take_texts prepared.now.code.instrs) }
+    requires short { All (λ value. length value ≤ ARRIVAL) prepared.now.initial }
+    requires few { length transcript.now < 2 ^ 32 }
+    requires arrivals { All (λ arrival. length arrival ≤ ARRIVAL) (arrivals_of transcript.now) }
+    ensures some { IfOk result (λ replayed. replayed ≢ status.NoMemory) }
+    ensures replayed { IfOk result (IsReplayed
+        (play_by prepared.now.code prepared.now.initial prepared.now.seed) transcript.now) }
+{
+    match compare(alloc, prepared, transcript) {
+        Status::NoMemory => Err(NoMemory),
+        status => Ok(status),
+    }
+}
+
+/// The status of a trace that was written so, behind a replay that ended so.
+fn ended_by(written: Result<(), WriteNo>, replayed: Status) -> Status
+    ensures { result ≡ ended_by written replayed }
+{
+    match written {
+        Ok(()) => replayed,
+        Err(WriteNo::Failed) => Status::WriteFault,
+        Err(WriteNo::NoMemory) => Status::NoMemory,
     }
 }
 

@@ -12,7 +12,7 @@ returns-in-Err-clause-written g c =
     let rest : List ℕ = differing_line c.args.status.now in
     not_all (text ++ rest) _ _ _ _ _ _ text rest (due_as (text ++ rest) (text ++ rest) _ _ refl) c.in-Err.no (rw (sym c.as_slice-initial.ensures) c.in-Err.ensures.written)
 
-pub returns-clause-written : goal.returns-in-Ok-clause-written
+pub returns-clause-written : goal.returns-clause-written
 returns-clause-written g c =
     let p = c.args.prepared.now in
     let text : List ℕ = trace (subject_of c.args.protocol.now p.code c.args.explanation.now) p.initial p.seed c.args.arrivals.now in
