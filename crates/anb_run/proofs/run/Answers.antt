@@ -1,6 +1,6 @@
 use Rattle.std.proofs.Common.{[], refl, sym}
 use Rattle.anb_base.specs.declared.place.Place.TheVariants.{Stdio}
-use Rattle.anb_command.proofs.Causes.{wire_cause}
+use Rattle.anb_command.proofs.Causes.{only_memory, wire_cause}
 use Rattle.anb_command.proofs.OverWire.{untouched}
 use Rattle.anb_run.proofs.Idle.{fetches_none}
 use Rattle.anb_run.proofs.run.Goals as goal
@@ -73,4 +73,27 @@ returns-clause-touches g c = elim c.match-read.branch [
   | in-Some-RoleChart w ↦ rw (sym c.read.ensures, w.in-Some-RoleChart.is, w.in-Some-RoleChart.field-0-is, w.wire-is, w.status-is) (w.chart_for-status.ensures.touches)
   | in-Some-Check w ↦ rw (sym c.read.ensures, w.in-Some-Check.is, w.in-Some-Check.field-0-is, w.wire-is, w.status-is) (w.check-status.ensures.touches)
   | in-Some-Trace w ↦ rw (sym c.read.ensures, w.in-Some-Trace.is, w.in-Some-Trace.field-0-is, w.wire-is, w.status-is) (w.trace-status.ensures.touches)
+]
+
+pub returns-clause-completes : goal.returns-clause-completes
+returns-clause-completes g c = elim c.match-read.branch [
+  | in-None w ↦ rw (sym c.read.ensures, w.in-None.is, w.shelf-is, w.wire-is) (λ none. tt)
+  | in-Some-Fmt w ↦ rw (sym c.read.ensures, w.in-Some-Fmt.is, w.in-Some-Fmt.field-0-is, w.shelf-is, w.wire-is, w.status-is) (w.fmt-status.ensures.completes)
+  | in-Some-Describe w ↦ rw (sym c.read.ensures, w.in-Some-Describe.is, w.in-Some-Describe.field-0-is, w.shelf-is, w.wire-is, w.status-is) (w.describe-status.ensures.completes)
+  | in-Some-Play w ↦ rw (sym c.read.ensures, w.in-Some-Play.is, w.in-Some-Play.field-0-is, w.shelf-is, w.wire-is, w.status-is) (w.play-status.ensures.completes)
+  | in-Some-Enact w ↦ rw (sym c.read.ensures, w.in-Some-Enact.is, w.in-Some-Enact.field-0-is, w.shelf-is, w.wire-is, w.status-is) (w.enact-status.ensures.completes)
+  | in-Some-Replay w ↦ rw (sym c.read.ensures, w.in-Some-Replay.is, w.in-Some-Replay.field-0-is, w.shelf-is, w.wire-is, w.status-is) (w.replay-status.ensures.completes)
+  | in-Some-Host w ↦ rw (sym c.read.ensures, w.in-Some-Host.is, w.in-Some-Host.field-0-is, w.shelf-is, w.wire-is, w.status-is) (w.host-status.ensures.completes)
+  | in-Some-Rehearse w ↦ rw (sym c.read.ensures, w.in-Some-Rehearse.is, w.in-Some-Rehearse.field-0-is, w.shelf-is, w.wire-is, w.status-is) (w.rehearse-status.ensures.completes)
+  | in-Some-Drill w ↦ rw (sym c.read.ensures, w.in-Some-Drill.is, w.in-Some-Drill.field-0-is, w.shelf-is, w.wire-is, w.status-is) (λ none. w.drill-status.ensures.completes (only_memory [] Stdio (g.F.Shelf.faults c.args.shelf.now) (g.F.Shelf.faults c.args.shelf.now) (g.W.Wire.state c.args.wire.now) (g.W.Wire.state w.drill-status.new.wire) none w.drill-status.result (wire_cause [] Stdio (g.F.Shelf.faults c.args.shelf.now) (g.F.Shelf.faults c.args.shelf.now) (g.W.Wire.state c.args.wire.now) (g.W.Wire.state w.drill-status.new.wire) w.drill-status.result w.drill-status.ensures.wire.cause)))
+  | in-Some-Help w ↦ rw (sym c.read.ensures, w.in-Some-Help.is, w.in-Some-Help.field-0-is, w.shelf-is, w.wire-is, w.status-is) (λ none. w.help-status.ensures.completes (only_memory [] Stdio (g.F.Shelf.faults c.args.shelf.now) (g.F.Shelf.faults c.args.shelf.now) (g.W.Wire.state c.args.wire.now) (g.W.Wire.state w.help-status.new.wire) none w.help-status.result (wire_cause [] Stdio (g.F.Shelf.faults c.args.shelf.now) (g.F.Shelf.faults c.args.shelf.now) (g.W.Wire.state c.args.wire.now) (g.W.Wire.state w.help-status.new.wire) w.help-status.result w.help-status.ensures.wire.cause)))
+  | in-Some-Branch w ↦ rw (sym c.read.ensures, w.in-Some-Branch.is, w.in-Some-Branch.field-0-is, w.shelf-is, w.wire-is, w.status-is) (w.branch-status.ensures.completes)
+  | in-Some-Certify w ↦ rw (sym c.read.ensures, w.in-Some-Certify.is, w.in-Some-Certify.field-0-is, w.shelf-is, w.wire-is, w.status-is) (w.certify-status.ensures.completes)
+  | in-Some-Why w ↦ rw (sym c.read.ensures, w.in-Some-Why.is, w.in-Some-Why.field-0-is, w.shelf-is, w.wire-is, w.status-is) (w.why-status.ensures.completes)
+  | in-Some-Park w ↦ rw (sym c.read.ensures, w.in-Some-Park.is, w.in-Some-Park.field-0-is, w.shelf-is, w.wire-is, w.status-is) (w.park-status.ensures.completes)
+  | in-Some-Resume w ↦ rw (sym c.read.ensures, w.in-Some-Resume.is, w.in-Some-Resume.field-0-is, w.shelf-is, w.wire-is, w.status-is) (w.resume-status.ensures.completes)
+  | in-Some-Chart w ↦ rw (sym c.read.ensures, w.in-Some-Chart.is, w.in-Some-Chart.field-0-is, w.shelf-is, w.wire-is, w.status-is) (w.chart-status.ensures.completes)
+  | in-Some-RoleChart w ↦ rw (sym c.read.ensures, w.in-Some-RoleChart.is, w.in-Some-RoleChart.field-0-is, w.shelf-is, w.wire-is, w.status-is) (w.chart_for-status.ensures.completes)
+  | in-Some-Trace w ↦ rw (sym c.read.ensures, w.in-Some-Trace.is, w.in-Some-Trace.field-0-is, w.shelf-is, w.wire-is, w.status-is) (w.trace-status.ensures.completes)
+  | in-Some-Check w ↦ rw (sym c.read.ensures, w.in-Some-Check.is, w.in-Some-Check.field-0-is, w.shelf-is, w.wire-is, w.status-is) (w.check-status.ensures.completes)
 ]
