@@ -59,7 +59,7 @@ module _ (narration name values transcript : List ℕ) (host_seed : Option (List
     R = play_by code initial seed
 
     module _ (files : Files) (ready : IsTraceable (Asks files) p role code initial seed lines) where
-      comparable : IsComparable (Asks files) code initial seed lines
+      abbrev comparable : IsComparable (Asks files) code initial seed lines
       comparable = record { asked = asked; asks = ready.asks; comes = ready.comes; same = refl; bytes = ready.bytes }
 
       not_wanting : (s : Status) → s ≢ NoMemory → (end : ReplayEnd) → s ≡ status_of end → end ≢ replayed.NoMemory
