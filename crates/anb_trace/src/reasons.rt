@@ -75,12 +75,7 @@ fn put_unwrapped(
 }
 
 /// Appends that a register isn't of a format.
-fn put_misfit(
-    out: &mut Vec<u8>,
-    code: &RoleCode,
-    format: u16,
-    of: u32,
-) -> Result<(), NoMemory>
+fn put_misfit(out: &mut Vec<u8>, code: &RoleCode, format: u16, of: u32) -> Result<(), NoMemory>
     ensures { OnOk result (out.new.items ≡ out.old.items
         ++ (option_map_or opened (writer code.now.formats code.now.instrs of) []
         ++ (codes "isn't " ++ (article (name_at code.now.formats format)

@@ -127,7 +127,13 @@ fn receives(
         explanation,
         ..
     } = subject;
-    put_event_line(alloc, &mut text, protocol, explanation.events(), standing.events)?;
+    put_event_line(
+        alloc,
+        &mut text,
+        protocol,
+        explanation.events(),
+        standing.events,
+    )?;
     standing.events += 1;
     let [arrival, rest @ ..] = standing.arrivals else {
         put_waiting(&mut text, standing.events)?;
@@ -174,7 +180,13 @@ fn sends(
         explanation,
         ..
     } = subject;
-    put_event_line(alloc, &mut text, protocol, explanation.events(), standing.events)?;
+    put_event_line(
+        alloc,
+        &mut text,
+        protocol,
+        explanation.events(),
+        standing.events,
+    )?;
     if let Some(bytes) = standing.registers.get(register as usize) {
         put_bytes_line(alloc, &mut text, bytes.as_slice())?;
     }
@@ -209,7 +221,13 @@ fn works(
     let code = subject.code;
     let algebra = ByteAlgebra::new(code.formats(), code.suite());
     let before = standing.registers.len();
-    let went = do_work(&algebra, alloc, code.formats(), &mut standing.registers, instr)?;
+    let went = do_work(
+        &algebra,
+        alloc,
+        code.formats(),
+        &mut standing.registers,
+        instr,
+    )?;
     let mut text = Vec::new(alloc);
     if went {
         let values = &standing.registers[before..];

@@ -54,11 +54,7 @@ pub fn write_trace<K: Sink>(
 }
 
 /// What is known at the beginning.
-fn known_lines(
-    alloc: Global,
-    subject: &Subject<'_>,
-    initial: &[Bytes],
-) -> Result<Vec<u8>, NoMemory>
+fn known_lines(alloc: Global, subject: &Subject<'_>, initial: &[Bytes]) -> Result<Vec<u8>, NoMemory>
     requires { IsOurs subject.now }
     ensures { IfOk result (λ bytes.
         bytes.items ≡ known_lines (subject_in subject.now) initial.now) }
@@ -106,11 +102,18 @@ fn write_run<K: Sink>(
     };
     let mut first = 0;
     for (at, instr) in subject.code.instrs().iter().enumerate() {
-        let Told { text, goes_on } =
-            match step(alloc, subject, seed, &mut standing, instr, at, first) {
-                Ok(told) => told,
-                Err(NoMemory) => return Err(WriteNo::NoMemory),
-            };
+        let Told { text, goes_on } = match step(
+            alloc,
+            subject,
+            seed,
+            &mut standing,
+            instr,
+            at,
+            first,
+        ) {
+            Ok(told) => told,
+            Err(NoMemory) => return Err(WriteNo::NoMemory),
+        };
         match write_bytes(snk, &text) {
             Ok(()) => {}
             Err(no) => return Err(no),

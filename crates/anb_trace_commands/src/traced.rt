@@ -201,7 +201,15 @@ fn write_lines<W: Wire>(
         (W.state wire.old).write_faults (W.state wire.new).write_faults }
     ensures only { OnlyWrites (W.state wire.old) (W.state wire.new) }
 {
-    write_both(alloc, wire, protocol, prepared, explanation, arrivals, status)
+    write_both(
+        alloc,
+        wire,
+        protocol,
+        prepared,
+        explanation,
+        arrivals,
+        status,
+    )
 }
 
 /// Writes the trace and the first line that isn't due.
@@ -224,7 +232,16 @@ fn write_both<K: Sink>(
 {
     let initial = prepared.initial.as_slice();
     let Prepared { code, seed, .. } = prepared;
-    match write_trace(alloc, snk, protocol, code, explanation, initial, seed, arrivals) {
+    match write_trace(
+        alloc,
+        snk,
+        protocol,
+        code,
+        explanation,
+        initial,
+        seed,
+        arrivals,
+    ) {
         Ok(()) => {}
         Err(no) => return Err(no),
     }

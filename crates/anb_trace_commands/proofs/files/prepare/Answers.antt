@@ -67,7 +67,7 @@ returns-in-Err-transcript_in_file-clause-refused g c =
       third_of_three words.narration.now words.values.now words.transcript.now file at.0,
       Rose-later _ _ _ (kept.never_falls file) (Rose-later _ _ _ (next.never_falls file) at.1),
       lines_read words.narration.now words.name.now words.values.now words.transcript.now c.args.host_seed told playable.protocol playable.role
-      playable.code p.code p.initial p.seed c.in-Ok.ensures.fits errand.same c.in-Ok.ensures.given (rw kept.same_files at errand.given) file at.0,
+          playable.code p.code p.initial p.seed c.in-Ok.ensures.fits errand.same c.in-Ok.ensures.given (rw kept.same_files at errand.given) file at.0,
     ))
     (λ is. lines_refused words.narration.now words.name.now words.values.now words.transcript.now c.args.host_seed told playable.protocol playable.role
     playable.code p.code p.initial p.seed c.in-Ok.ensures.fits errand.same c.in-Ok.ensures.given (rw kept.same_files at errand.given) s is)
