@@ -2,3 +2,4 @@ pub mod Items
 pub mod Lines
 pub mod Free
 pub mod Asking
+pub mod Marking

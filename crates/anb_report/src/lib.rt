@@ -8,6 +8,7 @@
 mod charting;
 mod laws;
 mod lists;
+mod names;
 mod notes;
 mod registers;
 mod remarks;
