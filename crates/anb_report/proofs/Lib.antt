@@ -3,3 +3,4 @@ pub mod Lines
 pub mod Free
 pub mod Asking
 pub mod Marking
+pub mod Numbered

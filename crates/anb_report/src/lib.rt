@@ -9,6 +9,7 @@ mod charting;
 mod laws;
 mod lists;
 mod names;
+mod news;
 mod notes;
 mod registers;
 mod remarks;

@@ -7,6 +7,7 @@ ghost use Rattle.anb_resolve.specs.Plans.{term_in};
 ghost use Rattle.anb_resolve.specs.Seen.{marked};
 ghost use Rattle.anb_resolve.specs.Texts.{atom_name, atoms_in, atoms_in_all};
 ghost use Rattle.anb_resolve.specs.Views.{plan_event};
+ghost use Rattle.anb_report.specs.Looking.{is_among};
 ghost use Rattle.anb_report.specs.Remarks.{is_role, plan_atoms, unused_name, unused_names, used_atoms};
 
 use crate::remarks::{count_roles, put_unused};
@@ -129,8 +130,21 @@ fn put_unused_name(
         ≡ out.old.items ++ unused_name protocol.now (used_atoms protocol.now) i) }
 {
     let name = name_at(protocol, i);
-    let there = used[i] || is_role(protocol, name);
+    let there = is_marked(protocol, used, i) || is_role(protocol, name);
     put_unused(out, there, b"the name ", name)
+}
+
+/// Whether some term has a name.
+fn is_marked(protocol: &Protocol, used: &[bool], i: usize) -> bool
+    requires used { used.now
+        ≡ marked (replicate (length protocol.now.atoms) false) (used_atoms protocol.now) }
+    requires within { i < length protocol.now.atoms }
+    ensures { result ≡ is_among (used_atoms protocol.now) i }
+{
+    match used.get(i) {
+        Some(mark) => *mark,
+        None => true,
+    }
 }
 
 fn name_at(protocol: &Protocol, i: usize) -> &[u8]
@@ -143,5 +157,8 @@ fn name_at(protocol: &Protocol, i: usize) -> &[u8]
 fn is_role(protocol: &Protocol, name: &[u8]) -> bool
     ensures { result ≡ is_role protocol.now name.now }
 {
-    protocol.role_of(name).is_some()
+    match protocol.role_of(name) {
+        Some(_) => true,
+        None => false,
+    }
 }
