@@ -130,7 +130,10 @@ fn lengths_in_leb128(rt: HostRuntime) -> Result<(), NoMemory> {
         ("0xa5*16383", "0xff7f"),
         ("0xa5*16384", "0x808001"),
     ] {
-        assert!(rt; one_goes_both_ways(rt.alloc(), FieldKind::Len, front, argument, "")?);
+        assert!(rt;
+            one_goes_both_ways(rt.alloc(), FieldKind::Len, front, argument, "")?,
+            "{argument}"
+        );
     }
     Ok(())
 }
@@ -144,7 +147,10 @@ fn lengths_in_decimal(rt: HostRuntime) -> Result<(), NoMemory> {
         ("0x3a*99", "99:"),
         ("0x3a*100", "100:"),
     ] {
-        assert!(rt; one_goes_both_ways(rt.alloc(), FieldKind::Net, front, argument, ",")?);
+        assert!(rt;
+            one_goes_both_ways(rt.alloc(), FieldKind::Net, front, argument, ",")?,
+            "{argument}"
+        );
     }
     Ok(())
 }
@@ -161,17 +167,26 @@ fn only_what_is_built_has_parts(rt: HostRuntime) -> Result<(), NoMemory> {
         b"M\x00a",
     ];
     for bytes in len {
-        assert!(rt; has_no_parts(rt.alloc(), FieldKind::Len, bytes)?);
+        assert!(rt;
+            has_no_parts(rt.alloc(), FieldKind::Len, bytes)?,
+            "{bytes:?}"
+        );
     }
     let net: [&[u8]; 7] = [
         b"M:,", b"M00:,", b"M01:a,", b"M+1:a,", b"M1:a;", b"M1:a", b"M1:a,b",
     ];
     for bytes in net {
-        assert!(rt; has_no_parts(rt.alloc(), FieldKind::Net, bytes)?);
+        assert!(rt;
+            has_no_parts(rt.alloc(), FieldKind::Net, bytes)?,
+            "{bytes:?}"
+        );
     }
     let hex: [&[u8]; 5] = [b"M", b"Mff", b"Mf;", b"MFF;", b"Mff;;"];
     for bytes in hex {
-        assert!(rt; has_no_parts(rt.alloc(), FieldKind::Hex, bytes)?);
+        assert!(rt;
+            has_no_parts(rt.alloc(), FieldKind::Hex, bytes)?,
+            "{bytes:?}"
+        );
     }
     assert!(rt; has_no_parts(rt.alloc(), FieldKind::Rest, b"N")?);
     Ok(())

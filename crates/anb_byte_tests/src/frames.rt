@@ -34,7 +34,11 @@ fn lengths_up_to_the_buffer_are_taken(rt: HostRuntime) -> Result<(), NoMemory> {
     for piece in [1, 1_000_000] {
         for len in [0, 65_537, 262_144] {
             let answers = answers_over(rt.alloc(), len, piece)?;
-            assert_eq!(rt; answers, (Ok(Taken::Frame(len)), Ok(Taken::End)));
+            assert_eq!(rt;
+                answers,
+                (Ok(Taken::Frame(len)), Ok(Taken::End)),
+                "{len} by {piece}"
+            );
         }
     }
     Ok(())

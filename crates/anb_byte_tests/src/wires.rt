@@ -123,7 +123,7 @@ fn reaching_a_place_keeps_its_line(rt: HostRuntime) -> Result<(), NoMemory> {
         ("listen yy", true),
         ("stdio", false),
     ] {
-        assert_eq!(rt; reaches(rt.alloc(), &mut wire, line)?, reached);
+        assert_eq!(rt; reaches(rt.alloc(), &mut wire, line)?, reached, "{line}");
     }
     assert_eq!(rt; wire.reached(), b"stdio\ndial x\nlisten yy\n".as_slice());
     Ok(())
