@@ -4,6 +4,7 @@ ghost use Rattle.anb_base.specs.declared.TheConstants.{ARRIVAL};
 ghost use Rattle.anb_transcript.specs.Replays.{arrivals_of};
 
 use anb_base::{Bytes, Suite};
+use anb_code::RoleCode;
 use anb_machine::Machine;
 use anb_sample_codes::{code, values};
 use anb_transcript::{
@@ -25,6 +26,24 @@ fn read(rt: &impl Abort, alloc: Global, text: &[u8]) -> Result<Transcript, Trans
     read_transcript(alloc, text)
 }
 
+/// How the run of these instructions with these initial values, which `;` separates, follows a
+/// transcript.
+fn follows(
+    rt: &impl Abort,
+    alloc: Global,
+    code: &RoleCode,
+    texts: &str,
+    transcript: &Transcript,
+) -> Result<ReplayEnd, Fail>
+    requires { All (λ arrival. length arrival ≤ ARRIVAL) (arrivals_of transcript.now) }
+{
+    let init = values(alloc, texts)?;
+    assert!(rt; code.takes() as usize == init.len());
+    let mut machine = Machine::start(alloc, code, &init, &[0; 32], 0)?;
+    assert!(rt; transcript.lines().len() <= 1_000);
+    Ok(replay(alloc, &mut machine, transcript))
+}
+
 /// What comes of a text over the run of these instructions with these initial values, which `;`
 /// separates.
 fn replayed(
@@ -34,13 +53,10 @@ fn replayed(
     texts: &str,
     text: &str,
 ) -> Result<String, Fail> {
-    let transcript = read(rt, alloc, text.as_bytes())?;
     let code = code(alloc, Suite::One, lines)?;
-    let init = values(alloc, texts)?;
-    assert!(rt; code.takes() as usize == init.len());
-    let mut machine = Machine::start(alloc, &code, &init, &[0; 32], 0)?;
-    assert!(rt; transcript.lines().len() <= 1_000);
-    in_words(alloc, replay(alloc, &mut machine, &transcript))
+    let transcript = read(rt, alloc, text.as_bytes())?;
+    let end = follows(rt, alloc, &code, texts, &transcript)?;
+    in_words(alloc, end)
 }
 
 fn in_words(alloc: Global, end: ReplayEnd) -> Result<String, Fail> {
