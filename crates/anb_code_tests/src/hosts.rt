@@ -1,7 +1,7 @@
 //! Hosts over wires in memory. The draws were computed in Python, with the package cryptography:
 //! the first 32 bytes of ChaCha20 under a key of zeros, with the stream numbers 0 and 1.
 
-use crate::wires::{count_left, wire};
+use crate::wires::{and_zeros, count_left, wire};
 use anb_base::{MemWire, Suite};
 use anb_code::RoleCode;
 use anb_host::{Cause, Host, HostEnd, HostEvent, Notice, serve};
@@ -44,11 +44,15 @@ fn answers(rt: &impl Abort, alloc: Global, input: &[u8]) -> Result<String, Fail>
     Ok(format!(in alloc; "{end:?} {}", written.as_str())?)
 }
 
-/// How an answerer ends over an input of these hexadecimal digits, and
-/// the digits of what it writes.
-fn answers_digits(rt: &impl Abort, alloc: Global, digits: &str) -> Result<String, Fail> {
-    let input = hex::decode(alloc, digits.as_bytes())?;
-    answers(rt, alloc, &input)
+/// Tests an answerer: each row has the digits of an input, which so many zero bytes follow, and how
+/// it ends with the digits of what it writes.
+fn are_answered(rt: &impl Abort, alloc: Global, rows: &[(&str, u32, &str)]) -> Result<(), Fail> {
+    for (digits, zeros, told) in rows {
+        let head = hex::decode(alloc, digits.as_bytes())?;
+        let input = and_zeros(alloc, &head, *zeros)?;
+        assert_eq!(rt; answers(rt, alloc, &input)?.as_str(), *told);
+    }
+    Ok(())
 }
 
 #[test]
@@ -84,42 +88,38 @@ fn two_sessions_go_their_own_ways(rt: HostRuntime) -> Result<(), Fail> {
         00000000010000000178\
         0200000001\
         030000000004";
-    assert_eq!(rt; answers_digits(&rt, rt.alloc(), input)?.as_str(), told);
-    Ok(())
+    are_answered(&rt, rt.alloc(), &[(input, 0, told)])
 }
 
 #[test]
 fn what_is_refused_and_where_serving_ends(rt: HostRuntime) -> Result<(), Fail> {
-    for (input, told) in [
-        ("07", "BadKind(7) "),
-        ("010000", "Truncated { have: 3, need: 9 } "),
-        ("00000003ff", "Ended "),
-        ("0000000400", "Ended 030000040001"),
-        ("00000000000000000000", "Ended 030000000002"),
-        ("010000000000000000", "Ended 030000000003"),
-    ] {
-        assert_eq!(rt; answers_digits(&rt, rt.alloc(), input)?.as_str(), told);
-    }
-    Ok(())
+    are_answered(
+        &rt,
+        rt.alloc(),
+        &[
+            ("07", 0, "BadKind(7) "),
+            ("010000", 0, "Truncated { have: 3, need: 9 } "),
+            ("00000003ff", 0, "Ended "),
+            ("0000000400", 0, "Ended 030000040001"),
+            ("00000000000000000000", 0, "Ended 030000000002"),
+            ("010000000000000000", 0, "Ended 030000000003"),
+        ],
+    )
 }
 
-/// A start of session 0, and the first so many bytes of an arrival of 262,145 bytes.
-fn long(alloc: Global, many: usize) -> Result<Vec<u8>, Fail> {
-    let mut input = Vec::from_slice(alloc, b"\0\0\0\0\0\x01\0\0\0\0\0\x04\0\x01")?;
-    input.extend_from_slice(&vec![in alloc; 0u8; many]?)?;
-    Ok(input)
-}
-
+// A start of session 0, and an arrival whose length is 262,145, whole and without its last byte.
 #[test]
 fn an_arrival_that_is_too_long_is_refused(rt: HostRuntime) -> Result<(), Fail> {
-    for (many, told) in [
-        (262_145, "Ended 030000000005"),
-        (262_144, "Truncated { have: 262153, need: 262154 } "),
-    ] {
-        let input = long(rt.alloc(), many)?;
-        assert_eq!(rt; answers(&rt, rt.alloc(), &input)?.as_str(), told);
-    }
-    Ok(())
+    let head = "0000000000010000000000040001";
+    let short = "Truncated { have: 262153, need: 262154 } ";
+    are_answered(
+        &rt,
+        rt.alloc(),
+        &[
+            (head, 262_145, "Ended 030000000005"),
+            (head, 262_144, short),
+        ],
+    )
 }
 
 #[test]

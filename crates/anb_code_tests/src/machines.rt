@@ -68,62 +68,74 @@ fn runs(
     answers(alloc, &mut machine, steps)
 }
 
-/// What a machine of suite one with these instructions and one initial value answers to some steps.
+/// What a machine of these instructions answers to some steps.
 fn answers_of(
     rt: &impl Abort,
     alloc: Global,
+    suite: Suite,
     lines: &str,
-    value: &str,
+    texts: &str,
     steps: &str,
 ) -> Result<String, Fail> {
-    let code = code(alloc, Suite::One, lines)?;
-    runs(rt, alloc, &code, value, steps)
+    let code = code(alloc, suite, lines)?;
+    runs(rt, alloc, &code, texts, steps)
+}
+
+/// Tests machines of suite one: each row has instructions, the initial value, steps and what is
+/// answered.
+fn are_answered(
+    rt: &impl Abort,
+    alloc: Global,
+    rows: &[(&str, &str, &str, &str)],
+) -> Result<(), Fail> {
+    for (lines, value, steps, words) in rows {
+        let answers = answers_of(rt, alloc, Suite::One, lines, value, steps)?;
+        assert_eq!(rt; answers.as_str(), *words);
+    }
+    Ok(())
 }
 
 #[test]
 fn a_sender_compares_the_answer(rt: HostRuntime) -> Result<(), Fail> {
-    for (steps, words) in [
-        ("- 6163 - -", "6162 2? 2.4 2.4 "),
-        ("- - 6162 - -", "6162 2? 2? done done "),
-    ] {
-        assert_eq!(rt;
-            answers_of(&rt, rt.alloc(), SENDER, "ab", steps)?.as_str(),
-            words
-        );
-    }
-    Ok(())
+    are_answered(
+        &rt,
+        rt.alloc(),
+        &[
+            (SENDER, "ab", "- 6163 - -", "6162 2? 2.4 2.4 "),
+            (SENDER, "ab", "- - 6162 - -", "6162 2? 2? done done "),
+        ],
+    )
 }
 
 #[test]
 fn an_answerer_sends_what_it_compared_or_a_hash(rt: HostRuntime) -> Result<(), Fail> {
-    for (lines, words) in [
-        ("take N; recv; equal 0 1; send 0", "1? 6162 done "),
-        (
-            "take N; recv; hash 1; send 2",
-            "1? fb8e20fc2e4c3f248c60c39bd652f3c1347298bb977b8b4d5903b85055620603 done ",
-        ),
-    ] {
-        assert_eq!(rt;
-            answers_of(&rt, rt.alloc(), lines, "ab", "6162 - -")?.as_str(),
-            words
-        );
-    }
-    Ok(())
+    let hash = "1? fb8e20fc2e4c3f248c60c39bd652f3c1347298bb977b8b4d5903b85055620603 done ";
+    are_answered(
+        &rt,
+        rt.alloc(),
+        &[
+            (
+                "take N; recv; equal 0 1; send 0",
+                "ab",
+                "6162 - -",
+                "1? 6162 done ",
+            ),
+            ("take N; recv; hash 1; send 2", "ab", "6162 - -", hash),
+        ],
+    )
 }
 
 #[test]
 fn what_cannot_be_undone_stops(rt: HostRuntime) -> Result<(), Fail> {
-    for lines in [
-        "take K; recv; unseal 0 1",
-        "take K; recv; unwrap 0 0 1",
-        "take K; recv; parse p 1",
-    ] {
-        assert_eq!(rt;
-            answers_of(&rt, rt.alloc(), lines, "k", "50 -")?.as_str(),
-            "1? 1.3 "
-        );
-    }
-    Ok(())
+    are_answered(
+        &rt,
+        rt.alloc(),
+        &[
+            ("take K; recv; unseal 0 1", "k", "50 -", "1? 1.3 "),
+            ("take K; recv; unwrap 0 0 1", "k", "50 -", "1? 1.3 "),
+            ("take K; recv; parse p 1", "k", "50 -", "1? 1.3 "),
+        ],
+    )
 }
 
 /// Each instruction, over a key, a message and a context.
@@ -137,8 +149,7 @@ const STEPS: &str = "- 50036b65790961206d657373616765 - - - - - -";
 /// What a machine with each instruction answers: the nonce, the hash, the mac, the sealed and the
 /// wrapped message, and the pair of the key and the message.
 fn whole(rt: &impl Abort, alloc: Global, suite: Suite) -> Result<String, Fail> {
-    let code = code(alloc, suite, WHOLE)?;
-    runs(rt, alloc, &code, "key;a message;context", STEPS)
+    answers_of(rt, alloc, suite, WHOLE, "key;a message;context", STEPS)
 }
 
 #[test]

@@ -154,22 +154,33 @@ fn story(
     Ok(words)
 }
 
+/// Tests what comes of such a session.
+fn is_told(
+    rt: &impl Abort,
+    alloc: Global,
+    lines: &str,
+    session: u32,
+    inputs: &str,
+    words: &str,
+) -> Result<(), Fail> {
+    let told = story(rt, alloc, lines, session, inputs)?;
+    assert_eq!(rt; told.as_str(), words);
+    Ok(())
+}
+
 #[test]
 fn a_session_is_parked_after_each_arrival(rt: HostRuntime) -> Result<(), Fail> {
     let inputs = "\0\0\0\x01x|\0\0\0\x01y|\0\0\0\x01z";
     let words = "Waiting(1) ;Waiting(3) 0000000178;Waiting(5) 0000000179;\
         Done 000000026162000000017a;";
-    assert_eq!(&rt; story(&rt, rt.alloc(), TALKER, 0, inputs)?.as_str(), words);
-    Ok(())
+    is_told(&rt, rt.alloc(), TALKER, 0, inputs, words)
 }
 
 #[test]
 fn nonces_are_drawn_once(rt: HostRuntime) -> Result<(), Fail> {
     let words = "Waiting(1) ;Done 00000020\
         ef3fdfd6c61578fbf5cf35bd3dd33b8009631634d21e42ac33960bd138e50d32;";
-    let told = story(&rt, rt.alloc(), "fresh; recv; send 0", 1, "\0\0\0\0")?;
-    assert_eq!(&rt; told.as_str(), words);
-    Ok(())
+    is_told(&rt, rt.alloc(), "fresh; recv; send 0", 1, "\0\0\0\0", words)
 }
 
 /// Whether a record is refused so for a sender with the identity of 32 such bytes, under this key.
@@ -225,12 +236,17 @@ fn a_changed_record_is_damaged(rt: HostRuntime) -> Result<(), Fail> {
     Ok(())
 }
 
+/// Whether the sender's record is refused so with another identity or key.
+fn refuses_another(alloc: Global, id: u8, key: &str, no: ParkNo) -> Result<bool, Fail> {
+    let code = code(alloc, Suite::One, SENDER)?;
+    let record = hex::decode(alloc, RECORD.as_bytes())?;
+    Ok(is_refused(alloc, &code, id, key, &record, no))
+}
+
 #[test]
 fn another_key_or_identity_is_refused(rt: HostRuntime) -> Result<(), Fail> {
-    let code = code(rt.alloc(), Suite::One, SENDER)?;
-    let record = hex::decode(rt.alloc(), RECORD.as_bytes())?;
-    assert!(&rt; is_refused(rt.alloc(), &code, 7, "kez", &record, ParkNo::Damaged));
-    assert!(&rt; is_refused(rt.alloc(), &code, 8, "key", &record, ParkNo::Other));
+    assert!(&rt; refuses_another(rt.alloc(), 7, "kez", ParkNo::Damaged)?);
+    assert!(&rt; refuses_another(rt.alloc(), 8, "key", ParkNo::Other)?);
     Ok(())
 }
 

@@ -1,6 +1,6 @@
 //! Sessions over wires in memory.
 
-use crate::wires::{count_left, initial, wire};
+use crate::wires::{and_zeros, count_left, initial, wire};
 use anb_base::{MemWire, Suite};
 use anb_code::RoleCode;
 use anb_machine::Machine;
@@ -66,56 +66,66 @@ fn comes_to(
     Ok(())
 }
 
-#[test]
-fn a_sender_ends_by_the_answer(rt: HostRuntime) -> Result<(), Fail> {
-    for (input, words) in [
-        ("\0\0\0\x02ab", "Done 000000026162 0"),
-        (
-            "\0\0\0\x02ac",
-            "Stopped(Halt { event: 2, at: 4 }) 000000026162 0",
-        ),
-        ("", "Waiting(2) 000000026162 0"),
-        ("\0\0\0\x02ab\0\0", "Done 000000026162 2"),
-    ] {
-        comes_to(&rt, rt.alloc(), SENDER, input.as_bytes(), words)?;
+/// Tests what comes of some instructions: each row has the input, which so many zeros follow, and
+/// what comes of it.
+fn come_to(
+    rt: &impl Abort,
+    alloc: Global,
+    lines: &str,
+    rows: &[(&str, u32, &str)],
+) -> Result<(), Fail> {
+    for (head, zeros, words) in rows {
+        let input = and_zeros(alloc, head.as_bytes(), *zeros)?;
+        comes_to(rt, alloc, lines, &input, words)?;
     }
     Ok(())
+}
+
+#[test]
+fn a_sender_ends_by_the_answer(rt: HostRuntime) -> Result<(), Fail> {
+    let stopped = "Stopped(Halt { event: 2, at: 4 }) 000000026162 0";
+    come_to(
+        &rt,
+        rt.alloc(),
+        SENDER,
+        &[
+            ("\0\0\0\x02ab", 0, "Done 000000026162 0"),
+            ("\0\0\0\x02ac", 0, stopped),
+            ("", 0, "Waiting(2) 000000026162 0"),
+            ("\0\0\0\x02ab", 2, "Done 000000026162 2"),
+        ],
+    )
 }
 
 #[test]
 fn an_input_ends_at_a_border_or_within_a_frame(rt: HostRuntime) -> Result<(), Fail> {
-    for (input, words) in [
-        ("\0\0", "Truncated { have: 2, need: 4 }  0"),
-        ("\0\0\0\x01a", "Waiting(2)  0"),
-        (
-            "\0\0\0\x01a\0\0\0\x03b",
-            "Truncated { have: 5, need: 7 }  0",
-        ),
-    ] {
-        comes_to(&rt, rt.alloc(), "recv; recv", input.as_bytes(), words)?;
-    }
-    Ok(())
+    let within = "Truncated { have: 5, need: 7 }  0";
+    come_to(
+        &rt,
+        rt.alloc(),
+        "recv; recv",
+        &[
+            ("", 2, "Truncated { have: 2, need: 4 }  0"),
+            ("\0\0\0\x01a", 0, "Waiting(2)  0"),
+            ("\0\0\0\x01a\0\0\0\x03b", 0, within),
+        ],
+    )
 }
 
-/// A frame of so many zero bytes.
-fn frame_of(alloc: Global, len: u32) -> Result<Vec<u8>, Fail> {
-    let mut frame = Vec::from_slice(alloc, &len.to_be_bytes())?;
-    frame.extend_from_slice(&vec![in alloc; 0u8; len as usize]?)?;
-    Ok(frame)
-}
-
+// A length of 65,537, of 262,144, which is the most, and of one more.
 #[test]
 fn an_arrival_has_up_to_262144_bytes(rt: HostRuntime) -> Result<(), Fail> {
-    for (len, words) in [
-        (0, "Done  0"),
-        (65_537, "Done  0"),
-        (262_144, "Done  0"),
-        (262_145, "TooLarge(262145)  262145"),
-    ] {
-        let input = frame_of(rt.alloc(), len)?;
-        comes_to(&rt, rt.alloc(), "recv", &input, words)?;
-    }
-    Ok(())
+    come_to(
+        &rt,
+        rt.alloc(),
+        "recv",
+        &[
+            ("\0\0\0\0", 0, "Done  0"),
+            ("\0\x01\0\x01", 65_537, "Done  0"),
+            ("\0\x04\0\0", 262_144, "Done  0"),
+            ("\0\x04\0\x01", 262_145, "TooLarge(262145)  262145"),
+        ],
+    )
 }
 
 /// How a machine of this code ends over a wire.

@@ -6,7 +6,7 @@ ghost use Rattle.anb_base.specs.declared.TheConstants.{ARRIVAL};
 use anb_base::{Bytes, MemWire, NoMemory, read_full};
 use anb_code::RoleCode;
 use anb_sample_codes::{NoCode, bytes, values};
-use std::alloc::Global;
+use std::alloc::{AllocError, Global};
 use std::test::Fail;
 
 /// A wire with this input, which moves so many bytes in a call, one at least, has room for 200, and
@@ -20,6 +20,13 @@ pub(crate) fn wire(
     let input = bytes(alloc, input)?;
     let fails = vec![in alloc; fails]?;
     MemWire::new(alloc, input, piece.max(1), 200, fails)
+}
+
+/// These bytes and so many zeros.
+pub(crate) fn and_zeros(alloc: Global, head: &[u8], zeros: u32) -> Result<Vec<u8>, AllocError> {
+    let mut input = Vec::from_slice(alloc, head)?;
+    input.extend_from_slice(&vec![in alloc; 0u8; zeros as usize]?)?;
+    Ok(input)
 }
 
 /// How many bytes are left unread, up to 300,000.

@@ -22,7 +22,8 @@ pub fn code(alloc: Global, suite: Suite, lines: &str) -> Result<RoleCode, NoCode
 /// the role `A`. Both are separated by `;`. An instruction has its kind, its name if it has one and
 /// the registers that it reads. The registers that it writes stand before a `=`, or are numbered
 /// here. A format has its name, its literal, which is `-` where it is empty, and a letter for each
-/// field: `L`, `N`, `H` or `R`.
+/// field: `L`, `N`, `H` or `R`. `f*64 F` are the formats `f0` to `f63`, and a literal `Y*9` is nine
+/// times `Y`.
 pub fn code_over(
     alloc: Global,
     suite: Suite,

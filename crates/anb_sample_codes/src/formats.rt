@@ -1,36 +1,73 @@
 //! A format from its words.
 use crate::NoCode;
-use crate::strings::{bytes, text};
+use crate::lines::number;
+use crate::strings::text;
+use anb_base::Bytes;
 use anb_code::RawFormat;
 use anb_format::{FieldKind, Piece};
 use std::alloc::Global;
 
-/// The formats of a text, which `;` separates. Each has its name, the literal that it begins with,
-/// which is `-` where it is empty, and a letter for each field, if it has one.
+/// The formats of a text, which `;` separates.
 pub(crate) fn formats_of(alloc: Global, text: &str) -> Result<Vec<RawFormat>, NoCode> {
     let mut formats = Vec::new(alloc);
     for words in text.split(';') {
-        if !words.trim().is_empty() {
-            formats.push(format(alloc, words)?)?;
+        let mut words = words.split_whitespace();
+        if let Some(name) = words.next() {
+            let head = words.next().unwrap_or("-");
+            append(alloc, &mut formats, name, head, words.next().unwrap_or(""))?;
         }
     }
     Ok(formats)
 }
 
-fn format(alloc: Global, words: &str) -> Result<RawFormat, NoCode> {
-    let mut words = words.split_whitespace();
-    let name = text(alloc, words.next().unwrap_or(""))?;
-    let mut pieces = Vec::new(alloc);
-    pieces.push(head(alloc, words.next().unwrap_or("-"))?)?;
-    for letter in words.next().unwrap_or("").as_bytes() {
-        pieces.push(field(*letter)?)?;
+/// Appends a format, or so many as stand behind its name and a `*`.
+fn append(
+    alloc: Global,
+    formats: &mut Vec<RawFormat>,
+    name: &str,
+    head: &str,
+    fields: &str,
+) -> Result<(), NoCode> {
+    match name.split_once('*') {
+        None => formats.push(format(alloc, name, head, fields)?)?,
+        Some((name, count)) => {
+            for i in 0..number(count)? {
+                let name = format!(in alloc; "{name}{i}")?;
+                formats.push(format(alloc, &name, head, fields)?)?;
+            }
+        }
     }
+    Ok(())
+}
+
+fn format(alloc: Global, name: &str, head: &str, fields: &str) -> Result<RawFormat, NoCode> {
+    let name = text(alloc, name)?;
+    let pieces = pieces(alloc, head, fields)?;
     Ok(RawFormat { name, pieces })
 }
 
-fn head(alloc: Global, word: &str) -> Result<Piece, NoCode> {
-    let literal = if word == "-" { "" } else { word };
-    Ok(Piece::Lit(bytes(alloc, literal.as_bytes())?))
+fn pieces(alloc: Global, head: &str, fields: &str) -> Result<Vec<Piece>, NoCode> {
+    let mut pieces = Vec::new(alloc);
+    pieces.push(Piece::Lit(literal(alloc, head)?))?;
+    for letter in fields.as_bytes() {
+        pieces.push(field(*letter)?)?;
+    }
+    Ok(pieces)
+}
+
+/// The bytes of a literal, which come so often as stands behind them and a `*`.
+fn literal(alloc: Global, word: &str) -> Result<Bytes, NoCode> {
+    let (once, count) = match word.split_once('*') {
+        Some((once, count)) => (once, number(count)?),
+        None => (word, 1),
+    };
+    let mut bytes = Vec::new(alloc);
+    if once != "-" {
+        for _time in 0..count {
+            bytes.extend_from_slice(once.as_bytes())?;
+        }
+    }
+    Ok(Bytes::new(bytes))
 }
 
 fn field(letter: u8) -> Result<Piece, NoCode> {

@@ -57,12 +57,16 @@ fn first_word(words: &str) -> (&str, &str) {
 fn numbers(alloc: Global, words: &str) -> Result<Vec<u32>, NoCode> {
     let mut numbers = Vec::new(alloc);
     for word in words.split_whitespace() {
-        match word.parse::<u32>() {
-            Ok(number) => numbers.push(number)?,
-            Err(_) => return Err(NoCode::Words),
-        }
+        numbers.push(number(word)?)?;
     }
     Ok(numbers)
+}
+
+pub(crate) fn number(word: &str) -> Result<u32, NoCode> {
+    match word.parse::<u32>() {
+        Ok(number) => Ok(number),
+        Err(_) => Err(NoCode::Words),
+    }
 }
 
 fn what_of(word: &str) -> Option<What> {
