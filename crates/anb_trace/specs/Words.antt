@@ -91,7 +91,7 @@ abbrev pub bytes_at : List (List ℕ) → ℕ → List ℕ
 bytes_at table register = option_map_or (λ bytes. bytes) (slice_get table register) []
 
 -- that these are too few for what was sealed or wrapped, which is 32 longer than its message
-abbrev pub too_few : List ℕ → (name : List ℕ) → List ℕ
+unfoldable pub too_few : List ℕ → (name : List ℕ) → List ℕ
 too_few bytes name = if nat_lt (length bytes) 32
     then codes ": " ++ (count_text (length bytes) ++ (codes ", a " ++ (name ++ codes " has 32 or more"))) else []
 
