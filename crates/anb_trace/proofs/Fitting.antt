@@ -14,7 +14,7 @@ use Rattle.hex.specs.Hex.{encode_lower, encode_with, lower_digits}
 use Rattle.anb_base.specs.Bytes.{IsBytes}
 use Rattle.anb_format.specs.declared.pieces.FieldKind.{FieldKind}
 use Rattle.anb_format.specs.declared.pieces.FieldKind.TheVariants.{Len, Net, Hex, Rest}
-use Rattle.anb_format.specs.Fields.{decimal_digits, field_bytes, leb128}
+use Rattle.anb_format.specs.Fields.{field_bytes, leb128}
 use Rattle.anb_format.proofs.Decimals.{as_std}
 use Rattle.anb_format.proofs.Leb128.{fewer, leb128_large, leb128_small}
 use Rattle.anb_format.proofs.ReadingLemmas.{hex_regrouped, net_regrouped}

@@ -11,6 +11,6 @@ returns-in_ok-put_unwrapped-in-Unwrap c =
     let middle = c.put_unwrapped.new.out.items in
     rw c.in-Unwrap.is (on_ok c.put_too_few-in-Unwrap.result
     (λ h. four_and c.args.out.now.items middle c.put_too_few-in-Unwrap.new.out.items (codes "can't unwrap under ") (term_at s c.in-Unwrap.key) (codes " with ") (term_at s c.in-Unwrap.context)
-        (too_few (bytes_at c.args.registers.now c.in-Unwrap.of) (codes "wrapping")) c.in_ok-put_unwrapped-in-Unwrap.ensures
-        (h ∙ ap (λ (x : List ℕ). middle ++ too_few x (codes "wrapping")) c.bytes_at-in-Unwrap.ensures))
+    (too_few (bytes_at c.args.registers.now c.in-Unwrap.of) (codes "wrapping")) c.in_ok-put_unwrapped-in-Unwrap.ensures
+    (h ∙ ap (λ (x : List ℕ). middle ++ too_few x (codes "wrapping")) c.bytes_at-in-Unwrap.ensures))
     c.put_too_few-in-Unwrap.ensures)
