@@ -6,7 +6,7 @@ use Rattle.anb_format.specs.declared.pieces.FieldKind.TheVariants.{Len, Net, Hex
 use Rattle.anb_format.specs.declared.pieces.Piece.{Piece}
 use Rattle.anb_format.specs.declared.pieces.Piece.TheVariants.{Lit, Field}
 use Rattle.anb_format.specs.Fields.{field_bytes}
-use Rattle.anb_format.specs.Formats.{IsParts, IsSound, field_count, format_bytes}
+use Rattle.anb_format.specs.Formats.{IsParts, field_count, format_bytes}
 use Rattle.anb_format.proofs.ReadingLemmas.{RestIsLast, nothing_built, rest_last, short_in_len, short_in_net}
 use Rattle.std.specs.List.{AllByRecursion}
 use Rattle.hex.specs.Hex.{encode_lower}

@@ -14,7 +14,7 @@ use Rattle.hex.specs.Hex.{encode_lower, encode_with, lower_digits}
 use Rattle.anb_base.specs.Bytes.{IsBytes}
 use Rattle.anb_format.specs.declared.pieces.FieldKind.{FieldKind}
 use Rattle.anb_format.specs.declared.pieces.FieldKind.TheVariants.{Len, Net, Hex, Rest}
-use Rattle.anb_format.specs.Fields.{decimal_digits, field_bytes, leb128}
+use Rattle.anb_format.specs.Fields.{field_bytes, leb128}
 use Rattle.anb_format.proofs.Decimals.{as_std}
 use Rattle.anb_format.proofs.Leb128.{fewer, leb128_large, leb128_small}
 use Rattle.anb_format.proofs.ReadingLemmas.{hex_regrouped, net_regrouped}
@@ -290,6 +290,7 @@ net_is : (all field : ℕ) (bytes rest : List ℕ) → IsBytes bytes → net_fou
 net_is all field bytes rest small e = by (number_of (take d bytes)) refl e where
   d : ℕ
   d = position_or_len (λ b. not (is_digit b)) bytes
+
   by : (o : Option ℕ) → number_of (take d bytes) ≡ o
       → option_map_or (λ n. and_then (literal_found all (58 ∷ []) (drop d bytes)) (λ behind. and_then (counted all field bytes n behind) (literal_found all (44 ∷ [])))) o
       (Misfit (place_of all bytes) (due (codes "a decimal length") (shown (take (max 1 d) bytes)))) ≡ Before rest → IsFieldBefore Net bytes rest
@@ -303,7 +304,7 @@ net_is all field bytes rest small e = by (number_of (take d bytes)) refl e where
       let number = number_is (take d bytes) n is in
       let cut : one.0 ≡ take n one.0 ++ 44 ∷ rest = sym (take-append-drop n one.0) ∙ ap (λ (x : List ℕ). take n one.0 ++ x) (k.1 ∙ comma) in
       let whole : bytes ≡ decimal n ++ 58 ∷ (take n one.0 ++ 44 ∷ rest) =
-          sym (take-append-drop d bytes) ∙ ap (λ (x : List ℕ). x ++ drop d bytes) number.0 ∙ ap (λ (x : List ℕ). decimal n ++ x) (colon ∙ ap (λ (x : List ℕ). 58 ∷ x) cut) in
+      sym (take-append-drop d bytes) ∙ ap (λ (x : List ℕ). x ++ drop d bytes) number.0 ∙ ap (λ (x : List ℕ). decimal n ++ x) (colon ∙ ap (λ (x : List ℕ). 58 ∷ x) cut) in
       let count : length (take n one.0) ≡ n = omega (arith, length-take n one.0, k.0) in
       let wide : n < 2 ^ 64 = omega (arith, number.1) in
       let tail : IsBytes (58 ∷ (take n one.0 ++ 44 ∷ rest)) = bytes_behind (decimal n) (58 ∷ (take n one.0 ++ 44 ∷ rest)) (subst IsBytes whole small) in
@@ -318,15 +319,15 @@ net_again all field b rest few =
     let wide : length b < 2 ^ 64 = omega (arith, few) in
     let whole : field_bytes Net b ++ rest ≡ decimal (length b) ++ 58 ∷ (b ++ 44 ∷ rest) = net_regrouped b rest ∙ rw (as_std (length b) wide) refl in
     rw whole (read (decimal (length b)) (number_again (length b) few) (digits_pass (length b) wide)) where
-  read : (digits : List ℕ) → number_of digits ≡ Some (length b) → AllByRecursion (λ b. is_digit b ≡ true) digits → net_found all field (digits ++ 58 ∷ (b ++ 44 ∷ rest)) ≡ Before rest
-  read digits number all_digits =
-      let count = front_is is_digit digits 58 (b ++ 44 ∷ rest) all_digits refl in
-      let front = take_at digits (58 ∷ (b ++ 44 ∷ rest)) (length digits) refl in
-      let behind = drop_at digits (58 ∷ (b ++ 44 ∷ rest)) (length digits) refl in
-      rw (count, front, behind, number)
-      (ap (λ (f : Found). and_then f (λ x. and_then (counted all field (digits ++ 58 ∷ (b ++ 44 ∷ rest)) (length b) x) (literal_found all (44 ∷ [])))) (literal_again all (58 ∷ []) (b ++ 44 ∷ rest))
-      ∙ ap (λ (f : Found). and_then f (literal_found all (44 ∷ []))) (counted_again all field (digits ++ 58 ∷ (b ++ 44 ∷ rest)) b (44 ∷ rest))
-      ∙ literal_again all (44 ∷ []) rest)
+      read : (digits : List ℕ) → number_of digits ≡ Some (length b) → AllByRecursion (λ b. is_digit b ≡ true) digits → net_found all field (digits ++ 58 ∷ (b ++ 44 ∷ rest)) ≡ Before rest
+      read digits number all_digits =
+          let count = front_is is_digit digits 58 (b ++ 44 ∷ rest) all_digits refl in
+          let front = take_at digits (58 ∷ (b ++ 44 ∷ rest)) (length digits) refl in
+          let behind = drop_at digits (58 ∷ (b ++ 44 ∷ rest)) (length digits) refl in
+          rw (count, front, behind, number)
+          (ap (λ (f : Found). and_then f (λ x. and_then (counted all field (digits ++ 58 ∷ (b ++ 44 ∷ rest)) (length b) x) (literal_found all (44 ∷ [])))) (literal_again all (58 ∷ []) (b ++ 44 ∷ rest))
+          ∙ ap (λ (f : Found). and_then f (literal_found all (44 ∷ []))) (counted_again all field (digits ++ 58 ∷ (b ++ 44 ∷ rest)) b (44 ∷ rest))
+          ∙ literal_again all (44 ∷ []) rest)
 
 hex_is_at : (all d : ℕ) (bytes rest : List ℕ) → d ≡ position_or_len (λ b. not (is_lower_digit b)) bytes → hex_end all (drop (d - d % 2) bytes) ≡ Before rest → IsFieldBefore Hex bytes rest
 hex_is_at all d bytes rest is e =
@@ -335,7 +336,7 @@ hex_is_at all d bytes rest is e =
     let count : length (take (d - d % 2) bytes) ≡ 2 * (d / 2) = omega (arith, length-take (d - d % 2) bytes, within, is) in
     let b = pairs_are (d / 2) (take (d - d % 2) bytes) count (front_passes is_lower_digit (d - d % 2) bytes (omega (arith, is))) in
     let whole : bytes ≡ encode_lower b.bytes ++ 59 ∷ rest =
-        sym (take-append-drop (d - d % 2) bytes) ∙ ap (λ (x : List ℕ). x ++ drop (d - d % 2) bytes) (sym b.digits) ∙ ap (λ (x : List ℕ). encode_lower b.bytes ++ x) end in
+    sym (take-append-drop (d - d % 2) bytes) ∙ ap (λ (x : List ℕ). x ++ drop (d - d % 2) bytes) (sym b.digits) ∙ ap (λ (x : List ℕ). encode_lower b.bytes ++ x) end in
     record { argument = b.bytes; small = b.small; stands = whole ∙ sym (hex_regrouped b.bytes rest) }
 
 hex_is : (all : ℕ) (bytes rest : List ℕ) → hex_found all bytes ≡ Before rest → IsFieldBefore Hex bytes rest

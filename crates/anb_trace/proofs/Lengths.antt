@@ -1,10 +1,15 @@
 -- A length at the front, by its first byte; and the first place of a byte.
-use Rattle.std.proofs.Common.{◌≡◌, ◌==◌, ◌<◌, ◌≤◌, ◌+◌, ◌-◌, ◌*◌, ℕ, zero, suc, List, [], ◌∷◌, length, Bool, true, false, cond, nat_lt, Option, Some, None, refl, sym, ap, ◌∙◌, arith}
-use Rattle.std.specs.Prelude.{not, position}
+use Rattle.std.proofs.Common.{◌≡◌, ◌==◌, ◌<◌, ◌≤◌, ◌+◌, ◌-◌, ◌*◌, ℕ, zero, suc, List, [], ◌∷◌, length, Bool, true, false, cond, nat_lt, Option, Some, None, refl, arith}
+use Rattle.std.specs.Prelude.{IfNone, not, position}
 use Rattle.std.specs.List.{position_or_len}
 use Rattle.std.proofs.lemmas.Bool.Decides.{nat_tests}
 use Rattle.std.proofs.lemmas.List.Sums.{prefix_len-le-length}
 use Rattle.anb_trace.specs.Misfits.{length_at, longer_length}
+
+-- what holds anyhow holds where there is nothing
+pub if_none : {A P : Type 0} (r : Option A) → P → IfNone r P
+if_none None p = p
+if_none (Some x) p = tt
 
 pub empty_none : (more : ℕ) (bytes : List ℕ) → length bytes ≡ 0 → length_at more bytes ≡ None
 empty_none zero [] none = refl

@@ -1,11 +1,22 @@
 -- What is told where a piece is looked for.
-use Rattle.std.proofs.Common.{◌≡◌, ◌≤◌, ℕ, List, [], ◌∷◌, ◌++◌, Some, None, sym, ap, ◌∙◌, ◌+◌, length, drop}
+use Rattle.std.proofs.Common.{◌≡◌, ◌≤◌, ℕ, List, [], ◌∷◌, ◌++◌, Some, None, Result, Ok, Err, sym, ap, append_assoc, ◌∙◌, ◌+◌, length, drop}
 use Rattle.std.specs.Borrow.{Bor}
+use Rattle.std.specs.Prelude.{OnOk}
 use Rattle.std.proofs.lemmas.List.{drop_all}
 use Rattle.anb_format.specs.Formats.{field_count}
 use Rattle.anb_format.specs.declared.pieces.Piece.{Piece}
 use Rattle.anb_trace.specs.Misfits.{Before, Found, Misfit, end_due, misfit_behind, misfit_from, piece_found}
 use Rattle.anb_trace.specs.Passing.{Passes}
+
+pub on_ok : {A E P Q : Type 0} (r : Result A E) → (P → Q) → OnOk r P → OnOk r Q
+on_ok (Ok a) f h = f h
+on_ok (Err e) f h = tt
+
+-- words in four parts, and more behind them
+pub four_and : (old middle new a b c d e : List ℕ) → middle ≡ old ++ (a ++ (b ++ (c ++ d))) → new ≡ middle ++ e → new ≡ old ++ (a ++ (b ++ (c ++ (d ++ e))))
+four_and old middle new a b c d e first last =
+    let joined : (old ++ (a ++ (b ++ (c ++ d)))) ++ e ≡ old ++ (a ++ (b ++ (c ++ (d ++ e)))) = simp append_assoc in
+    last ∙ ap (λ (x : List ℕ). x ++ e) first ∙ joined
 
 -- it stands there
 pub passed_on : (f : Found) (behind : Bor (List ℕ)) (old new : List ℕ) (next : List ℕ → List ℕ) → Passes f (Some behind) old new → (misfit_behind f next ≡ next behind.now) × (new ≡ old)

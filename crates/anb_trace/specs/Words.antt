@@ -1,16 +1,16 @@
 -- What a trace says of an event, of an instruction, and of why one failed.
-use Rattle.std.specs.Prelude.{ℕ, ◌+◌, ◌-◌, ◌==◌, ◌&&◌, ◌||◌, nat_lt, Bool, true, false, List, [], ◌∷◌, ◌++◌, length, drop, filter, codes, decimal, Option, Some, None, slice_get, if◌then◌else◌}
+use Rattle.std.specs.Prelude.{ℕ, ◌+◌, ◌-◌, ◌==◌, ◌&&◌, ◌||◌, nat_lt, Bool, false, List, [], ◌∷◌, ◌++◌, length, drop, filter, codes, decimal, Option, Some, None, slice_get, if◌then◌else◌}
 use Rattle.std.specs.Option.{option_map_or}
 use Rattle.std.specs.List.{list_any}
 use Rattle.hex.specs.Hex.{encode_lower}
 use Rattle.anb_format.specs.Formats.{FormatValue}
 use Rattle.anb_term.specs.Tree.{Tree}
 use Rattle.anb_code.specs.declared.instr.Instr.{Instr}
-use Rattle.anb_code.specs.declared.instr.Instr.TheVariants.{Take, Fresh, Recv, Hash, Mac, Seal, Unseal, Wrap, Unwrap, Build, Parse, Equal, Send}
+use Rattle.anb_code.specs.declared.instr.Instr.TheVariants.{Take, Fresh, Recv, Unseal, Unwrap, Parse, Equal}
 use Rattle.anb_code.specs.CodeValue.{CodeValue}
 use Rattle.anb_code.specs.Registers.{count_written, pieces_at}
 use Rattle.anb_code.specs.Spelling.{name_at, raw_instr}
-use Rattle.anb_resolve.specs.Plans.{PlanEvent, to_know, to_make, to_send, to_receive}
+use Rattle.anb_resolve.specs.Plans.{PlanEvent, to_send, to_receive}
 use Rattle.anb_resolve.specs.Protocols.{ActionValue, ProtocolValue}
 use Rattle.anb_resolve.specs.Texts.{term_text}
 use Rattle.anb_text.specs.Lines.{instr_line}
@@ -91,7 +91,7 @@ abbrev pub bytes_at : List (List ℕ) → ℕ → List ℕ
 bytes_at table register = option_map_or (λ bytes. bytes) (slice_get table register) []
 
 -- that these are too few for what was sealed or wrapped, which is 32 longer than its message
-abbrev pub too_few : List ℕ → (name : List ℕ) → List ℕ
+unfoldable pub too_few : List ℕ → (name : List ℕ) → List ℕ
 too_few bytes name = if nat_lt (length bytes) 32
     then codes ": " ++ (count_text (length bytes) ++ (codes ", a " ++ (name ++ codes " has 32 or more"))) else []
 

@@ -4,7 +4,9 @@ ghost use Rattle.anb_format.specs.Formats.{field_count};
 ghost use Rattle.anb_trace.specs.Misfits.{at_byte, counted, end_due, field_found, hex_found, len_found, literal_found, misfit, net_found, no_length, piece_found, place_of};
 ghost use Rattle.anb_trace.specs.Passing.{Passes};
 
-use crate::fronts::{count_digits, count_lower_digits, end_of_length, front, length_at, read_number};
+use crate::fronts::{
+    count_digits, count_lower_digits, end_of_length, front, length_at, read_number,
+};
 use crate::shown::{all_shown, literal_text, put_due, put_lacking, shown};
 use anb_base::NoMemory;
 use anb_format::{FieldKind, Piece};
@@ -44,12 +46,7 @@ fn fields_of(piece: &Piece) -> usize
 }
 
 /// Appends that the end is due where more is there.
-fn put_end_due(
-    alloc: Global,
-    out: &mut Vec<u8>,
-    all: usize,
-    bytes: &[u8],
-) -> Result<(), NoMemory>
+fn put_end_due(alloc: Global, out: &mut Vec<u8>, all: usize, bytes: &[u8]) -> Result<(), NoMemory>
     ensures { OnOk result (out.new.items ≡ out.old.items ++ end_due all bytes.now) }
 {
     match bytes {
@@ -61,7 +58,8 @@ fn put_end_due(
     }
 }
 
-/// Gives what follows a piece, which is this field if it is one, or appends what isn't right with it.
+/// Gives what follows a piece, which is this field if it is one, or appends what isn't right with
+/// it.
 fn pass_piece<'b>(
     alloc: Global,
     out: &mut Vec<u8>,
@@ -145,12 +143,7 @@ fn pass_len<'b>(
 }
 
 /// Appends that a length is due.
-fn put_no_length(
-    alloc: Global,
-    out: &mut Vec<u8>,
-    all: usize,
-    bytes: &[u8],
-) -> Result<(), NoMemory>
+fn put_no_length(alloc: Global, out: &mut Vec<u8>, all: usize, bytes: &[u8]) -> Result<(), NoMemory>
     ensures { OnOk result (out.new.items
         ≡ out.old.items ++ at_byte (place_of all bytes.now) (no_length bytes.now)) }
 {
@@ -158,7 +151,12 @@ fn put_no_length(
     match end_of_length(longest) {
         Some(end) => {
             let there = all_shown(alloc, front(bytes, end + 1))?;
-            put_due(out, place_of(all, bytes), b"a minimal length", there.as_slice())
+            put_due(
+                out,
+                place_of(all, bytes),
+                b"a minimal length",
+                there.as_slice(),
+            )
         }
         None => {
             let there = all_shown(alloc, longest)?;
@@ -181,7 +179,12 @@ fn pass_net<'b>(
     let digits = count_digits(bytes);
     let Some(n) = read_number(&bytes[..digits]) else {
         let there = shown(alloc, front(bytes, digits.max(1)))?;
-        put_due(out, place_of(all, bytes), b"a decimal length", there.as_slice())?;
+        put_due(
+            out,
+            place_of(all, bytes),
+            b"a decimal length",
+            there.as_slice(),
+        )?;
         return Ok(None);
     };
     let Some(behind) = pass_literal(alloc, out, all, b":", &bytes[digits..])? else {

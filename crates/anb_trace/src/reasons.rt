@@ -30,7 +30,10 @@ pub(crate) fn put_reason(
         ≡ out.old.items ++ why (subject_in subject.now) registers.now instr.now) }
 {
     match instr {
-        Instr::Unseal(key, of) => put_unsealed(alloc, out, subject, registers, *key, *of),
+        Instr::Unseal(key, of) => {
+            put_unsealed(alloc, out, subject, *key)?;
+            put_too_few(out, bytes_at(registers, *of), b"seal")
+        }
         Instr::Unwrap(key, context, of) => {
             put_unwrapped(alloc, out, subject, *key, *context)?;
             put_too_few(out, bytes_at(registers, *of), b"wrapping")
@@ -51,23 +54,19 @@ pub(crate) fn put_reason(
     }
 }
 
-/// Appends that a register can't be unsealed under this key.
+/// Appends that nothing can be unsealed under this key.
 fn put_unsealed(
     alloc: Global,
     out: &mut Vec<u8>,
     subject: &Subject<'_>,
-    registers: &[Bytes],
     key: u32,
-    of: u32,
 ) -> Result<(), NoMemory>
     requires { IsOurs subject.now }
     ensures { OnOk result (out.new.items ≡ out.old.items
-        ++ (codes "can't unseal under " ++ (term_at (subject_in subject.now) key
-        ++ too_few (bytes_at registers.now of) (codes "seal")))) }
+        ++ (codes "can't unseal under " ++ term_at (subject_in subject.now) key)) }
 {
     out.extend_from_slice(b"can't unseal under ")?;
-    put_term_at(alloc, out, subject, key)?;
-    put_too_few(out, bytes_at(registers, of), b"seal")
+    put_term_at(alloc, out, subject, key)
 }
 
 /// Appends that nothing can be unwrapped under this key with this context.
@@ -90,6 +89,7 @@ fn put_unwrapped(
 }
 
 /// Appends how many bytes there are, where they are too few for what has this name.
+#[tactic(auto, unfolding(crate::specs::Words::too_few))]
 fn put_too_few(out: &mut Vec<u8>, bytes: &[u8], name: &[u8]) -> Result<(), NoMemory>
     ensures { OnOk result (out.new.items ≡ out.old.items ++ too_few bytes.now name.now) }
 {

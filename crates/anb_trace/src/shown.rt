@@ -60,7 +60,11 @@ fn put_count_there(out: &mut Vec<u8>, there: usize) -> Result<(), NoMemory>
     ensures { OnOk result (out.new.items ≡ out.old.items ++ count_there there) }
 {
     put_count(out, there)?;
-    let verb: &[u8] = if there == 1 { b" is there" } else { b" are there" };
+    let verb: &[u8] = if there == 1 {
+        b" is there"
+    } else {
+        b" are there"
+    };
     out.extend_from_slice(verb)?;
     Ok(())
 }
