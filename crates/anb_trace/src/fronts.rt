@@ -19,8 +19,8 @@ pub(crate) fn front(bytes: &[u8], most: usize) -> &[u8]
     }
 }
 
-/// The length in minimal LEB128 at the front, which may take this many bytes more than one, and what
-/// follows it.
+/// The length in minimal LEB128 at the front, which may take this many bytes more than one, and
+/// what follows it.
 pub(crate) fn length_at(bytes: &[u8], more: u8) -> Option<(usize, &[u8])>
     requires { more ≤ 8 }
     ensures bound { IfSome result (λ x. x.0 < 128 ^ (more + 1)) }

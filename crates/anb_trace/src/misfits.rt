@@ -58,7 +58,8 @@ fn put_end_due(alloc: Global, out: &mut Vec<u8>, all: usize, bytes: &[u8]) -> Re
     }
 }
 
-/// Gives what follows a piece, which is this field if it is one, or appends what isn't right with it.
+/// Gives what follows a piece, which is this field if it is one, or appends what isn't right with
+/// it.
 fn pass_piece<'b>(
     alloc: Global,
     out: &mut Vec<u8>,
