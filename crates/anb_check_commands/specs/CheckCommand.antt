@@ -7,6 +7,7 @@ use Rattle.anb_syntax.specs.Text.{Text}
 use Rattle.anb_resolve.specs.Protocols.{ProtocolValue, protocol_of}
 use Rattle.anb_code.specs.CodeValue.{CodeValue}
 use Rattle.anb_compile.specs.Fitting.{FitRoles}
+use Rattle.anb_lack.specs.Lacking.{IsLackText}
 use Rattle.anb_point.specs.Unread.{IsUnreadText}
 use Rattle.anb_point.specs.Unresolved.{IsUnresolvedText}
 use Rattle.anb_report.specs.Reporting.{report}
@@ -19,19 +20,18 @@ use Rattle.anb_command.specs.Files.{FileIs, NarrationIs, ProtocolIs}
 use Rattle.anb_command.specs.Roles.{SendableOf}
 use Rattle.anb_command.specs.Statuses.{is_fault, why_ill_formed}
 use Rattle.anb_command.specs.Steps.{Answer, refused, given, InTurn}
-use Rattle.anb_reason_commands.specs.WhyCommand.{IsReasonText}
 
 -- the protocol that a text tells, where all its roles can send
 abbrev pub SendableOfText : List ℕ → Answer ProtocolValue → Type 0
 SendableOfText x = InTurn (NarrationIs x) (λ n. InTurn (ProtocolIs n) SendableOf)
 
 -- What is said of a text, in a file of this name, that is refused with this status: the place and what
--- would mend it; and of a narration in which a role can't send, why.
+-- would mend it; and of a narration in which a role can't send, what it lacks.
 abbrev pub SaidOf : (name x : List ℕ) → Status → List ℕ → Type 0
 SaidOf name x (BadNarration (Read why)) said = IsUnreadText name x why said
 SaidOf name x (BadNarration (Resolve why)) said =
     (n : Narration) × Text n x × IsUnresolvedText name x n why (why_ill_formed why) said
-SaidOf name x (CannotSend action role) said = (n : Narration) × Text n x × IsReasonText (protocol_of n) said
+SaidOf name x (CannotSend action role) said = (n : Narration) × Text n x × IsLackText (protocol_of n) said
 SaidOf name x status said = ⊥
 
 -- the report on all roles, by a code for each that fits it

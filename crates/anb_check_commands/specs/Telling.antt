@@ -6,6 +6,7 @@ use Rattle.anb_resolve.specs.Checks.{fault}
 use Rattle.anb_resolve.specs.Plays.{IsSendable}
 use Rattle.anb_resolve.specs.Protocols.{ProtocolValue, protocol_of}
 use Rattle.anb_resolve.specs.declared.refusals.ResolveNo.{ResolveNo}
+use Rattle.anb_lack.specs.Lacking.{IsLackText}
 use Rattle.anb_point.specs.Unresolved.{IsUnresolvedText}
 use Rattle.anb_command.specs.declared.status.NarrationNo.TheVariants.{Resolve}
 use Rattle.anb_command.specs.declared.status.Status.{Status}
@@ -15,7 +16,6 @@ use Rattle.anb_command.specs.Roles.{AllSend}
 use Rattle.anb_command.specs.Statuses.{after_reach, is_fault, why_ill_formed}
 use Rattle.anb_command.specs.Steps.{refused}
 use Rattle.anb_command.specs.Writing.{IsWritten}
-use Rattle.anb_reason_commands.specs.WhyCommand.{IsReasonText}
 use Rattle.anb_check_commands.specs.CheckCommand.{IsReport}
 
 -- a status that comes when all is written
@@ -37,7 +37,7 @@ pub record IsTold (status : Status) (said : List ℕ) (result : Status) (written
 -- the verdict on a protocol
 abbrev pub IsVerdictOnProtocol : ProtocolValue → Status → List ℕ → Type 0
 IsVerdictOnProtocol p status said =
-    (AllSend p (refused status) × IsReasonText p said) ⊎ (IsSendable p × (status ≡ Done) × IsReport p said)
+    (AllSend p (refused status) × IsLackText p said) ⊎ (IsSendable p × (status ≡ Done) × IsReport p said)
 
 -- the verdict on the narration of a text
 abbrev pub IsVerdictOnNarration : (name x : List ℕ) → Narration → Status → List ℕ → Type 0

@@ -11,9 +11,9 @@ ghost use Rattle.anb_check_commands.specs.Telling.{IsLast, IsVerdictOnNarration,
 
 use anb_base::{Bytes, NoMemory, Text};
 use anb_command::{NarrationNo, Status, codes_of, ill_formed};
+use anb_lack::lack_text;
 use anb_point::{unread_text, unresolved_text};
 use anb_read::{ReadNo, read};
-use anb_reason_commands::reason_text;
 use anb_report::report;
 use anb_resolve::{Protocol, ResolveNo, resolve, small_is_countable};
 use anb_syntax::Narration;
@@ -85,7 +85,7 @@ fn reason_of(alloc: Global, why: &ResolveNo) -> Result<Vec<u8>, NoMemory>
     Ok(out)
 }
 
-/// The verdict on a protocol: a report on its roles, or why one of them can't send.
+/// The verdict on a protocol: a report on its roles, or what one of them lacks that can't send.
 fn verdict_on_protocol(alloc: Global, protocol: &Protocol) -> Result<Verdict, NoMemory>
     ensures is { IfOk result (λ v. IsVerdictOnProtocol protocol.now v.status v.said) }
     ensures last { IfOk result (λ v. IsLast v.status) }
@@ -95,10 +95,13 @@ fn verdict_on_protocol(alloc: Global, protocol: &Protocol) -> Result<Verdict, No
             said: report(alloc, protocol, &codes)?,
             status: Status::Done,
         }),
-        Err(Status::CannotSend { action, role }) => Ok(Verdict {
-            said: reason_text(alloc, protocol)?,
-            status: Status::CannotSend { action, role },
-        }),
+        Err(Status::CannotSend { action, role }) => match lack_text(alloc, protocol)? {
+            Some(said) => Ok(Verdict {
+                said,
+                status: Status::CannotSend { action, role },
+            }),
+            None => unreachable!(),
+        },
         Err(_) => Err(NoMemory),
     }
 }

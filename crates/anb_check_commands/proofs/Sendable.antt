@@ -1,0 +1,11 @@
+-- A protocol in which a role can't send isn't one in which each can.
+use Rattle.std.proofs.Common.{◌≡◌, ℕ, List}
+use Rattle.anb_command.specs.Roles.{AllSend}
+use Rattle.anb_command.specs.Steps.{refused}
+use Rattle.anb_command.specs.declared.status.Status.{Status}
+use Rattle.anb_command.proofs.Senders.{none_unsent}
+use Rattle.anb_resolve.specs.Plays.{IsSendable}
+use Rattle.anb_resolve.specs.Protocols.{ProtocolValue}
+
+pub not_sendable : (p : ProtocolValue) (s : Status) → AllSend p (refused s) → IsSendable p → ⊥
+not_sendable p s (role, action, sender, first, named, is) sendable = none_unsent p role action (sendable role first.is_role) first.unsent

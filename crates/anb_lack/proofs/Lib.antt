@@ -1,0 +1,4 @@
+pub mod Noting
+pub mod Parting
+pub mod Showing
+pub mod Written

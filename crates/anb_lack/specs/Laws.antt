@@ -1,0 +1,37 @@
+-- What the lists of a refusal's text are worth.
+use Rattle.std.specs.Prelude.{◌≡◌, List, ◌∷◌, Some}
+use Rattle.std.specs.List.{AllByRecursion}
+use Rattle.anb_term.specs.Agree.{HasRecipe}
+use Rattle.anb_term.specs.Tree.{Tree}
+use Rattle.anb_term.specs.View.{tree_of}
+use Rattle.anb_algebra.specs.ByteMeaning.{has_operator}
+use Rattle.anb_resolve.specs.Protocols.{ProtocolValue}
+use Rattle.anb_compile.specs.Unsent.{labels_of}
+use Rattle.anb_certify.specs.declared.reasons.Refusal.{Refusal}
+use Rattle.anb_certify.specs.Reach.{IsReason}
+use Rattle.anb_lack.specs.declared.origins.Origin.{Origin}
+use Rattle.anb_lack.specs.Lacking.{first_origin}
+use Rattle.anb_lack.specs.Parts.{lacking}
+
+-- a recipe over what the sender has before the send gives the term
+abbrev pub IsMade : (p : ProtocolValue) (r : Refusal) → IsReason p r → Tree → Type 0
+IsMade p r reason t = HasRecipe (has_operator p.formats) (labels_of reason.unsent.before) t
+
+-- some recipe gives each term that the role has
+abbrev pub HadIsMade : Type 0
+HadIsMade = (p : ProtocolValue) (r : Refusal) (reason : IsReason p r) → AllByRecursion (IsMade p r reason) r.terms
+
+-- and it first stands somewhere before the send
+abbrev pub HadIsFrom : Type 0
+HadIsFrom = (p : ProtocolValue) (r : Refusal) (reason : IsReason p r)
+    → AllByRecursion (λ t. (origin : Origin) × (first_origin reason.unsent.before t ≡ Some origin)) r.terms
+
+-- no recipe gives a part of the message that is listed as lacking
+abbrev pub LackingIsNotMade : Type 0
+LackingIsNotMade = (p : ProtocolValue) (r : Refusal) (reason : IsReason p r)
+    → AllByRecursion (λ u. IsMade p r reason u → ⊥) (lacking r.terms (tree_of r.term))
+
+-- the first that is listed is the message itself
+abbrev pub MessageIsLacking : Type 0
+MessageIsLacking = (p : ProtocolValue) (r : Refusal) → IsReason p r
+    → (others : List Tree) × (lacking r.terms (tree_of r.term) ≡ tree_of r.term ∷ others)

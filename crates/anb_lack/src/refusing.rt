@@ -1,0 +1,48 @@
+//! The text of a refusal.
+ghost use Rattle.std.specs.Prelude.{◌≡◌, ◌++◌, IfOk, MatchOption, OnOk, map};
+ghost use Rattle.std.specs.List.{AllByRecursion};
+ghost use Rattle.anb_term.specs.View.{tree_of};
+ghost use Rattle.anb_resolve.specs.Plays.{IsSendable};
+ghost use Rattle.anb_resolve.specs.Texts.{IsTermOf};
+ghost use Rattle.anb_certify.specs.Reach.{IsReason};
+ghost use Rattle.anb_lack.specs.Lacking.{IsLackText};
+
+use crate::lines::{put_had, put_lacking, put_refused};
+use crate::origins::origins;
+use crate::parts::lacking;
+use anb_base::{Bytes, NoMemory};
+use anb_certify::{Refusal, reason};
+use anb_resolve::Protocol;
+use std::alloc::Global;
+
+/// What the sender of the first message that can't be sent lacks, or None where each role can send what
+/// it has to. Beside what `reason` costs, each term of the sender's plan and of the message is looked at
+/// a few times, and each line of the text once more; a look-up costs one hash.
+pub fn lack_text(alloc: Global, protocol: &Protocol) -> Result<Option<Bytes>, NoMemory>
+    ensures { IfOk result (λ text.
+        MatchOption text (IsSendable protocol.now) (IsLackText protocol.now)) }
+{
+    match reason(alloc, protocol)? {
+        Some(refusal) => Ok(Some(refusal_text(alloc, protocol, &refusal)?)),
+        None => Ok(None),
+    }
+}
+
+/// The text of a refusal.
+fn refusal_text(alloc: Global, protocol: &Protocol, refusal: &Refusal) -> Result<Bytes, NoMemory>
+    requires reason { IsReason protocol.now refusal.now }
+    requires message { IsTermOf protocol.now (tree_of refusal.now.term) }
+    requires terms { AllByRecursion (IsTermOf protocol.now) refusal.now.terms }
+    ensures { IfOk result (IsLackText protocol.now) }
+{
+    let terms = refusal.terms.as_slice();
+    let sender = &protocol.roles()[refusal.role as usize];
+    let plan = protocol.plan(alloc, refusal.role)?;
+    let origins = origins(alloc, plan.events(), terms)?;
+    let lacking = lacking(alloc, terms, &refusal.term)?;
+    let mut out = Vec::new(alloc);
+    put_refused(alloc, &mut out, protocol, sender, refusal)?;
+    put_had(alloc, &mut out, protocol, terms, &origins)?;
+    put_lacking(alloc, &mut out, protocol, &lacking)?;
+    Ok(Bytes::new(out))
+}
