@@ -5,7 +5,8 @@
 Runs `rt ci` (of these crates and those below them, or of all) with a prover that notes the processor
 seconds of each of its calls, and then writes a row a crate: proof, tests, and edits, with what an edit's
 try begins with. `rt ci` keeps what passed, and does again only what changed: with --anew it does all.
-With --log the notes go to this file, behind those of earlier runs, and the table is that of all notes.
+With --log the notes go to this file, behind those of earlier runs, and the table is that of all notes. Of a
+proof, of tests or of the beginning of edits that was done again, the last note counts.
 """
 import collections
 import importlib.machinery
@@ -70,8 +71,9 @@ def table(log):
     sums, tries = collections.defaultdict(collections.Counter), collections.Counter()
     with open(log) as file:
         for note in map(json.loads, file):
-            sums[note["crate"]][note["part"]] += note["processor"]
-            tries[note["crate"]] += note["part"] == "edits"
+            parts, part = sums[note["crate"]], note["part"]
+            parts[part] = note["processor"] + (parts[part] if part == "edits" else 0)
+            tries[note["crate"]] += part == "edits"
     yield "| crate | proof | tests | edits | their beginning |"
     yield "|---|---|---|---|---|"
     for crate, parts in sorted(sums.items(), key=lambda it: -it[1].total()):
