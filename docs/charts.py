@@ -1,7 +1,8 @@
 #!/usr/bin/env python3
 """Writes examples/README.md: python3 docs/charts.py crates/anb/out/anb. Standard library alone.
 
-Each protocol's comment, its messages as a Mermaid chart, and what each role takes as it comes, from `anb explain`.
+Each protocol's comment, its messages as a Mermaid chart, and what each role takes unchecked: what `anb check` writes of it is
+compared with what docs/narration.py finds in the code that `anb explain` shows.
 """
 
 import pathlib
@@ -26,7 +27,7 @@ OPENING = """# Examples
 
 A folder has the narration, `ROLE.values` for each role, `all.values` with a value for each name that some role knows, and `schedule`, the roles in the order in which they take their turns; `nssk/eager.schedule` has turns that come too soon and are passed over. [expected](expected) has what comes of playing all roles against each other, with the SHA-256 of all frames in a row. Seeds are fixed, so that each run gives the same bytes.
 
-Under each chart stands what a role **takes as it comes**: the received terms on which none of its checks depends, then or later, by the code that `anb explain` shows. A nonce of the partner is often among them, and rightly; a key or a ticket there deserves a thought. What came out of a seal is still from someone who had the seal's key. Nothing here is a claim that a protocol is secure, and some of these are known not to be.
+Under each chart stands what a role **takes unchecked**, as `anb check` says it: the received terms on which none of its checks depends, then or later, and which are no part of what is compared as a whole. A nonce of the partner is often among them, and rightly; a key or a ticket there deserves a thought. What came out of a seal is still from someone who had the seal's key. Nothing here is a claim that a protocol is secure, and some of these are known not to be.
 
 `peer/` has a role in Python, and one with mistakes, and `offer/` a text with a choice; the [tutorial](../docs/TUTORIAL.md) uses them.
 """
@@ -54,9 +55,29 @@ def chart(story):
     return "".join(line + "\n" for line in lines)
 
 
-def taken(program, path, role):
-    explained = subprocess.run([program, "explain", path, role], capture_output=True, check=True, timeout=300)
-    return narration.unchecked(explained.stdout.decode())
+def written(program, *words):
+    return subprocess.run([program, *words], capture_output=True, check=True, timeout=300).stdout.decode()
+
+
+def reported(program, path):
+    """What each role takes unchecked, as `anb check` writes it."""
+    taken, role = {}, None
+    for line in written(program, "check", path).splitlines():
+        head = re.match(r"role (\S+): ", line)
+        role = head[1] if head else role
+        if line.startswith("  takes unchecked: "):
+            taken[role] = line.split(": ", 1)[1].split(", ")
+        elif line == "  takes nothing unchecked":
+            taken[role] = []
+    return taken
+
+
+def taken(program, path, role, report):
+    """What the role takes unchecked: the program's report says what is found apart from it."""
+    found = narration.unchecked(written(program, "explain", path, role))
+    if report[role] != found:
+        raise ValueError(f"{path}: `check` says that {role} takes {report[role]} unchecked, its code {found}")
+    return found
 
 
 def section(program, folder):
@@ -67,9 +88,10 @@ def section(program, folder):
     lines = [f"## {folder.name}", "", f"[{path.name}]({folder.name}/{path.name}): {first}"]
     lines += [line for other in others for line in ("", other)]
     lines += ["", f"```mermaid\n{chart(story)}```", ""]
+    report = reported(program, path)
     for role in story.roles:
-        terms = ", ".join(f"`{term}`" for term in taken(program, path, role))
-        lines.append(f"- {role} takes as it comes: {terms or 'nothing'}.")
+        terms = ", ".join(f"`{term}`" for term in taken(program, path, role, report))
+        lines.append(f"- {role} takes {f'unchecked: {terms}' if terms else 'nothing unchecked'}.")
     return "\n".join(lines)
 
 

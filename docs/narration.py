@@ -178,21 +178,31 @@ def read_values(text):
 
 
 def unchecked(explanation):
-    """The received terms that a role takes as they come, by the code that `anb explain` shows: no check, then or later,
-    depends on the register."""
-    sources, leads, tested = [], {}, set()
+    """The received terms that a role takes unchecked, by the code that `anb explain` shows, made apart from `anb check`: no
+    check, then or later, depends on the register, and it is no part of one that is compared as a whole."""
+    sources, leads, opened, tested, whole = [], {}, [], set(), set()
     for line in explanation.split("\ncode\n")[1].splitlines():
         line, _, shown = line.partition(" # ")
         left, _, right = line.rpartition(" = ")
         word, *operands = right.split()
         operands = operands[1:] if word in ("parse", "build") else operands
-        if word in ("parse", "unseal", "unwrap", "equal"):
-            tested.update(operands)
+        if word in ("parse", "unseal", "unwrap"):
+            *keys, of = operands
+            opened.append((of, left.split()))
+            tested.add(of)
+            whole.update(keys)
+        elif word == "equal":
+            whole.update(operands)
         elif word in ("hash", "mac", "seal", "wrap", "build"):
             leads[left] = operands
         if word in ("recv", "parse", "unseal", "unwrap"):
             sources += zip(left.split(), shown.split())
+    tested |= whole
     for register in sorted(leads, key=lambda r: -int(r[1:])):
-        if register in tested:
-            tested.update(leads[register])
-    return [term for register, term in sources if register not in tested]
+        for seen in (tested, whole):
+            if register in seen:
+                seen.update(leads[register])
+    for of, parts in opened:
+        if of in whole:
+            whole.update(parts)
+    return [term for register, term in sources if register not in tested | whole]

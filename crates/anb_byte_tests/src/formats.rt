@@ -2,70 +2,49 @@
 ghost use Rattle.std.specs.Prelude.{◌≡◌, ◌<◌, ◌^◌, All, IfOk, length, vec_len};
 ghost use Rattle.anb_format.specs.Formats.{field_count};
 
-use anb_base::{Bytes, Text};
+use crate::values::{are_parts, bytes_of, table};
+use anb_base::{Bytes, NoMemory, Text};
 use anb_format::{FieldKind, Format, FormatNo, Piece, apart};
 use std::alloc::Global;
-use std::process::Abort;
-use std::test::Fail;
 
-fn bytes(alloc: Global, items: &[u8]) -> Result<Bytes, Fail> {
-    Ok(Bytes::new(Vec::from_slice(alloc, items)?))
-}
-
-/// A format of these literals alone.
-fn literals(rt: &impl Abort, alloc: Global, texts: &[&[u8]]) -> Result<Format, Fail> {
-    let mut pieces = Vec::new(alloc);
-    for text in texts {
-        pieces.push(Piece::Lit(bytes(alloc, text)?))?;
+/// The format of these pieces, where they are one.
+fn checked(alloc: Global, pieces: Vec<Piece>) -> Result<Format, NoMemory>
+    ensures { IfOk result (λ f. f.pieces ≡ pieces.items) }
+{
+    if pieces.len() >= 100 {
+        return Err(NoMemory);
     }
-    Ok(checked(rt, alloc, pieces))
+    match Format::check(pieces.as_slice()) {
+        Ok(()) => Ok(Format::new(Text::new(String::new(alloc)), pieces)),
+        Err(_) => Err(NoMemory),
+    }
 }
 
 /// A format of the literal `M` and one field.
-fn one_field(rt: &impl Abort, alloc: Global, kind: FieldKind) -> Result<Format, Fail>
+fn one_field(alloc: Global, kind: FieldKind) -> Result<Format, NoMemory>
     ensures { IfOk result (λ f. field_count f.pieces ≡ 1) }
 {
-    let mut pieces = Vec::new(alloc);
-    pieces.push(Piece::Lit(bytes(alloc, b"M")?))?;
-    pieces.push(Piece::Field(kind))?;
-    Ok(checked(rt, alloc, pieces))
+    let literal = Piece::Lit(bytes_of(alloc, "M")?);
+    checked(alloc, vec![in alloc; literal, Piece::Field(kind)]?)
 }
 
 /// A format of the literal `M` and a field of each kind.
-fn all_kinds(rt: &impl Abort, alloc: Global) -> Result<Format, Fail>
+fn all_kinds(alloc: Global) -> Result<Format, NoMemory>
     ensures { IfOk result (λ f. field_count f.pieces ≡ 4) }
 {
-    let mut pieces = Vec::new(alloc);
-    pieces.push(Piece::Lit(bytes(alloc, b"M")?))?;
-    pieces.push(Piece::Field(FieldKind::Len))?;
-    pieces.push(Piece::Field(FieldKind::Net))?;
-    pieces.push(Piece::Field(FieldKind::Hex))?;
-    pieces.push(Piece::Field(FieldKind::Rest))?;
-    Ok(checked(rt, alloc, pieces))
-}
-
-fn checked(rt: &impl Abort, alloc: Global, pieces: Vec<Piece>) -> Format
-    ensures { result.pieces ≡ pieces.items }
-{
-    assert!(rt; pieces.len() < 100);
-    let Ok(()) = Format::check(pieces.as_slice()) else {
-        panic!(rt; "no format");
-    };
-    Format::new(Text::new(String::new(alloc)), pieces)
-}
-
-fn table(alloc: Global, arguments: &[&[u8]]) -> Result<Vec<Bytes>, Fail>
-    ensures { IfOk result (λ table. vec_len table ≡ length arguments.now) }
-{
-    let mut table = Vec::new(alloc);
-    for argument in arguments {
-        table.push(bytes(alloc, argument)?)?;
-    }
-    Ok(table)
+    let literal = Piece::Lit(bytes_of(alloc, "M")?);
+    let pieces = vec![in alloc;
+        literal,
+        Piece::Field(FieldKind::Len),
+        Piece::Field(FieldKind::Net),
+        Piece::Field(FieldKind::Hex),
+        Piece::Field(FieldKind::Rest),
+    ]?;
+    checked(alloc, pieces)
 }
 
 /// The numbers of all places of the table, in order.
-fn every_place(alloc: Global, table: &Vec<Bytes>) -> Result<Vec<u32>, Fail>
+fn every_place(alloc: Global, table: &Vec<Bytes>) -> Result<Vec<u32>, NoMemory>
     requires { vec_len table.now < 2 ^ 32 }
     ensures within { IfOk result (λ places. All (λ i. i < vec_len table.now) places.items) }
     ensures count { IfOk result (λ places. length places.items ≡ vec_len table.now) }
@@ -77,113 +56,107 @@ fn every_place(alloc: Global, table: &Vec<Bytes>) -> Result<Vec<u32>, Fail>
     Ok(places)
 }
 
-/// That the arguments build these bytes, and that these have them as their parts.
-fn goes_both_ways(
-    rt: &impl Abort,
-    alloc: Global,
-    format: &Format,
-    arguments: &[&[u8]],
-    want: &[u8],
-) -> Result<(), Fail>
-    requires { field_count format.now.pieces ≡ length arguments.now }
+/// What the format builds of the bytes that these texts stand for.
+fn built(alloc: Global, format: &Format, arguments: &[&str]) -> Result<Bytes, NoMemory>
+    requires count { field_count format.now.pieces ≡ length arguments.now }
+    requires few { length arguments.now < 100 }
 {
-    assert!(rt; arguments.len() < 100);
     let table = table(alloc, arguments)?;
     let places = every_place(alloc, &table)?;
-    let built = format.build(alloc, table.as_slice(), places.as_slice())?;
-    assert_eq!(rt; built.as_slice(), want);
-    let Some(parts) = format.parts(alloc, want)? else {
-        panic!(rt; "no parts");
-    };
-    assert_eq!(rt; parts.len(), arguments.len());
-    for (part, argument) in parts.iter().zip(arguments) {
-        assert_eq!(rt; part.as_slice(), *argument);
+    format.build(alloc, table.as_slice(), places.as_slice())
+}
+
+/// Whether the arguments build these bytes, and these have them as their parts.
+fn goes_both_ways(
+    alloc: Global,
+    format: &Format,
+    arguments: &[&str],
+    want: &[u8],
+) -> Result<bool, NoMemory>
+    requires count { field_count format.now.pieces ≡ length arguments.now }
+    requires few { length arguments.now < 100 }
+{
+    let built = built(alloc, format, arguments)?;
+    let parts = format.parts(alloc, want)?;
+    Ok(built.as_slice() == want && are_parts(alloc, &parts, arguments)?)
+}
+
+/// The bytes that these texts stand for, one behind another.
+fn joined(alloc: Global, texts: &[&str]) -> Result<Vec<u8>, NoMemory> {
+    let mut joined = Vec::new(alloc);
+    for text in texts {
+        let bytes = bytes_of(alloc, text)?;
+        joined.extend_from_slice(bytes.as_slice())?;
     }
-    Ok(())
+    Ok(joined)
 }
 
 /// The same of a format of one field, where these bytes stand before and after the argument.
 fn one_goes_both_ways(
-    rt: &impl Abort,
     alloc: Global,
     kind: FieldKind,
-    front: &[u8],
-    argument: &[u8],
-    back: &[u8],
-) -> Result<(), Fail> {
-    let format = one_field(rt, alloc, kind)?;
-    let mut want = Vec::from_slice(alloc, b"M")?;
-    want.extend_from_slice(front)?;
-    want.extend_from_slice(argument)?;
-    want.extend_from_slice(back)?;
-    goes_both_ways(rt, alloc, &format, &[argument], want.as_slice())
+    front: &str,
+    argument: &str,
+    back: &str,
+) -> Result<bool, NoMemory> {
+    let want = joined(alloc, &["M", front, argument, back])?;
+    let format = one_field(alloc, kind)?;
+    goes_both_ways(alloc, &format, &[argument], want.as_slice())
 }
 
-fn has_no_parts(rt: &impl Abort, alloc: Global, kind: FieldKind, bytes: &[u8]) -> Result<(), Fail> {
-    let parts = one_field(rt, alloc, kind)?.parts(alloc, bytes)?;
-    assert!(rt; parts.is_none(), "{bytes:?}");
-    Ok(())
+/// Whether a format of one field builds no bytes that are these.
+fn has_no_parts(alloc: Global, kind: FieldKind, bytes: &[u8]) -> Result<bool, NoMemory> {
+    let format = one_field(alloc, kind)?;
+    let parts = format.parts(alloc, bytes)?;
+    Ok(parts.is_none())
 }
 
 #[test]
-fn a_field_of_each_kind(rt: HostRuntime) -> Result<(), Fail> {
-    let format = all_kinds(&rt, rt.alloc())?;
+fn a_field_of_each_kind(rt: HostRuntime) -> Result<(), NoMemory> {
+    let format = all_kinds(rt.alloc())?;
     assert_eq!(rt; format.arity(), 4);
-    let arguments: [&[u8]; 4] = [b"a", b"", &[0xff], b"z"];
-    goes_both_ways(&rt, rt.alloc(), &format, &arguments, b"M\x01a0:,ff;z")?;
-    let upper = format.parts(rt.alloc(), b"M\x01a0:,Ff;z")?;
-    assert!(rt; upper.is_none());
+    let arguments = ["a", "", "0xff", "z"];
+    assert!(rt; goes_both_ways(rt.alloc(), &format, &arguments, b"M\x01a0:,ff;z")?);
+    assert!(rt; format.parts(rt.alloc(), b"M\x01a0:,Ff;z")?.is_none());
     Ok(())
 }
 
 #[test]
-fn lengths_in_leb128(rt: HostRuntime) -> Result<(), Fail> {
-    let lengths: [(usize, &[u8]); 5] = [
-        (0, &[0x00]),
-        (127, &[0x7f]),
-        (128, &[0x80, 0x01]),
-        (16_383, &[0xff, 0x7f]),
-        (16_384, &[0x80, 0x80, 0x01]),
-    ];
-    for (length, front) in lengths {
-        let argument = vec![in rt.alloc(); 0xa5u8; length]?;
-        one_goes_both_ways(
-            &rt,
-            rt.alloc(),
-            FieldKind::Len,
-            front,
-            argument.as_slice(),
-            b"",
-        )?;
+fn lengths_in_leb128(rt: HostRuntime) -> Result<(), NoMemory> {
+    for (argument, front) in [
+        ("", "0x00"),
+        ("0xa5*127", "0x7f"),
+        ("0xa5*128", "0x8001"),
+        ("0xa5*16383", "0xff7f"),
+        ("0xa5*16384", "0x808001"),
+    ] {
+        assert!(rt;
+            one_goes_both_ways(rt.alloc(), FieldKind::Len, front, argument, "")?,
+            "{argument}"
+        );
     }
     Ok(())
 }
 
 #[test]
-fn lengths_in_decimal(rt: HostRuntime) -> Result<(), Fail> {
-    let lengths: [(usize, &[u8]); 5] = [
-        (0, b"0:"),
-        (9, b"9:"),
-        (10, b"10:"),
-        (99, b"99:"),
-        (100, b"100:"),
-    ];
-    for (length, front) in lengths {
-        let argument = vec![in rt.alloc(); b':'; length]?;
-        one_goes_both_ways(
-            &rt,
-            rt.alloc(),
-            FieldKind::Net,
-            front,
-            argument.as_slice(),
-            b",",
-        )?;
+fn lengths_in_decimal(rt: HostRuntime) -> Result<(), NoMemory> {
+    for (argument, front) in [
+        ("", "0:"),
+        ("0x3a*9", "9:"),
+        ("0x3a*10", "10:"),
+        ("0x3a*99", "99:"),
+        ("0x3a*100", "100:"),
+    ] {
+        assert!(rt;
+            one_goes_both_ways(rt.alloc(), FieldKind::Net, front, argument, ",")?,
+            "{argument}"
+        );
     }
     Ok(())
 }
 
 #[test]
-fn only_what_is_built_has_parts(rt: HostRuntime) -> Result<(), Fail> {
+fn only_what_is_built_has_parts(rt: HostRuntime) -> Result<(), NoMemory> {
     let len: [&[u8]; 7] = [
         b"",
         b"M",
@@ -194,60 +167,102 @@ fn only_what_is_built_has_parts(rt: HostRuntime) -> Result<(), Fail> {
         b"M\x00a",
     ];
     for bytes in len {
-        has_no_parts(&rt, rt.alloc(), FieldKind::Len, bytes)?;
+        assert!(rt;
+            has_no_parts(rt.alloc(), FieldKind::Len, bytes)?,
+            "{bytes:?}"
+        );
     }
     let net: [&[u8]; 7] = [
         b"M:,", b"M00:,", b"M01:a,", b"M+1:a,", b"M1:a;", b"M1:a", b"M1:a,b",
     ];
     for bytes in net {
-        has_no_parts(&rt, rt.alloc(), FieldKind::Net, bytes)?;
+        assert!(rt;
+            has_no_parts(rt.alloc(), FieldKind::Net, bytes)?,
+            "{bytes:?}"
+        );
     }
     let hex: [&[u8]; 5] = [b"M", b"Mff", b"Mf;", b"MFF;", b"Mff;;"];
     for bytes in hex {
-        has_no_parts(&rt, rt.alloc(), FieldKind::Hex, bytes)?;
+        assert!(rt;
+            has_no_parts(rt.alloc(), FieldKind::Hex, bytes)?,
+            "{bytes:?}"
+        );
     }
-    has_no_parts(&rt, rt.alloc(), FieldKind::Rest, b"N")
-}
-
-#[test]
-fn heads_that_begin_alike_are_not_apart(rt: HostRuntime) -> Result<(), Fail> {
-    let alloc = rt.alloc();
-    let short = literals(&rt, alloc, &[b"AB"])?;
-    let long = literals(&rt, alloc, &[b"A", b"", b"BC"])?;
-    let other = literals(&rt, alloc, &[b"A", b"D"])?;
-    assert!(rt; !apart(&short, &short));
-    assert!(rt; !apart(&short, &long));
-    assert!(rt; !apart(&long, &short));
-    assert!(rt; apart(&short, &other));
-    assert!(rt; apart(&other, &long));
+    assert!(rt; has_no_parts(rt.alloc(), FieldKind::Rest, b"N")?);
     Ok(())
 }
 
+/// A format of these literals alone.
+fn literals(alloc: Global, texts: &[&str]) -> Result<Format, NoMemory> {
+    let mut pieces = Vec::new(alloc);
+    for text in texts {
+        let literal = bytes_of(alloc, text)?;
+        pieces.push(Piece::Lit(literal))?;
+    }
+    checked(alloc, pieces)
+}
+
+/// Whether two formats of literals are apart.
+fn are_apart(alloc: Global, first: &[&str], second: &[&str]) -> Result<bool, NoMemory> {
+    let first = literals(alloc, first)?;
+    let second = literals(alloc, second)?;
+    Ok(apart(&first, &second))
+}
+
 #[test]
-fn what_is_no_format(rt: HostRuntime) -> Result<(), Fail> {
-    let alloc = rt.alloc();
+fn heads_that_begin_alike_are_not_apart(rt: HostRuntime) -> Result<(), NoMemory> {
+    assert!(rt; !are_apart(rt.alloc(), &["AB"], &["AB"])?);
+    assert!(rt; !are_apart(rt.alloc(), &["AB"], &["A", "", "BC"])?);
+    assert!(rt; !are_apart(rt.alloc(), &["A", "", "BC"], &["AB"])?);
+    assert!(rt; are_apart(rt.alloc(), &["AB"], &["A", "D"])?);
+    assert!(rt; are_apart(rt.alloc(), &["A", "D"], &["A", "", "BC"])?);
+    Ok(())
+}
+
+/// The piece that a word names: a field up to the end, or else a literal.
+fn piece(alloc: Global, word: &str) -> Result<Piece, NoMemory> {
+    if word == "rest" {
+        Ok(Piece::Field(FieldKind::Rest))
+    } else {
+        Ok(Piece::Lit(bytes_of(alloc, word)?))
+    }
+}
+
+/// Why the pieces that these words name are no format, where they aren't one.
+fn fault(alloc: Global, words: &[&str]) -> Result<Option<FormatNo>, NoMemory> {
     let mut pieces = Vec::new(alloc);
-    assert!(rt; matches!(Format::check(pieces.as_slice()), Err(FormatNo::NoHead)));
-    pieces.push(Piece::Lit(bytes(alloc, b"")?))?;
-    pieces.push(Piece::Field(FieldKind::Rest))?;
-    pieces.push(Piece::Lit(bytes(alloc, b"A")?))?;
-    assert!(rt; matches!(Format::check(pieces.as_slice()), Err(FormatNo::NoHead)));
-    let mut pieces = Vec::new(alloc);
-    pieces.push(Piece::Lit(bytes(alloc, b"A")?))?;
-    pieces.push(Piece::Field(FieldKind::Rest))?;
-    pieces.push(Piece::Field(FieldKind::Rest))?;
+    for word in words {
+        let piece = piece(alloc, word)?;
+        pieces.push(piece)?;
+    }
+    if pieces.len() < 100 {
+        Ok(Format::check(pieces.as_slice()).err())
+    } else {
+        Err(NoMemory)
+    }
+}
+
+#[test]
+fn what_is_no_format(rt: HostRuntime) -> Result<(), NoMemory> {
+    assert!(rt; matches!(fault(rt.alloc(), &[])?, Some(FormatNo::NoHead)));
     assert!(rt;
         matches!(
-            Format::check(pieces.as_slice()),
-            Err(FormatNo::RestNotLast(1))
+            fault(rt.alloc(), &["", "rest", "A"])?,
+            Some(FormatNo::NoHead)
+        )
+    );
+    assert!(rt;
+        matches!(
+            fault(rt.alloc(), &["A", "rest", "rest"])?,
+            Some(FormatNo::RestNotLast(1))
         )
     );
     Ok(())
 }
 
 #[test]
-fn a_width_is_the_sum_over_the_pieces(rt: HostRuntime) -> Result<(), Fail> {
-    let format = all_kinds(&rt, rt.alloc())?;
+fn a_width_is_the_sum_over_the_pieces(rt: HostRuntime) -> Result<(), NoMemory> {
+    let format = all_kinds(rt.alloc())?;
     // 1 + (100000 + 10) + (200000 + 22) + (2 * 300000 + 1) + 400000
     let width = format.width(&[100_000, 200_000, 300_000, 400_000]);
     assert_eq!(rt; width, Some(1_300_034));
@@ -255,16 +270,16 @@ fn a_width_is_the_sum_over_the_pieces(rt: HostRuntime) -> Result<(), Fail> {
 }
 
 #[test]
-fn no_width_is_below_that_of_an_arrival(rt: HostRuntime) -> Result<(), Fail> {
-    let format = one_field(&rt, rt.alloc(), FieldKind::Len)?;
+fn no_width_is_below_that_of_an_arrival(rt: HostRuntime) -> Result<(), NoMemory> {
+    let format = one_field(rt.alloc(), FieldKind::Len)?;
     assert_eq!(rt; format.width(&[262_133]), Some(262_144));
     assert_eq!(rt; format.width(&[262_134]), Some(262_145));
     Ok(())
 }
 
 #[test]
-fn a_width_above_the_limit_is_none(rt: HostRuntime) -> Result<(), Fail> {
-    let format = one_field(&rt, rt.alloc(), FieldKind::Hex)?;
+fn a_width_above_the_limit_is_none(rt: HostRuntime) -> Result<(), NoMemory> {
+    let format = one_field(rt.alloc(), FieldKind::Hex)?;
     assert_eq!(rt; format.width(&[33_554_431]), Some(67_108_864));
     assert_eq!(rt; format.width(&[33_554_432]), None);
     Ok(())

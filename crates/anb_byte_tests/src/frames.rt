@@ -1,41 +1,39 @@
 //! Frames over a wire in memory.
 
-use anb_base::{Bytes, Failed, MemWire, NoMemory, read_full};
+use crate::wires::wire;
+use anb_base::{Failed, MemWire, NoMemory, read_full};
 use anb_frame::*;
 use std::alloc::Global;
-use std::test::Fail;
 
 type Answer = Result<Taken, FrameNo>;
 
-/// A wire with this input, which moves so many bytes in a call, one at least, and fails at one
-/// call.
-fn wire(alloc: Global, input: &[u8], piece: u32, fails: u32) -> Result<MemWire, NoMemory> {
-    let input = Bytes::new(Vec::from_slice(alloc, input)?);
-    MemWire::new(alloc, input, piece.max(1), 16, vec![in alloc; fails]?)
-}
-
 /// A frame of so many zero bytes.
 fn frame_of(alloc: Global, len: u32) -> Result<Vec<u8>, NoMemory> {
-    let mut frame = Vec::from_slice(alloc, &len.to_be_bytes())?;
-    frame.extend_from_slice(&vec![in alloc; 0u8; len as usize]?)?;
+    let mut frame = vec![in alloc; 0u8; 4 + len as usize]?;
+    frame[..4].copy_from_slice(&len.to_be_bytes());
     Ok(frame)
 }
 
 /// What the first two calls answer.
 fn two_answers(alloc: Global, input: &[u8], piece: u32) -> Result<(Answer, Answer), NoMemory> {
-    let mut wire = wire(alloc, input, piece, 0)?;
+    let mut wire = wire(alloc, input, piece, 16, &[0])?;
     let mut buf = vec![in alloc; 0u8; 262_144]?;
     let first = take(&mut wire, &mut buf);
     let second = take(&mut wire, &mut buf);
     Ok((first, second))
 }
 
+/// What the first two calls answer over a frame of so many bytes.
+fn answers_over(alloc: Global, len: u32, piece: u32) -> Result<(Answer, Answer), NoMemory> {
+    let frame = frame_of(alloc, len)?;
+    two_answers(alloc, &frame, piece)
+}
+
 #[test]
-fn lengths_up_to_the_buffer_are_taken(rt: HostRuntime) -> Result<(), Fail> {
-    let alloc = rt.alloc();
+fn lengths_up_to_the_buffer_are_taken(rt: HostRuntime) -> Result<(), NoMemory> {
     for piece in [1, 1_000_000] {
         for len in [0, 65_537, 262_144] {
-            let answers = two_answers(alloc, &frame_of(alloc, len)?, piece)?;
+            let answers = answers_over(rt.alloc(), len, piece)?;
             assert_eq!(rt;
                 answers,
                 (Ok(Taken::Frame(len)), Ok(Taken::End)),
@@ -46,68 +44,104 @@ fn lengths_up_to_the_buffer_are_taken(rt: HostRuntime) -> Result<(), Fail> {
     Ok(())
 }
 
-#[test]
-fn a_longer_frame_leaves_its_bytes(rt: HostRuntime) -> Result<(), Fail> {
-    let alloc = rt.alloc();
-    let mut wire = wire(alloc, &frame_of(alloc, 262_145)?, 1_000, 0)?;
+/// What a call answers over this wire, and how much it leaves.
+fn answer_and_rest(
+    alloc: Global,
+    wire: &mut MemWire,
+) -> Result<(Answer, Result<usize, Failed>), NoMemory> {
     let mut buf = vec![in alloc; 0u8; 262_144]?;
-    assert_eq!(rt; take(&mut wire, &mut buf), Err(FrameNo::TooLarge(262_145)));
+    let answer = take(wire, &mut buf);
     let mut rest = vec![in alloc; 0u8; 300_000]?;
-    assert_eq!(rt; read_full(&mut wire, &mut rest), Ok(262_145));
+    Ok((answer, read_full(wire, &mut rest)))
+}
+
+#[test]
+fn a_longer_frame_leaves_its_bytes(rt: HostRuntime) -> Result<(), NoMemory> {
+    let frame = frame_of(rt.alloc(), 262_145)?;
+    let mut wire = wire(rt.alloc(), &frame, 1_000, 16, &[0])?;
+    let (answer, rest) = answer_and_rest(rt.alloc(), &mut wire)?;
+    assert_eq!(rt; answer, Err(FrameNo::TooLarge(262_145)));
+    assert_eq!(rt; rest, Ok(262_145));
     Ok(())
 }
 
 #[test]
-fn an_input_ends_at_a_border_or_within_a_frame(rt: HostRuntime) -> Result<(), Fail> {
-    let alloc = rt.alloc();
+fn an_input_ends_at_a_border_or_within_a_frame(rt: HostRuntime) -> Result<(), NoMemory> {
     for piece in [1, 16] {
-        let short = two_answers(alloc, b"\0\0", piece)?;
+        let short = two_answers(rt.alloc(), b"\0\0", piece)?;
         assert_eq!(rt; short.0, Err(FrameNo::Truncated { have: 2, need: 4 }));
 
-        let whole = two_answers(alloc, b"\0\0\0\x01a", piece)?;
+        let whole = two_answers(rt.alloc(), b"\0\0\0\x01a", piece)?;
         assert_eq!(rt; whole, (Ok(Taken::Frame(1)), Ok(Taken::End)));
 
-        let within = two_answers(alloc, b"\0\0\0\x01a\0\0\0\x03b", piece)?;
+        let within = two_answers(rt.alloc(), b"\0\0\0\x01a\0\0\0\x03b", piece)?;
         assert_eq!(rt; within.0, Ok(Taken::Frame(1)));
         assert_eq!(rt; within.1, Err(FrameNo::Truncated { have: 5, need: 7 }));
     }
     Ok(())
 }
 
-#[test]
-fn a_fault_at_any_call_is_answered(rt: HostRuntime) -> Result<(), Fail> {
-    let alloc = rt.alloc();
-    let mut buf = [0u8; 8];
-    let frame = b"\0\0\0\x02ab";
-    for call in 1..7 {
-        let mut source = wire(alloc, frame, 1, call)?;
-        assert_eq!(rt;
-            take(&mut source, &mut buf),
-            Err(FrameNo::Failed),
-            "read {call}"
-        );
+/// The frame of `ab`.
+const FRAME: &[u8] = b"\0\0\0\x02ab";
 
-        let mut sink = wire(alloc, b"", 1, call)?;
-        assert_eq!(rt; put(&mut sink, b"ab"), Err(Failed), "write {call}");
-        assert_eq!(rt; sink.written(), &frame[..call as usize - 1], "write {call}");
+/// Whether taking the frame fails where this read does.
+fn take_fails(alloc: Global, call: u32) -> Result<bool, NoMemory> {
+    let mut source = wire(alloc, FRAME, 1, 16, &[call])?;
+    Ok(take(&mut source, &mut [0u8; 8]) == Err(FrameNo::Failed))
+}
+
+/// Whether putting the frame fails where this write does, behind the bytes of those before it.
+fn put_fails(alloc: Global, call: u32) -> Result<bool, NoMemory> {
+    let mut sink = wire(alloc, b"", 1, 16, &[call])?;
+    let failed = put(&mut sink, b"ab") == Err(Failed);
+    let written = sink.written();
+    Ok(failed && written.len() + 1 == call as usize && FRAME.starts_with(written))
+}
+
+#[test]
+fn a_fault_at_any_call_is_answered(rt: HostRuntime) -> Result<(), NoMemory> {
+    for call in 1..7 {
+        assert!(rt; take_fails(rt.alloc(), call)?, "read {call}");
+        assert!(rt; put_fails(rt.alloc(), call)?, "write {call}");
     }
     Ok(())
 }
 
-#[test]
-fn a_frame_that_is_put_is_taken_again(rt: HostRuntime) -> Result<(), Fail> {
-    let alloc = rt.alloc();
-    let mut sink = wire(alloc, b"", 3, 0)?;
-    assert_eq!(rt; put(&mut sink, b"abcd"), Ok(()));
-    assert_eq!(rt; put(&mut sink, b""), Ok(()));
-    assert_eq!(rt; sink.written(), b"\0\0\0\x04abcd\0\0\0\0".as_slice());
-    assert_eq!(rt; framed(alloc, b"abcd")?.as_slice(), &sink.written()[..8]);
+/// Whether these bytes are put.
+fn puts(sink: &mut MemWire, bytes: &[u8]) -> bool {
+    bytes.len() < 100 && put(sink, bytes) == Ok(())
+}
 
+#[test]
+fn frames_that_are_put(rt: HostRuntime) -> Result<(), NoMemory> {
+    let mut sink = wire(rt.alloc(), b"", 3, 16, &[0])?;
+    assert!(rt; puts(&mut sink, b"abcd"));
+    assert!(rt; puts(&mut sink, b""));
+    assert_eq!(rt; sink.written(), TWO_FRAMES);
+    Ok(())
+}
+
+/// The frames of `abcd` and of no bytes.
+const TWO_FRAMES: &[u8] = b"\0\0\0\x04abcd\0\0\0\0";
+
+#[test]
+fn a_frame_in_memory(rt: HostRuntime) -> Result<(), NoMemory> {
+    let framed = framed(rt.alloc(), b"abcd")?;
+    assert_eq!(rt; framed.as_slice(), b"\0\0\0\x04abcd".as_slice());
+    Ok(())
+}
+
+fn takes(source: &mut MemWire, buf: &mut [u8; 8], want: Taken) -> bool {
+    take(source, buf) == Ok(want)
+}
+
+#[test]
+fn frames_that_were_put_are_taken_again(rt: HostRuntime) -> Result<(), NoMemory> {
+    let mut source = wire(rt.alloc(), TWO_FRAMES, 3, 16, &[0])?;
     let mut buf = [0u8; 8];
-    let mut source = wire(alloc, sink.written(), 3, 0)?;
-    assert_eq!(rt; take(&mut source, &mut buf), Ok(Taken::Frame(4)));
-    assert_eq!(rt; &buf[..4], b"abcd".as_slice());
-    assert_eq!(rt; take(&mut source, &mut buf), Ok(Taken::Frame(0)));
-    assert_eq!(rt; take(&mut source, &mut buf), Ok(Taken::End));
+    assert!(rt; takes(&mut source, &mut buf, Taken::Frame(4)));
+    assert!(rt; buf.starts_with(b"abcd"));
+    assert!(rt; takes(&mut source, &mut buf, Taken::Frame(0)));
+    assert!(rt; takes(&mut source, &mut buf, Taken::End));
     Ok(())
 }

@@ -1,18 +1,16 @@
 //! A list with a text that stands in it twice.
+use anb_base::NoMemory;
 use anb_index::TextIndex;
-use std::test::Fail;
 
 #[test]
-fn each_text_is_found_where_it_stands_first(rt: HostRuntime) -> Result<(), Fail> {
+fn each_text_is_found_where_it_stands_first(rt: HostRuntime) -> Result<(), NoMemory> {
     let mut index = TextIndex::new(rt.alloc());
-    assert!(rt; !index.push("b")?);
-    assert!(rt; !index.push("a")?);
-    assert!(rt; index.push("b")?);
-    assert!(rt; !index.push("c")?);
-    assert_eq!(rt; index.place_of("a"), Some(1));
-    assert_eq!(rt; index.place_of("b"), Some(0));
-    assert_eq!(rt; index.place_of("c"), Some(3));
-    assert_eq!(rt; index.place_of("d"), None);
+    for (text, stood) in [("b", false), ("a", false), ("b", true), ("c", false)] {
+        assert_eq!(rt; index.push(text)?, stood, "{text}");
+    }
+    for (text, place) in [("a", Some(1)), ("b", Some(0)), ("c", Some(3)), ("d", None)] {
+        assert_eq!(rt; index.place_of(text), place, "{text}");
+    }
     assert!(rt; index.contains("c"));
     assert!(rt; !index.contains(""));
     Ok(())

@@ -15,4 +15,6 @@ mod literals;
 #[cfg(test)]
 mod seals;
 #[cfg(test)]
+mod values;
+#[cfg(test)]
 mod wires;

@@ -3,13 +3,19 @@
 //! Values from outside. The seals, the wraps, the macs under keys of a block's length and the draws
 //! that no standard shows were computed in Python, with hashlib, hmac and the ChaCha20 of the
 //! package cryptography, from the description of sealing in the root of anb_seal.
-use anb_base::Bytes;
+use crate::values::{are, bytes_of, may_be};
+use anb_base::{Bytes, NoMemory, Suite};
 use anb_seal::*;
-use std::alloc::{AllocError, Global};
-use std::test::Fail;
+use std::alloc::Global;
+
+/// Whether the bytes have these hexadecimal digits.
+fn shows(alloc: Global, bytes: &[u8], digits: &str) -> Result<bool, NoMemory> {
+    let shown = hex::encode(alloc, bytes)?;
+    Ok(shown.as_str() == digits)
+}
 
 #[test]
-fn digests_of_the_standard(rt: HostRuntime) -> Result<(), Fail> {
+fn digests_of_the_standard(rt: HostRuntime) -> Result<(), NoMemory> {
     let alloc = rt.alloc();
     // FIPS 180-4's examples, and the empty message.
     let short = hash(b"abc");
@@ -58,7 +64,7 @@ fn digests_of_the_standard(rt: HostRuntime) -> Result<(), Fail> {
 
 // Keys shorter and longer than a block are those of RFC 4231, its cases 1, 2 and 6.
 #[test]
-fn macs_over_sha256(rt: HostRuntime) -> Result<(), Fail> {
+fn macs_over_sha256(rt: HostRuntime) -> Result<(), NoMemory> {
     let cases: [(&[u8], &[u8], &str); 4] = [
         (
             &[0x0b; 20],
@@ -88,7 +94,7 @@ fn macs_over_sha256(rt: HostRuntime) -> Result<(), Fail> {
 }
 
 #[test]
-fn macs_over_sha512(rt: HostRuntime) -> Result<(), Fail> {
+fn macs_over_sha512(rt: HostRuntime) -> Result<(), NoMemory> {
     let cases: [(&[u8], &[u8], &str); 4] = [
         (
             &[0x0b; 20],
@@ -118,7 +124,7 @@ fn macs_over_sha512(rt: HostRuntime) -> Result<(), Fail> {
 }
 
 #[test]
-fn draws_of_two_sessions(rt: HostRuntime) -> Result<(), Fail> {
+fn draws_of_two_sessions(rt: HostRuntime) -> Result<(), NoMemory> {
     let zeros = [0; 32];
     let ones = [1; 32];
     // The first two are the key stream of RFC 8439's first test vector.
@@ -163,111 +169,161 @@ fn draws_of_two_sessions(rt: HostRuntime) -> Result<(), Fail> {
     Ok(())
 }
 
-#[test]
-fn sealed_and_unsealed(rt: HostRuntime) -> Result<(), Fail> {
-    let alloc = rt.alloc();
-    let short = seal(alloc, b"key", b"a message")?;
-    assert!(rt;
-        shows(
-            alloc,
-            short.as_slice(),
-            "93cca4f22cc23a4b0d881311272e343e1e29b5211cb37425ec0bc854e26e3fcd694d4cef1a2b92c072"
-        )?
-    );
-    assert!(rt; holds(&unseal(alloc, b"key", short.as_slice())?, b"a message"));
-    assert!(rt; unseal(alloc, b"other", short.as_slice())?.is_none());
-    // More than a block of the stream's generator, and no whole number of words.
-    let long = seal(alloc, b"key", &[b'a'; 303])?;
-    assert!(rt;
-        shows(
-            alloc,
-            &hash(long.as_slice()),
-            "c2cfdf7d4edc963ea7b94437324568cbf30db1503a6fe120821b3e1e4b6f72cb"
-        )?
-    );
-    assert!(rt; holds(&unseal(alloc, b"key", long.as_slice())?, &[b'a'; 303]));
-    // The empty message, a tag that no message has, and fewer bytes than a tag.
-    let empty = seal(alloc, b"k", b"")?;
-    assert!(rt;
-        shows(
-            alloc,
-            empty.as_slice(),
-            "248d118e7392770e02c1d7180a132a87e82322f576a8f1dd22f4e7acd3e356af"
-        )?
-    );
-    assert!(rt; holds(&unseal(alloc, b"k", empty.as_slice())?, b""));
-    assert!(rt; unseal(alloc, b"k", &[0; 32])?.is_none());
-    assert!(rt; unseal(alloc, b"k", &[0; 31])?.is_none());
-    Ok(())
-}
-
-#[test]
-fn sealed_and_unsealed_over_sha512(rt: HostRuntime) -> Result<(), Fail> {
-    let alloc = rt.alloc();
-    let short = seal512(alloc, b"key", b"a message")?;
-    assert!(rt;
-        shows(
-            alloc,
-            short.as_slice(),
-            "1b6f10c0c7df8936e23f8946be3710f9e1d2ccf40c431d670f374d523437e43eb85739b425b826b8ae"
-        )?
-    );
-    assert!(rt; holds(&unseal512(alloc, b"key", short.as_slice())?, b"a message"));
-    assert!(rt; unseal512(alloc, b"other", short.as_slice())?.is_none());
-    let long = seal512(alloc, b"key", &[b'a'; 303])?;
-    assert!(rt;
-        shows(
-            alloc,
-            &hash(long.as_slice()),
-            "c2aa3420e9420f2ad2aa8098cb5d8681f88137c2a64656bf415062578b6237e5"
-        )?
-    );
-    Ok(())
-}
-
-#[test]
-fn wrapped_and_unwrapped(rt: HostRuntime) -> Result<(), Fail> {
-    let alloc = rt.alloc();
-    let one = wrap(alloc, b"key", b"context", b"a message")?;
-    assert!(rt;
-        shows(
-            alloc,
-            one.as_slice(),
-            "703f080e967cc71d688f4508bf382f4d989a5434019071d1bb787ec333e0c1b84125d16d7d0378664b"
-        )?
-    );
-    assert!(rt;
-        holds(
-            &unwrap(alloc, b"key", b"context", one.as_slice())?,
-            b"a message"
-        )
-    );
-    assert!(rt; unwrap(alloc, b"key", b"other", one.as_slice())?.is_none());
-    let two = wrap512(alloc, b"key", b"context", b"a message")?;
-    assert!(rt;
-        shows(
-            alloc,
-            two.as_slice(),
-            "c921b7e825cb5465feea61873b0cc61599bf1d128cca0be116cef434ffbcc5e2effdc4ebb0b97ddd48"
-        )?
-    );
-    assert!(rt;
-        holds(
-            &unwrap512(alloc, b"key", b"context", two.as_slice())?,
-            b"a message"
-        )
-    );
-    assert!(rt; unwrap512(alloc, b"key", b"other", two.as_slice())?.is_none());
-    Ok(())
-}
-
-fn shows(alloc: Global, bytes: &[u8], digits: &str) -> Result<bool, AllocError> {
-    Ok(hex::encode(alloc, bytes)?.as_str() == digits)
-}
-
-fn holds(opened: &Option<Bytes>, message: &[u8]) -> bool {
-    match opened {
-        Some(bytes) => bytes.as_slice() == message,
-        None => false,
+fn sealed(alloc: Global, suite: Suite, key: &str, message: &[u8]) -> Result<Bytes, NoMemory> {
+    match suite {
+        Suite::One => seal(alloc, key.as_bytes(), message),
+        Suite::Two => seal512(alloc, key.as_bytes(), message),
     }
+}
+
+fn is_sealed(
+    alloc: Global,
+    suite: Suite,
+    key: &str,
+    message: &str,
+    want: &str,
+) -> Result<bool, NoMemory> {
+    let sealed = sealed(alloc, suite, key, message.as_bytes())?;
+    are(alloc, sealed.as_slice(), want)
+}
+
+/// Whether the sealed bytes, opened with this key, are this message, or aren't opened.
+fn opens_to(
+    alloc: Global,
+    suite: Suite,
+    key: &str,
+    sealed: &[u8],
+    message: Option<&str>,
+) -> Result<bool, NoMemory> {
+    let opened = match suite {
+        Suite::One => unseal(alloc, key.as_bytes(), sealed)?,
+        Suite::Two => unseal512(alloc, key.as_bytes(), sealed)?,
+    };
+    may_be(alloc, &opened, message)
+}
+
+/// The message `a message` under the key `key`, in suite One and in suite Two.
+const SHORT: &str =
+    "0x93cca4f22cc23a4b0d881311272e343e1e29b5211cb37425ec0bc854e26e3fcd694d4cef1a2b92c072";
+
+const SHORT_TWO: &str =
+    "0x1b6f10c0c7df8936e23f8946be3710f9e1d2ccf40c431d670f374d523437e43eb85739b425b826b8ae";
+
+/// The empty message under the key `k`, in suite One.
+const EMPTY: &str = "0x248d118e7392770e02c1d7180a132a87e82322f576a8f1dd22f4e7acd3e356af";
+
+#[test]
+fn sealed_messages(rt: HostRuntime) -> Result<(), NoMemory> {
+    for (suite, key, message, want) in [
+        (Suite::One, "key", "a message", SHORT),
+        (Suite::One, "k", "", EMPTY),
+        (Suite::Two, "key", "a message", SHORT_TWO),
+    ] {
+        assert!(rt; is_sealed(rt.alloc(), suite, key, message, want)?, "{want}");
+    }
+    Ok(())
+}
+
+fn opens(
+    alloc: Global,
+    suite: Suite,
+    key: &str,
+    sealed: &str,
+    message: Option<&str>,
+) -> Result<bool, NoMemory> {
+    let sealed = bytes_of(alloc, sealed)?;
+    opens_to(alloc, suite, key, sealed.as_slice(), message)
+}
+
+#[test]
+fn opened_messages(rt: HostRuntime) -> Result<(), NoMemory> {
+    // The last two are a tag that no message has, and fewer bytes than a tag.
+    for (suite, key, sealed, message) in [
+        (Suite::One, "key", SHORT, Some("a message")),
+        (Suite::One, "other", SHORT, None),
+        (Suite::Two, "key", SHORT_TWO, Some("a message")),
+        (Suite::Two, "other", SHORT_TWO, None),
+        (Suite::One, "k", EMPTY, Some("")),
+        (Suite::One, "k", "0x00*32", None),
+        (Suite::One, "k", "0x00*31", None),
+    ] {
+        assert!(rt;
+            opens(rt.alloc(), suite, key, sealed, message)?,
+            "{key}: {sealed}"
+        );
+    }
+    Ok(())
+}
+
+/// More than a block of the stream's generator, and no whole number of words.
+const LONG: &str = "0x61*303";
+
+/// Whether the long message's sealed bytes have this hash over SHA-256, and are opened as it.
+fn goes_both_ways(alloc: Global, suite: Suite, digest: &str) -> Result<bool, NoMemory> {
+    let long = bytes_of(alloc, LONG)?;
+    let sealed = sealed(alloc, suite, "key", long.as_slice())?;
+    if are(alloc, &hash(sealed.as_slice()), digest)? {
+        opens_to(alloc, suite, "key", sealed.as_slice(), Some(LONG))
+    } else {
+        Ok(false)
+    }
+}
+
+#[test]
+fn a_long_message_is_sealed_and_opened(rt: HostRuntime) -> Result<(), NoMemory> {
+    for (suite, digest) in [
+        (
+            Suite::One,
+            "0xc2cfdf7d4edc963ea7b94437324568cbf30db1503a6fe120821b3e1e4b6f72cb",
+        ),
+        (
+            Suite::Two,
+            "0xc2aa3420e9420f2ad2aa8098cb5d8681f88137c2a64656bf415062578b6237e5",
+        ),
+    ] {
+        assert!(rt; goes_both_ways(rt.alloc(), suite, digest)?, "{digest}");
+    }
+    Ok(())
+}
+
+fn is_wrapped(alloc: Global, suite: Suite, want: &str) -> Result<bool, NoMemory> {
+    let wrapped = match suite {
+        Suite::One => wrap(alloc, b"key", b"context", b"a message")?,
+        Suite::Two => wrap512(alloc, b"key", b"context", b"a message")?,
+    };
+    are(alloc, wrapped.as_slice(), want)
+}
+
+fn unwraps(
+    alloc: Global,
+    suite: Suite,
+    context: &str,
+    wrapped: &str,
+    message: Option<&str>,
+) -> Result<bool, NoMemory> {
+    let wrapped = bytes_of(alloc, wrapped)?;
+    let opened = match suite {
+        Suite::One => unwrap(alloc, b"key", context.as_bytes(), wrapped.as_slice())?,
+        Suite::Two => unwrap512(alloc, b"key", context.as_bytes(), wrapped.as_slice())?,
+    };
+    may_be(alloc, &opened, message)
+}
+
+#[test]
+fn wrapped_and_unwrapped(rt: HostRuntime) -> Result<(), NoMemory> {
+    for (suite, wrapped) in [
+        (
+            Suite::One,
+            "0x703f080e967cc71d688f4508bf382f4d989a5434019071d1bb787ec333e0c1b84125d16d7d0378664b",
+        ),
+        (
+            Suite::Two,
+            "0xc921b7e825cb5465feea61873b0cc61599bf1d128cca0be116cef434ffbcc5e2effdc4ebb0b97ddd48",
+        ),
+    ] {
+        assert!(rt; is_wrapped(rt.alloc(), suite, wrapped)?);
+        assert!(rt; unwraps(rt.alloc(), suite, "context", wrapped, Some("a message"))?);
+        assert!(rt; unwraps(rt.alloc(), suite, "other", wrapped, None)?);
+    }
+    Ok(())
 }

@@ -1,4 +1,4 @@
-//! Certificates and reasons by example.
+//! Lists that are shut, and lists that are not.
 use anb_base::NoMemory;
 use anb_certify::shut;
 use anb_term::{Op, Term, Terms};

@@ -14,3 +14,5 @@ mod parked;
 mod sessions;
 #[cfg(test)]
 mod transcripts;
+#[cfg(test)]
+mod wires;

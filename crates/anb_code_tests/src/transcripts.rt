@@ -4,6 +4,7 @@ ghost use Rattle.anb_base.specs.declared.TheConstants.{ARRIVAL};
 ghost use Rattle.anb_transcript.specs.Replays.{arrivals_of};
 
 use anb_base::{Bytes, Suite};
+use anb_code::RoleCode;
 use anb_machine::Machine;
 use anb_sample_codes::{code, values};
 use anb_transcript::{
@@ -25,6 +26,24 @@ fn read(rt: &impl Abort, alloc: Global, text: &[u8]) -> Result<Transcript, Trans
     read_transcript(alloc, text)
 }
 
+/// How the run of these instructions with these initial values, which `;` separates, follows a
+/// transcript.
+fn follows(
+    rt: &impl Abort,
+    alloc: Global,
+    code: &RoleCode,
+    texts: &str,
+    transcript: &Transcript,
+) -> Result<ReplayEnd, Fail>
+    requires { All (λ arrival. length arrival ≤ ARRIVAL) (arrivals_of transcript.now) }
+{
+    let init = values(alloc, texts)?;
+    assert!(rt; code.takes() as usize == init.len());
+    let mut machine = Machine::start(alloc, code, &init, &[0; 32], 0)?;
+    assert!(rt; transcript.lines().len() <= 1_000);
+    Ok(replay(alloc, &mut machine, transcript))
+}
+
 /// What comes of a text over the run of these instructions with these initial values, which `;`
 /// separates.
 fn replayed(
@@ -34,13 +53,10 @@ fn replayed(
     texts: &str,
     text: &str,
 ) -> Result<String, Fail> {
-    let transcript = read(rt, alloc, text.as_bytes())?;
     let code = code(alloc, Suite::One, lines)?;
-    let init = values(alloc, texts)?;
-    assert!(rt; code.takes() as usize == init.len());
-    let mut machine = Machine::start(alloc, &code, &init, &[0; 32], 0)?;
-    assert!(rt; transcript.lines().len() <= 1_000);
-    in_words(alloc, replay(alloc, &mut machine, &transcript))
+    let transcript = read(rt, alloc, text.as_bytes())?;
+    let end = follows(rt, alloc, &code, texts, &transcript)?;
+    in_words(alloc, end)
 }
 
 fn in_words(alloc: Global, end: ReplayEnd) -> Result<String, Fail> {
@@ -66,47 +82,67 @@ fn due_in_words(alloc: Global, due: Due) -> Result<String, Fail> {
     })
 }
 
-#[test]
-fn a_transcript_follows_a_sender_or_does_not(rt: HostRuntime) -> Result<(), Fail> {
-    let alloc = rt.alloc();
-    let rows = [
-        ("> 6162\n< 6162\n", "follows"),
-        ("> 6163\n", "line 1, due 6162"),
-        ("< 61\n", "line 1, due 6162"),
-        ("> 6162\n", "short 2"),
-        ("> 6162\n< 6163\n", "stopped 2.4, line 2"),
-        ("> 6162\n< 6162\n< 61\n", "line 3, due the end"),
-        ("> 6162\n> 6162\n", "line 2, due an arrival"),
-        ("> 6162\n< 6163\n> 61\n< 61\n", "stopped 2.4, line 2"),
-        ("", "short 1"),
-    ];
-    for (text, words) in rows {
-        assert_eq!(rt; replayed(&rt, alloc, SENDER, "ab", text)?.as_str(), words);
+/// Tests what comes of transcripts: each row has instructions, the initial values, a transcript and
+/// what comes of it.
+fn are_replayed(
+    rt: &impl Abort,
+    alloc: Global,
+    rows: &[(&str, &str, &str, &str)],
+) -> Result<(), Fail> {
+    for (lines, texts, text, words) in rows {
+        assert_eq!(rt; replayed(rt, alloc, lines, texts, text)?.as_str(), *words);
     }
     Ok(())
 }
 
 #[test]
+fn a_transcript_follows_a_sender_or_does_not(rt: HostRuntime) -> Result<(), Fail> {
+    are_replayed(
+        &rt,
+        rt.alloc(),
+        &[
+            (SENDER, "ab", "> 6162\n< 6162\n", "follows"),
+            (SENDER, "ab", "> 6163\n", "line 1, due 6162"),
+            (SENDER, "ab", "< 61\n", "line 1, due 6162"),
+            (SENDER, "ab", "> 6162\n", "short 2"),
+            (SENDER, "ab", "> 6162\n< 6163\n", "stopped 2.4, line 2"),
+            (
+                SENDER,
+                "ab",
+                "> 6162\n< 6162\n< 61\n",
+                "line 3, due the end",
+            ),
+            (SENDER, "ab", "> 6162\n> 6162\n", "line 2, due an arrival"),
+            (
+                SENDER,
+                "ab",
+                "> 6162\n< 6163\n> 61\n< 61\n",
+                "stopped 2.4, line 2",
+            ),
+            (SENDER, "ab", "", "short 1"),
+        ],
+    )
+}
+
+#[test]
 fn a_stop_counts_once_the_messages_before_it_are_covered(rt: HostRuntime) -> Result<(), Fail> {
-    let alloc = rt.alloc();
-    let rows = [
-        ("take A; take B; equal 0 1", "< 61", "stopped 0.3, line 0"),
-        ("take A; take B; send 0; equal 0 1", "", "short 1"),
-        (
-            "take A; take B; send 0; equal 0 1",
-            "> 61",
-            "stopped 1.4, line 0",
-        ),
-        (
-            "take A; take B; recv; send 2; equal 0 1",
-            "< 63\n> 63\n> 63",
-            "stopped 2.5, line 1",
-        ),
-    ];
-    for (lines, text, words) in rows {
-        assert_eq!(rt; replayed(&rt, alloc, lines, "a;b", text)?.as_str(), words);
-    }
-    Ok(())
+    let sends = "take A; take B; send 0; equal 0 1";
+    let answers = "take A; take B; recv; send 2; equal 0 1";
+    are_replayed(
+        &rt,
+        rt.alloc(),
+        &[
+            (
+                "take A; take B; equal 0 1",
+                "a;b",
+                "< 61",
+                "stopped 0.3, line 0",
+            ),
+            (sends, "a;b", "", "short 1"),
+            (sends, "a;b", "> 61", "stopped 1.4, line 0"),
+            (answers, "a;b", "< 63\n> 63\n> 63", "stopped 2.5, line 1"),
+        ],
+    )
 }
 
 /// What is read, a word for each line, or the first line outside the grammar.
@@ -129,29 +165,36 @@ fn read_in_words(rt: &impl Abort, alloc: Global, text: &str) -> Result<String, F
     Ok(words)
 }
 
-#[test]
-fn lines_are_read_or_the_first_bad_one_is_told(rt: HostRuntime) -> Result<(), Fail> {
-    let alloc = rt.alloc();
-    let rows = [
-        ("", ""),
-        ("> 6162\n< 63", "o6162 i63 "),
-        ("> 6aBcD0\n", "o6abcd0 "),
-        ("> \n< ", "o i "),
-        ("> 616", "line 1"),
-        (">", "line 1"),
-        (">61", "line 1"),
-        ("\n", "line 1"),
-        ("> 61\n\n< 61", "line 2"),
-        ("> 61\n< 61\r\n", "line 2"),
-        ("> 6g", "line 1"),
-        ("= 61", "line 1"),
-        ("> 61 ", "line 1"),
-        ("> 61\n<61\n\n", "line 2"),
-    ];
+/// Tests what is read in each row's text.
+fn are_read(rt: &impl Abort, alloc: Global, rows: &[(&str, &str)]) -> Result<(), Fail> {
     for (text, words) in rows {
-        assert_eq!(rt; read_in_words(&rt, alloc, text)?.as_str(), words);
+        assert_eq!(rt; read_in_words(rt, alloc, text)?.as_str(), *words);
     }
     Ok(())
+}
+
+#[test]
+fn lines_are_read_or_the_first_bad_one_is_told(rt: HostRuntime) -> Result<(), Fail> {
+    are_read(
+        &rt,
+        rt.alloc(),
+        &[
+            ("", ""),
+            ("> 6162\n< 63", "o6162 i63 "),
+            ("> 6aBcD0\n", "o6abcd0 "),
+            ("> \n< ", "o i "),
+            ("> 616", "line 1"),
+            (">", "line 1"),
+            (">61", "line 1"),
+            ("\n", "line 1"),
+            ("> 61\n\n< 61", "line 2"),
+            ("> 61\n< 61\r\n", "line 2"),
+            ("> 6g", "line 1"),
+            ("= 61", "line 1"),
+            ("> 61 ", "line 1"),
+            ("> 61\n<61\n\n", "line 2"),
+        ],
+    )
 }
 
 #[test]

@@ -13,6 +13,3 @@ mod words;
 
 pub use unread::{unread_text, unread_texts_are_unique};
 pub use unresolved::{unresolved_text, unresolved_texts_are_unique};
-
-#[cfg(test)]
-mod tests;

@@ -2,3 +2,5 @@ pub mod Items
 pub mod Lines
 pub mod Free
 pub mod Asking
+pub mod Marking
+pub mod Numbered

@@ -39,9 +39,9 @@ unchecked_some p terms old (r ∷ rs) some =
 pub note_put : (old from note : List ℕ) → ((((old ++ codes "    Note over ") ++ from) ++ codes ": ") ++ note) ++ 10 ∷ [] ≡ old ++ chart.line (codes "Note over " ++ (from ++ (codes ": " ++ note)))
 note_put old from note = simp append_assoc
 
-pub unused_put : (old : List ℕ) (there : Bool) (name : List ℕ) → there ≡ false → ((old ++ codes "note: nothing uses the format ") ++ name) ++ 10 ∷ [] ≡ old ++ unused there name
-unused_put old there name e =
-    rw e (ap (λ l. l ++ 10 ∷ []) (append_assoc old (codes "note: nothing uses the format ") name) ∙ append_assoc old (codes "note: nothing uses the format " ++ name) (10 ∷ []))
+pub unused_put : (old : List ℕ) (there : Bool) (kind name : List ℕ) → there ≡ false
+    → (((old ++ codes "note: nothing uses ") ++ kind) ++ name) ++ 10 ∷ [] ≡ old ++ unused there kind name
+unused_put old there kind name e = rw e (simp append_assoc)
 
 pub repeated_put : (actions : List ActionValue) (old : List ℕ) (i : ℕ) → is_repeated actions i ≡ true
     → (((((old ++ codes "note: actions ") ++ decimal (i + 1)) ++ codes " and ") ++ decimal (i + 2)) ++ codes " have the same message") ++ 10 ∷ [] ≡ old ++ repeated actions i

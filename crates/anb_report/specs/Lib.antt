@@ -7,3 +7,4 @@ pub mod RoleCharts
 pub mod Laws
 -- for proofs alone
 pub mod Collecting
+pub mod News

@@ -1,7 +1,8 @@
 -- Notes on a protocol as a whole.
-use Rattle.std.specs.Prelude.{ℕ, ◌+◌, ◌==◌, List, [], ◌∷◌, ◌++◌, Bool, false, length, codes, decimal, slice_get, if◌then◌else◌}
+use Rattle.std.specs.Prelude.{ℕ, ◌+◌, ◌==◌, ◌||◌, List, [], ◌∷◌, ◌++◌, Bool, false, length, codes, decimal, slice_get, if◌then◌else◌}
 use Rattle.std.specs.List.{flat_map, list_any, range_with_len}
 use Rattle.std.specs.Option.{option_map_or}
+use Rattle.std.specs.Str.{bytes_eq}
 use Rattle.anb_format.specs.Formats.{FormatValue}
 use Rattle.anb_term.specs.declared.term.Op.{Op}
 use Rattle.anb_term.specs.declared.term.Op.TheVariants.{Hash, Mac, Seal, Wrap, Format}
@@ -10,8 +11,31 @@ use Rattle.anb_code.specs.Spelling.{name_at}
 use Rattle.anb_explain.specs.Explained.{line}
 use Rattle.anb_resolve.specs.Plans.{plan_of, term_in}
 use Rattle.anb_resolve.specs.Protocols.{ActionValue, ProtocolValue}
+use Rattle.anb_resolve.specs.Texts.{atom_name, atoms_in}
 use Rattle.anb_report.specs.Looking.{is_among}
 use Rattle.anb_report.specs.Names.{role_name}
+
+abbrev pub unused : Bool → (kind name : List ℕ) → List ℕ
+unused there kind name = if there then [] else line (codes "note: nothing uses " ++ (kind ++ name))
+
+-- ---- names
+
+-- the atoms in what a role knows, makes, sends and receives
+abbrev pub plan_atoms : ProtocolValue → ℕ → List ℕ
+plan_atoms p role = flat_map (λ e. atoms_in (term_in e)) (plan_of p role)
+
+abbrev pub used_atoms : ProtocolValue → List ℕ
+used_atoms p = flat_map (plan_atoms p) (range_with_len 0 (length p.roles))
+
+abbrev pub is_role : ProtocolValue → List ℕ → Bool
+is_role p name = list_any (λ y. bytes_eq y name) p.roles
+
+-- no term has it, and no role
+abbrev pub unused_name : ProtocolValue → List ℕ → ℕ → List ℕ
+unused_name p used i = unused (is_among used i || is_role p (atom_name p i)) (codes "the name ") (atom_name p i)
+
+abbrev pub unused_names : ProtocolValue → List ℕ
+unused_names p = flat_map (unused_name p (used_atoms p)) (range_with_len 0 (length p.atoms))
 
 -- ---- formats
 
@@ -38,11 +62,8 @@ plan_formats p role = flat_map (λ e. formats_in (term_in e)) (plan_of p role)
 abbrev pub used_formats : ProtocolValue → List ℕ
 used_formats p = flat_map (plan_formats p) (range_with_len 0 (length p.roles))
 
-abbrev pub unused : Bool → List ℕ → List ℕ
-unused there name = if there then [] else line (codes "note: nothing uses the format " ++ name)
-
 abbrev pub unused_format : List FormatValue → List ℕ → ℕ → List ℕ
-unused_format formats used i = unused (is_among used i) (name_at formats i)
+unused_format formats used i = unused (is_among used i) (codes "the format ") (name_at formats i)
 
 abbrev pub unused_formats : ProtocolValue → List ℕ
 unused_formats p = flat_map (unused_format p.formats (used_formats p)) (range_with_len 0 (length p.formats))
@@ -83,4 +104,4 @@ abbrev pub repeats : ProtocolValue → List ℕ
 repeats p = flat_map (repeated p.actions) (range_with_len 0 (length p.actions))
 
 abbrev pub remarks : ProtocolValue → List ℕ
-remarks p = unused_formats p ++ (silent_roles p ++ repeats p)
+remarks p = unused_names p ++ (unused_formats p ++ (silent_roles p ++ repeats p))

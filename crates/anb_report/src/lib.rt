@@ -8,6 +8,8 @@
 mod charting;
 mod laws;
 mod lists;
+mod names;
+mod news;
 mod notes;
 mod registers;
 mod remarks;

@@ -1,10 +1,11 @@
 //! Lists of registers, and the texts of their terms.
-ghost use Rattle.std.specs.Prelude.{◌≡◌, ◌≤◌, ◌<◌, ◌++◌, map, length, slice_get, Some, None, IfOk, IfSome, IfNone, OnOk};
-ghost use Rattle.std.specs.List.{AllByRecursion, list_any};
+ghost use Rattle.std.specs.Prelude.{◌≡◌, ◌<◌, ◌++◌, map, length, slice_get, unwrap_or, Some, None, false, IfOk, IfSome, IfNone, OnOk};
+ghost use Rattle.std.specs.List.{AllByRecursion};
 ghost use Rattle.anb_term.specs.Tree.{tree_eqb};
 ghost use Rattle.anb_term.specs.View.{tree_of};
 ghost use Rattle.anb_resolve.specs.Texts.{IsTermOf};
 ghost use Rattle.anb_report.specs.Looking.{is_other, without};
+ghost use Rattle.anb_report.specs.News.{AreNew};
 ghost use Rattle.anb_report.specs.Noting.{is_named, is_new, is_new_term, is_term_of, is_term_of_one, once, once_more, register_text, register_texts};
 
 use anb_base::NoMemory;
@@ -31,21 +32,33 @@ fn is_other(some: &[u32], r: u32) -> bool
     !some.contains(&r)
 }
 
-/// Whether a register has a term that none before it has, and none of the ones that were built.
-pub(crate) fn is_new(terms: &[Term], built: &[u32], r: u32) -> bool
+/// Whether a register has a term that none before it has, as it is told, and none of the ones that were
+/// built.
+pub(crate) fn is_new(terms: &[Term], told: &[bool], built: &[u32], r: u32) -> bool
+    requires { AreNew (map tree_of terms.now) told.now }
     ensures { result ≡ is_new (map tree_of terms.now) built.now r }
 {
     match term_at(terms, r) {
-        Some(term) => is_new_term(terms, built, r as usize, term),
+        Some(term) => is_new_term(terms, told, built, r as usize, term),
         None => false,
     }
 }
 
-fn is_new_term(terms: &[Term], built: &[u32], r: usize, term: &Term) -> bool
-    requires { r ≤ length terms.now }
+fn is_new_term(terms: &[Term], told: &[bool], built: &[u32], r: usize, term: &Term) -> bool
+    requires told { AreNew (map tree_of terms.now) told.now }
+    requires there { slice_get (map tree_of terms.now) r ≡ Some (tree_of term.now) }
     ensures { result ≡ is_new_term (map tree_of terms.now) built.now r (tree_of term.now) }
 {
-    !has(&terms[..r], term) && !has_at(terms, built, term)
+    is_first(told, r) && !has_at(terms, built, term)
+}
+
+fn is_first(told: &[bool], r: usize) -> bool
+    ensures { result ≡ unwrap_or (slice_get told.now r) false }
+{
+    match told.get(r) {
+        Some(new) => *new,
+        None => false,
+    }
 }
 
 /// These registers, each term by the first one that has it.
@@ -97,18 +110,6 @@ pub(crate) fn is_same(one: &Term, other: &Term) -> bool
     ensures { result ≡ tree_eqb (tree_of one.now) (tree_of other.now) }
 {
     one.same(other)
-}
-
-/// Whether a term is among others.
-fn has(terms: &[Term], term: &Term) -> bool
-    ensures { result ≡ list_any (tree_eqb (tree_of term.now)) (map tree_of terms.now) }
-{
-    for other in terms {
-        if is_same(term, other) {
-            return true;
-        }
-    }
-    false
 }
 
 /// Whether one of these registers has a term.

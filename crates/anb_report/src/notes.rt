@@ -6,9 +6,11 @@ ghost use Rattle.anb_term.specs.View.{tree_of};
 ghost use Rattle.anb_code.specs.Verified.{count_registers};
 ghost use Rattle.anb_resolve.specs.Texts.{IsTermOf};
 ghost use Rattle.anb_report.specs.Looking.{is_message};
+ghost use Rattle.anb_report.specs.News.{AreNew};
 ghost use Rattle.anb_report.specs.Noting.{is_new, learned, notes_at, notes_first, notes_from, notes_of, said, up_to_message};
 
 use crate::lists::{is_new, once, put_terms, without};
+use crate::news::new_ones;
 use crate::registers::{Use, used, written};
 use anb_base::{Bytes, NoMemory};
 use anb_code::{Instr, RoleCode};
@@ -61,7 +63,8 @@ pub fn notes_of(
     ensures { IfOk result (λ notes. notes.items
         ≡ notes_of protocol.now code.now (map tree_of terms.now)) }
 {
-    notes_in(alloc, protocol, code.formats(), terms, code.instrs())
+    let told = new_ones(alloc, terms)?;
+    notes_in(alloc, protocol, code.formats(), terms, &told, code.instrs())
 }
 
 fn notes_in(
@@ -69,19 +72,21 @@ fn notes_in(
     protocol: &Protocol,
     formats: &[Format],
     terms: &[Term],
+    told: &[bool],
     instrs: &[Instr],
 ) -> Result<Vec<Notes>, NoMemory>
     requires fields { AllByRecursion (λ format. field_count format.pieces ≤ 32) formats.now }
     requires few { count_registers formats.now instrs.now < 2 ^ 32 }
     requires terms { AllByRecursion (IsTermOf protocol.now) (map tree_of terms.now) }
+    requires told { AreNew (map tree_of terms.now) told.now }
     ensures { IfOk result (λ notes. notes.items
         ≡ notes_at formats.now protocol.now (map tree_of terms.now) 0 (up_to_message instrs.now)
         ∷ notes_from formats.now protocol.now (map tree_of terms.now) 0 instrs.now) }
 {
     let mut out = Vec::new(alloc);
-    let notes = notes_at(alloc, protocol, formats, terms, 0, turn(instrs))?;
+    let notes = notes_at(alloc, protocol, formats, terms, told, 0, turn(instrs))?;
     out.push(notes)?;
-    put_notes(alloc, &mut out, protocol, formats, terms, instrs)?;
+    put_notes(alloc, &mut out, protocol, formats, terms, told, instrs)?;
     Ok(out)
 }
 
@@ -92,18 +97,20 @@ fn put_notes(
     protocol: &Protocol,
     formats: &[Format],
     terms: &[Term],
+    told: &[bool],
     instrs: &[Instr],
 ) -> Result<(), NoMemory>
     requires fields { AllByRecursion (λ format. field_count format.pieces ≤ 32) formats.now }
     requires few { count_registers formats.now instrs.now < 2 ^ 32 }
     requires terms { AllByRecursion (IsTermOf protocol.now) (map tree_of terms.now) }
+    requires told { AreNew (map tree_of terms.now) told.now }
     ensures { OnOk result (out.new.items ≡ out.old.items
         ++ notes_from formats.now protocol.now (map tree_of terms.now) 0 instrs.now) }
 {
     let mut next = 0;
     for (i, instr) in instrs.iter().enumerate() {
         let rest = rest_of(instrs, i);
-        put_first(alloc, out, protocol, formats, terms, next, rest)?;
+        put_first(alloc, out, protocol, formats, terms, told, next, rest)?;
         next += count_written(formats, instr) as u32;
     }
     Ok(())
@@ -116,12 +123,14 @@ fn put_first(
     protocol: &Protocol,
     formats: &[Format],
     terms: &[Term],
+    told: &[bool],
     next: u32,
     instrs: &[Instr],
 ) -> Result<(), NoMemory>
     requires fields { AllByRecursion (λ format. field_count format.pieces ≤ 32) formats.now }
     requires few { next + count_registers formats.now instrs.now < 2 ^ 32 }
     requires terms { AllByRecursion (IsTermOf protocol.now) (map tree_of terms.now) }
+    requires told { AreNew (map tree_of terms.now) told.now }
     requires some { 0 < length instrs.now }
     ensures { OnOk result (out.new.items ≡ out.old.items
         ++ notes_first formats.now protocol.now (map tree_of terms.now) next instrs.now) }
@@ -129,7 +138,15 @@ fn put_first(
     if !is_message(&instrs[0]) {
         return Ok(());
     }
-    let notes = notes_at(alloc, protocol, formats, terms, next, message_turn(instrs))?;
+    let notes = notes_at(
+        alloc,
+        protocol,
+        formats,
+        terms,
+        told,
+        next,
+        message_turn(instrs),
+    )?;
     out.push(notes)?;
     Ok(())
 }
@@ -186,12 +203,14 @@ fn notes_at(
     protocol: &Protocol,
     formats: &[Format],
     terms: &[Term],
+    told: &[bool],
     next: u32,
     instrs: &[Instr],
 ) -> Result<Notes, NoMemory>
     requires fields { AllByRecursion (λ format. field_count format.pieces ≤ 32) formats.now }
     requires few { next + count_registers formats.now instrs.now < 2 ^ 32 }
     requires terms { AllByRecursion (IsTermOf protocol.now) (map tree_of terms.now) }
+    requires told { AreNew (map tree_of terms.now) told.now }
     ensures { IfOk result (λ notes. notes
         ≡ notes_at formats.now protocol.now (map tree_of terms.now) next instrs.now) }
 {
@@ -200,7 +219,7 @@ fn notes_at(
     put_said(alloc, &mut items, protocol, terms, b"opens with ", &keys)?;
     let checked = once(alloc, terms, &used(alloc, Use::Checked, instrs)?)?;
     put_said(alloc, &mut items, protocol, terms, b"checks ", &checked)?;
-    let learned = learned(alloc, formats, terms, next, instrs)?;
+    let learned = learned(alloc, formats, terms, told, next, instrs)?;
     put_said(alloc, &mut items, protocol, terms, b"learns ", &learned)?;
     Ok(Notes::new(items))
 }
@@ -232,11 +251,13 @@ fn learned(
     alloc: Global,
     formats: &[Format],
     terms: &[Term],
+    told: &[bool],
     next: u32,
     instrs: &[Instr],
 ) -> Result<Vec<u32>, NoMemory>
     requires fields { AllByRecursion (λ format. field_count format.pieces ≤ 32) formats.now }
     requires few { next + count_registers formats.now instrs.now < 2 ^ 32 }
+    requires told { AreNew (map tree_of terms.now) told.now }
     ensures { IfOk result (λ rs. rs.items
         ≡ learned formats.now (map tree_of terms.now) next instrs.now) }
 {
@@ -244,21 +265,23 @@ fn learned(
     let arrived = written(alloc, formats, false, next, instrs)?;
     let built = written(alloc, formats, true, next, instrs)?;
     let kept = without(alloc, &opened, &arrived)?;
-    new_ones(alloc, terms, &built, &kept)
+    news_among(alloc, terms, told, &built, &kept)
 }
 
-fn new_ones(
+fn news_among(
     alloc: Global,
     terms: &[Term],
+    told: &[bool],
     built: &[u32],
     registers: &[u32],
 ) -> Result<Vec<u32>, NoMemory>
+    requires { AreNew (map tree_of terms.now) told.now }
     ensures { IfOk result (λ rs. rs.items
         ≡ filter (is_new (map tree_of terms.now) built.now) registers.now) }
 {
     let mut out = Vec::new(alloc);
     for r in registers {
-        if is_new(terms, built, *r) {
+        if is_new(terms, told, built, *r) {
             out.push(*r)?;
         }
     }

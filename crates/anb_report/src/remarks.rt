@@ -11,6 +11,7 @@ ghost use Rattle.anb_resolve.specs.Views.{action_value, plan_event};
 ghost use Rattle.anb_report.specs.Remarks.{format_of, formats_in, formats_in_all, is_from, is_repeated, is_to, never, plan_formats, remarks, repeated, repeats, silent_role, silent_roles, unused, unused_format, unused_formats, used_formats};
 
 use crate::lists::is_same;
+use crate::names::put_unused_names;
 use crate::reporting::{put_number, put_role_name};
 use anb_base::NoMemory;
 use anb_format::Format;
@@ -26,6 +27,7 @@ pub(crate) fn put_remarks(
 ) -> Result<(), NoMemory>
     ensures { OnOk result (out.new.items ≡ out.old.items ++ remarks protocol.now) }
 {
+    put_unused_names(alloc, out, protocol)?;
     let used = used_formats(alloc, protocol)?;
     put_unused_formats(out, protocol.formats(), &used)?;
     put_silent_roles(out, protocol)?;
@@ -33,7 +35,7 @@ pub(crate) fn put_remarks(
     Ok(())
 }
 
-fn count_roles(protocol: &Protocol) -> u32
+pub(crate) fn count_roles(protocol: &Protocol) -> u32
     ensures { result ≡ length protocol.now.roles }
 {
     protocols_hold();
@@ -142,7 +144,12 @@ fn put_unused_format(
     ensures { OnOk result (out.new.items
         ≡ out.old.items ++ unused_format formats.now used.now i) }
 {
-    put_unused(out, formats, is_used(used, i), i)
+    put_unused(
+        out,
+        is_used(used, i),
+        b"the format ",
+        format_name(formats, i),
+    )
 }
 
 fn is_used(used: &[usize], i: usize) -> bool
@@ -151,25 +158,32 @@ fn is_used(used: &[usize], i: usize) -> bool
     used.contains(&i)
 }
 
-fn put_unused(out: &mut Vec<u8>, formats: &[Format], there: bool, i: usize) -> Result<(), NoMemory>
-    ensures { OnOk result (out.new.items ≡ out.old.items ++ unused there (name_at formats.now i)) }
+/// Appends that nothing uses what has this name, where that is so.
+pub(crate) fn put_unused(
+    out: &mut Vec<u8>,
+    there: bool,
+    kind: &[u8],
+    name: &[u8],
+) -> Result<(), NoMemory>
+    ensures { OnOk result (out.new.items ≡ out.old.items ++ unused there kind.now name.now) }
 {
     if there {
         return Ok(());
     }
-    out.extend_from_slice(b"note: nothing uses the format ")?;
-    put_format_name(out, formats, i)?;
+    out.extend_from_slice(b"note: nothing uses ")?;
+    out.extend_from_slice(kind)?;
+    out.extend_from_slice(name)?;
     out.push(b'\n')?;
     Ok(())
 }
 
-fn put_format_name(out: &mut Vec<u8>, formats: &[Format], i: usize) -> Result<(), NoMemory>
-    ensures { OnOk result (out.new.items ≡ out.old.items ++ name_at formats.now i) }
+fn format_name(formats: &[Format], i: usize) -> &[u8]
+    ensures { result.now ≡ name_at formats.now i }
 {
-    if let Some(format) = formats.get(i) {
-        out.extend_from_slice(format.name().as_str().as_bytes())?;
+    match formats.get(i) {
+        Some(format) => format.name().as_str().as_bytes(),
+        None => b"",
     }
-    Ok(())
 }
 
 fn put_silent_roles(out: &mut Vec<u8>, protocol: &Protocol) -> Result<(), NoMemory>

@@ -1,5 +1,5 @@
 //! Protocols.
-use crate::parts::{Action, Parts};
+use crate::parts::{Action, Atom, Parts};
 use crate::plans::{Names, Plan};
 use anb_base::{NoMemory, Suite, Text};
 use anb_format::Format;
@@ -138,6 +138,13 @@ impl Protocol {
         ensures { IfOk result (λ text. text ≡ term_text self.now (tree_of t.now)) }
     {
         self.parts.text_of_term(alloc, t)
+    }
+
+    /// All names that terms may have as an atom, by the numbers of their atoms.
+    pub fn declared(&self) -> &[Atom]
+        ensures { result.now ≡ self.now.atoms }
+    {
+        self.parts.atoms.as_slice()
     }
 
     /// The texts of the terms that a role knows, in order.

@@ -1,7 +1,4 @@
-//! Worked examples, from the text of a narration to the codes of its roles and what these do.
-//!
-//! The tests are the examples. The one function of the crate reads a text and resolves it, as they
-//! all begin.
+//! The protocol that a text tells, as worked examples in crates of tests begin.
 #![tactic(auto)]
 
 ghost use Rattle.std.specs.Prelude.{◌≡◌, ◌≤◌, length, IfOk, IfErr};
@@ -36,6 +33,4 @@ pub fn protocol_in(alloc: Global, text: &[u8]) -> Result<Protocol, Refusal>
 }
 
 #[cfg(test)]
-mod compiling;
-#[cfg(test)]
-mod resolving;
+mod alone;

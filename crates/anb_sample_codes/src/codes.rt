@@ -3,44 +3,81 @@ ghost use Rattle.std.specs.Prelude.{◌≡◌, ◌<◌, ◌≤◌, ◌*◌, ◌^
 ghost use Rattle.anb_code.specs.Table.{HasCounts, written};
 
 use crate::NoCode;
+use crate::formats::formats_of;
 use crate::lines::instr;
-use anb_base::{Suite, Text};
+use crate::strings::text;
+use anb_base::Suite;
 use anb_code::{RawCode, RawFormat, RawInstr, RoleCode, What, verify};
-use anb_format::{FieldKind, Piece};
 use std::alloc::Global;
 
-/// The code of some instructions, which `;` separates, at most 1,000. Each has its kind, its name if
-/// it has one and the registers that it reads; registers to write are numbered here. There is one
-/// format, `p`, of the literal `P` and two fields with their lengths in front.
+/// The code of some instructions over the format `p` of the literal `P` and two fields with their
+/// lengths in front.
 pub fn code(alloc: Global, suite: Suite, lines: &str) -> Result<RoleCode, NoCode>
     ensures { IfOk result (λ code. code.suite ≡ suite) }
 {
+    code_over(alloc, suite, "p P LL", lines)
+}
+
+/// The code of some instructions over some formats, at most 1,000 each, of the protocol `Test` and
+/// the role `A`. Both are separated by `;`. An instruction has its kind, its name if it has one and
+/// the registers that it reads. The registers that it writes stand before a `=`, or are numbered
+/// here. A format has its name, its literal, which is `-` where it is empty, and a letter for each
+/// field: `L`, `N`, `H` or `R`. `f*64 F` are the formats `f0` to `f63`, and a literal `Y*9` is nine
+/// times `Y`.
+pub fn code_over(
+    alloc: Global,
+    suite: Suite,
+    formats: &str,
+    lines: &str,
+) -> Result<RoleCode, NoCode>
+    ensures { IfOk result (λ code. code.suite ≡ suite) }
+{
+    let formats = formats_of(alloc, formats)?;
+    let code = instrs_of(alloc, lines)?;
+    let raw = raw_code(alloc, suite, formats, code)?;
+    checked(alloc, raw)
+}
+
+fn instrs_of(alloc: Global, lines: &str) -> Result<Vec<RawInstr>, NoCode> {
     let mut code = Vec::new(alloc);
     let mut next = 0u32;
     for line in lines.split(';') {
-        let instr = instr(alloc, line, next)?;
-        next = next.saturating_add(instr.to.len().min(1_000) as u32);
-        code.push(instr)?;
+        if !line.trim().is_empty() {
+            let instr = instr(alloc, line, next)?;
+            next = next.saturating_add(instr.to.len().min(1_000) as u32);
+            code.push(instr)?;
+        }
     }
-    checked(alloc, suite, code)
+    Ok(code)
 }
 
-fn checked(alloc: Global, suite: Suite, code: Vec<RawInstr>) -> Result<RoleCode, NoCode>
-    ensures { IfOk result (λ code. code.suite ≡ suite) }
+fn raw_code(
+    alloc: Global,
+    suite: Suite,
+    formats: Vec<RawFormat>,
+    code: Vec<RawInstr>,
+) -> Result<RawCode, NoCode>
+    ensures { IfOk result (λ raw. raw.suite ≡ suite) }
 {
-    if code.len() > 1_000 {
-        return Err(NoCode::Words);
-    }
-    check_counts(&code)?;
-    let formats = vec![in alloc; pair(alloc)?]?;
-    check_pieces(&formats)?;
-    let raw = RawCode {
-        protocol: Text::new(String::from_str(alloc, "Test")?),
-        role: Text::new(String::from_str(alloc, "A")?),
+    let protocol = text(alloc, "Test")?;
+    let role = text(alloc, "A")?;
+    Ok(RawCode {
+        protocol,
+        role,
         suite,
         formats,
         code,
-    };
+    })
+}
+
+fn checked(alloc: Global, raw: RawCode) -> Result<RoleCode, NoCode>
+    ensures { IfOk result (λ code. code.suite ≡ raw.suite) }
+{
+    if raw.code.len() > 1_000 || raw.formats.len() > 1_000 {
+        return Err(NoCode::Words);
+    }
+    check_counts(&raw.code)?;
+    check_pieces(&raw.formats)?;
     Ok(verify(alloc, raw)?)
 }
 
@@ -94,15 +131,4 @@ fn count_pieces(format: &RawFormat) -> usize
     ensures { result ≡ length format.now.pieces }
 {
     format.pieces.len()
-}
-
-fn pair(alloc: Global) -> Result<RawFormat, NoCode> {
-    let mut pieces = Vec::new(alloc);
-    pieces.push(Piece::Lit(crate::bytes(alloc, b"P")?))?;
-    pieces.push(Piece::Field(FieldKind::Len))?;
-    pieces.push(Piece::Field(FieldKind::Len))?;
-    Ok(RawFormat {
-        name: Text::new(String::from_str(alloc, "p")?),
-        pieces,
-    })
 }

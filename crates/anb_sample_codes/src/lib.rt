@@ -2,10 +2,11 @@
 #![tactic(auto)]
 
 mod codes;
+mod formats;
 mod lines;
 mod no_code;
 mod strings;
 
-pub use codes::code;
+pub use codes::{code, code_over};
 pub use no_code::NoCode;
 pub use strings::{bytes, values};

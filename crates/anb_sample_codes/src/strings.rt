@@ -2,7 +2,7 @@
 ghost use Rattle.std.specs.Prelude.{◌≡◌, ◌≤◌, length, All, IfOk};
 
 use crate::NoCode;
-use anb_base::{ARRIVAL, Bytes};
+use anb_base::{ARRIVAL, Bytes, Text};
 use std::alloc::{AllocError, Global};
 
 /// These bytes, in memory of their own.
@@ -10,6 +10,10 @@ pub fn bytes(alloc: Global, bytes: &[u8]) -> Result<Bytes, AllocError>
     ensures { IfOk result (λ copy. copy ≡ bytes.now) }
 {
     Ok(Bytes::new(Vec::from_slice(alloc, bytes)?))
+}
+
+pub(crate) fn text(alloc: Global, words: &str) -> Result<Text, AllocError> {
+    Ok(Text::new(String::from_str(alloc, words)?))
 }
 
 /// The texts between `;`, where none is longer than an arrival.

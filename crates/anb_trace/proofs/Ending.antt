@@ -5,20 +5,19 @@ use Rattle.std.specs.Option.{option_map_or}
 use Rattle.anb_base.specs.declared.TheConstants.{ARRIVAL, WIDE}
 use Rattle.anb_seal.specs.Streams.{draw_of}
 use Rattle.anb_algebra.specs.ByteLawful.{bytes_are_lawful}
-use Rattle.anb_plays.specs.Plays.{End, stopped, waiting, done, Played, ends}
-use Rattle.anb_plays.specs.Codes.{Act, takes, draws, receives, sends, works, Work}
+use Rattle.anb_plays.specs.Plays.{End, stopped, Played, ends}
+use Rattle.anb_plays.specs.Codes.{Act, takes, draws, receives, sends, works}
 use Rattle.anb_plays.specs.Exec.{HasTakes, exec, on_written, worked}
 use Rattle.anb_plays.specs.Runs.{says_if}
 use Rattle.anb_plays.proofs.Exec.{exec_is_run}
 use Rattle.anb_code.specs.declared.instr.Instr.{Instr}
 use Rattle.anb_code.specs.Meaning.{act_of, acts_of}
 use Rattle.anb_code.specs.Registers.{count_written}
-use Rattle.anb_code.specs.Taking.{take_texts}
 use Rattle.anb_algebra.specs.ByteMeaning.{has_operator}
-use Rattle.anb_machine.specs.ByteRuns.{meaning_of, run_bytes}
+use Rattle.anb_machine.specs.ByteRuns.{meaning_of}
 use Rattle.anb_machine.proofs.Verified.{has_takes}
 use Rattle.anb_trace.specs.Laws.{TracesEndAsRuns}
-use Rattle.anb_trace.specs.Traces.{Rest, end_line, known_lines, told, told_all, trace}
+use Rattle.anb_trace.specs.Traces.{Rest, end_line, known_lines, told, told_all}
 use Rattle.anb_trace.specs.Words.{SubjectValue, bytes_line, event_line, instr_lines, why}
 
 -- the last line of a text tells of this end

@@ -1,11 +1,10 @@
 -- From one instruction of a trace to the next.
-use Rattle.std.proofs.Common.{◌≡◌, ℕ, ◌+◌, ◌≤◌, List, [], ◌∷◌, ◌++◌, length, map, take, drop, Bool, true, false, cond, Option, Some, Err, refl, sym, ap, ◌∙◌, subst, arith, append-nil}
+use Rattle.std.proofs.Common.{◌≡◌, ℕ, ◌+◌, ◌≤◌, List, [], ◌∷◌, ◌++◌, length, map, drop, Bool, true, false, cond, Option, Some, Err, sym, ap, ◌∙◌, subst, arith, append-nil}
 use Rattle.std.specs.Prelude.{slice_get}
 use Rattle.std.proofs.lemmas.List.{drop_all}
 use Rattle.anb_base.specs.declared.TheConstants.{ARRIVAL, WIDE}
 use Rattle.anb_seal.specs.Streams.{draw_of}
 use Rattle.anb_algebra.specs.ByteMeaning.{has_operator}
-use Rattle.anb_term.specs.declared.term.Op.{Op}
 use Rattle.anb_plays.specs.Codes.{Act, takes, draws, receives, sends, works}
 use Rattle.anb_plays.specs.Exec.{IsVerified}
 use Rattle.anb_plays.specs.Plays.{done}
@@ -16,7 +15,6 @@ use Rattle.anb_code.specs.Registers.{count_written}
 use Rattle.anb_code.specs.Taking.{take_texts}
 use Rattle.anb_code.specs.Verified.{IsVerifiedCode}
 use Rattle.anb_explain.proofs.Loops.{drop_item}
-use Rattle.anb_machine.specs.Standing.{registers_of}
 use Rattle.anb_machine.proofs.Steps.{rest_verified}
 use Rattle.anb_machine.proofs.Verified.{has_takes}
 use Rattle.anb_text.specs.declared.writing.WriteNo.TheVariants as WriteNo

@@ -1,5 +1,7 @@
+pub mod Misfits
 pub mod Words
 pub mod Traces
 pub mod Laws
 -- for proofs alone
+pub mod Passing
 pub mod Tracing

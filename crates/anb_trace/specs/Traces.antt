@@ -1,9 +1,7 @@
 -- What a role does over arrivals, as a text: its events, the instructions between them with what they write, and how it ends.
-use Rattle.std.specs.Prelude.{◌≡◌, ℕ, ◌+◌, List, [], ◌∷◌, ◌++◌, codes, decimal, Option, Some, None, slice_get}
-use Rattle.std.specs.List.{AllByRecursion}
+use Rattle.std.specs.Prelude.{ℕ, ◌+◌, List, [], ◌∷◌, ◌++◌, codes, decimal, slice_get}
 use Rattle.std.specs.Option.{option_map_or}
 use Rattle.anb_seal.specs.Streams.{draw_of}
-use Rattle.anb_term.specs.Value.{Meaning}
 use Rattle.anb_plays.specs.Plays.{End, stopped, waiting, done}
 use Rattle.anb_plays.specs.Codes.{Act, takes, draws, receives, sends, works}
 use Rattle.anb_plays.specs.Exec.{on_written, worked}

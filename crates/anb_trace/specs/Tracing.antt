@@ -3,7 +3,7 @@ use Rattle.std.specs.Prelude.{◌≡◌, ℕ, ◌+◌, ◌≤◌, List, [], ◌�
 use Rattle.std.specs.Option.{option_map_or}
 use Rattle.anb_seal.specs.Streams.{draw_of}
 use Rattle.anb_term.specs.declared.term.Op.{Op}
-use Rattle.anb_plays.specs.Codes.{Act, takes, draws, receives, sends, works}
+use Rattle.anb_plays.specs.Codes.{Act, works}
 use Rattle.anb_plays.specs.Plays.{stopped, waiting}
 use Rattle.anb_plays.specs.Exec.{IsReady, worked}
 use Rattle.anb_code.specs.declared.instr.Instr.{Instr}

@@ -1,21 +1,22 @@
 -- What a trace says of an event, of an instruction, and of why one failed.
-use Rattle.std.specs.Prelude.{ℕ, ◌+◌, ◌-◌, ◌==◌, ◌&&◌, ◌||◌, nat_lt, Bool, true, false, List, [], ◌∷◌, ◌++◌, drop, filter, codes, decimal, Option, Some, None, slice_get, if◌then◌else◌}
+use Rattle.std.specs.Prelude.{ℕ, ◌+◌, ◌-◌, ◌==◌, ◌&&◌, ◌||◌, nat_lt, Bool, false, List, [], ◌∷◌, ◌++◌, length, drop, filter, codes, decimal, Option, Some, None, slice_get, if◌then◌else◌}
 use Rattle.std.specs.Option.{option_map_or}
 use Rattle.std.specs.List.{list_any}
 use Rattle.hex.specs.Hex.{encode_lower}
 use Rattle.anb_format.specs.Formats.{FormatValue}
 use Rattle.anb_term.specs.Tree.{Tree}
 use Rattle.anb_code.specs.declared.instr.Instr.{Instr}
-use Rattle.anb_code.specs.declared.instr.Instr.TheVariants.{Take, Fresh, Recv, Hash, Mac, Seal, Unseal, Wrap, Unwrap, Build, Parse, Equal, Send}
+use Rattle.anb_code.specs.declared.instr.Instr.TheVariants.{Take, Fresh, Recv, Unseal, Unwrap, Parse, Equal}
 use Rattle.anb_code.specs.CodeValue.{CodeValue}
-use Rattle.anb_code.specs.Registers.{count_written}
+use Rattle.anb_code.specs.Registers.{count_written, pieces_at}
 use Rattle.anb_code.specs.Spelling.{name_at, raw_instr}
-use Rattle.anb_resolve.specs.Plans.{PlanEvent, to_know, to_make, to_send, to_receive}
+use Rattle.anb_resolve.specs.Plans.{PlanEvent, to_send, to_receive}
 use Rattle.anb_resolve.specs.Protocols.{ActionValue, ProtocolValue}
 use Rattle.anb_resolve.specs.Texts.{term_text}
 use Rattle.anb_text.specs.Lines.{instr_line}
 use Rattle.anb_explain.specs.Explained.{is_message, line}
 use Rattle.anb_explain.specs.Explanations.{ExplanationValue}
+use Rattle.anb_trace.specs.Misfits.{count_text, misfit}
 
 -- whom a trace is of: a role's plan, and a code for it with the terms of its registers, in the order of writing
 pub record SubjectValue : Type 0 where
@@ -85,6 +86,15 @@ writer formats [] register = None
 writer formats (instr ∷ instrs) register =
     if nat_lt register (count_written formats instr) then Some instr else writer formats instrs (register - count_written formats instr)
 
+-- its bytes, where they are there
+abbrev pub bytes_at : List (List ℕ) → ℕ → List ℕ
+bytes_at table register = option_map_or (λ bytes. bytes) (slice_get table register) []
+
+-- that these are too few for what was sealed or wrapped, which is 32 longer than its message
+unfoldable pub too_few : List ℕ → (name : List ℕ) → List ℕ
+too_few bytes name = if nat_lt (length bytes) 32
+    then codes ": " ++ (count_text (length bytes) ++ (codes ", a " ++ (name ++ codes " has 32 or more"))) else []
+
 -- how the bytes of a register were had
 abbrev pub opened : Instr → List ℕ
 opened (Unseal k c) = codes "unsealed, but "
@@ -136,10 +146,12 @@ article name = if takes_an name then codes "an " else codes "a "
 
 -- why an instruction failed with these values of the registers
 abbrev pub why : SubjectValue → List (List ℕ) → Instr → List ℕ
-why s table (Unseal k c) = codes "can't unseal under " ++ term_at s k
-why s table (Unwrap k d c) = codes "can't unwrap under " ++ (term_at s k ++ (codes " with " ++ term_at s d))
+why s table (Unseal k c) = codes "can't unseal under " ++ (term_at s k ++ too_few (bytes_at table c) (codes "seal"))
+why s table (Unwrap k d c) =
+    codes "can't unwrap under " ++ (term_at s k ++ (codes " with " ++ (term_at s d ++ too_few (bytes_at table c) (codes "wrapping"))))
 why s table (Parse f r) =
     option_map_or opened (writer s.code.formats s.code.instrs r) []
-    ++ (codes "isn't " ++ (article (name_at s.code.formats f) ++ name_at s.code.formats f))
+    ++ (codes "isn't " ++ (article (name_at s.code.formats f) ++ (name_at s.code.formats f
+    ++ (codes ": " ++ misfit (pieces_at s.code.formats f) (bytes_at table r)))))
 why s table (Equal a b) = if comes_first s.code b a then differing s table b a else differing s table a b
 why s table instr = []

@@ -6,14 +6,17 @@
 #![tactic(auto)]
 
 mod events;
+mod fronts;
 mod instrs;
 mod laws;
+mod misfits;
 mod names;
 mod reasons;
+mod shown;
 mod steps;
 mod subject;
 mod tracing;
 mod values;
 
-pub use laws::traces_end_as_runs;
+pub use laws::{misfits_are_exact, traces_end_as_runs};
 pub use tracing::write_trace;

@@ -1,16 +1,20 @@
 //! Why an instruction failed.
 ghost use Rattle.std.specs.Prelude.{◌≡◌, ◌++◌, ◌∷◌, [], OnOk, IfSome, IfNone, Some, None, codes};
+ghost use Rattle.anb_code.specs.Registers.{pieces_at};
 ghost use Rattle.anb_code.specs.Spelling.{name_at};
 ghost use Rattle.std.specs.Option.{option_map_or};
 ghost use Rattle.anb_trace.specs.Tracing.{IsOurs, subject_in};
-ghost use Rattle.anb_trace.specs.Words.{article, comes_first, differing, opened, rank, rank_at, term_at, why, writer};
+ghost use Rattle.anb_trace.specs.Words.{article, bytes_at, comes_first, differing, opened, rank, rank_at, term_at, too_few, why, writer};
 
+use crate::misfits::put_misfit;
 use crate::names::article;
+use crate::shown::put_count;
 use crate::subject::{Subject, put_term_at};
 use crate::values::put_hex_at;
 use anb_base::{Bytes, NoMemory};
 use anb_code::{Instr, RoleCode};
 use anb_explain::count_written;
+use anb_format::Piece;
 use std::alloc::Global;
 
 /// Appends why an instruction failed, where the registers have these values.
@@ -26,9 +30,19 @@ pub(crate) fn put_reason(
         ≡ out.old.items ++ why (subject_in subject.now) registers.now instr.now) }
 {
     match instr {
-        Instr::Unseal(key, _) => put_unsealed(alloc, out, subject, *key),
-        Instr::Unwrap(key, context, _) => put_unwrapped(alloc, out, subject, *key, *context),
-        Instr::Parse(format, of) => put_misfit(out, subject.code, *format, *of),
+        Instr::Unseal(key, of) => {
+            put_unsealed(alloc, out, subject, *key)?;
+            put_too_few(out, bytes_at(registers, *of), b"seal")
+        }
+        Instr::Unwrap(key, context, of) => {
+            put_unwrapped(alloc, out, subject, *key, *context)?;
+            put_too_few(out, bytes_at(registers, *of), b"wrapping")
+        }
+        Instr::Parse(format, of) => {
+            put_unlike(out, subject.code, *format, *of)?;
+            let pieces = pieces_at(subject.code, *format);
+            put_misfit(alloc, out, pieces, bytes_at(registers, *of))
+        }
         Instr::Equal(a, b) => {
             if comes_first(subject.code, *b, *a) {
                 put_difference(alloc, out, subject, registers, *b, *a)
@@ -74,19 +88,55 @@ fn put_unwrapped(
     put_term_at(alloc, out, subject, context)
 }
 
-/// Appends that a register isn't of a format.
-fn put_misfit(out: &mut Vec<u8>, code: &RoleCode, format: u16, of: u32) -> Result<(), NoMemory>
+/// Appends how many bytes there are, where they are too few for what has this name.
+#[tactic(auto, unfolding(crate::specs::Words::too_few))]
+fn put_too_few(out: &mut Vec<u8>, bytes: &[u8], name: &[u8]) -> Result<(), NoMemory>
+    ensures { OnOk result (out.new.items ≡ out.old.items ++ too_few bytes.now name.now) }
+{
+    if bytes.len() < 32 {
+        out.extend_from_slice(b": ")?;
+        put_count(out, bytes.len())?;
+        out.extend_from_slice(b", a ")?;
+        out.extend_from_slice(name)?;
+        out.extend_from_slice(b" has 32 or more")?;
+    }
+    Ok(())
+}
+
+/// The bytes of a register.
+fn bytes_at(registers: &[Bytes], register: u32) -> &[u8]
+    ensures { result.now ≡ bytes_at registers.now register }
+{
+    match registers.get(register as usize) {
+        Some(bytes) => bytes.as_slice(),
+        None => b"",
+    }
+}
+
+/// Appends that a register isn't of a format, with a colon and a space behind.
+fn put_unlike(out: &mut Vec<u8>, code: &RoleCode, format: u16, of: u32) -> Result<(), NoMemory>
     ensures { OnOk result (out.new.items ≡ out.old.items
         ++ (option_map_or opened (writer code.now.formats code.now.instrs of) []
         ++ (codes "isn't " ++ (article (name_at code.now.formats format)
-        ++ name_at code.now.formats format)))) }
+        ++ (name_at code.now.formats format ++ codes ": "))))) }
 {
     let name = format_name(code, format);
     out.extend_from_slice(opened(code, of))?;
     out.extend_from_slice(b"isn't ")?;
     out.extend_from_slice(article(name))?;
     out.extend_from_slice(name)?;
+    out.extend_from_slice(b": ")?;
     Ok(())
+}
+
+/// The pieces of a format by its place.
+fn pieces_at(code: &RoleCode, format: u16) -> &[Piece]
+    ensures { result.now ≡ pieces_at code.now.formats format }
+{
+    match code.formats().get(format as usize) {
+        Some(format) => format.pieces(),
+        None => &[],
+    }
 }
 
 /// The name of a format by its place.

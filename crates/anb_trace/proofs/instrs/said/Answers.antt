@@ -1,8 +1,3 @@
-use Rattle.std.proofs.Common.{◌≡◌, ◌+◌, ◌-◌, ℕ, Some, sym, ap, ◌∙◌, arith}
-use Rattle.std.specs.Prelude.{slice_get, IfOk}
-use Rattle.anb_code.specs.Spelling.{raw_instr}
-use Rattle.anb_text.specs.Lines.{instr_line}
-use Rattle.anb_text.specs.RoleFiles.{instr_lines}
 use Rattle.anb_trace.proofs.Placing.{said_there}
 use Rattle.anb_trace.proofs.instrs.said.Goals as goal
 

@@ -1,4 +1,4 @@
-use Rattle.std.proofs.Common.{sym, ap, ◌∙◌, drop, map}
+use Rattle.std.proofs.Common.{ap, ◌∙◌, drop, map}
 use Rattle.anb_term.specs.View.{tree_of}
 use Rattle.anb_term.proofs.Lists.{map-drop}
 use Rattle.anb_trace.proofs.Placing.{all_taken}

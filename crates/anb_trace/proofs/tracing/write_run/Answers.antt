@@ -1,18 +1,15 @@
-use Rattle.std.proofs.Common.{◌≡◌, ◌+◌, ◌≤◌, ℕ, List, [], Some, Bool, true, length, take, refl, sym, ap, ◌∙◌, subst, arith}
+use Rattle.std.proofs.Common.{◌≡◌, ◌+◌, ◌≤◌, ℕ, List, Some, length, refl, sym, ap, ◌∙◌, subst, arith}
 use Rattle.std.specs.Prelude.{codes, slice_get}
 use Rattle.std.specs.List.{AllByRecursion}
 use Rattle.anb_base.specs.declared.TheConstants.{ARRIVAL, WIDE}
 use Rattle.anb_format.specs.Formats.{FormatValue, field_count}
-use Rattle.anb_seal.specs.Streams.{draw_of}
 use Rattle.anb_term.proofs.Lists.{slice_get-at}
-use Rattle.anb_plays.specs.Plays.{done}
 use Rattle.anb_code.specs.declared.instr.Instr.{Instr}
 use Rattle.anb_code.specs.Registers.{count_written}
 use Rattle.anb_compile.proofs.Valuing.{few_fields}
 use Rattle.anb_machine.proofs.Verified.{few_at}
 use Rattle.anb_text.proofs.Written.{due_as, last_part, not_all, one_part, same_due}
 use Rattle.anb_trace.specs.declared.steps.Standing.{Standing}
-use Rattle.anb_trace.specs.Traces.{end_line, told_all}
 use Rattle.anb_trace.specs.Tracing.{subject_in}
 use Rattle.anb_trace.proofs.Placing.{count_front, count_next}
 use Rattle.anb_trace.proofs.Running.{at_end, coming, goes_on, is_ready, left_first, left_next, told_next, wanting}

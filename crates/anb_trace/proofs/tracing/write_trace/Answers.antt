@@ -1,7 +1,6 @@
-use Rattle.std.proofs.Common.{◌≡◌, ◌++◌, List, ℕ, refl, subst}
+use Rattle.std.proofs.Common.{◌++◌, List, ℕ, refl}
 use Rattle.anb_seal.specs.Streams.{draw_of}
 use Rattle.anb_text.proofs.Written.{due_as, last_part, not_all, one_part}
-use Rattle.anb_text.specs.Writing.{IsWritten}
 use Rattle.anb_trace.specs.Traces.{known_lines, told_all}
 use Rattle.anb_trace.specs.Words.{subject_of}
 use Rattle.anb_trace.proofs.Running.{wanting}

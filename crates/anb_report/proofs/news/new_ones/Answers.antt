@@ -1,0 +1,10 @@
+use Rattle.std.proofs.Common.{map}
+use Rattle.anb_term.specs.View.{tree_of}
+use Rattle.anb_report.proofs.Numbered.{told}
+use Rattle.anb_report.proofs.news.new_ones.Goals as goal
+
+pub returns : goal.returns
+returns c =
+    let numbers = c.in_ok-numbers.numbers in
+    let whole = told (map tree_of c.args.terms.now) numbers.items.items numbers.count c.in_ok-numbers.ensures in
+    rw (c.in_ok-news_of.ensures, c.deref.ensures.value) whole

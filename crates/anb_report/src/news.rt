@@ -1,0 +1,70 @@
+//! Which terms of a list stand there for the first time.
+ghost use Rattle.std.specs.Prelude.{◌≡◌, map, replicate, false, true, slice_set, slice_index_or, IfOk};
+ghost use Rattle.anb_term.specs.View.{tree_of};
+ghost use Rattle.anb_report.specs.News.{AreNew, IsNumbering, news};
+
+use anb_base::NoMemory;
+use anb_intern::Pool;
+use anb_term::Term;
+use std::alloc::Global;
+
+/// Numbers of terms, equal ones for equal terms, below a count.
+#[derive(Drop)]
+pub(crate) struct Numbers {
+    pub(crate) items: Vec<u32>,
+    pub(crate) count: u32,
+}
+
+/// For each term, whether no term before it is the same. Time and memory are linear in the terms'
+/// sizes, but for the search among their numbers.
+pub(crate) fn new_ones(alloc: Global, terms: &[Term]) -> Result<Vec<bool>, NoMemory>
+    ensures { IfOk result (λ told. AreNew (map tree_of terms.now) told.items) }
+{
+    let numbers = numbers_of(alloc, terms)?;
+    let count = numbers.count as usize;
+    Ok(news_of(alloc, &numbers.items, count)?)
+}
+
+/// Numbers for terms.
+fn numbers_of(alloc: Global, terms: &[Term]) -> Result<Numbers, NoMemory>
+    ensures { IfOk result (λ numbers.
+        IsNumbering (map tree_of terms.now) numbers.items.items numbers.count) }
+{
+    let mut pool = Pool::new(alloc);
+    let mut items = Vec::new(alloc);
+    for term in terms {
+        let id = match pool.put_term(alloc, term) {
+            Ok(id) => id,
+            Err(_) => return Err(NoMemory),
+        };
+        items.push(id.0)?;
+    }
+    let count = pool.len();
+    Ok(Numbers { items, count })
+}
+
+/// For each number, whether it isn't among those before it.
+fn news_of(alloc: Global, numbers: &[u32], count: usize) -> Result<Vec<bool>, NoMemory>
+    ensures { IfOk result (λ told. told.items ≡ news (replicate count false) numbers.now) }
+{
+    let mut marks = vec![in alloc; false; count]?;
+    let mut out = Vec::new(alloc);
+    for n in numbers {
+        let seen = mark(&mut marks, *n);
+        out.push(!seen)?;
+    }
+    Ok(out)
+}
+
+/// Marks a number, and says whether it was marked. One that has no mark counts as marked.
+fn mark(marks: &mut Vec<bool>, n: u32) -> bool
+    ensures was { result ≡ slice_index_or marks.old.items n true }
+    ensures marks { marks.new.items ≡ slice_set marks.old.items n true }
+{
+    let Some(mark) = marks.get_mut(n as usize) else {
+        return true;
+    };
+    let was = *mark;
+    *mark = true;
+    was
+}
