@@ -1,1 +1,1 @@
-mod Unfailing
+mod Rising

@@ -1,5 +1,5 @@
 -- Statuses over a wire whose counts of faults stay 0.
-use Rattle.std.proofs.Common.{◌≡◌, ℕ, ◌⊎◌, List, Option, inl, inr, subst, sym, ◌∙◌, arith}
+use Rattle.std.proofs.Common.{◌≡◌, ℕ, List, Option, Some, None, inl, inr, subst, sym, ◌∙◌, arith}
 use Rattle.anb_base.specs.Moves.{Rose, last_count}
 use Rattle.anb_base.specs.Wires.{WireState}
 use Rattle.anb_base.specs.declared.place.Place.{Place}
@@ -7,6 +7,18 @@ use Rattle.anb_command.specs.declared.status.Status.{Status}
 use Rattle.anb_command.specs.declared.status.Status.TheVariants as status
 use Rattle.anb_command.specs.Causes.{HasCause}
 use Rattle.anb_command.specs.Statuses.{OnUnreached}
+
+-- a wire that never fails, with this left
+abbrev pub unfailing : List ℕ → WireState
+unfailing left = record {
+  left = Some left;
+  taken_at = None;
+  read_faults = 0;
+  written = None;
+  write_faults = 0;
+  reached = None;
+  reach_faults = 0;
+}
 
 no_rise : (before now : ℕ) → before ≡ 0 → now ≡ 0 → Rose before now → ⊥
 no_rise before now b n (inl less) = absurd (omega (arith, b, n, less))
