@@ -2,12 +2,13 @@
 
     python3 bench/measure.py [--program FILE] [--limit SECONDS] [--runs N] [ROW ..]
 
-The rows are those of narrations.py, which are compiled; `explained`, where such a narration is
-explained; and role files that are run, `takes` with a value for each of its takes, `most_takes` up to
-the size that a role file may have, with as many values as fit into theirs. The program is
-crates/anb/out/anb unless another is named. A size that takes longer than the limit is cut off, and the
-larger ones of its row are left out. With several runs of each size the least time and the most memory
-stand; more than a few tell what the program takes, and not what else the machine does.
+The rows are those of narrations.py, which are compiled; `explained` and `checked`, where such a narration
+is explained or reported on; `refused`, where `check` refuses a text at its end; and role files that are
+run, `takes` with a value for each of its takes, `most_takes` up to the size that a role file may have,
+with as many values as fit into theirs. The program is crates/anb/out/anb unless another is named. A size
+that takes longer than the limit is cut off, and the larger ones of its row are left out. With several
+runs of each size the least time and the most memory stand; more than a few tell what the program takes,
+and not what else the machine does.
 """
 import argparse
 import os
@@ -36,6 +37,10 @@ def narration_case(command, row, size):
     return Case({"bench.anb": make(size).text()}, [command, "bench.anb", role])
 
 
+def checked_case(text, statuses):
+    return Case({"bench.anb": text}, ["check", "bench.anb"], statuses)
+
+
 def takes_case(size, statuses):
     """A role file of so many takes, and values for as many of them as fit."""
     names = [name("x", k) for k in range(size)]
@@ -51,6 +56,8 @@ def takes_case(size, statuses):
 # each row's case, and its sizes, which double up to the largest within the limits
 CASES = {
     **{row: (lambda size, row=row: narration_case("compile", row, size), ROWS[row][2]) for row in ROWS},
+    "checked": (lambda size: checked_case(ROWS["format_trees"][0](size).text(), (0,)), ROWS["format_trees"][2]),
+    "refused": (lambda size: checked_case(ROWS["declared_names"][0](size).text() + ";", (4,)), ROWS["declared_names"][2]),
     "explained": (lambda size: narration_case("explain", "format_trees", size), ROWS["format_trees"][2]),
     "takes": (lambda size: takes_case(size, (0,)), [17500, 35000, 70000, 140000]),
     "most_takes": (lambda size: takes_case(size, (0, 7)), [95000, 190000, 380000, 760000]),
