@@ -6,7 +6,7 @@ Runs `rt ci` (of these crates and those below them, or of all) with a prover tha
 seconds of each of its calls, and then writes a row a crate: proof, tests, and edits, with what an edit's
 try begins with. `rt ci` keeps what passed, and does again only what changed: with --anew it does all.
 With --log the notes go to this file, behind those of earlier runs, and the table is that of all notes. Of a
-proof, of tests or of the beginning of edits that was done again, the last note counts.
+part that was done again its last run counts, but of edits all tries, since what was refused isn't tried again.
 """
 import collections
 import importlib.machinery
@@ -20,7 +20,7 @@ import sys
 import tempfile
 import time
 
-SHIM = "import sys; sys.path.insert(0, {folder!r}); import gate; gate.noted({prover!r}, {log!r})"
+SHIM = "import sys; sys.path.insert(0, {folder!r}); import gate; gate.noted({prover!r}, {log!r}, {run!r})"
 
 
 def part_of(words, folder):
@@ -31,7 +31,7 @@ def part_of(words, folder):
     return "tests" if "--test" in words else "proof"
 
 
-def noted(prover, log):
+def noted(prover, log, run=None):
     """Runs the prover in place of this program, and notes its processor seconds."""
     words, begun = sys.argv[1:], time.time()
     child = os.fork()
@@ -44,6 +44,7 @@ def noted(prover, log):
         note = {
             "crate": words[words.index("--crate-name") + 1],
             "part": part_of(words, os.getcwd()),
+            "run": run,
             "processor": used.ru_utime + used.ru_stime,
             "wall": time.time() - begun,
         }
@@ -68,12 +69,15 @@ def gate(shim):
 
 def table(log):
     """The rows of a table, the longest first."""
-    sums, tries = collections.defaultdict(collections.Counter), collections.Counter()
+    sums, tries, runs = collections.defaultdict(collections.Counter), collections.Counter(), {}
     with open(log) as file:
         for note in map(json.loads, file):
-            parts, part = sums[note["crate"]], note["part"]
-            parts[part] = note["processor"] + (parts[part] if part == "edits" else 0)
-            tries[note["crate"]] += part == "edits"
+            crate, part, run = note["crate"], note["part"], note.get("run")
+            if part != "edits" and runs.get((crate, part)) != run:
+                sums[crate][part] = 0
+            runs[crate, part] = run
+            sums[crate][part] += note["processor"]
+            tries[crate] += part == "edits"
     yield "| crate | proof | tests | edits | their beginning |"
     yield "|---|---|---|---|---|"
     for crate, parts in sorted(sums.items(), key=lambda it: -it[1].total()):
@@ -92,10 +96,10 @@ def main(words):
             log, words = os.path.abspath(words[1]), words[2:]
         shim = f"{room}/prover"
         module, prover = gate(shim)
+        folder, begun = os.path.dirname(os.path.abspath(__file__)), time.time()
         with open(shim, "w") as file:
-            file.write(f"#!{sys.executable}\n{SHIM.format(folder=os.path.dirname(os.path.abspath(__file__)), prover=prover, log=log)}\n")
+            file.write(f"#!{sys.executable}\n{SHIM.format(folder=folder, prover=prover, log=log, run=begun)}\n")
         os.chmod(shim, 0o755)
-        begun = time.time()
         try:
             status = module.main(["ci", *words])
         except SystemExit as end:
