@@ -1,10 +1,11 @@
 -- Which registers of a code bring parts of arrivals, and which are opened, compared and built again.
-use Rattle.std.specs.Prelude.{ℕ, ◌+◌, List, [], ◌∷◌, ◌++◌, Bool, true, false, not, nat_eq, filter, if◌then◌else◌}
-use Rattle.std.specs.List.{list_any, range_with_len}
+use Rattle.std.specs.Prelude.{ℕ, ◌+◌, ◌&&◌, List, [], ◌∷◌, ◌++◌, Bool, true, false, not, nat_eq, filter, if◌then◌else◌}
+use Rattle.std.specs.List.{flat_map, list_any, range_with_len}
 use Rattle.anb_format.specs.Formats.{FormatValue}
 use Rattle.anb_code.specs.declared.instr.Instr.{Instr}
 use Rattle.anb_code.specs.declared.instr.Instr.TheVariants.{Recv, Hash, Mac, Seal, Unseal, Wrap, Unwrap, Build, Parse, Equal, Send}
 use Rattle.anb_code.specs.Registers.{count_written}
+use Rattle.anb_code.specs.Verified.{count_registers}
 
 abbrev pub is_among : List ℕ → ℕ → Bool
 is_among ns n = list_any (λ m. nat_eq m n) ns
@@ -14,7 +15,7 @@ is_message Recv = true
 is_message (Send r) = true
 is_message instr = false
 
--- it writes an arrival, or parts of one
+-- it writes an arrival, or parts of something
 abbrev pub brings : Instr → Bool
 brings Recv = true
 brings (Unseal k c) = true
@@ -49,6 +50,14 @@ abbrev pub compared : Instr → List ℕ
 compared (Equal a b) = a ∷ b ∷ []
 compared instr = []
 
+abbrev pub opened : List Instr → List ℕ
+opened instrs = flat_map opened_by instrs
+
+-- what stands in a list more than once
+abbrev pub repeated : List ℕ → List ℕ
+repeated [] = []
+repeated (n ∷ ns) = repeated ns ++ (if is_among ns n then n ∷ [] else [])
+
 -- what it builds of
 abbrev pub built_of : Instr → List ℕ
 built_of (Hash r) = r ∷ []
@@ -63,13 +72,6 @@ abbrev pub checked_by : Instr → List ℕ
 checked_by (Equal a b) = b ∷ []
 checked_by instr = []
 
--- The registers that an instruction looks at: those that are compared, the keys of what is opened, what is
--- opened itself where this is asked for, and, of a built one that later instructions look at, what it is built
--- of. It writes this register first.
-abbrev pub looks_at : Bool → List ℕ → ℕ → Instr → List ℕ
-looks_at opened later next x =
-    (if is_among later next then built_of x else []) ++ (keys_of x ++ (compared x ++ (if opened then opened_by x else [])))
-
 module _ (formats : List FormatValue) where
   -- the registers that an instruction writes, where the first one is this one
   abbrev pub writes_at : ℕ → Instr → List ℕ
@@ -80,35 +82,51 @@ module _ (formats : List FormatValue) where
   written_by test next [] = []
   written_by test next (x ∷ xs) = (if test x then writes_at next x else []) ++ written_by test (next + count_written formats x) xs
 
-  abbrev pub looked_at : Bool → ℕ → List Instr → List ℕ
-  looked_at opened next [] = []
-  looked_at opened next (x ∷ xs) =
-      let later = looked_at opened (next + count_written formats x) xs in
-      later ++ looks_at opened later next x
+  -- registers, and what these are built of, from the last instruction back
+  abbrev pub with_operands : List ℕ → ℕ → List Instr → List ℕ
+  with_operands some next [] = some
+  with_operands some next (x ∷ xs) =
+      let later = with_operands some (next + count_written formats x) xs in
+      later ++ (if is_among later next then built_of x else [])
 
   -- registers, and the parts of these as far as they are taken apart
   abbrev pub parts_of : List ℕ → ℕ → Instr → List ℕ
-  parts_of seen next x = if list_any (is_among seen) (opened_by x) then writes_at next x else []
+  parts_of some next x = if list_any (is_among some) (opened_by x) then writes_at next x else []
 
   abbrev pub with_parts : List ℕ → ℕ → List Instr → List ℕ
-  with_parts seen next [] = seen
-  with_parts seen next (x ∷ xs) = with_parts (seen ++ parts_of seen next x) (next + count_written formats x) xs
+  with_parts some next [] = some
+  with_parts some next (x ∷ xs) = with_parts (some ++ parts_of some next x) (next + count_written formats x) xs
 
-  -- those on whose bytes it depends whether the demands are true
-  abbrev pub demanded : List Instr → List ℕ
-  demanded instrs = looked_at true 0 instrs
+  -- arrivals, and parts of what is taken apart
+  abbrev pub brought : List Instr → List ℕ
+  brought instrs = written_by brings 0 instrs
 
-  -- those that are looked at as a whole, and not by being opened alone, with their parts
-  abbrev pub seen_whole : List Instr → List ℕ
-  seen_whole instrs = with_parts (looked_at false 0 instrs) 0 instrs
+  -- it was brought and is opened once: where other parts are put into it, only these change
+  abbrev pub is_envelope : List Instr → ℕ → Bool
+  is_envelope instrs r = is_among (brought instrs) r && not (is_among (repeated (opened instrs)) r)
+
+  abbrev pub is_no_envelope : List Instr → ℕ → Bool
+  is_no_envelope instrs r = not (is_envelope instrs r)
+
+  -- keys, what is compared, and what is opened and is no envelope
+  abbrev pub asked : List Instr → List ℕ
+  asked instrs = flat_map keys_of instrs ++ (flat_map compared instrs ++ filter (is_no_envelope instrs) (opened instrs))
+
+  -- what is looked at as a whole: what is asked, what that is built of, and all parts of these
+  abbrev pub seen : List Instr → List ℕ
+  seen instrs = with_parts (with_operands (asked instrs) 0 instrs) 0 instrs
+
+  -- An arrival, or a part of one, that is neither opened nor looked at as a whole: it is no key, isn't compared, and is
+  -- neither built into such a thing nor a part of one. Parts of what a role knew are looked at with it.
+  abbrev pub is_unchecked : List Instr → ℕ → Bool
+  is_unchecked instrs r = is_among (brought instrs) r && (not (is_among (opened instrs) r) && not (is_among (seen instrs) r))
+
+  -- in the order of writing
+  abbrev pub unchecked : List Instr → List ℕ
+  unchecked instrs = filter (is_unchecked instrs) (range_with_len 0 (count_registers formats instrs))
 
 abbrev pub is_other : List ℕ → ℕ → Bool
 is_other some n = not (is_among some n)
 
 abbrev pub without : List ℕ → List ℕ → List ℕ
 without some all = filter (is_other some) all
-
--- Arrivals and parts of arrivals that the code neither opens, nor compares, nor builds again, be it as a part of
--- something: the bytes of no demand depend on them.
-abbrev pub unchecked : List FormatValue → List Instr → List ℕ
-unchecked formats instrs = without (demanded formats instrs ++ seen_whole formats instrs) (written_by formats brings 0 instrs)
