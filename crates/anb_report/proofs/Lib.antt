@@ -1,6 +1,12 @@
 pub mod Items
 pub mod Lines
-pub mod Free
-pub mod Asking
 pub mod Marking
 pub mod Numbered
+pub mod Tables
+pub mod Walking
+pub mod Bridging
+pub mod Renewed
+pub mod Whole
+pub mod Aside
+pub mod Free
+pub mod Unchecked

@@ -1,6 +1,6 @@
 -- What is taken unchecked may have any bytes.
-use Rattle.std.specs.Prelude.{◌≡◌, ℕ, ◌+◌, ◌<◌, List, [], ◌∷◌, ◌++◌, length, map, take, drop, Bool, true, false, IsTrue, Option, slice_get, slice_set}
-use Rattle.core.specs.Option.{option_map}
+use Rattle.std.specs.Prelude.{◌≡◌, ℕ, ◌+◌, ◌<◌, List, [], ◌∷◌, ◌++◌, length, map, take, drop, true, false, IsTrue, slice_get, slice_set}
+use Rattle.std.specs.Prelude.{option_map}
 use Rattle.anb_format.specs.Formats.{FormatValue}
 use Rattle.anb_term.specs.Value.{Meaning}
 use Rattle.anb_term.specs.Lawful.{AreValues, picked}
@@ -8,7 +8,6 @@ use Rattle.anb_plays.specs.Codes.{Act, takes, draws, receives, sends, works, Wor
 use Rattle.anb_plays.specs.Plans.{Event, known, FreshIsNew}
 use Rattle.anb_plays.specs.Plays.{Played, Play}
 use Rattle.anb_plays.specs.Fits.{Fits}
-use Rattle.anb_plays.specs.Runs.{no_place}
 use Rattle.anb_plays.specs.Exec.{exec, on_written, worked, count_written, HasTakes}
 use Rattle.anb_code.specs.declared.instr.Instr.{Instr}
 use Rattle.anb_code.specs.Meaning.{act_of}
