@@ -1,14 +1,15 @@
-"""Processor seconds of each part of the gate, crate by crate, as a table in Markdown.
+"""Processor minutes of each part of the gate, crate by crate, as a table in Markdown.
 
-    python3 bench/gate.py [--log FILE] [--anew] [NAME ..]
+    python3 bench/gate.py [--log FILE] [NAME ..]
 
-Runs `rt ci` (of these crates and those below them, or of all) with a prover that notes the processor
-seconds of each of its calls, and then writes a row a crate: proof, tests, and edits, with what an edit's
-try begins with. `rt ci` keeps what passed, and does again only what changed: with --anew it does all.
-With --log the notes go to this file, behind those of earlier runs, and the table is that of all notes. Of a
-part that was done again its last run counts, but of edits all tries, since what was refused isn't tried again.
+Runs `rt ci` with a prover that notes the processor time of each of its calls, and then writes a row a
+crate: proof, tests, and edits. With names it does the same for these crates alone, one after another, over
+libraries that are built first. The tries of a crate's edits begin with one more proof of the crate and end
+with a check that it stands, which count among them. With --log the notes go to this file, behind those of
+earlier runs, and the table is that of all notes; of a part that was done again its last run counts.
 """
 import collections
+import glob
 import importlib.machinery
 import importlib.util
 import json
@@ -23,11 +24,13 @@ import time
 SHIM = "import sys; sys.path.insert(0, {folder!r}); import gate; gate.noted({prover!r}, {log!r}, {run!r})"
 
 
+PARTS = ("proof", "tests", "edits")
+
+
 def part_of(words, folder):
     """The part of the gate that a call of the prover belongs to."""
-    kept = words[words.index("--incremental") + 1] if "--incremental" in words else ""
     if "rt-edit-" in folder:
-        return "seed" if kept.endswith("/seed") else "edits"
+        return "edits"
     return "tests" if "--test" in words else "proof"
 
 
@@ -67,26 +70,53 @@ def gate(shim):
     return module, prover
 
 
-def table(log):
-    """The rows of a table, the longest first."""
-    sums, tries, runs = collections.defaultdict(collections.Counter), collections.Counter(), {}
+def some(module, names):
+    """The parts of these crates alone; whether all is well."""
+    module.rtlib.Crate = module.Crate
+    module.Crate.allowed = module.handles_of(os.getcwd())
+    is_well = True
+    for crate in module.rtlib.crates_below(os.getcwd()):
+        if crate.name not in names:
+            continue
+        for below in crate.below():
+            is_well &= not below.build_rlib(["--jobs", "1"], anew=False)
+        os.makedirs(f"{crate.folder}/out", exist_ok=True)
+        for tests in [False] + [True] * crate.has_tests():
+            is_well &= not crate.ci(["--jobs", "1"], tests)
+        for refused, text in module.must_fail_all(crate, module.edits_of(crate)[0], ["--jobs", "1"]):
+            print(text, flush=True)
+            is_well &= refused
+    return is_well
+
+
+def edits_in(crate):
+    """How many edits the prover must refuse in a crate."""
+    return len(glob.glob(f"crates/{crate}/must-fail/*.edit"))
+
+
+def minutes(seconds):
+    return f"{seconds / 60:.1f}" if seconds else ""
+
+
+def table(log, names):
+    """The rows of a table, the longest first, of these crates or of all."""
+    sums, runs = collections.defaultdict(collections.Counter), {}
     with open(log) as file:
         for note in map(json.loads, file):
             crate, part, run = note["crate"], note["part"], note.get("run")
-            if part != "edits" and runs.get((crate, part)) != run:
+            if names and crate not in names:
+                continue
+            if runs.get((crate, part)) != run:
                 sums[crate][part] = 0
             runs[crate, part] = run
             sums[crate][part] += note["processor"]
-            tries[crate] += part == "edits"
-    yield "| crate | proof | tests | edits | their beginning |"
-    yield "|---|---|---|---|---|"
+    yield "| crate | proof | tests | edits |"
+    yield "|---|---|---|---|"
     for crate, parts in sorted(sums.items(), key=lambda it: -it[1].total()):
-        of_edits = f"{parts['edits']:.0f} ({tries[crate]})" if tries[crate] else ""
-        cells = [f"{parts[it]:.0f}" if parts[it] else "" for it in ("proof", "tests")]
-        yield f"| {crate} | {cells[0]} | {cells[1]} | {of_edits} | {parts['seed']:.0f} |"
-    total = sum((it for it in sums.values()), collections.Counter())
-    cells = [f"{total[it]:.0f}" for it in ("proof", "tests", "edits", "seed")]
-    yield f"| all | {' | '.join(cells)} |"
+        proof, tests, edits = (minutes(parts[it]) for it in PARTS)
+        yield f"| {crate} | {proof} | {tests} | {edits}{f' ({edits_in(crate)})' if edits else ''} |"
+    total = sum(sums.values(), collections.Counter())
+    yield f"| all | {' | '.join(minutes(total[it]) for it in PARTS)} |"
 
 
 def main(words):
@@ -101,10 +131,10 @@ def main(words):
             file.write(f"#!{sys.executable}\n{SHIM.format(folder=folder, prover=prover, log=log, run=begun)}\n")
         os.chmod(shim, 0o755)
         try:
-            status = module.main(["ci", *words])
+            status = (0 if some(module, words) else 1) if words else module.main(["ci"])
         except SystemExit as end:
             status = end.code
-        print(f"\n{(time.time() - begun) / 60:.0f} minutes\n", *table(log), sep="\n")
+        print(f"\n{(time.time() - begun) / 60:.0f} minutes\n", *table(log, words), sep="\n")
     return status
 
 

@@ -178,9 +178,10 @@ def read_values(text):
 
 
 def unchecked(explanation):
-    """The received terms that a role takes unchecked, by the code that `anb explain` shows, made apart from `anb check`: no
-    check, then or later, depends on the register, and it is no part of one that is compared as a whole."""
-    sources, leads, opened, tested, whole = [], {}, [], set(), set()
+    """The received terms that a role takes unchecked, by the code that `anb explain` shows, made apart from `anb check`: each
+    that came, is opened by nothing, and isn't looked at as a whole: as a key, in a comparison, in what is built for
+    these, or as a part of such a one, of what the role knew or of what is opened twice."""
+    sources, leads, opened, whole = [], {}, [], set()
     for line in explanation.split("\ncode\n")[1].splitlines():
         line, _, shown = line.partition(" # ")
         left, _, right = line.rpartition(" = ")
@@ -189,7 +190,6 @@ def unchecked(explanation):
         if word in ("parse", "unseal", "unwrap"):
             *keys, of = operands
             opened.append((of, left.split()))
-            tested.add(of)
             whole.update(keys)
         elif word == "equal":
             whole.update(operands)
@@ -197,12 +197,12 @@ def unchecked(explanation):
             leads[left] = operands
         if word in ("recv", "parse", "unseal", "unwrap"):
             sources += zip(left.split(), shown.split())
-    tested |= whole
+    came, taken_apart = {register for register, _ in sources}, [of for of, _ in opened]
+    whole.update(of for of in taken_apart if of not in came or taken_apart.count(of) > 1)
     for register in sorted(leads, key=lambda r: -int(r[1:])):
-        for seen in (tested, whole):
-            if register in seen:
-                seen.update(leads[register])
+        if register in whole:
+            whole.update(leads[register])
     for of, parts in opened:
         if of in whole:
             whole.update(parts)
-    return [term for register, term in sources if register not in tested | whole]
+    return [term for register, term in sources if register not in whole.union(taken_apart)]
