@@ -3,4 +3,5 @@ pub mod Lines
 pub mod Free
 pub mod Asking
 pub mod Marking
+pub mod Looked
 pub mod Numbered
