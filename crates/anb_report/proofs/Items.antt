@@ -11,7 +11,7 @@ use Rattle.anb_code.specs.Verified.{count_registers}
 use Rattle.anb_explain.proofs.Loops.{drop_item}
 use Rattle.std.proofs.lemmas.List.{take_all}
 use Rattle.anb_report.specs.Noting.{notes_at, notes_first, notes_from, up_to_message}
-use Rattle.anb_report.specs.Looking.{is_among, is_message, looked_at, looks_at, opened_by, with_parts, written_by}
+use Rattle.anb_report.specs.Looking.{is_message, written_by}
 use Rattle.anb_term.specs.declared.term.Term.{Term}
 use Rattle.anb_term.specs.Tree.{Tree, tree_eqb}
 use Rattle.anb_term.specs.TreeSame.{term_of-tree_of, tree_same, tree_itself}
@@ -95,18 +95,6 @@ module _ (formats : List FormatValue) (instrs : List Instr) (i : ℕ) (x : Instr
         ap (written_by formats test next) (drop_item instrs i x here)
         ∙ ap (λ n. (if test x then range_with_len next n else []) ++ written_by formats test (next + count_written formats x) rest) (sym width)
         ∙ ap (λ n. (if test x then range_with_len next (end - next) else []) ++ written_by formats test n rest) (sym by)
-
-    pub parts_first : (seen : List ℕ)
-        → with_parts formats seen next (drop i instrs) ≡ with_parts formats (seen ++ (if list_any (is_among seen) (opened_by x) then range_with_len next (end - next) else [])) end rest
-    parts_first seen =
-        ap (with_parts formats seen next) (drop_item instrs i x here)
-        ∙ ap (λ n. with_parts formats (seen ++ (if list_any (is_among seen) (opened_by x) then range_with_len next n else [])) (next + count_written formats x) rest) (sym width)
-        ∙ ap (λ n. with_parts formats (seen ++ (if list_any (is_among seen) (opened_by x) then range_with_len next (end - next) else [])) n rest) (sym by)
-
-    pub looked_first : (opened : Bool) (seen : List ℕ) → seen ≡ looked_at formats opened end rest → seen ++ looks_at opened seen next x ≡ looked_at formats opened next (drop i instrs)
-    looked_first opened seen e =
-        ap (λ l. l ++ looks_at opened l next x) (e ∙ ap (λ n. looked_at formats opened n rest) by)
-        ∙ ap (looked_at formats opened next) (sym (drop_item instrs i x here))
 
   pub notes_then : (p : ProtocolValue) (terms : List Tree) (next end : ℕ) → end ≡ next + count_written formats x
       → notes_from formats p terms next (drop i instrs) ≡ notes_first formats p terms next (drop i instrs) ++ notes_from formats p terms end rest

@@ -1,6 +1,7 @@
 pub mod Items
 pub mod Lines
 pub mod Marking
+pub mod Looked
 pub mod Numbered
 pub mod Tables
 pub mod Walking

@@ -8,6 +8,7 @@
 mod charting;
 mod laws;
 mod lists;
+mod marks;
 mod names;
 mod news;
 mod notes;

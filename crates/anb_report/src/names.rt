@@ -1,5 +1,5 @@
 //! Notes on names that nothing uses.
-ghost use Rattle.std.specs.Prelude.{◌≡◌, ◌<◌, ◌++◌, ◌∷◌, [], map, length, replicate, false, IfOk, OnOk};
+ghost use Rattle.std.specs.Prelude.{◌≡◌, ◌<◌, ◌++◌, map, length, replicate, false, IfOk, OnOk};
 ghost use Rattle.std.specs.List.{flat_map};
 ghost use Rattle.anb_term.specs.Tree.{trees_of};
 ghost use Rattle.anb_term.specs.View.{tree_of};
@@ -10,6 +10,7 @@ ghost use Rattle.anb_resolve.specs.Views.{plan_event};
 ghost use Rattle.anb_report.specs.Looking.{is_among};
 ghost use Rattle.anb_report.specs.Remarks.{is_role, plan_atoms, unused_name, unused_names, used_atoms};
 
+use crate::marks::mark;
 use crate::remarks::{count_roles, put_unused};
 use anb_base::NoMemory;
 use anb_resolve::{Event, Protocol};
@@ -93,7 +94,9 @@ fn mark_term(marks: &mut Vec<bool>, term: &Term)
     ensures { marks.new.items ≡ marked marks.old.items (atoms_in (tree_of term.now)) }
 {
     match term {
-        Term::Atom(atom) => mark(marks, *atom as usize),
+        Term::Atom(atom) => {
+            mark(marks, *atom);
+        }
         Term::Node(_, operands) => mark_terms(marks, operands.as_slice()),
     }
 }
@@ -106,14 +109,6 @@ fn mark_terms(marks: &mut Vec<bool>, terms: &[Term])
 {
     for term in terms {
         mark_term(marks, term);
-    }
-}
-
-fn mark(marks: &mut Vec<bool>, i: usize)
-    ensures { marks.new.items ≡ marked marks.old.items (i ∷ []) }
-{
-    if let Some(mark) = marks.get_mut(i) {
-        *mark = true;
     }
 }
 

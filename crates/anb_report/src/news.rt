@@ -1,8 +1,9 @@
 //! Which terms of a list stand there for the first time.
-ghost use Rattle.std.specs.Prelude.{◌≡◌, map, replicate, false, true, slice_set, slice_index_or, IfOk};
+ghost use Rattle.std.specs.Prelude.{◌≡◌, map, replicate, false, IfOk};
 ghost use Rattle.anb_term.specs.View.{tree_of};
 ghost use Rattle.anb_report.specs.News.{AreNew, IsNumbering, news};
 
+use crate::marks::mark;
 use anb_base::NoMemory;
 use anb_intern::Pool;
 use anb_term::Term;
@@ -54,17 +55,4 @@ fn news_of(alloc: Global, numbers: &[u32], count: usize) -> Result<Vec<bool>, No
         out.push(!seen)?;
     }
     Ok(out)
-}
-
-/// Marks a number, and says whether it was marked. One that has no mark counts as marked.
-fn mark(marks: &mut Vec<bool>, n: u32) -> bool
-    ensures was { result ≡ slice_index_or marks.old.items n true }
-    ensures marks { marks.new.items ≡ slice_set marks.old.items n true }
-{
-    let Some(mark) = marks.get_mut(n as usize) else {
-        return true;
-    };
-    let was = *mark;
-    *mark = true;
-    was
 }
