@@ -1,6 +1,5 @@
 //! What else opens bytes that were sealed or wrapped.
-ghost use Rattle.std.specs.Prelude.{◌≡◌, ◌∷◌, [], IfOk, None, Some, length, slice_set};
-ghost use Rattle.std.specs.Option.{option_map_or};
+ghost use Rattle.std.specs.Prelude.{◌≡◌, ◌∷◌, [], IfOk, None, Some, length, nat_lt, slice_set};
 ghost use Rattle.anb_trace.specs.Openers.{context_of, first_below, key_of, opens, seal_key, wrap_context, wrap_key};
 ghost use Rattle.anb_trace.specs.Trying.{IsMarked, is_opener, opens_with, use_of};
 
@@ -22,6 +21,7 @@ pub(crate) enum Trial {
 /// The first key that unseals a register. This and the two below take one look at each instruction
 /// and at each register, and one opening for each register that the code uses as a key, or as a
 /// context.
+#[tactic(auto, unfolding(crate::specs::Openers::seal_key))]
 pub(crate) fn seal_key(
     alloc: Global,
     code: &RoleCode,
@@ -34,6 +34,7 @@ pub(crate) fn seal_key(
 }
 
 /// The first key that unwraps a register with this context.
+#[tactic(auto, unfolding(crate::specs::Openers::wrap_key))]
 pub(crate) fn wrap_key(
     alloc: Global,
     code: &RoleCode,
@@ -47,6 +48,7 @@ pub(crate) fn wrap_key(
 }
 
 /// The first context with which this key unwraps a register.
+#[tactic(auto, unfolding(crate::specs::Openers::wrap_context))]
 pub(crate) fn wrap_context(
     alloc: Global,
     code: &RoleCode,
@@ -165,7 +167,7 @@ fn unseals(
 ) -> Result<bool, NoMemory>
     ensures { IfOk result (λ yes. yes ≡ opens code.now registers.now Op.Seal (key ∷ []) of) }
 {
-    if !(is_there(registers, key) && is_there(registers, of)) {
+    if !is_there(registers, key) || !is_there(registers, of) {
         return Ok(false);
     }
     let algebra = ByteAlgebra::new(code.formats(), code.suite());
@@ -187,8 +189,7 @@ fn unwraps(
     ensures { IfOk result (λ yes. yes
         ≡ opens code.now registers.now Op.Wrap (key ∷ context ∷ []) of) }
 {
-    let keys_are_there = is_there(registers, key) && is_there(registers, context);
-    if !(keys_are_there && is_there(registers, of)) {
+    if !is_there(registers, key) || !is_there(registers, context) || !is_there(registers, of) {
         return Ok(false);
     }
     let algebra = ByteAlgebra::new(code.formats(), code.suite());
