@@ -6,3 +6,4 @@ pub mod Fitting
 pub mod Exact
 pub mod Lengths
 pub mod Passed
+pub mod Opening

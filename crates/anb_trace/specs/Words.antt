@@ -17,6 +17,7 @@ use Rattle.anb_text.specs.Lines.{instr_line}
 use Rattle.anb_explain.specs.Explained.{is_message, line}
 use Rattle.anb_explain.specs.Explanations.{ExplanationValue}
 use Rattle.anb_trace.specs.Misfits.{count_text, misfit}
+use Rattle.anb_trace.specs.Openers.{seal_key, wrap_context, wrap_key}
 
 -- whom a trace is of: a role's plan, and a code for it with the terms of its registers, in the order of writing
 pub record SubjectValue : Type 0 where
@@ -90,10 +91,27 @@ writer formats (instr ∷ instrs) register =
 abbrev pub bytes_at : List (List ℕ) → ℕ → List ℕ
 bytes_at table register = option_map_or (λ bytes. bytes) (slice_get table register) []
 
--- that these are too few for what was sealed or wrapped, which is 32 longer than its message
-unfoldable pub too_few : List ℕ → (name : List ℕ) → List ℕ
-too_few bytes name = if nat_lt (length bytes) 32
-    then codes ": " ++ (count_text (length bytes) ++ (codes ", a " ++ (name ++ codes " has 32 or more"))) else []
+-- why these don't open: they are too few, since what was sealed or wrapped is 32 longer than its message; else these words
+unfoldable pub unopened : List ℕ → (name other : List ℕ) → List ℕ
+unopened bytes name other = codes ": " ++ (if nat_lt (length bytes) 32
+    then count_text (length bytes) ++ (codes ", a " ++ (name ++ codes " has 32 or more")) else other)
+
+-- what unseals a register
+abbrev pub unsealed_by : SubjectValue → Option ℕ → List ℕ
+unsealed_by s None = codes "no other key so far opens it"
+unsealed_by s (Some k) = codes "it opens under " ++ term_at s k
+
+-- with what a register unwraps: with another key, else with another context
+abbrev pub under_with : SubjectValue → (k d : ℕ) → List ℕ
+under_with s k d = codes "it opens under " ++ (term_at s k ++ (codes " with " ++ term_at s d))
+
+abbrev pub unwrapped_with : SubjectValue → (k : ℕ) → Option ℕ → List ℕ
+unwrapped_with s k None = codes "no other key or context so far opens it"
+unwrapped_with s k (Some d) = under_with s k d
+
+abbrev pub unwrapped_by : SubjectValue → List (List ℕ) → (k d c : ℕ) → Option ℕ → List ℕ
+unwrapped_by s table k d c None = unwrapped_with s k (wrap_context s.code table k c)
+unwrapped_by s table k d c (Some other) = under_with s other d
 
 -- how the bytes of a register were had
 abbrev pub opened : Instr → List ℕ
@@ -146,9 +164,10 @@ article name = if takes_an name then codes "an " else codes "a "
 
 -- why an instruction failed with these values of the registers
 abbrev pub why : SubjectValue → List (List ℕ) → Instr → List ℕ
-why s table (Unseal k c) = codes "can't unseal under " ++ (term_at s k ++ too_few (bytes_at table c) (codes "seal"))
+why s table (Unseal k c) = codes "can't unseal under " ++ (term_at s k ++ unopened (bytes_at table c) (codes "seal") (unsealed_by s (seal_key s.code table c)))
 why s table (Unwrap k d c) =
-    codes "can't unwrap under " ++ (term_at s k ++ (codes " with " ++ (term_at s d ++ too_few (bytes_at table c) (codes "wrapping"))))
+    codes "can't unwrap under " ++ (term_at s k ++ (codes " with " ++ (term_at s d
+    ++ unopened (bytes_at table c) (codes "wrapping") (unwrapped_by s table k d c (wrap_key s.code table d c)))))
 why s table (Parse f r) =
     option_map_or opened (writer s.code.formats s.code.instrs r) []
     ++ (codes "isn't " ++ (article (name_at s.code.formats f) ++ (name_at s.code.formats f

@@ -11,6 +11,7 @@ mod instrs;
 mod laws;
 mod misfits;
 mod names;
+mod openers;
 mod reasons;
 mod shown;
 mod steps;

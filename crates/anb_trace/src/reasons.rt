@@ -3,11 +3,15 @@ ghost use Rattle.std.specs.Prelude.{◌≡◌, ◌++◌, ◌∷◌, [], OnOk, If
 ghost use Rattle.anb_code.specs.Registers.{pieces_at};
 ghost use Rattle.anb_code.specs.Spelling.{name_at};
 ghost use Rattle.std.specs.Option.{option_map_or};
+ghost use Rattle.anb_trace.specs.Misfits.{count_text};
+ghost use Rattle.anb_trace.specs.Openers.{seal_key, wrap_key};
 ghost use Rattle.anb_trace.specs.Tracing.{IsOurs, subject_in};
-ghost use Rattle.anb_trace.specs.Words.{article, bytes_at, comes_first, differing, opened, rank, rank_at, term_at, too_few, why, writer};
+ghost use Rattle.anb_trace.specs.Words.{article, bytes_at, comes_first, differing, opened, rank, rank_at, term_at, why, writer};
+ghost use Rattle.anb_trace.specs.Words.{under_with, unopened, unsealed_by, unwrapped_by, unwrapped_with};
 
 use crate::misfits::put_misfit;
 use crate::names::article;
+use crate::openers::{seal_key, wrap_context, wrap_key};
 use crate::shown::put_count;
 use crate::subject::{Subject, put_term_at};
 use crate::values::put_hex_at;
@@ -32,11 +36,11 @@ pub(crate) fn put_reason(
     match instr {
         Instr::Unseal(key, of) => {
             put_unsealed(alloc, out, subject, *key)?;
-            put_too_few(out, bytes_at(registers, *of), b"seal")
+            put_why_sealed(alloc, out, subject, registers, *of)
         }
         Instr::Unwrap(key, context, of) => {
             put_unwrapped(alloc, out, subject, *key, *context)?;
-            put_too_few(out, bytes_at(registers, *of), b"wrapping")
+            put_why_wrapped(alloc, out, subject, registers, *key, *context, *of)
         }
         Instr::Parse(format, of) => {
             put_unlike(out, subject.code, *format, *of)?;
@@ -88,18 +92,155 @@ fn put_unwrapped(
     put_term_at(alloc, out, subject, context)
 }
 
-/// Appends how many bytes there are, where they are too few for what has this name.
-#[tactic(auto, unfolding(crate::specs::Words::too_few))]
-fn put_too_few(out: &mut Vec<u8>, bytes: &[u8], name: &[u8]) -> Result<(), NoMemory>
-    ensures { OnOk result (out.new.items ≡ out.old.items ++ too_few bytes.now name.now) }
+/// Appends why a register isn't unsealed: its bytes are too few, or by what they open.
+#[tactic(auto, unfolding(crate::specs::Words::unopened))]
+fn put_why_sealed(
+    alloc: Global,
+    out: &mut Vec<u8>,
+    subject: &Subject<'_>,
+    registers: &[Bytes],
+    of: u32,
+) -> Result<(), NoMemory>
+    requires { IsOurs subject.now }
+    ensures { OnOk result (out.new.items ≡ out.old.items
+        ++ unopened (bytes_at registers.now of) (codes "seal")
+        (unsealed_by (subject_in subject.now)
+        (seal_key subject.now.code.now registers.now of))) }
 {
+    let bytes = bytes_at(registers, of);
     if bytes.len() < 32 {
-        out.extend_from_slice(b": ")?;
-        put_count(out, bytes.len())?;
-        out.extend_from_slice(b", a ")?;
-        out.extend_from_slice(name)?;
-        out.extend_from_slice(b" has 32 or more")?;
+        return put_too_few(out, bytes.len(), b"seal");
     }
+    out.extend_from_slice(b": ")?;
+    put_unsealed_by(
+        alloc,
+        out,
+        subject,
+        seal_key(alloc, subject.code, registers, of)?,
+    )
+}
+
+/// Appends which key opens what was sealed.
+fn put_unsealed_by(
+    alloc: Global,
+    out: &mut Vec<u8>,
+    subject: &Subject<'_>,
+    key: Option<u32>,
+) -> Result<(), NoMemory>
+    requires { IsOurs subject.now }
+    ensures { OnOk result (out.new.items
+        ≡ out.old.items ++ unsealed_by (subject_in subject.now) key) }
+{
+    match key {
+        Some(key) => {
+            out.extend_from_slice(b"it opens under ")?;
+            put_term_at(alloc, out, subject, key)
+        }
+        None => {
+            out.extend_from_slice(b"no other key so far opens it")?;
+            Ok(())
+        }
+    }
+}
+
+/// Appends why a register isn't unwrapped: its bytes are too few, or with what they open.
+#[tactic(auto, unfolding(crate::specs::Words::unopened))]
+fn put_why_wrapped(
+    alloc: Global,
+    out: &mut Vec<u8>,
+    subject: &Subject<'_>,
+    registers: &[Bytes],
+    key: u32,
+    context: u32,
+    of: u32,
+) -> Result<(), NoMemory>
+    requires { IsOurs subject.now }
+    ensures { OnOk result (out.new.items ≡ out.old.items
+        ++ unopened (bytes_at registers.now of) (codes "wrapping")
+        (unwrapped_by (subject_in subject.now) registers.now key context of
+        (wrap_key subject.now.code.now registers.now context of))) }
+{
+    let bytes = bytes_at(registers, of);
+    if bytes.len() < 32 {
+        return put_too_few(out, bytes.len(), b"wrapping");
+    }
+    out.extend_from_slice(b": ")?;
+    put_unwrapped_by(alloc, out, subject, registers, key, context, of)
+}
+
+/// Appends with which other key what was wrapped opens, or with which other context.
+fn put_unwrapped_by(
+    alloc: Global,
+    out: &mut Vec<u8>,
+    subject: &Subject<'_>,
+    registers: &[Bytes],
+    key: u32,
+    context: u32,
+    of: u32,
+) -> Result<(), NoMemory>
+    requires { IsOurs subject.now }
+    ensures { OnOk result (out.new.items ≡ out.old.items
+        ++ unwrapped_by (subject_in subject.now) registers.now key context of
+        (wrap_key subject.now.code.now registers.now context of)) }
+{
+    match wrap_key(alloc, subject.code, registers, context, of)? {
+        Some(other) => put_under_with(alloc, out, subject, other, context),
+        None => {
+            let other = wrap_context(alloc, subject.code, registers, key, of)?;
+            put_unwrapped_with(alloc, out, subject, key, other)
+        }
+    }
+}
+
+/// Appends with which context a key opens what was wrapped.
+fn put_unwrapped_with(
+    alloc: Global,
+    out: &mut Vec<u8>,
+    subject: &Subject<'_>,
+    key: u32,
+    context: Option<u32>,
+) -> Result<(), NoMemory>
+    requires { IsOurs subject.now }
+    ensures { OnOk result (out.new.items
+        ≡ out.old.items ++ unwrapped_with (subject_in subject.now) key context) }
+{
+    match context {
+        Some(context) => put_under_with(alloc, out, subject, key, context),
+        None => {
+            out.extend_from_slice(b"no other key or context so far opens it")?;
+            Ok(())
+        }
+    }
+}
+
+/// Appends that what was wrapped opens under a key with a context.
+fn put_under_with(
+    alloc: Global,
+    out: &mut Vec<u8>,
+    subject: &Subject<'_>,
+    key: u32,
+    context: u32,
+) -> Result<(), NoMemory>
+    requires { IsOurs subject.now }
+    ensures { OnOk result (out.new.items
+        ≡ out.old.items ++ under_with (subject_in subject.now) key context) }
+{
+    out.extend_from_slice(b"it opens under ")?;
+    put_term_at(alloc, out, subject, key)?;
+    out.extend_from_slice(b" with ")?;
+    put_term_at(alloc, out, subject, context)
+}
+
+/// Appends that so many bytes are too few for what has this name.
+fn put_too_few(out: &mut Vec<u8>, count: usize, name: &[u8]) -> Result<(), NoMemory>
+    ensures { OnOk result (out.new.items ≡ out.old.items ++ (codes ": "
+        ++ (count_text count ++ (codes ", a " ++ (name.now ++ codes " has 32 or more"))))) }
+{
+    out.extend_from_slice(b": ")?;
+    put_count(out, count)?;
+    out.extend_from_slice(b", a ")?;
+    out.extend_from_slice(name)?;
+    out.extend_from_slice(b" has 32 or more")?;
     Ok(())
 }
 
