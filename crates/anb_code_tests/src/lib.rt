@@ -1,5 +1,5 @@
 //! Worked examples of role codes: codes that are verified, machines, sessions, transcripts, hosts and
-//! parked sessions. The tests are the examples.
+//! parked sessions. The tests are the examples, of what no command shows.
 #![tactic(auto)]
 
 #[cfg(test)]
@@ -13,6 +13,6 @@ mod parked;
 #[cfg(test)]
 mod sessions;
 #[cfg(test)]
-mod transcripts;
+mod starting;
 #[cfg(test)]
-mod wires;
+mod transcripts;
