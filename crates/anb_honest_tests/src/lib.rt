@@ -1,10 +1,8 @@
-//! Rehearsals of worked examples.
+//! Rehearsals of codes that are given, which no command shows: each compiles the codes that it rehearses.
 //!
-//! The tests are the examples.
+//! The tests are the examples. Other rehearsals are cases of commands.
 #![tactic(auto)]
 
-#[cfg(test)]
-mod drills;
 #[cfg(test)]
 mod rehearsals;
 #[cfg(test)]

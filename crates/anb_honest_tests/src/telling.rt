@@ -5,49 +5,13 @@ ghost use Rattle.anb_honest.specs.Order.{FollowRoles, FollowsRole};
 
 use anb_base::{ARRIVAL, Bytes};
 use anb_code::RoleCode;
-use anb_compile::compile_all;
-use anb_honest::{RehearseEnd, Report, ScheduleNo, follows, rehearse, schedule};
+use anb_honest::{RehearseEnd, Report, follows, rehearse, schedule};
 use anb_resolve::Protocol;
 use anb_rows::protocol_in;
 use anb_text::load;
 use std::alloc::Global;
 use std::process::Abort;
 use std::test::Fail;
-
-/// Asserts what a rehearsal of compiled codes tells: these messages, and then this.
-pub(crate) fn assert_rehearsed(
-    rt: &impl Abort,
-    alloc: Global,
-    narration: &str,
-    digits: &str,
-    turns: &str,
-    messages: &str,
-    rest: &str,
-) -> Result<(), Fail> {
-    assert!(rt; narration.len() <= 1_048_576);
-    let p = protocol_in(alloc, narration.as_bytes())?;
-    let codes = compile_all(alloc, &p)?;
-    let end = ends(rt, alloc, &p, &codes, digits, turns)?;
-    let told = told(alloc, &end)?;
-    assert_eq!(rt; told.as_str().strip_prefix(messages), Some(rest));
-    Ok(())
-}
-
-/// Asserts that this word of a schedule is the first that names no role.
-pub(crate) fn assert_refused(
-    rt: &impl Abort,
-    alloc: Global,
-    narration: &str,
-    turns: &str,
-    word: u32,
-) -> Result<(), Fail> {
-    assert!(rt; narration.len() <= 1_048_576);
-    assert!(rt; turns.len() <= 1_048_576);
-    let p = protocol_in(alloc, narration.as_bytes())?;
-    let refused = schedule(alloc, &p, turns.as_bytes());
-    assert!(rt; matches!(refused, Err(ScheduleNo::BadTurn(n)) if n == word));
-    Ok(())
-}
 
 /// Asserts what a rehearsal of these two codes over the turns `A B B A` tells, where each role knows
 /// `ab`. Each code keeps the order of its role alone.
@@ -70,15 +34,6 @@ pub(crate) fn assert_codes(
     let end = ends(rt, alloc, &p, &codes, "6162", "A B B A")?;
     assert_eq!(rt; told(alloc, &end)?.as_str(), want);
     Ok(())
-}
-
-/// The digits of as many bytes as a value may have.
-pub(crate) fn long_digits(alloc: Global) -> Result<String, Fail> {
-    let digits = vec![in alloc; b'5'; 524_288]?;
-    match String::from_utf8(digits) {
-        Ok(digits) => Ok(digits),
-        Err(_) => Ok(String::new(alloc)),
-    }
 }
 
 /// The end of a rehearsal under a seed of zeros, with values in hexadecimal.

@@ -1,13 +1,10 @@
-//! Worked examples of texts: tokens, narrations, values files, role files and drills. The tests are the examples.
+//! Worked examples of texts that no command shows: tokens, role files as they are printed, and drills. The tests are
+//! the examples. Narrations, values files and refused role files are cases of commands.
 #![tactic(auto)]
 
 #[cfg(test)]
 mod drills;
 #[cfg(test)]
-mod narrations;
-#[cfg(test)]
 mod role_files;
 #[cfg(test)]
 mod tokens;
-#[cfg(test)]
-mod values;
