@@ -111,85 +111,116 @@ fn has_no_parts(alloc: Global, kind: FieldKind, bytes: &[u8]) -> Result<bool, No
     Ok(parts.is_none())
 }
 
+/// The same of the format with a field of each kind.
+fn each_goes_both_ways(
+    alloc: Global,
+    arguments: &[&str; 4],
+    want: &[u8],
+) -> Result<bool, NoMemory> {
+    let format = all_kinds(alloc)?;
+    if format.arity() != 4 {
+        return Ok(false);
+    }
+    goes_both_ways(alloc, &format, arguments, want)
+}
+
+/// Whether that format builds no bytes that are these.
+fn each_has_no_parts(alloc: Global, bytes: &[u8]) -> Result<bool, NoMemory> {
+    let format = all_kinds(alloc)?;
+    let parts = format.parts(alloc, bytes)?;
+    Ok(parts.is_none())
+}
+
+const EACH: [&str; 4] = ["a", "", "0xff", "z"];
+
 #[test]
 fn a_field_of_each_kind(rt: HostRuntime) -> Result<(), NoMemory> {
-    let format = all_kinds(rt.alloc())?;
-    assert_eq!(rt; format.arity(), 4);
-    let arguments = ["a", "", "0xff", "z"];
-    assert!(rt; goes_both_ways(rt.alloc(), &format, &arguments, b"M\x01a0:,ff;z")?);
-    assert!(rt; format.parts(rt.alloc(), b"M\x01a0:,Ff;z")?.is_none());
+    assert!(rt; each_goes_both_ways(rt.alloc(), &EACH, b"M\x01a0:,ff;z")?);
+    assert!(rt; each_has_no_parts(rt.alloc(), b"M\x01a0:,Ff;z")?);
     Ok(())
 }
 
-#[test]
-fn lengths_in_leb128(rt: HostRuntime) -> Result<(), NoMemory> {
-    for (argument, front) in [
-        ("", "0x00"),
-        ("0xa5*127", "0x7f"),
-        ("0xa5*128", "0x8001"),
-        ("0xa5*16383", "0xff7f"),
-        ("0xa5*16384", "0x808001"),
-    ] {
-        assert!(rt;
-            one_goes_both_ways(rt.alloc(), FieldKind::Len, front, argument, "")?,
-            "{argument}"
-        );
+/// The first of these arguments that doesn't go both ways, where the second text of its row stands
+/// before it.
+fn wrong_length(
+    alloc: Global,
+    kind: FieldKind,
+    back: &str,
+    rows: &[(&'static str, &str)],
+) -> Option<&'static str> {
+    for (argument, front) in rows {
+        if !matches!(
+            one_goes_both_ways(alloc, kind, front, argument, back),
+            Ok(true)
+        ) {
+            return Some(*argument);
+        }
     }
-    Ok(())
+    None
 }
 
-#[test]
-fn lengths_in_decimal(rt: HostRuntime) -> Result<(), NoMemory> {
-    for (argument, front) in [
-        ("", "0:"),
-        ("0x3a*9", "9:"),
-        ("0x3a*10", "10:"),
-        ("0x3a*99", "99:"),
-        ("0x3a*100", "100:"),
-    ] {
-        assert!(rt;
-            one_goes_both_ways(rt.alloc(), FieldKind::Net, front, argument, ",")?,
-            "{argument}"
-        );
-    }
-    Ok(())
-}
+const LENGTHS_IN_LEB128: [(&str, &str); 5] = [
+    ("", "0x00"),
+    ("0xa5*127", "0x7f"),
+    ("0xa5*128", "0x8001"),
+    ("0xa5*16383", "0xff7f"),
+    ("0xa5*16384", "0x808001"),
+];
+
+const LENGTHS_IN_DECIMAL: [(&str, &str); 5] = [
+    ("", "0:"),
+    ("0x3a*9", "9:"),
+    ("0x3a*10", "10:"),
+    ("0x3a*99", "99:"),
+    ("0x3a*100", "100:"),
+];
 
 #[test]
-fn only_what_is_built_has_parts(rt: HostRuntime) -> Result<(), NoMemory> {
-    let len: [&[u8]; 7] = [
-        b"",
-        b"M",
-        b"N\x00",
-        b"M\x80\x00",
-        b"M\x81\x00a",
-        b"M\x01",
-        b"M\x00a",
-    ];
-    for bytes in len {
-        assert!(rt;
-            has_no_parts(rt.alloc(), FieldKind::Len, bytes)?,
-            "{bytes:?}"
-        );
+fn lengths_in_leb128_and_in_decimal(rt: HostRuntime) {
+    assert_eq!(rt;
+        wrong_length(rt.alloc(), FieldKind::Len, "", &LENGTHS_IN_LEB128),
+        None
+    );
+    assert_eq!(rt;
+        wrong_length(rt.alloc(), FieldKind::Net, ",", &LENGTHS_IN_DECIMAL),
+        None
+    );
+}
+
+/// The first of these bytes that have parts by a format of one field.
+fn with_parts(alloc: Global, kind: FieldKind, rows: &[&'static [u8]]) -> Option<&'static [u8]> {
+    for bytes in rows {
+        if !matches!(has_no_parts(alloc, kind, bytes), Ok(true)) {
+            return Some(*bytes);
+        }
     }
-    let net: [&[u8]; 7] = [
-        b"M:,", b"M00:,", b"M01:a,", b"M+1:a,", b"M1:a;", b"M1:a", b"M1:a,b",
-    ];
-    for bytes in net {
-        assert!(rt;
-            has_no_parts(rt.alloc(), FieldKind::Net, bytes)?,
-            "{bytes:?}"
-        );
-    }
-    let hex: [&[u8]; 5] = [b"M", b"Mff", b"Mf;", b"MFF;", b"Mff;;"];
-    for bytes in hex {
-        assert!(rt;
-            has_no_parts(rt.alloc(), FieldKind::Hex, bytes)?,
-            "{bytes:?}"
-        );
-    }
-    assert!(rt; has_no_parts(rt.alloc(), FieldKind::Rest, b"N")?);
-    Ok(())
+    None
+}
+
+const NOT_LEN: [&[u8]; 7] = [
+    b"",
+    b"M",
+    b"N\x00",
+    b"M\x80\x00",
+    b"M\x81\x00a",
+    b"M\x01",
+    b"M\x00a",
+];
+
+const NOT_NET: [&[u8]; 7] = [
+    b"M:,", b"M00:,", b"M01:a,", b"M+1:a,", b"M1:a;", b"M1:a", b"M1:a,b",
+];
+
+const NOT_HEX: [&[u8]; 5] = [b"M", b"Mff", b"Mf;", b"MFF;", b"Mff;;"];
+
+const NOT_REST: [&[u8]; 1] = [b"N"];
+
+#[test]
+fn only_what_is_built_has_parts(rt: HostRuntime) {
+    assert_eq!(rt; with_parts(rt.alloc(), FieldKind::Len, &NOT_LEN), None);
+    assert_eq!(rt; with_parts(rt.alloc(), FieldKind::Net, &NOT_NET), None);
+    assert_eq!(rt; with_parts(rt.alloc(), FieldKind::Hex, &NOT_HEX), None);
+    assert_eq!(rt; with_parts(rt.alloc(), FieldKind::Rest, &NOT_REST), None);
 }
 
 /// A format of these literals alone.
@@ -242,45 +273,69 @@ fn fault(alloc: Global, words: &[&str]) -> Result<Option<FormatNo>, NoMemory> {
     }
 }
 
+/// Whether the pieces that these words name are no format for want of a head.
+fn has_no_head(alloc: Global, words: &[&str]) -> Result<bool, NoMemory> {
+    Ok(matches!(fault(alloc, words)?, Some(FormatNo::NoHead)))
+}
+
+/// Whether they are none because a field up to the end, at this place, isn't the last.
+fn has_early_rest(alloc: Global, words: &[&str], place: u32) -> Result<bool, NoMemory> {
+    match fault(alloc, words)? {
+        Some(FormatNo::RestNotLast(early)) => Ok(early == place),
+        _ => Ok(false),
+    }
+}
+
 #[test]
 fn what_is_no_format(rt: HostRuntime) -> Result<(), NoMemory> {
-    assert!(rt; matches!(fault(rt.alloc(), &[])?, Some(FormatNo::NoHead)));
-    assert!(rt;
-        matches!(
-            fault(rt.alloc(), &["", "rest", "A"])?,
-            Some(FormatNo::NoHead)
-        )
-    );
-    assert!(rt;
-        matches!(
-            fault(rt.alloc(), &["A", "rest", "rest"])?,
-            Some(FormatNo::RestNotLast(1))
-        )
-    );
+    assert!(rt; has_no_head(rt.alloc(), &[])?);
+    assert!(rt; has_no_head(rt.alloc(), &["", "rest", "A"])?);
+    assert!(rt; has_early_rest(rt.alloc(), &["A", "rest", "rest"], 1)?);
     Ok(())
+}
+
+/// The width of the format with a field of each kind.
+fn width_of_each(alloc: Global, widths: &[u32; 4]) -> Result<Option<u32>, NoMemory> {
+    let format = all_kinds(alloc)?;
+    Ok(format.width(widths))
 }
 
 #[test]
 fn a_width_is_the_sum_over_the_pieces(rt: HostRuntime) -> Result<(), NoMemory> {
-    let format = all_kinds(rt.alloc())?;
     // 1 + (100000 + 10) + (200000 + 22) + (2 * 300000 + 1) + 400000
-    let width = format.width(&[100_000, 200_000, 300_000, 400_000]);
+    let width = width_of_each(rt.alloc(), &[100_000, 200_000, 300_000, 400_000])?;
     assert_eq!(rt; width, Some(1_300_034));
     Ok(())
 }
 
-#[test]
-fn no_width_is_below_that_of_an_arrival(rt: HostRuntime) -> Result<(), NoMemory> {
-    let format = one_field(rt.alloc(), FieldKind::Len)?;
-    assert_eq!(rt; format.width(&[262_133]), Some(262_144));
-    assert_eq!(rt; format.width(&[262_134]), Some(262_145));
-    Ok(())
+/// The first of these widths of the field for which a format of one field has another width.
+fn wrong_width(alloc: Global, kind: FieldKind, rows: &[(u32, Option<u32>)]) -> Option<u32> {
+    for (width, want) in rows {
+        if !matches!(has_width(alloc, kind, *width, *want), Ok(true)) {
+            return Some(*width);
+        }
+    }
+    None
 }
 
+fn has_width(
+    alloc: Global,
+    kind: FieldKind,
+    width: u32,
+    want: Option<u32>,
+) -> Result<bool, NoMemory> {
+    let format = one_field(alloc, kind)?;
+    Ok(format.width(&[width]) == want)
+}
+
+/// No width is below that of an arrival.
+const LOWEST: [(u32, Option<u32>); 2] = [(262_133, Some(262_144)), (262_134, Some(262_145))];
+
+/// A width above the limit is none.
+const HIGHEST: [(u32, Option<u32>); 2] = [(33_554_431, Some(67_108_864)), (33_554_432, None)];
+
 #[test]
-fn a_width_above_the_limit_is_none(rt: HostRuntime) -> Result<(), NoMemory> {
-    let format = one_field(rt.alloc(), FieldKind::Hex)?;
-    assert_eq!(rt; format.width(&[33_554_431]), Some(67_108_864));
-    assert_eq!(rt; format.width(&[33_554_432]), None);
-    Ok(())
+fn a_width_has_a_lowest_and_a_highest_value(rt: HostRuntime) {
+    assert_eq!(rt; wrong_width(rt.alloc(), FieldKind::Len, &LOWEST), None);
+    assert_eq!(rt; wrong_width(rt.alloc(), FieldKind::Hex, &HIGHEST), None);
 }

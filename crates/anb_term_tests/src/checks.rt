@@ -4,7 +4,7 @@ ghost use Rattle.std.specs.Prelude.{◌≡◌, ◌<◌, map, true, IfSome};
 ghost use Rattle.anb_term.specs.Tree.{nodes, tree_size, trees_of, IsFormed, AreFormed};
 ghost use Rattle.anb_term.specs.View.{tree_of};
 
-use crate::notation::terms_of;
+use crate::notation::{term_of, terms_of};
 use anb_basis::basis::{Basis, all_checks};
 use anb_basis::check::Check;
 use anb_close::Made;
@@ -73,130 +73,114 @@ fn basis_of(alloc: Global, frame: &str) -> Result<Basis, NoMemory> {
     basis_over(alloc, &frame)
 }
 
-/// How many entries and checks a frame has.
-fn counts_of(alloc: Global, frame: &str) -> Result<(usize, usize), NoMemory> {
+/// Whether a basis has so many entries and checks.
+fn has_counts(basis: &Basis, entries: usize, checks: usize) -> bool {
+    basis.closure().entries().len() == entries && basis.given().len() == checks
+}
+
+/// Whether a frame's basis has so many.
+fn counts(alloc: Global, frame: &str, entries: usize, checks: usize) -> Result<bool, NoMemory> {
     let basis = basis_of(alloc, frame)?;
-    Ok((basis.closure().entries().len(), basis.given().len()))
+    Ok(has_counts(&basis, entries, checks))
 }
 
-#[test]
-fn each_entry_has_at_most_one_check(rt: HostRuntime) -> Result<(), NoMemory> {
-    for (frame, entries, checks) in [
-        ("00r", 2, 1),
-        ("10102ps", 6, 3),
-        ("010s1", 4, 2),
-        ("0h0", 2, 1),
-        ("00h", 2, 1),
-        ("00s", 1, 0),
-        ("0101ph2s", 4, 1),
-        ("0012w1", 4, 1),
-        ("k", 1, 1),
-        ("0000", 4, 3),
-    ] {
-        let (found_entries, found_checks) = counts_of(rt.alloc(), frame)?;
-        assert_eq!(rt; found_entries, entries);
-        assert_eq!(rt; found_checks, checks);
-    }
-    Ok(())
-}
-
-/// What composes a term.
-#[derive(Clone, Copy, Debug, PartialEq, Eq)]
-enum Maker {
-    Nothing,
-    Entry(u32),
-    Hash,
-    Other,
-}
-
-fn made_by(made: &Option<Made>) -> Maker {
-    match made {
-        None => Maker::Nothing,
-        Some(Made::Entry(entry)) => Maker::Entry(*entry),
-        Some(Made::Build(op, _)) => {
-            if *op == Op::Hash {
-                Maker::Hash
-            } else {
-                Maker::Other
-            }
+/// The first of these frames that has other numbers of entries or checks.
+fn wrong_counts(alloc: Global, rows: &[(&'static str, usize, usize)]) -> Option<&'static str> {
+    for (frame, entries, checks) in rows {
+        if !matches!(counts(alloc, frame, *entries, *checks), Ok(true)) {
+            return Some(*frame);
         }
     }
+    None
 }
 
-/// What composes the last of these terms over a frame. Where there is none, or it isn't fit to be
-/// composed, nothing does.
-fn composition_of(alloc: Global, frame: &str, terms: &str) -> Result<Maker, NoMemory> {
+const COUNTS: [(&str, usize, usize); 10] = [
+    ("00r", 2, 1),
+    ("10102ps", 6, 3),
+    ("010s1", 4, 2),
+    ("0h0", 2, 1),
+    ("00h", 2, 1),
+    ("00s", 1, 0),
+    ("0101ph2s", 4, 1),
+    ("0012w1", 4, 1),
+    ("k", 1, 1),
+    ("0000", 4, 3),
+];
+
+#[test]
+fn each_entry_has_at_most_one_check(rt: HostRuntime) {
+    assert_eq!(rt; wrong_counts(rt.alloc(), &COUNTS), None);
+}
+
+/// What composes a term over a frame, where the term is fit to be composed.
+fn composition(alloc: Global, frame: &str, term: &str) -> Result<Option<Made>, NoMemory> {
     let basis = basis_of(alloc, frame)?;
-    let terms = terms_of(alloc, terms)?;
-    let [term] = terms.as_slice() else {
-        return Ok(Maker::Nothing);
-    };
-    match node_count(term, 9) {
-        None => Ok(Maker::Nothing),
-        Some(_) => Ok(made_by(&basis.closure().compose(alloc, term)?)),
+    let term = term_of(alloc, term)?;
+    match node_count(&term, 9) {
+        None => Err(NoMemory),
+        Some(_) => basis.closure().compose(alloc, &term),
     }
+}
+
+/// Whether the entry of this number composes the term.
+fn is_taken(alloc: Global, frame: &str, term: &str, entry: u32) -> bool {
+    match composition(alloc, frame, term) {
+        Ok(Some(Made::Entry(found))) => found == entry,
+        _ => false,
+    }
+}
+
+/// Whether the term is composed as a hash.
+fn is_built(alloc: Global, frame: &str, term: &str) -> bool {
+    matches!(
+        composition(alloc, frame, term),
+        Ok(Some(Made::Build(Op::Hash, _)))
+    )
+}
+
+/// Whether nothing composes the term.
+fn is_refused(alloc: Global, frame: &str, term: &str) -> bool {
+    matches!(composition(alloc, frame, term), Ok(None))
 }
 
 #[test]
-fn a_term_is_taken_or_built_or_refused(rt: HostRuntime) -> Result<(), NoMemory> {
-    for (frame, term, composition) in [
-        ("0101ph2s", "01ph", Maker::Hash),
-        ("0101ph2s", "2", Maker::Entry(3)),
-        ("00s", "0", Maker::Nothing),
-    ] {
-        assert_eq!(rt; composition_of(rt.alloc(), frame, term)?, composition);
-    }
-    Ok(())
+fn a_term_is_taken_or_built_or_refused(rt: HostRuntime) {
+    assert!(rt; is_built(rt.alloc(), "0101ph2s", "01ph"));
+    assert!(rt; is_taken(rt.alloc(), "0101ph2s", "2", 3));
+    assert!(rt; is_refused(rt.alloc(), "00s", "0"));
 }
 
-/// What a check does.
-#[derive(Clone, Copy, Debug, PartialEq, Eq)]
-enum Work {
-    Opens,
-    ComparesWithHash(u32),
-    ComparesWithOther,
-}
-
-fn work_of(check: &Check) -> Work {
-    match check {
-        Check::Open(_) => Work::Opens,
-        Check::Equal(entry, Made::Build(Op::Hash, _)) => Work::ComparesWithHash(*entry),
-        Check::Equal(_, _) => Work::ComparesWithOther,
-    }
-}
-
-/// What the only check of a frame does.
-fn only_work(alloc: Global, frame: &str) -> Result<Option<Work>, NoMemory> {
+/// Whether the only check of a frame opens an entry.
+fn only_opens(alloc: Global, frame: &str) -> Result<bool, NoMemory> {
     let basis = basis_of(alloc, frame)?;
     match basis.given() {
-        [check] => Ok(Some(work_of(check))),
-        _ => Ok(None),
+        [check] => Ok(matches!(check, Check::Open(_))),
+        _ => Ok(false),
+    }
+}
+
+/// Whether a check compares the entry of this number with a hash.
+fn compares(check: &Check, entry: u32) -> bool {
+    match check {
+        Check::Equal(first, Made::Build(Op::Hash, _)) => *first == entry,
+        _ => false,
+    }
+}
+
+/// Whether the only check of a frame is such a one.
+fn only_compares(alloc: Global, frame: &str, entry: u32) -> Result<bool, NoMemory> {
+    let basis = basis_of(alloc, frame)?;
+    match basis.given() {
+        [check] => Ok(compares(check, entry)),
+        _ => Ok(false),
     }
 }
 
 #[test]
 fn a_check_opens_or_compares(rt: HostRuntime) -> Result<(), NoMemory> {
-    for (frame, work) in [
-        ("0101ph2s", Some(Work::Opens)),
-        ("0h", None),
-        ("0h0", Some(Work::ComparesWithHash(0))),
-    ] {
-        assert_eq!(rt; only_work(rt.alloc(), frame)?, work);
-    }
-    Ok(())
-}
-
-#[test]
-fn a_late_key_opens_a_hundred_kept_bodies(rt: HostRuntime) -> Result<(), NoMemory> {
-    let alloc = rt.alloc();
-    let mut frame = Vec::new(alloc);
-    for body in 1..101 {
-        frame.push(sealed(alloc, body)?)?;
-    }
-    frame.push(Term::Atom(0))?;
-    let basis = basis_over(alloc, &frame)?;
-    assert_eq!(rt; basis.closure().entries().len(), 201);
-    assert_eq!(rt; basis.given().len(), 100);
+    assert!(rt; only_opens(rt.alloc(), "0101ph2s")?);
+    assert!(rt; only_compares(rt.alloc(), "0h0", 0)?);
+    assert!(rt; counts(rt.alloc(), "0h", 1, 0)?);
     Ok(())
 }
 
@@ -204,4 +188,28 @@ fn a_late_key_opens_a_hundred_kept_bodies(rt: HostRuntime) -> Result<(), NoMemor
 fn sealed(alloc: Global, body: u32) -> Result<Term, NoMemory> {
     let operands = vec![in alloc; Term::Atom(0), Term::Atom(body)]?;
     Ok(Term::Node(Op::Seal, Terms::new(operands)))
+}
+
+/// So many atoms, each sealed under atom 0, and then that key.
+fn late_key(alloc: Global, count: u32) -> Result<Vec<Term>, NoMemory> {
+    let mut frame = Vec::new(alloc);
+    for body in 0..count {
+        let sealed = sealed(alloc, body.saturating_add(1))?;
+        frame.push(sealed)?;
+    }
+    frame.push(Term::Atom(0))?;
+    Ok(frame)
+}
+
+/// Whether the basis over these has so many entries and checks.
+fn late_counts(alloc: Global, count: u32, entries: usize, checks: usize) -> Result<bool, NoMemory> {
+    let frame = late_key(alloc, count)?;
+    let basis = basis_over(alloc, &frame)?;
+    Ok(has_counts(&basis, entries, checks))
+}
+
+#[test]
+fn a_late_key_opens_a_hundred_kept_bodies(rt: HostRuntime) -> Result<(), NoMemory> {
+    assert!(rt; late_counts(rt.alloc(), 100, 201, 100)?);
+    Ok(())
 }

@@ -71,34 +71,60 @@ fn has_body(entries: &[Entry]) -> bool {
     }
 }
 
-#[test]
-fn a_late_key_opens_a_kept_entry(rt: HostRuntime) -> Result<(), NoMemory> {
-    let alloc = rt.alloc();
+/// Whether K, atom 1, taken as label 2, opens the seal into X.
+fn opens_late(alloc: Global, closure: &mut Closure) -> Result<bool, NoMemory>
+    requires { nodes (labels_of closure.old) ≡ 4 }
+    ensures { IfOk result (λ b. nodes (labels_of closure.new) ≡ 5) }
+{
+    let step = closure.add(alloc, &Term::Atom(1))?;
+    Ok(step.label == 2 && is_opening(step.opened.as_slice()))
+}
+
+/// Whether an atom composes, by the entry of this number.
+fn is_entry(alloc: Global, closure: &Closure, atom: u32, entry: u32) -> bool {
+    match closure.compose(alloc, &Term::Atom(atom)) {
+        Ok(Some(Made::Entry(found))) => found == entry,
+        _ => false,
+    }
+}
+
+/// Whether an atom doesn't compose.
+fn is_refused(alloc: Global, closure: &Closure, atom: u32) -> bool {
+    matches!(closure.compose(alloc, &Term::Atom(atom)), Ok(None))
+}
+
+/// X, and X sealed under K, and then K, which opens the seal, where all this is so.
+fn opened(alloc: Global) -> Result<Option<Closure>, NoMemory>
+    ensures size { IfOk result (λ r. IfSome r (λ c. nodes (labels_of c) ≡ 5)) }
+{
     let Some(mut closure) = kept(alloc)? else {
-        assert!(rt; false, "something was opened");
-        return Ok(());
+        return Ok(None);
     };
-    assert!(rt; closure.compose(alloc, &Term::Atom(1))?.is_none());
-    let late = closure.add(alloc, &Term::Atom(1))?;
-    assert_eq!(rt; late.label, 2);
-    assert!(rt; is_opening(late.opened.as_slice()));
-    assert!(rt; has_body(closure.entries()));
-    let made = closure.compose(alloc, &Term::Atom(0))?;
-    assert!(rt; matches!(made, Some(Made::Entry(0))));
-    Ok(())
+    let was_refused = is_refused(alloc, &closure, 1);
+    if opens_late(alloc, &mut closure)? && was_refused {
+        Ok(Some(closure))
+    } else {
+        Ok(None)
+    }
+}
+
+/// Whether the key's entries are taken back with it.
+fn is_taken_back(alloc: Global, mut closure: Closure) -> bool
+    requires { nodes (labels_of closure) ≡ 5 }
+{
+    closure.take_back();
+    closure.entries().len() == 2 && is_refused(alloc, &closure, 1)
 }
 
 #[test]
-fn the_last_label_is_taken_back(rt: HostRuntime) -> Result<(), NoMemory> {
-    let alloc = rt.alloc();
-    let Some(mut closure) = kept(alloc)? else {
-        assert!(rt; false, "something was opened");
-        return Ok(());
-    };
-    let _ = closure.add(alloc, &Term::Atom(1))?;
-    assert_eq!(rt; closure.entries().len(), 4);
-    closure.take_back();
-    assert_eq!(rt; closure.entries().len(), 2);
-    assert!(rt; closure.compose(alloc, &Term::Atom(1))?.is_none());
+fn a_late_key_opens_a_kept_entry(rt: HostRuntime) -> Result<(), NoMemory> {
+    match opened(rt.alloc())? {
+        None => assert!(rt; false, "it wasn't opened"),
+        Some(closure) => {
+            assert!(rt; has_body(closure.entries()));
+            assert!(rt; is_entry(rt.alloc(), &closure, 0, 0));
+            assert!(rt; is_taken_back(rt.alloc(), closure), "the last label");
+        }
+    }
     Ok(())
 }

@@ -38,3 +38,12 @@ pub(crate) fn terms_of(alloc: Global, text: &str) -> Result<Vec<Term>, NoMemory>
     }
     Ok(terms)
 }
+
+/// The last term of a text.
+pub(crate) fn term_of(alloc: Global, text: &str) -> Result<Term, NoMemory> {
+    let mut terms = terms_of(alloc, text)?;
+    match terms.pop() {
+        Some(term) => Ok(term),
+        None => Err(NoMemory),
+    }
+}

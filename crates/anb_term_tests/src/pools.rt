@@ -1,64 +1,83 @@
 //! A pool by example.
 
-ghost use Rattle.std.specs.Prelude.{◌≡◌, ◌<◌, length, IfOk};
-ghost use Rattle.anb_term.specs.Tree.{tree_size};
-ghost use Rattle.anb_term.specs.View.{tree_of};
-
+use crate::notation::term_of;
 use anb_intern::node::{Node, NodeId};
 use anb_intern::pool::Pool;
-use anb_term::{NoMemory, Op, Term, Terms};
+use anb_term::{NoMemory, Op, Term};
 use std::alloc::Global;
 
-/// The hash of an atom.
-fn hashed(alloc: Global, atom: u32) -> Result<Term, NoMemory>
-    ensures { IfOk result (λ t. tree_size (tree_of t) ≡ 2) }
-{
-    let operands = vec![in alloc; Term::Atom(atom)]?;
-    Ok(Term::Node(Op::Hash, Terms::new(operands)))
+/// A pool of one atom, or none where its number isn't 0.
+fn pool_of(alloc: Global, atom: u32) -> Result<Pool, NoMemory> {
+    let mut pool = Pool::new(alloc);
+    match pool.put(Node::Atom(atom)) {
+        Ok(NodeId(0)) => Ok(pool),
+        _ => Err(NoMemory),
+    }
 }
 
-/// Puts the hash of an atom into the pool.
-fn put_hashed(alloc: Global, pool: &mut Pool, atom: u32) -> Result<NodeId, NoMemory> {
-    let term = hashed(alloc, atom)?;
-    pool.put_term(alloc, &term)
+/// Whether the term of a text is put into the pool under this number.
+fn puts(alloc: Global, pool: &mut Pool, text: &str, number: u32) -> bool {
+    match term_of(alloc, text) {
+        Ok(term) => puts_term(alloc, pool, &term, number),
+        Err(_) => false,
+    }
 }
 
-/// Whether the number is that of the hash of an atom.
-fn is_hashed(alloc: Global, pool: &Pool, number: NodeId, atom: u32) -> Result<bool, NoMemory>
-    requires { number.0 < length pool.now }
-{
-    let term = pool.term(alloc, number)?;
-    Ok(term.same(&hashed(alloc, atom)?))
+fn puts_term(alloc: Global, pool: &mut Pool, term: &Term, number: u32) -> bool {
+    match pool.put_term(alloc, term) {
+        Ok(stored) => stored.0 == number,
+        Err(_) => false,
+    }
+}
+
+/// Whether the pool has a hash under this number, and it is the term of a text.
+fn holds(alloc: Global, pool: &Pool, number: u32, text: &str) -> Result<bool, NoMemory> {
+    let other = term_of(alloc, text)?;
+    if number < pool.len() && matches!(pool.get(NodeId(number)), Node::Apply(Op::Hash, _)) {
+        let term = pool.term(alloc, NodeId(number))?;
+        Ok(term.same(&other))
+    } else {
+        Ok(false)
+    }
+}
+
+/// The number of an atom.
+fn found(pool: &Pool, atom: u32) -> Option<u32> {
+    match pool.find(&Node::Atom(atom)) {
+        Some(number) => Some(number.0),
+        None => None,
+    }
 }
 
 #[test]
 fn equal_terms_have_equal_numbers(rt: HostRuntime) -> Result<(), NoMemory> {
-    let alloc = rt.alloc();
-    let mut pool = Pool::new(alloc);
-    let atom = pool.put(Node::Atom(7))?;
-    let hash = put_hashed(alloc, &mut pool, 7)?;
-    let again = put_hashed(alloc, &mut pool, 7)?;
-    assert_eq!(rt; [atom, hash, again], [NodeId(0), NodeId(1), NodeId(1)]);
-    assert_eq!(rt; put_hashed(alloc, &mut pool, 8)?, NodeId(3));
-    assert_eq!(rt; pool.len(), 4);
-    assert_eq!(rt; pool.find(&Node::Atom(8)), Some(NodeId(2)));
-    assert_eq!(rt; pool.find(&Node::Atom(9)), None);
-    assert!(rt; matches!(pool.get(NodeId(3)), Node::Apply(Op::Hash, _)));
-    assert!(rt; is_hashed(alloc, &pool, NodeId(3), 8)?);
+    let mut pool = pool_of(rt.alloc(), 7)?;
+    assert!(rt; puts(rt.alloc(), &mut pool, "7h", 1));
+    assert!(rt; puts(rt.alloc(), &mut pool, "7h", 1));
+    assert!(rt; puts(rt.alloc(), &mut pool, "8h", 3));
+    assert!(rt; pool.len() == 4);
+    assert!(rt; found(&pool, 8) == Some(2));
+    assert!(rt; found(&pool, 9).is_none());
+    assert!(rt; matches!(holds(rt.alloc(), &pool, 3, "8h"), Ok(true)));
     Ok(())
 }
 
+/// Whether the pool has so many terms, and is cut to as many as are to be kept.
+fn is_cut(pool: &mut Pool, from: u32, to: u32) -> bool {
+    if pool.len() != from || to > from {
+        return false;
+    }
+    pool.cut(to);
+    pool.len() == to
+}
+
 #[test]
-fn a_pool_is_cut_and_filled_again(rt: HostRuntime) -> Result<(), NoMemory> {
-    let alloc = rt.alloc();
-    let mut pool = Pool::new(alloc);
-    let _ = put_hashed(alloc, &mut pool, 7)?;
-    let _ = put_hashed(alloc, &mut pool, 8)?;
-    assert_eq!(rt; pool.len(), 4);
-    pool.cut(2);
-    assert_eq!(rt; pool.len(), 2);
-    assert_eq!(rt; pool.find(&Node::Atom(8)), None);
-    assert_eq!(rt; put_hashed(alloc, &mut pool, 7)?, NodeId(1));
-    assert_eq!(rt; put_hashed(alloc, &mut pool, 9)?, NodeId(3));
-    Ok(())
+fn a_pool_is_cut_and_filled_again(rt: HostRuntime) {
+    let mut pool = Pool::new(rt.alloc());
+    assert!(rt; puts(rt.alloc(), &mut pool, "7h", 1));
+    assert!(rt; puts(rt.alloc(), &mut pool, "8h", 3));
+    assert!(rt; is_cut(&mut pool, 4, 2));
+    assert!(rt; found(&pool, 8).is_none());
+    assert!(rt; puts(rt.alloc(), &mut pool, "7h", 1));
+    assert!(rt; puts(rt.alloc(), &mut pool, "9h", 3));
 }
