@@ -20,5 +20,5 @@ loop-k-preserved c =
     record {
       once = c.mark_again.ensures.once ∙ ap (λ m. marked m (x ∷ [])) once ∙ mark_first blank x rest ∙ ap (marked blank) (sym here) ∙ ap (λ k. marked blank (drop k numbers)) at;
       twice = c.mark_again.ensures.twice ∙ ap (λ m. marked c.loop-k.twice.items (cond (get_or m x true) (x ∷ []) [])) once ∙ ap (λ m. marked m (cond (get_or (marked blank rest) x true) (x ∷ []) [])) twice
-            ∙ marks_again n x rest ∙ ap (λ l. marked blank (repeated l)) (sym here) ∙ ap (λ k. marked blank (repeated (drop k numbers))) at;
+          ∙ marks_again n x rest ∙ ap (λ l. marked blank (repeated l)) (sym here) ∙ ap (λ k. marked blank (repeated (drop k numbers))) at;
     }
