@@ -118,13 +118,20 @@ fn add_entry(alloc: Global, part: &mut Part, line: &str) -> Result<bool, AllocEr
     if !takes(part, key, hex) {
         return Ok(false);
     }
-    part.entries.push(Entry {
-        key: String::from_str(alloc, key)?,
-        hex,
-        value: String::from_str(alloc, value.strip_prefix(' ').unwrap_or(value))?,
-        block: value.is_empty(),
-    })?;
+    part.entries.push(entry_of(alloc, key, hex, value)?)?;
     Ok(true)
+}
+
+/// The entry whose key stands before a colon and whose value stands behind it.
+fn entry_of(alloc: Global, key: &str, hex: bool, value: &str) -> Result<Entry, AllocError> {
+    let key = String::from_str(alloc, key)?;
+    let text = String::from_str(alloc, value.strip_prefix(' ').unwrap_or(value))?;
+    Ok(Entry {
+        key,
+        hex,
+        value: text,
+        block: value.is_empty(),
+    })
 }
 
 /// Whether an entry with this key may stand behind those of the part. Outputs that may come stand
@@ -136,7 +143,17 @@ fn takes(part: &Part, key: &str, hex: bool) -> bool {
         Kind::Group if key == "line begins" => false,
         _ => BYTES.contains(&key) || (!hex && WORDS.contains(&key)),
     };
-    known && (key == "output" || !part.entries.iter().any(|entry| is_same(&entry.key, key)))
+    known && (key == "output" || !says(&part.entries, key))
+}
+
+/// Whether one of the entries says what an entry with this key says.
+fn says(entries: &[Entry], key: &str) -> bool {
+    for entry in entries {
+        if is_same(&entry.key, key) {
+            return true;
+        }
+    }
+    false
 }
 
 /// Whether two entries with these keys say one thing.
