@@ -10,4 +10,4 @@ pub mod Renewed
 pub mod Whole
 pub mod Aside
 pub mod Free
-pub mod Unchecked
+pub mod FreeParts

@@ -1,4 +1,4 @@
-use Rattle.anb_report.proofs.Unchecked.{plays_stay_free}
+use Rattle.anb_report.proofs.FreeParts.{plays_stay_free}
 use Rattle.anb_report.proofs.laws.plays_stay_free.Goals as goal
 
 pub returns : goal.returns

@@ -1,4 +1,4 @@
-use Rattle.anb_report.proofs.Unchecked.{unchecked_is_free}
+use Rattle.anb_report.proofs.FreeParts.{unchecked_is_free}
 use Rattle.anb_report.proofs.laws.unchecked_is_free.Goals as goal
 
 pub returns : goal.returns
