@@ -1,4 +1,3 @@
-use Rattle.std.proofs.Common.{◌++◌}
 use Rattle.std.specs.Prelude.{codes}
 use Rattle.anb_trace.specs.Openers.{wrap_key}
 use Rattle.anb_trace.specs.Tracing.{subject_in}
