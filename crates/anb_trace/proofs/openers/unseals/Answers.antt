@@ -1,5 +1,4 @@
-use Rattle.std.proofs.Common.{◌≡◌, ◌∷◌, [], ℕ, List, Vec, Global, refl, sym, ◌∙◌}
-use Rattle.std.specs.Prelude.{nat_lt}
+use Rattle.std.proofs.Common.{◌∷◌, [], ℕ, List, Vec, Global, sym, ◌∙◌}
 use Rattle.anb_term.specs.declared.term.Op.TheVariants as op
 use Rattle.anb_term.specs.Lawful.{picked}
 use Rattle.anb_machine.specs.ByteRuns.{meaning_of}

@@ -1,5 +1,5 @@
-use Rattle.std.proofs.Common.{◌≡◌, ◌∷◌, [], ℕ, List, Vec, Global, refl, sym, ◌∙◌}
-use Rattle.std.specs.Prelude.{nat_lt, slice_get}
+use Rattle.std.proofs.Common.{◌∷◌, [], ℕ, List, Vec, Global, refl, sym, ◌∙◌}
+use Rattle.std.specs.Prelude.{slice_get}
 use Rattle.anb_term.specs.declared.term.Op.TheVariants as op
 use Rattle.anb_term.specs.Lawful.{picked}
 use Rattle.anb_machine.specs.ByteRuns.{meaning_of}

@@ -1,4 +1,3 @@
-use Rattle.std.proofs.Common.{◌++◌}
 use Rattle.std.specs.Prelude.{codes}
 use Rattle.anb_trace.specs.Openers.{wrap_key}
 use Rattle.anb_trace.specs.Tracing.{subject_in}
@@ -14,7 +13,7 @@ returns-in_ok-put_unwrapped-in-Unwrap c =
     let context = c.in-Unwrap.context in
     let of = c.in-Unwrap.of in
     let middle = c.put_unwrapped.new.out.items in
-    rw c.in-Unwrap.is (on_ok c.put_why_wrapped-in-Unwrap.result
-    (λ h. four_and c.args.out.now.items middle c.put_why_wrapped-in-Unwrap.new.out.items (codes "can't unwrap under ") (term_at s key) (codes " with ") (term_at s context)
+    rw c.in-Unwrap.is (on_ok c.put_why_wrapped.result
+    (λ h. four_and c.args.out.now.items middle c.put_why_wrapped.new.out.items (codes "can't unwrap under ") (term_at s key) (codes " with ") (term_at s context)
     (unopened (bytes_at table of) (codes "wrapping") (unwrapped_by s table key context of (wrap_key s.code table context of))) c.in_ok-put_unwrapped-in-Unwrap.ensures h)
-    c.put_why_wrapped-in-Unwrap.ensures)
+    c.put_why_wrapped.ensures)
