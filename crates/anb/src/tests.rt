@@ -41,10 +41,9 @@ fn number(rt: HostRuntime) -> u8 {
 fn a_role_dials_its_peer(rt: HostRuntime) -> Result<(), Fail> {
     write_files(rt, "dial", PING)?;
     let listener = listener(rt)?;
-    let at = address(rt, &listener)?;
-    let mut role = start(rt, "play dial.anb A dial.values --dial", &at)?;
-    assert!(rt; sends_the_frame(&listener)?);
-    assert!(rt; role.wait()?.success());
+    let mut role = start_at(rt, "play dial.anb A dial.values --dial", &listener)?;
+    assert!(rt; sends_the_frame(&listener).unwrap_or(false));
+    assert!(rt; succeeds(&mut role));
     Ok(())
 }
 
@@ -66,16 +65,19 @@ fn the_line_of_a_stop_never_goes_to_the_peer(rt: HostRuntime) -> Result<(), Fail
         "0<&- 2>&- play line.anb A line.values --dial",
         "0<&- 1>&- 2>&- play line.anb A line.values --dial",
     ] {
-        assert!(rt; stops_without_a_line(rt, &listener, words)?, "{words}");
+        assert!(rt;
+            stops_without_a_line(rt, &listener, words).unwrap_or(false),
+            "{words}"
+        );
     }
     Ok(())
 }
 
 /// Whether a role with these words sends the frame alone before it stops.
 fn stops_without_a_line(rt: HostRuntime, listener: &TcpListener, words: &str) -> io::Result<bool> {
-    let mut role = start(rt, words, &address(rt, listener)?)?;
-    let is_alone = sends_the_frame_alone(rt, listener)?;
-    let _ = role.wait()?;
+    let mut role = start_at(rt, words, listener)?;
+    let is_alone = sends_the_frame_alone(rt, listener).unwrap_or(false);
+    let _ = role.wait();
     Ok(is_alone)
 }
 
@@ -93,12 +95,14 @@ fn a_role_listens_for_its_peer(rt: HostRuntime) -> Result<(), Fail> {
     write_files(rt, "listen", PING)?;
     let at = free_address(rt)?;
     let mut role = start(rt, "play listen.anb B listen.values --listen", &at)?;
-    assert!(rt; sends_the_frame_back(&mut dial(rt, &at)?)?);
-    assert!(rt; role.wait()?.success());
+    assert!(rt; sends_the_frame_back(rt, &at).unwrap_or(false));
+    assert!(rt; succeeds(&mut role));
     Ok(())
 }
 
-fn sends_the_frame_back(peer: &mut TcpStream) -> io::Result<bool> {
+/// Whether the role that listens here sends the frame once it got it.
+fn sends_the_frame_back(rt: HostRuntime, at: &str) -> io::Result<bool> {
+    let mut peer = dial(rt, at)?;
     peer.write_all(&FRAME)?;
     let mut frame = [0u8; 6];
     peer.read_exact(&mut frame)?;
@@ -112,14 +116,15 @@ fn a_host_listens_for_its_peer(rt: HostRuntime) -> Result<(), Fail> {
     write_files(rt, "host", PING)?;
     let at = free_address(rt)?;
     let mut host = start(rt, "host host.anb B host.values --listen", &at)?;
-    assert!(rt; serves_two_sessions(&mut dial(rt, &at)?)?);
-    assert!(rt; host.wait()?.success());
+    assert!(rt; serves_two_sessions(rt, &at).unwrap_or(false));
+    assert!(rt; succeeds(&mut host));
     Ok(())
 }
 
-fn serves_two_sessions(peer: &mut TcpStream) -> io::Result<bool> {
+fn serves_two_sessions(rt: HostRuntime, at: &str) -> io::Result<bool> {
+    let mut peer = dial(rt, at)?;
     peer.write_all(b"\0\0\0\0\x07\0\0\0\0\x03")?;
-    Ok(serves(peer, 3)? && serves(peer, 7)?)
+    Ok(serves(&mut peer, 3).unwrap_or(false) && serves(&mut peer, 7).unwrap_or(false))
 }
 
 /// Whether an arrival of this session is answered by its message and its end.
@@ -137,8 +142,8 @@ fn over_a_pipe_each_message_is_there_before_the_next_arrival(rt: HostRuntime) ->
     write_files(rt, "pipe", TWICE)?;
     let mut role = start_piped(rt, "play pipe.anb A pipe.values")?;
     let (mut given, mut sent) = pipes(&mut role)?;
-    assert!(rt; sends_before_each_arrival(&mut given, &mut sent)?);
-    assert!(rt; role.wait()?.success());
+    assert!(rt; sends_before_each_arrival(&mut given, &mut sent).unwrap_or(false));
+    assert!(rt; succeeds(&mut role));
     drop(given);
     Ok(())
 }
@@ -158,12 +163,17 @@ fn a_stop_ends_the_program_though_its_input_stays_open(rt: HostRuntime) -> Resul
     write_files(rt, "stop", TWICE)?;
     let mut role = start_piped(rt, "2>&- play stop.anb A stop.values")?;
     let (mut given, mut sent) = pipes(&mut role)?;
-    assert!(rt; comes(&mut sent)?);
-    given.write_all(b"\0\0\0\x02ac")?;
-    assert!(rt; !comes(&mut sent)?);
-    assert!(rt; !role.wait()?.success());
+    assert!(rt; ends_after_another_frame(&mut given, &mut sent).unwrap_or(false));
+    assert!(rt; fails(&mut role));
     drop(given);
     Ok(())
+}
+
+/// Whether a frame comes, and none behind another one that it gets.
+fn ends_after_another_frame(given: &mut ChildStdin, sent: &mut ChildStdout) -> io::Result<bool> {
+    let has_begun = comes(sent)?;
+    given.write_all(b"\0\0\0\x02ac")?;
+    Ok(has_begun && !comes(sent)?)
 }
 
 /// Reads up to the end of the next frame, where one comes. What the runner of tests prints stands
@@ -195,11 +205,15 @@ fn write_file(rt: HostRuntime, name: &str, kind: &str, text: &str) -> io::Result
     fs::write(&rt, file.as_str(), text.as_bytes())
 }
 
-/// Starts the child with these words and this address. A shell reads them, so redirections may stand
-/// among them.
+/// Starts the child with these words and this address, or that of a listener. A shell reads them, so
+/// redirections may stand among them.
 fn start(rt: HostRuntime, words: &str, at: &str) -> io::Result<Child> {
     let line = format!(in rt.alloc(); "exec \"$0\" tests::child {words} {at}")?;
     shell(rt, &line)?.spawn(&rt)
+}
+
+fn start_at(rt: HostRuntime, words: &str, listener: &TcpListener) -> io::Result<Child> {
+    start(rt, words, &address(rt, listener)?)
 }
 
 /// The same with pipes for its input and its output, and without an address.
@@ -225,6 +239,20 @@ fn program(rt: HostRuntime) -> io::Result<String> {
     match env::args(&rt)?.next() {
         Some(program) => Ok(program),
         None => Err(io::Error::from(ErrorKind::NotFound)),
+    }
+}
+
+fn succeeds(role: &mut Child) -> bool {
+    match role.wait() {
+        Ok(status) => status.success(),
+        Err(_) => false,
+    }
+}
+
+fn fails(role: &mut Child) -> bool {
+    match role.wait() {
+        Ok(status) => !status.success(),
+        Err(_) => false,
     }
 }
 

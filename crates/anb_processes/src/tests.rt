@@ -1,6 +1,6 @@
 //! Children of the machine: what they write and take, and how they end.
 
-ghost use Rattle.std.specs.Prelude.{◌≡◌, ◌≢◌, ◌<◌, ◌×◌, ℕ, get_or, IfOk, OnOk};
+ghost use Rattle.std.specs.Prelude.{◌≡◌, ◌≢◌, ◌<◌, ℕ, get_or, IfOk, OnOk};
 ghost use Rattle.anb_stage.specs.declared.TheConstants.{ROLES};
 
 use crate::RealSpawner;

@@ -1,7 +1,7 @@
 //! The wire over loopback, and a file.
 
 use super::*;
-use anb_base::{Bytes, Failed, Place, Shelf, ShelfNo, Text, Wire, read_full, write_whole};
+use anb_base::{Failed, Place, Shelf, ShelfNo, Text, Wire, read_full, write_whole};
 use std::alloc::{AllocError, Global};
 use std::io::{Read, Write};
 use std::net::{OpenListener, SocketAddr, TcpListener, TcpStream};
@@ -19,25 +19,36 @@ const FILE: &str = "shelf_test_file";
 fn a_real_wire_talks_over_loopback(rt: HostRuntime) -> Result<(), Fail> {
     let listener = listener(rt)?;
     let mut wire = RealWire::new(rt);
-    assert!(rt; dials(&mut wire, address(rt, &listener)?));
-    let mut peer = accepted(&listener)?;
-    peer.write_all(b"ping")?;
-    assert!(rt; hears_ping(&mut wire));
-    assert!(rt; write_whole(&mut wire, b"pong").is_ok());
-    assert!(rt; gets_pong(&mut peer)?);
-    assert!(rt; !dials(&mut wire, text(rt.alloc(), "nowhere")?));
+    assert!(rt; dials(rt, &mut wire, &listener));
+    assert!(rt; talks(&mut wire, &listener));
+    assert!(rt; is_nowhere(rt, &mut wire));
     Ok(())
 }
 
-fn hears_ping(wire: &mut RealWire) -> bool {
-    let mut heard = [0u8; 4];
-    read_full(wire, &mut heard) == Ok(4) && heard == *b"ping"
+/// Whether the wire hears its peer, and the peer hears the wire.
+fn talks(wire: &mut RealWire, listener: &TcpListener) -> bool {
+    let Ok((mut peer, _)) = listener.accept() else {
+        return false;
+    };
+    hears_ping(wire, &mut peer) && says_pong(wire, &mut peer)
 }
 
-fn gets_pong(peer: &mut TcpStream) -> io::Result<bool> {
+fn hears_ping(wire: &mut RealWire, peer: &mut TcpStream) -> bool {
     let mut heard = [0u8; 4];
-    peer.read_exact(&mut heard)?;
-    Ok(heard == *b"pong")
+    peer.write_all(b"ping").is_ok() && read_full(wire, &mut heard) == Ok(4) && heard == *b"ping"
+}
+
+fn says_pong(wire: &mut RealWire, peer: &mut TcpStream) -> bool {
+    let mut heard = [0u8; 4];
+    write_whole(wire, b"pong") == Ok(()) && peer.read_exact(&mut heard).is_ok() && heard == *b"pong"
+}
+
+/// Whether an address that there isn't can't be reached.
+fn is_nowhere(rt: HostRuntime, wire: &mut RealWire) -> bool {
+    match text(rt.alloc(), "nowhere") {
+        Ok(at) => wire.reach(&Place::Dial(at)) == Err(Failed),
+        Err(_) => false,
+    }
 }
 
 /// The child that the next test starts, with an address behind its own name and this test's. The
@@ -45,21 +56,27 @@ fn gets_pong(peer: &mut TcpStream) -> io::Result<bool> {
 #[test]
 fn child(rt: HostRuntime) -> Result<(), Fail> {
     if let Some(at) = word(rt, 2)? {
-        assert!(rt; talks_late(rt, Text::new(at))?);
+        assert!(rt; talks_late(rt, &Place::Dial(Text::new(at))));
     }
     Ok(())
 }
 
-/// Whether a wire dials this place, reads one byte and writes many.
-fn talks_late(rt: HostRuntime, at: Text) -> Result<bool, AllocError> {
-    let long = vec![in rt.alloc(); b'a'; LONG]?;
+/// Whether a wire reaches this place, reads one byte and writes many.
+fn talks_late(rt: HostRuntime, place: &Place) -> bool {
     let mut wire = RealWire::new(rt);
     wire.wait_at_most(30);
-    let talks = dials(&mut wire, at)
+    let talks = wire.reach(place) == Ok(())
         && read_one(&mut wire) == Ok(1)
-        && write_whole(&mut wire, &long).is_ok();
+        && writes_many(rt, &mut wire);
     wire.finish();
-    Ok(talks)
+    talks
+}
+
+fn writes_many(rt: HostRuntime, wire: &mut RealWire) -> bool {
+    match vec![in rt.alloc(); b'a'; LONG] {
+        Ok(many) => write_whole(wire, &many) == Ok(()),
+        Err(_) => false,
+    }
 }
 
 /// Reads one byte.
@@ -71,33 +88,53 @@ fn read_one(wire: &mut RealWire) -> Result<usize, Failed> {
 fn a_peer_that_comes_late_and_sends_too_much_gets_all(rt: HostRuntime) -> Result<(), Fail> {
     let at = listener(rt)?.local_addr()?;
     let mut child = started(rt, at)?;
-    let peer = accepted(&TcpListener::bind(&rt, at)?)?;
-    assert!(rt; count_behind_two_bytes(rt, peer)? == LONG);
-    assert!(rt; child.wait()?.success());
+    assert!(rt; hears_all(rt, at));
+    assert!(rt; succeeds(&mut child));
     Ok(())
 }
 
 /// The child, to dial this address.
 fn started(rt: HostRuntime, at: SocketAddr) -> io::Result<Child> {
-    let Some(program) = word(rt, 0)? else {
-        return Err(io::Error::from(io::ErrorKind::NotFound));
-    };
-    let at = format!(in rt.alloc(); "{at}")?;
-    command(rt, &program, &at)?.spawn(&rt)
+    match word(rt, 0)? {
+        Some(program) => started_as(rt, &program, &format!(in rt.alloc(); "{at}")?),
+        None => Err(io::Error::from(io::ErrorKind::NotFound)),
+    }
 }
 
-fn command(rt: HostRuntime, program: &str, at: &str) -> Result<Command, AllocError> {
-    let mut command = Command::new(rt.alloc(), program)?;
-    let _ = command.arg("tests::child")?;
-    let _ = command.arg(at)?;
-    Ok(command)
+fn started_as(rt: HostRuntime, program: &str, at: &str) -> io::Result<Child> {
+    Command::new(rt.alloc(), program)?
+        .arg("tests::child")?
+        .arg(at)?
+        .spawn(&rt)
 }
 
-/// Sends two bytes and counts what comes until the peer ends.
-fn count_behind_two_bytes(rt: HostRuntime, mut peer: TcpStream) -> io::Result<usize> {
-    peer.write_all(b"xy")?;
+/// Whether a peer that listens here and sends two bytes hears all that the child writes.
+fn hears_all(rt: HostRuntime, at: SocketAddr) -> bool {
+    match late_peer(rt, at) {
+        Ok(peer) => count_of(rt, peer) == Some(LONG),
+        Err(_) => false,
+    }
+}
+
+fn late_peer(rt: HostRuntime, at: SocketAddr) -> io::Result<TcpStream> {
+    let (peer, _) = TcpListener::bind(&rt, at)?.accept()?;
+    Ok(peer)
+}
+
+/// How much comes until the peer ends.
+fn count_of(rt: HostRuntime, mut peer: TcpStream) -> Option<usize> {
     let mut all = Vec::new(rt.alloc());
-    peer.read_to_end(&mut all)
+    if peer.write_all(b"xy").is_err() {
+        return None;
+    }
+    peer.read_to_end(&mut all).ok()
+}
+
+fn succeeds(child: &mut Child) -> bool {
+    match child.wait() {
+        Ok(status) => status.success(),
+        Err(_) => false,
+    }
 }
 
 #[test]
@@ -105,29 +142,35 @@ fn a_silent_peer_is_a_fault(rt: HostRuntime) -> Result<(), Fail> {
     let listener = listener(rt)?;
     let mut wire = RealWire::new(rt);
     wire.wait_at_most(1);
-    assert!(rt; dials(&mut wire, address(rt, &listener)?));
+    assert!(rt; dials(rt, &mut wire, &listener));
     assert!(rt; read_one(&mut wire) == Err(Failed));
-    let at = text(rt.alloc(), "127.0.0.1:0")?;
-    assert!(rt; wire.reach(&Place::Listen(at)).is_err());
+    assert!(rt; waits_in_vain(rt, &mut wire));
     Ok(())
+}
+
+/// Whether nobody comes where the wire listens.
+fn waits_in_vain(rt: HostRuntime, wire: &mut RealWire) -> bool {
+    match text(rt.alloc(), "127.0.0.1:0") {
+        Ok(at) => wire.reach(&Place::Listen(at)) == Err(Failed),
+        Err(_) => false,
+    }
 }
 
 #[test]
 fn a_real_shelf_fetches_a_file_up_to_its_limit(rt: HostRuntime) -> Result<(), Fail> {
     fs::write(&rt, FILE, b"four")?;
     let mut shelf = RealShelf::new(rt);
-    let four = shelf.fetch(rt.alloc(), FILE, 4);
-    let long = shelf.fetch(rt.alloc(), FILE, 3);
+    let is_fetched = fetches_four(rt, &mut shelf);
+    let is_long = matches!(shelf.fetch(rt.alloc(), FILE, 3), Err(ShelfNo::Long));
     fs::remove_file(&rt, FILE)?;
-    let failed = shelf.fetch(rt.alloc(), FILE, 4);
-    assert!(rt; is_four(four));
-    assert!(rt; matches!(long, Err(ShelfNo::Long)));
-    assert!(rt; matches!(failed, Err(ShelfNo::Failed)));
+    assert!(rt; is_fetched);
+    assert!(rt; is_long);
+    assert!(rt; matches!(shelf.fetch(rt.alloc(), FILE, 4), Err(ShelfNo::Failed)));
     Ok(())
 }
 
-fn is_four(fetched: Result<Bytes, ShelfNo>) -> bool {
-    match fetched {
+fn fetches_four(rt: HostRuntime, shelf: &mut RealShelf) -> bool {
+    match shelf.fetch(rt.alloc(), FILE, 4) {
         Ok(bytes) => bytes.into_vec().as_slice() == b"four".as_slice(),
         Err(_) => false,
     }
@@ -151,12 +194,10 @@ fn address(rt: HostRuntime, listener: &TcpListener) -> io::Result<Text> {
     Ok(Text::new(format!(in rt.alloc(); "{at}")?))
 }
 
-fn accepted(listener: &TcpListener) -> io::Result<TcpStream> {
-    let (peer, _) = listener.accept()?;
-    Ok(peer)
-}
-
-/// Whether the wire reaches a peer that listens here.
-fn dials(wire: &mut RealWire, at: Text) -> bool {
-    wire.reach(&Place::Dial(at)).is_ok()
+/// Whether the wire reaches this listener.
+fn dials(rt: HostRuntime, wire: &mut RealWire, listener: &TcpListener) -> bool {
+    match address(rt, listener) {
+        Ok(at) => wire.reach(&Place::Dial(at)) == Ok(()),
+        Err(_) => false,
+    }
 }
