@@ -1,5 +1,6 @@
 //! Worked rehearsals of codes that are written by hand.
-use crate::telling::assert_codes;
+use crate::telling::{assert_done, ends_with};
+use anb_honest::RehearseEnd;
 use std::test::Fail;
 
 const PING: &str = "Protocol: Ping; Types: Agent A, B; Number N;
@@ -19,12 +20,20 @@ const PING_HASH: &str =
 
 #[test]
 fn codes_that_fit_do_as_honest_roles(rt: HostRuntime) -> Result<(), Fail> {
-    let want = "1 6162\n2 6162\nturns 4, taken 4, passed 0\nall done";
-    assert_codes(&rt, rt.alloc(), PING, PING_A, PING_B, want)
+    match ends_with(&rt, rt.alloc(), PING, PING_A, PING_B)? {
+        RehearseEnd::AllDone(report) => assert_done(&rt, &report),
+        _ => panic!(&rt; "not all is done"),
+    }
+    Ok(())
 }
 
 #[test]
 fn the_codes_that_are_given_are_run(rt: HostRuntime) -> Result<(), Fail> {
-    let want = "role 0 stopped at event 2, instruction 4";
-    assert_codes(&rt, rt.alloc(), PING, PING_A, PING_HASH, want)
+    match ends_with(&rt, rt.alloc(), PING, PING_A, PING_HASH)? {
+        RehearseEnd::Stopped { role, halt } => {
+            assert_eq!(&rt; (role, halt.event, halt.at), (0, 2, 4));
+        }
+        _ => panic!(&rt; "no code stopped"),
+    }
+    Ok(())
 }

@@ -13,31 +13,52 @@ use std::alloc::Global;
 use std::process::Abort;
 use std::test::Fail;
 
-/// Asserts what a rehearsal of these two codes over the turns `A B B A` tells, where each role knows
-/// `ab`. Each code keeps the order of its role alone.
-pub(crate) fn assert_codes(
+/// The end of a rehearsal of these two codes over the turns `A B B A`, where each role knows `ab`. Each
+/// code keeps the order of its role alone.
+pub(crate) fn ends_with(
     rt: &impl Abort,
     alloc: Global,
     narration: &str,
     a: &str,
     b: &str,
-    want: &str,
-) -> Result<(), Fail> {
+) -> Result<RehearseEnd, Fail> {
     assert!(rt; narration.len() <= 1_048_576);
     let p = protocol_in(alloc, narration.as_bytes())?;
-    assert!(rt; p.roles().len() == 2);
-    let first = loaded(rt, alloc, a)?;
-    assert_eq!(rt; follows(alloc, &p, 1, &first), Ok(false));
     let mut codes = Vec::new(alloc);
-    codes.push(first)?;
+    codes.push(loaded(rt, alloc, a)?)?;
     codes.push(loaded(rt, alloc, b)?)?;
-    let end = ends(rt, alloc, &p, &codes, "6162", "A B B A")?;
-    assert_eq!(rt; told(alloc, &end)?.as_str(), want);
+    assert_alone(rt, alloc, &p, &codes)?;
+    ends(rt, alloc, &p, &codes, "6162", "A B B A")
+}
+
+/// Asserts that the first code doesn't keep the order of the second role.
+fn assert_alone(
+    rt: &impl Abort,
+    alloc: Global,
+    p: &Protocol,
+    codes: &[RoleCode],
+) -> Result<(), Fail> {
+    assert!(rt; p.roles().len() == 2 && codes.len() == 2);
+    assert!(rt; !follows(alloc, p, 1, &codes[0])?);
     Ok(())
 }
 
+/// Asserts that both messages were sent in four turns, none of which was passed over.
+pub(crate) fn assert_done(rt: &impl Abort, report: &Report) {
+    assert_eq!(rt; report.turns, 4);
+    assert_eq!(rt; report.taken, 4);
+    assert_eq!(rt; report.passed, 0);
+    assert_eq!(rt; report.sent.as_slice().len(), 2);
+    let mut action = 0u32;
+    for sent in report.sent.as_slice() {
+        action = action.saturating_add(1);
+        assert_eq!(rt; sent.action, action);
+        assert_eq!(rt; sent.bytes.as_slice(), b"ab".as_slice());
+    }
+}
+
 /// The end of a rehearsal under a seed of zeros, with values in hexadecimal.
-pub(crate) fn ends(
+fn ends(
     rt: &impl Abort,
     alloc: Global,
     p: &Protocol,
@@ -118,39 +139,4 @@ fn short(alloc: Global, digits: &str) -> Result<Bytes, Fail>
         return Ok(Bytes::new(Vec::new(alloc)));
     }
     Ok(Bytes::new(bytes))
-}
-
-/// How a rehearsal ended, with its report.
-fn told(alloc: Global, end: &RehearseEnd) -> Result<String, Fail> {
-    Ok(match end {
-        RehearseEnd::AllDone(report) => {
-            format!(in alloc; "{}all done", report_text(alloc, report)?.as_str())?
-        }
-        RehearseEnd::Part(report) => {
-            format!(in alloc; "{}part", report_text(alloc, report)?.as_str())?
-        }
-        RehearseEnd::Stopped { role, halt } => format!(in alloc;
-            "role {role} stopped at event {}, instruction {}",
-            halt.event, halt.at
-        )?,
-        RehearseEnd::LongMessage { action, len } => {
-            format!(in alloc; "message of action {action} has {len} bytes")?
-        }
-    })
-}
-
-/// A line for each message, and the counts.
-fn report_text(alloc: Global, report: &Report) -> Result<String, Fail> {
-    let mut text = String::new(alloc);
-    for sent in report.sent.as_slice() {
-        let digits = hex::encode(alloc, sent.bytes.as_slice())?;
-        let line = format!(in alloc; "{} {}\n", sent.action, digits.as_str())?;
-        text.push_str(line.as_str())?;
-    }
-    let counts = format!(in alloc;
-        "turns {}, taken {}, passed {}\n",
-        report.turns, report.taken, report.passed
-    )?;
-    text.push_str(counts.as_str())?;
-    Ok(text)
 }
