@@ -111,7 +111,7 @@ fn has_no_parts(alloc: Global, kind: FieldKind, bytes: &[u8]) -> Result<bool, No
     Ok(parts.is_none())
 }
 
-/// The same of the format with a field of each kind.
+/// Whether the format with a field of each kind goes both ways.
 fn each_goes_both_ways(
     alloc: Global,
     arguments: &[&str; 4],
