@@ -205,34 +205,34 @@ fn write_file(rt: HostRuntime, name: &str, kind: &str, text: &str) -> io::Result
     fs::write(&rt, file.as_str(), text.as_bytes())
 }
 
-/// Starts the child with these words and the address of a listener.
-fn start_at(rt: HostRuntime, words: &str, listener: &TcpListener) -> io::Result<Child> {
-    start(rt, words, &address(rt, listener)?)
-}
-
-/// Starts the child with these words and this address. A shell reads them, so redirections may stand
-/// among them.
+/// Starts the child with these words and this address, or that of a listener. A shell reads them, so
+/// redirections may stand among them.
 fn start(rt: HostRuntime, words: &str, at: &str) -> io::Result<Child> {
     let line = format!(in rt.alloc(); "exec \"$0\" tests::child {words} {at}")?;
-    let mut shell = Command::new(rt.alloc(), "/bin/sh")?;
-    spawn(rt, &mut shell, &line)
+    shell(rt, &line)?.spawn(&rt)
+}
+
+fn start_at(rt: HostRuntime, words: &str, listener: &TcpListener) -> io::Result<Child> {
+    start(rt, words, &address(rt, listener)?)
 }
 
 /// The same with pipes for its input and its output, and without an address.
 fn start_piped(rt: HostRuntime, words: &str) -> io::Result<Child> {
     let line = format!(in rt.alloc(); "exec \"$0\" tests::child {words}")?;
-    let mut shell = Command::new(rt.alloc(), "/bin/sh")?;
-    let _ = shell.stdin(Stdio::piped()).stdout(Stdio::piped());
-    spawn(rt, &mut shell, &line)
+    shell(rt, &line)?
+        .stdin(Stdio::piped())
+        .stdout(Stdio::piped())
+        .spawn(&rt)
 }
 
-/// Starts a shell that runs this line, in which `$0` is this program.
-fn spawn(rt: HostRuntime, shell: &mut Command, line: &str) -> io::Result<Child> {
+/// A shell that runs this line, in which `$0` is this program.
+fn shell(rt: HostRuntime, line: &str) -> io::Result<Command> {
     let program = program(rt)?;
-    let _ = shell.arg("-c")?;
-    let _ = shell.arg(line)?;
-    let _ = shell.arg(&program)?;
-    shell.spawn(&rt)
+    let mut command = Command::new(rt.alloc(), "/bin/sh")?;
+    let _ = command.arg("-c")?;
+    let _ = command.arg(line)?;
+    let _ = command.arg(&program)?;
+    Ok(command)
 }
 
 fn program(rt: HostRuntime) -> io::Result<String> {

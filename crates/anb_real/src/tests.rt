@@ -102,14 +102,10 @@ fn started(rt: HostRuntime, at: SocketAddr) -> io::Result<Child> {
 }
 
 fn started_as(rt: HostRuntime, program: &str, at: &str) -> io::Result<Child> {
-    let mut command = Command::new(rt.alloc(), program)?;
-    spawned(rt, &mut command, at)
-}
-
-fn spawned(rt: HostRuntime, command: &mut Command, at: &str) -> io::Result<Child> {
-    let _ = command.arg("tests::child")?;
-    let _ = command.arg(at)?;
-    command.spawn(&rt)
+    Command::new(rt.alloc(), program)?
+        .arg("tests::child")?
+        .arg(at)?
+        .spawn(&rt)
 }
 
 /// Whether a peer that listens here and sends two bytes hears all that the child writes.
@@ -165,11 +161,11 @@ fn a_real_shelf_fetches_a_file_up_to_its_limit(rt: HostRuntime) -> Result<(), Fa
     fs::write(&rt, FILE, b"four")?;
     let mut shelf = RealShelf::new(rt);
     let is_fetched = fetches_four(rt, &mut shelf);
-    let is_refused = finds_it_long(rt, &mut shelf);
+    let is_long = matches!(shelf.fetch(rt.alloc(), FILE, 3), Err(ShelfNo::Long));
     fs::remove_file(&rt, FILE)?;
     assert!(rt; is_fetched);
-    assert!(rt; is_refused);
-    assert!(rt; finds_no_file(rt, &mut shelf));
+    assert!(rt; is_long);
+    assert!(rt; matches!(shelf.fetch(rt.alloc(), FILE, 4), Err(ShelfNo::Failed)));
     Ok(())
 }
 
@@ -178,14 +174,6 @@ fn fetches_four(rt: HostRuntime, shelf: &mut RealShelf) -> bool {
         Ok(bytes) => bytes.into_vec().as_slice() == b"four".as_slice(),
         Err(_) => false,
     }
-}
-
-fn finds_it_long(rt: HostRuntime, shelf: &mut RealShelf) -> bool {
-    matches!(shelf.fetch(rt.alloc(), FILE, 3), Err(ShelfNo::Long))
-}
-
-fn finds_no_file(rt: HostRuntime, shelf: &mut RealShelf) -> bool {
-    matches!(shelf.fetch(rt.alloc(), FILE, 4), Err(ShelfNo::Failed))
 }
 
 fn text(alloc: Global, s: &str) -> Result<Text, AllocError> {
