@@ -20,27 +20,20 @@ fn main(rt: HostRuntime) -> ExitCode {
 /// Runs the words behind the first ones, of which there are so many.
 fn status(rt: HostRuntime, skipped: usize) -> Status {
     let mut err = StandardError::new(rt);
-    match words(rt, skipped) {
-        Ok(words) => run_words(rt, &words, &mut err),
-        Err(NoMemory) => {
-            tell(&mut err, &Status::NoMemory);
-            Status::NoMemory
-        }
-    }
-}
-
-/// Runs these words over the machine, and ends what they started.
-fn run_words(rt: HostRuntime, words: &[Text], err: &mut StandardError) -> Status {
+    let Ok(words) = words(rt, skipped) else {
+        tell(&mut err, &Status::NoMemory);
+        return Status::NoMemory;
+    };
     let mut shelf = RealShelf::new(rt);
     let mut spawner = RealSpawner::new(rt, child_program(rt));
     let mut wire = RealWire::new(rt);
     let status = run_all(
         rt.alloc(),
-        words,
+        &words,
         &mut shelf,
         &mut spawner,
         &mut wire,
-        err,
+        &mut err,
         seed(rt),
     );
     spawner.end();

@@ -4,86 +4,144 @@ use anb_branch::split;
 use std::alloc::Global;
 use std::test::Fail;
 
-/// The declarations.
+/// The declarations, the stem, the choice, and two arms.
 const HEAD: &str = "Protocol: C; Types: Agent A, B, D, E; Number N; Formats: yes = \"Y\" rest; \
      no = \"N\" len; Knowledge: A: N; B: N; ";
 
-/// The declarations and these parts, between `/`, as one text. The stem, the choice and two arms are
-/// told by their first letters.
-fn text_of(alloc: Global, parts: &str) -> Result<String, Fail> {
-    let mut text = String::from_str(alloc, HEAD)?;
-    for part in parts.split('/') {
-        text.push_str(match part {
-            "S" => "Actions: A -> B: N; ",
-            "C" => "Choice: A; ",
-            "Y" => "Actions: A -> B: yes(N); ",
-            "N" => "Actions: A -> B: no(N); ",
-            other => other,
-        })?;
+const STEM: &str = "Actions: A -> B: N; ";
+
+const CHOICE: &str = "Choice: A; ";
+
+const YES: &str = "Actions: A -> B: yes(N); ";
+
+const NO: &str = "Actions: A -> B: no(N); ";
+
+/// These parts as one text.
+fn joined(alloc: Global, parts: &[&str]) -> Result<String, Fail> {
+    let mut text = String::new(alloc);
+    for part in parts {
+        text.push_str(part)?;
     }
     Ok(text)
 }
 
 /// What is told of the text of these parts: the chooser, the number of common actions and that of
 /// the arms, or the refusal.
-fn told(alloc: Global, parts: &str) -> Result<String, Fail> {
-    let text = text_of(alloc, parts)?;
+fn told(alloc: Global, parts: &[&str]) -> Result<String, Fail> {
+    let text = joined(alloc, parts)?;
     if text.len() > SMALL_FILE as usize {
         return Ok(text);
     }
-    match split(alloc, text.as_bytes()) {
-        Ok(b) => Ok(format!(in alloc; "{} {} {}", b.chooser.as_str(), b.stem, b.arms.len())?),
-        Err(no) => Ok(format!(in alloc; "{no:?}")?),
-    }
+    let answer = match split(alloc, text.as_bytes()) {
+        Ok(b) => format!(in alloc; "{} {} {}", b.chooser.as_str(), b.stem, b.arms.len())?,
+        Err(no) => format!(in alloc; "{no:?}")?,
+    };
+    Ok(answer)
+}
+
+#[test]
+fn choices_are_told(rt: HostRuntime) -> Result<(), Fail> {
+    let alloc = rt.alloc();
+    let two = told(alloc, &[HEAD, STEM, CHOICE, YES, NO])?;
+    assert_eq!(rt; two.as_str(), "A 1 2");
+    // A comment and goals behind the arms are passed over.
+    let goals = told(
+        alloc,
+        &[HEAD, STEM, CHOICE, YES, "# ?\n", NO, "Goals ? Choice"],
+    )?;
+    assert_eq!(rt; goals.as_str(), "A 1 2");
+    // A stem may have no action.
+    let none = told(alloc, &[HEAD, "Actions: ", CHOICE, YES, NO])?;
+    assert_eq!(rt; none.as_str(), "A 0 2");
+    Ok(())
+}
+
+#[test]
+fn roles_may_come_in_another_order(rt: HostRuntime) -> Result<(), Fail> {
+    let alloc = rt.alloc();
+    let first = "Actions: A -> D: yes(N); A -> E: yes(N); ";
+    let second = "Actions: A -> E: no(N); A -> D: no(N); ";
+    let order = told(alloc, &[HEAD, STEM, CHOICE, first, second])?;
+    assert_eq!(rt; order.as_str(), "A 1 2");
+    Ok(())
+}
+
+#[test]
+fn tokens_come_before_the_order(rt: HostRuntime) -> Result<(), Fail> {
+    let alloc = rt.alloc();
+    let bad = told(alloc, &[HEAD, STEM, CHOICE, YES, NO, "?"])?;
+    assert_eq!(rt; bad.as_str(), "Token(190)");
+    let late = told(alloc, &[HEAD, "Choice ", STEM, CHOICE, YES, NO, "\"x"])?;
+    assert_eq!(rt; late.as_str(), "Token(197)");
+    Ok(())
+}
+
+#[test]
+fn orders_are_kept(rt: HostRuntime) -> Result<(), Fail> {
+    let alloc = rt.alloc();
+    let none = told(alloc, &[HEAD, STEM])?;
+    assert_eq!(rt; none.as_str(), "Shape(130)");
+    let open = told(alloc, &[HEAD, "Actions: A -> B: N ", CHOICE, YES, NO])?;
+    assert_eq!(rt; open.as_str(), "Shape(129)");
+    let reserved = told(alloc, &[HEAD, STEM, "Choice: Agent; ", YES, NO])?;
+    assert_eq!(rt; reserved.as_str(), "Shape(138)");
+    let one = told(alloc, &[HEAD, STEM, CHOICE, YES, "Goals: "])?;
+    assert_eq!(rt; one.as_str(), "Shape(166)");
+    let twice = told(alloc, &[HEAD, STEM, CHOICE, YES, CHOICE, NO])?;
+    assert_eq!(rt; twice.as_str(), "Shape(166)");
+    Ok(())
+}
+
+#[test]
+fn a_ninth_arm_is_out_of_order(rt: HostRuntime) -> Result<(), Fail> {
+    let alloc = rt.alloc();
+    let four = joined(alloc, &[YES, NO, YES, NO])?;
+    let four = four.as_str();
+    let nine = told(alloc, &[HEAD, STEM, CHOICE, four, four, YES])?;
+    assert_eq!(rt; nine.as_str(), "Shape(337)");
+    Ok(())
+}
+
+#[test]
+fn arms_are_narrations(rt: HostRuntime) -> Result<(), Fail> {
+    let alloc = rt.alloc();
+    let read = told(alloc, &[HEAD, STEM, CHOICE, YES, "Actions: A -> B no(N);"])?;
+    assert_eq!(rt; read.as_str(), "ArmRead(2, Grammar { at: 138 })");
+    let resolved = told(
+        alloc,
+        &[HEAD, STEM, CHOICE, "Actions: A -> A: yes(N);", "Actions: A"],
+    )?;
+    assert_eq!(rt; resolved.as_str(), "ArmResolve(1, SelfSend(2))");
+    Ok(())
+}
+
+#[test]
+fn choosers_and_roles_are_those_of_all_arms(rt: HostRuntime) -> Result<(), Fail> {
+    let alloc = rt.alloc();
+    let roles = told(alloc, &[HEAD, STEM, CHOICE, YES, "Actions: A -> D: no(N);"])?;
+    assert_eq!(rt; roles.as_str(), "Roles(2)");
+    let chooser = told(alloc, &[HEAD, STEM, "Choice: D; ", YES, NO])?;
+    assert_eq!(rt; chooser.as_str(), "Chooser");
+    Ok(())
+}
+
+#[test]
+fn nobody_is_blind(rt: HostRuntime) -> Result<(), Fail> {
+    let alloc = rt.alloc();
+    let same = told(alloc, &[HEAD, STEM, CHOICE, YES, YES])?;
+    assert_eq!(rt; same.as_str(), BLIND_TWO);
+    let idle = told(alloc, &[HEAD, STEM, CHOICE, YES, "Actions: "])?;
+    assert_eq!(rt; idle.as_str(), BLIND_TWO);
+    let sender = told(
+        alloc,
+        &[HEAD, STEM, CHOICE, "Actions: B -> A: yes(N); ", NO],
+    )?;
+    assert_eq!(rt; sender.as_str(), BLIND_ONE);
+    let bare = told(alloc, &[HEAD, STEM, CHOICE, "Actions: A -> B: N; ", NO])?;
+    assert_eq!(rt; bare.as_str(), BLIND_ONE);
+    Ok(())
 }
 
 const BLIND_ONE: &str = "Blind { role: Text { inner: \"B\" }, arm: 1 }";
 
 const BLIND_TWO: &str = "Blind { role: Text { inner: \"B\" }, arm: 2 }";
-
-#[test]
-fn texts_are_choices_or_refused_by_their_first_cause(rt: HostRuntime) -> Result<(), Fail> {
-    for (parts, words) in [
-        ("S/C/Y/N", "A 1 2"),
-        // A comment and goals behind the arms are passed over.
-        ("S/C/Y/# ?\n/N/Goals ? Choice", "A 1 2"),
-        // A stem may have no action.
-        ("Actions: /C/Y/N", "A 0 2"),
-        // Roles may come in another order.
-        (
-            "S/C/Actions: A -> D: yes(N); A -> E: yes(N); /Actions: A -> E: no(N); A -> D: no(N); ",
-            "A 1 2",
-        ),
-        // Tokens come before the order.
-        ("S/C/Y/N/?", "Token(190)"),
-        ("Choice /S/C/Y/N/\"x", "Token(197)"),
-        // Orders are kept.
-        ("S", "Shape(130)"),
-        ("Actions: A -> B: N /C/Y/N", "Shape(129)"),
-        ("S/Choice: Agent; /Y/N", "Shape(138)"),
-        ("S/C/Y/Goals: ", "Shape(166)"),
-        ("S/C/Y/C/N", "Shape(166)"),
-        // A ninth arm is out of order.
-        ("S/C/Y/N/Y/N/Y/N/Y/N/Y", "Shape(337)"),
-        // Arms are narrations.
-        (
-            "S/C/Y/Actions: A -> B no(N);",
-            "ArmRead(2, Grammar { at: 138 })",
-        ),
-        (
-            "S/C/Actions: A -> A: yes(N);/Actions: A",
-            "ArmResolve(1, SelfSend(2))",
-        ),
-        // All arms have the same roles, and the chooser is one of them.
-        ("S/C/Y/Actions: A -> D: no(N);", "Roles(2)"),
-        ("S/Choice: D; /Y/N", "Chooser"),
-        // Nobody is blind.
-        ("S/C/Y/Y", BLIND_TWO),
-        ("S/C/Y/Actions: ", BLIND_TWO),
-        ("S/C/Actions: B -> A: yes(N); /N", BLIND_ONE),
-        ("S/C/Actions: A -> B: N; /N", BLIND_ONE),
-    ] {
-        assert_eq!(rt; told(rt.alloc(), parts)?.as_str(), words);
-    }
-    Ok(())
-}

@@ -53,28 +53,23 @@ pub(crate) struct Case<'e, 'n> {
 }
 
 impl<'e, 'n> Case<'e, 'n> {
+    /// The entries under this key.
+    fn entries(self, key: &str) -> &'e [Entry] {
+        if self.own.iter().any(|entry| entry.key.as_str() == key) {
+            self.own
+        } else {
+            self.group
+        }
+    }
+
     /// The first entry under this key.
     pub(crate) fn entry(self, key: &str) -> Option<&'e Entry> {
-        match entry_of(self.own, key) {
-            Some(entry) => Some(entry),
-            None => entry_of(self.group, key),
+        for entry in self.entries(key) {
+            if entry.key.as_str() == key {
+                return Some(entry);
+            }
         }
-    }
-
-    /// The entries among which those under this key stand.
-    fn entries(self, key: &str) -> &'e [Entry] {
-        match entry_of(self.own, key) {
-            Some(_) => self.own,
-            None => self.group,
-        }
-    }
-
-    /// The value under this key as it stands, without names or repeats.
-    pub(crate) fn word(self, key: &str) -> Option<&'e str> {
-        match self.entry(key) {
-            Some(entry) => Some(entry.value.as_str()),
-            None => None,
-        }
+        None
     }
 
     /// The text under this key.
@@ -106,11 +101,14 @@ impl<'e, 'n> Case<'e, 'n> {
 
     fn bytes_of(self, alloc: Global, key: &'static str, entry: &Entry) -> Result<Vec<u8>, No> {
         let text = filled(alloc, self.names, key, &entry.value)?;
-        if entry.hex {
-            bytes_of_digits(alloc, key, &text)
-        } else {
-            Ok(text.into_bytes())
+        if !entry.hex {
+            return Ok(text.into_bytes());
         }
+        let mut digits = String::new(alloc);
+        for word in text.split_whitespace() {
+            digits.push_str(word)?;
+        }
+        hex::decode(alloc, digits.as_bytes()).map_err(|_| No::Value(key))
     }
 
     /// The number under this key.
@@ -142,37 +140,7 @@ impl<'e, 'n> Case<'e, 'n> {
     }
 }
 
-/// The first of these entries under this key.
-fn entry_of<'e>(entries: &'e [Entry], key: &str) -> Option<&'e Entry> {
-    for entry in entries {
-        if entry.key.as_str() == key {
-            return Some(entry);
-        }
-    }
-    None
-}
-
-/// The bytes that these digits with spaces say.
-fn bytes_of_digits(alloc: Global, key: &'static str, text: &str) -> Result<Vec<u8>, No> {
-    let digits = without_spaces(alloc, text)?;
-    match hex::decode(alloc, digits.as_bytes()) {
-        Ok(bytes) => Ok(bytes),
-        Err(_) => Err(No::Value(key)),
-    }
-}
-
-fn without_spaces(alloc: Global, text: &str) -> Result<String, AllocError> {
-    let mut joined = String::new(alloc);
-    for word in text.split_whitespace() {
-        joined.push_str(word)?;
-    }
-    Ok(joined)
-}
-
 /// The number that stands here as the value of this key, or as a part of it.
 pub(crate) fn number_of(key: &'static str, text: &str) -> Result<u32, No> {
-    match text.parse::<u32>() {
-        Ok(number) => Ok(number),
-        Err(_) => Err(No::Value(key)),
-    }
+    text.parse::<u32>().map_err(|_| No::Value(key))
 }

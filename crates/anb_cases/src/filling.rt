@@ -1,20 +1,13 @@
 //! Values with names and repeats filled in.
 
 use crate::case::No;
-use std::alloc::{AllocError, Global};
+use std::alloc::Global;
 
 /// A name, and what stands for it.
 #[derive(Drop)]
 pub(crate) struct Name {
     pub(crate) name: String,
     pub(crate) text: String,
-}
-
-pub(crate) fn named(alloc: Global, name: &str, text: String) -> Result<Name, AllocError> {
-    Ok(Name {
-        name: String::from_str(alloc, name)?,
-        text,
-    })
 }
 
 /// The text where `{NAME}` is what stands for the name, `{TEXT*COUNT}` is the text so many times, and a
@@ -32,34 +25,19 @@ pub(crate) fn filled(
         push_plain(&mut out, key, piece)?;
     }
     for piece in pieces {
-        push_piece(alloc, &mut out, names, key, piece)?;
+        let Some((inner, behind)) = piece.split_once('}') else {
+            return Err(No::Value(key));
+        };
+        match inner.split_once('*') {
+            Some((repeated, count)) => push_repeated(alloc, &mut out, key, repeated, count)?,
+            None => match text_of(names, inner) {
+                Some(text) => out.push_str(text)?,
+                None => return Err(No::Value(key)),
+            },
+        }
+        push_plain(&mut out, key, behind)?;
     }
     Ok(out)
-}
-
-/// Appends what comes of a piece behind an opening brace.
-fn push_piece(
-    alloc: Global,
-    out: &mut String,
-    names: &[Name],
-    key: &'static str,
-    piece: &str,
-) -> Result<(), No> {
-    let Some((inner, behind)) = piece.split_once('}') else {
-        return Err(No::Value(key));
-    };
-    match inner.split_once('*') {
-        Some((repeated, count)) => push_repeated(alloc, out, key, repeated, count)?,
-        None => push_named(out, names, key, inner)?,
-    }
-    push_plain(out, key, behind)
-}
-
-fn push_named(out: &mut String, names: &[Name], key: &'static str, name: &str) -> Result<(), No> {
-    match text_of(names, name) {
-        Some(text) => Ok(out.push_str(text)?),
-        None => Err(No::Value(key)),
-    }
 }
 
 /// What stands for the name: the last one holds.
@@ -82,17 +60,14 @@ fn push_repeated(
     let Ok(count) = count.parse::<u32>() else {
         return Err(No::Value(key));
     };
+    let count = count as usize;
     let mut piece = String::new(alloc);
     push_plain(&mut piece, key, text)?;
     // By thousands first, since a file that is too long has many.
-    push_many(alloc, out, &piece.repeat(alloc, 1000)?, count / 1000)?;
-    push_many(alloc, out, &piece, count % 1000)?;
+    let thousand = piece.repeat(alloc, 1000)?;
+    out.push_str(&thousand.repeat(alloc, count / 1000)?)?;
+    out.push_str(&piece.repeat(alloc, count % 1000)?)?;
     Ok(())
-}
-
-fn push_many(alloc: Global, out: &mut String, piece: &str, count: u32) -> Result<(), AllocError> {
-    let all = piece.repeat(alloc, count as usize)?;
-    out.push_str(&all)
 }
 
 /// Appends the text with what its backslashes stand for.

@@ -118,20 +118,13 @@ fn add_entry(alloc: Global, part: &mut Part, line: &str) -> Result<bool, AllocEr
     if !takes(part, key, hex) {
         return Ok(false);
     }
-    part.entries.push(entry_of(alloc, key, hex, value)?)?;
-    Ok(true)
-}
-
-/// The entry whose key stands before a colon and whose value stands behind it.
-fn entry_of(alloc: Global, key: &str, hex: bool, value: &str) -> Result<Entry, AllocError> {
-    let key = String::from_str(alloc, key)?;
-    let text = String::from_str(alloc, value.strip_prefix(' ').unwrap_or(value))?;
-    Ok(Entry {
-        key,
+    part.entries.push(Entry {
+        key: String::from_str(alloc, key)?,
         hex,
-        value: text,
+        value: String::from_str(alloc, value.strip_prefix(' ').unwrap_or(value))?,
         block: value.is_empty(),
-    })
+    })?;
+    Ok(true)
 }
 
 /// Whether an entry with this key may stand behind those of the part. Outputs that may come stand
@@ -143,17 +136,7 @@ fn takes(part: &Part, key: &str, hex: bool) -> bool {
         Kind::Group if key == "line begins" => false,
         _ => BYTES.contains(&key) || (!hex && WORDS.contains(&key)),
     };
-    known && (key == "output" || !says(&part.entries, key))
-}
-
-/// Whether one of the entries says what an entry with this key says.
-fn says(entries: &[Entry], key: &str) -> bool {
-    for entry in entries {
-        if is_same(&entry.key, key) {
-            return true;
-        }
-    }
-    false
+    known && (key == "output" || !part.entries.iter().any(|entry| is_same(&entry.key, key)))
 }
 
 /// Whether two entries with these keys say one thing.

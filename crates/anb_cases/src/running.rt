@@ -3,12 +3,11 @@
 ghost use Rattle.std.specs.Prelude.{◌≡◌, IfOk};
 
 use crate::case::{Case, No};
-use crate::filling::filled;
 use crate::unfailing::run_unfailing;
 use anb_base::{Bytes, MemShelf, MemWire, NeverFails, NoMemory, Text};
 use anb_run::run;
 use hex::FromHex;
-use std::alloc::{AllocError, Global};
+use std::alloc::Global;
 
 /// How many bytes a wire moves at once, and for how many there is room, where a case doesn't say it.
 const PLENTY: u32 = 65_536;
@@ -33,71 +32,28 @@ pub(crate) struct Ran {
 
 /// Runs the words of the case.
 pub(crate) fn run_case(alloc: Global, case: Case, turn: Turn) -> Result<Ran, No> {
-    let seed = seed_of(alloc, case)?;
     let words = words_of(alloc, case)?;
+    let seed = seed_of(alloc, case)?;
+    let input = input_of(alloc, case, turn)?;
     let mut shelf = shelf_of(alloc, case)?;
+    let fails = case.numbers(alloc, "sink fails")?;
+    let mut err = MemWire::new(alloc, none(alloc), PLENTY, PLENTY, fails)?;
     if case.is_set("unfailing wire")? {
-        run_without_faults(alloc, case, turn, &words, &mut shelf, seed)
-    } else {
-        run_in_memory(alloc, case, turn, &words, &mut shelf, seed)
+        let mut wire = NeverFails::new(input);
+        let status = run_unfailing(alloc, &words, &mut shelf, &mut wire, &mut err, seed);
+        return Ok(Ran {
+            number: status.number(),
+            wire: None,
+            err,
+        });
     }
-}
-
-/// The same over a wire that never fails.
-fn run_without_faults(
-    alloc: Global,
-    case: Case,
-    turn: Turn,
-    words: &[Text],
-    shelf: &mut MemShelf,
-    seed: Option<[u8; 32]>,
-) -> Result<Ran, No> {
-    let mut err = sink_of(alloc, case)?;
-    let mut wire = NeverFails::new(input_of(alloc, case, turn)?);
-    let number = run_unfailing(alloc, words, shelf, &mut wire, &mut err, seed).number();
+    let mut wire = wire_of(alloc, case, turn, input)?;
+    let status = run(alloc, &words, &mut shelf, &mut wire, &mut err, seed);
     Ok(Ran {
-        number,
-        wire: None,
-        err,
-    })
-}
-
-/// The same over a wire that the case describes.
-fn run_in_memory(
-    alloc: Global,
-    case: Case,
-    turn: Turn,
-    words: &[Text],
-    shelf: &mut MemShelf,
-    seed: Option<[u8; 32]>,
-) -> Result<Ran, No> {
-    let mut err = sink_of(alloc, case)?;
-    let mut wire = wire_of(alloc, case, turn)?;
-    let number = number_of_run(alloc, words, shelf, &mut wire, &mut err, seed);
-    Ok(Ran {
-        number,
+        number: status.number(),
         wire: Some(wire),
         err,
     })
-}
-
-/// The number of the status of a run. What the call of `run` promises isn't needed, so nothing else
-/// stands beside it.
-fn number_of_run(
-    alloc: Global,
-    words: &[Text],
-    shelf: &mut MemShelf,
-    wire: &mut MemWire,
-    err: &mut MemWire,
-    seed: Option<[u8; 32]>,
-) -> u8 {
-    run(alloc, words, shelf, wire, err, seed).number()
-}
-
-/// The error sink.
-fn sink_of(alloc: Global, case: Case) -> Result<MemWire, No> {
-    let fails = case.numbers(alloc, "sink fails")?;
-    Ok(MemWire::new(alloc, none(alloc), PLENTY, PLENTY, fails)?)
 }
 
 /// The words, of which `""` is the empty one.
@@ -107,16 +63,13 @@ fn words_of(alloc: Global, case: Case) -> Result<Vec<Text>, No> {
     };
     let mut words = Vec::new(alloc);
     for word in text.split_whitespace() {
-        words.push(word_of(alloc, word)?)?;
+        let word = match word {
+            "\"\"" => String::new(alloc),
+            _ => String::from_str(alloc, word)?,
+        };
+        words.push(Text::new(word))?;
     }
     Ok(words)
-}
-
-fn word_of(alloc: Global, word: &str) -> Result<Text, AllocError> {
-    if word == "\"\"" {
-        return Ok(Text::new(String::new(alloc)));
-    }
-    Ok(Text::new(String::from_str(alloc, word)?))
 }
 
 /// The seed that is handed in: that of zero bytes where the case doesn't say it.
@@ -127,13 +80,12 @@ fn seed_of(alloc: Global, case: Case) -> Result<Option<[u8; 32]>, No> {
     if entry.value.as_str() == "none" {
         return Ok(None);
     }
-    if !entry.hex {
-        return Err(No::Value("seed"));
-    }
-    let digits = filled(alloc, case.names, "seed", &entry.value)?;
-    match <[u8; 32] as FromHex>::from_hex(digits.as_str()) {
-        Ok(seed) => Ok(Some(seed)),
-        Err(_) => Err(No::Value("seed")),
+    match case.text(alloc, "seed")? {
+        Some(digits) if entry.hex => match <[u8; 32] as FromHex>::from_hex(digits.as_str()) {
+            Ok(seed) => Ok(Some(seed)),
+            Err(_) => Err(No::Value("seed")),
+        },
+        _ => Err(No::Value("seed")),
     }
 }
 
@@ -168,38 +120,25 @@ fn none(alloc: Global) -> Bytes {
 
 /// What can be read.
 fn input_of(alloc: Global, case: Case, turn: Turn) -> Result<Bytes, No> {
-    let input = bytes_of(alloc, case, "input")?;
-    match turn {
-        Turn::CutBehind(count) => cut(input, count as usize),
-        Turn::Whole | Turn::FailsAt(_) => Ok(input),
+    let mut input = bytes_of(alloc, case, "input")?.into_vec();
+    if let Turn::CutBehind(count) = turn {
+        if count as usize > input.len() {
+            return Err(No::Value("cut"));
+        }
+        input.truncate(count as usize);
     }
+    Ok(Bytes::new(input))
 }
 
-/// So many of the bytes, which are as many at least.
-fn cut(bytes: Bytes, count: usize) -> Result<Bytes, No> {
-    let mut bytes = bytes.into_vec();
-    if count > bytes.len() {
-        return Err(No::Value("cut"));
-    }
-    bytes.truncate(count);
-    Ok(Bytes::new(bytes))
-}
-
-fn wire_of(alloc: Global, case: Case, turn: Turn) -> Result<MemWire, No> {
+fn wire_of(alloc: Global, case: Case, turn: Turn, input: Bytes) -> Result<MemWire, No> {
     let piece = case.number("piece")?.unwrap_or(PLENTY);
     let room = case.number("room")?.unwrap_or(PLENTY);
     if piece == 0 {
         return Err(No::Value("piece"));
     }
-    let fails = fails_of(alloc, case, turn)?;
-    let input = input_of(alloc, case, turn)?;
+    let fails = match turn {
+        Turn::FailsAt(call) => Vec::from_slice(alloc, &[call])?,
+        _ => case.numbers(alloc, "wire fails")?,
+    };
     Ok(MemWire::new(alloc, input, piece, room, fails)?)
-}
-
-/// The numbers of the calls of the wire that fail.
-fn fails_of(alloc: Global, case: Case, turn: Turn) -> Result<Vec<u32>, No> {
-    match turn {
-        Turn::FailsAt(call) => Ok(Vec::from_slice(alloc, &[call])?),
-        Turn::Whole | Turn::CutBehind(_) => case.numbers(alloc, "wire fails"),
-    }
 }

@@ -1,11 +1,11 @@
 //! A file of cases, part by part.
 
 use crate::case::{Case, No};
-use crate::filling::{Name, filled, named};
-use crate::parts::{Entry, Kind, Part, parts};
+use crate::filling::{Name, filled};
+use crate::parts::{Kind, Part, parts};
 use crate::turns::run_turns;
 use std::alloc::{AllocError, Global};
-use std::{fmt, io};
+use std::io;
 
 /// Runs the cases of the file and tells of each. It says whether all passed.
 pub(crate) fn run_theme(
@@ -29,46 +29,29 @@ fn run_parts(
     theme: &str,
     parts: &[Part],
 ) -> io::Result<bool> {
+    let alloc = rt.alloc();
     let mut group = None;
     let mut passed = true;
     for part in parts {
         if matches!(part.kind, Kind::Group) {
             group = Some(part);
         }
-        if !run_and_tell(rt, names, theme, group, part)? {
-            passed = false;
+        let outcome = run_part(alloc, names, group, part);
+        let title = title(alloc, theme, group, part)?;
+        match outcome {
+            Ok(None) if matches!(part.kind, Kind::Names | Kind::Group) => {}
+            Ok(None) => println!(rt; "ok {title}")?,
+            Ok(Some(difference)) => {
+                println!(rt; "no {title}: {difference}")?;
+                passed = false;
+            }
+            Err(no) => {
+                println!(rt; "no {title}: {no}")?;
+                passed = false;
+            }
         }
     }
     Ok(passed)
-}
-
-/// Runs a part and tells what came of it. It says whether that is as expected.
-fn run_and_tell(
-    rt: HostRuntime,
-    names: &mut Vec<Name>,
-    theme: &str,
-    group: Option<&Part>,
-    part: &Part,
-) -> io::Result<bool> {
-    let title = title(rt.alloc(), theme, group, part)?;
-    match run_part(rt.alloc(), names, group, part) {
-        Ok(None) => tell_passed(rt, part, &title),
-        Ok(Some(difference)) => tell_no(rt, &title, &difference),
-        Err(no) => tell_no(rt, &title, &no),
-    }
-}
-
-/// Tells of a case that it passed. Of other parts nothing is told.
-fn tell_passed(rt: HostRuntime, part: &Part, title: &str) -> io::Result<bool> {
-    if matches!(part.kind, Kind::Row | Kind::Case) {
-        println!(rt; "ok {title}")?;
-    }
-    Ok(true)
-}
-
-fn tell_no<D: fmt::Display>(rt: HostRuntime, title: &str, why: &D) -> io::Result<bool> {
-    println!(rt; "no {title}: {why}")?;
-    Ok(false)
 }
 
 /// How a part is named.
@@ -96,10 +79,7 @@ fn run_part(
     part: &Part,
 ) -> Result<Option<String>, No> {
     match (part.kind, group) {
-        (Kind::Names, _) => {
-            add_names(alloc, names, part)?;
-            Ok(None)
-        }
+        (Kind::Names, _) => add_names(alloc, names, part).map(|()| None),
         (Kind::Group, _) => Ok(None),
         (Kind::Case, _) => run_turns(alloc, names, &part.entries, &[]),
         (Kind::Row, Some(group)) => run_turns(alloc, names, &part.entries, &group.entries),
@@ -110,12 +90,11 @@ fn run_part(
 /// Adds what stands for names.
 fn add_names(alloc: Global, names: &mut Vec<Name>, part: &Part) -> Result<(), No> {
     for entry in &part.entries {
-        names.push(name_of(alloc, names, entry)?)?;
+        let text = filled(alloc, names, "names", &entry.value)?;
+        names.push(Name {
+            name: entry.key.clone()?,
+            text,
+        })?;
     }
     Ok(())
-}
-
-fn name_of(alloc: Global, names: &[Name], entry: &Entry) -> Result<Name, No> {
-    let text = filled(alloc, names, "names", &entry.value)?;
-    Ok(named(alloc, &entry.key, text)?)
 }

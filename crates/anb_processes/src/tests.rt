@@ -12,18 +12,18 @@ use std::test::Fail;
 /// The words of a shell that runs this line.
 fn words(alloc: Global, line: &str) -> Result<Vec<Text>, AllocError> {
     let mut words = Vec::new(alloc);
-    words.push(text(alloc, "-c")?)?;
-    words.push(text(alloc, line)?)?;
+    for word in ["-c", line] {
+        words.push(Text::new(String::from_str(alloc, word)?))?;
+    }
     Ok(words)
 }
 
-fn text(alloc: Global, text: &str) -> Result<Text, AllocError> {
-    Ok(Text::new(String::from_str(alloc, text)?))
-}
-
 /// A spawner of this program.
-fn spawner(rt: HostRuntime, program: &str) -> Result<RealSpawner, AllocError> {
-    Ok(RealSpawner::new(rt, text(rt.alloc(), program)?))
+fn spawner(rt: HostRuntime, program: &str) -> Result<RealSpawner, AllocError>
+    ensures { IfOk result (λ s. (role : ℕ) → get_or s.phases role 0 ≡ 0) }
+{
+    let program = String::from_str(rt.alloc(), program)?;
+    Ok(RealSpawner::new(rt, Text::new(program)))
 }
 
 fn start(children: &mut RealSpawner, role: u32, words: &[Text]) -> Result<(), Fail>
@@ -38,76 +38,44 @@ fn start(children: &mut RealSpawner, role: u32, words: &[Text]) -> Result<(), Fa
     }
 }
 
-/// A shell that runs this line, for role 1.
-fn shell(rt: HostRuntime, line: &str) -> Result<RealSpawner, Fail>
-    ensures { IfOk result (λ shells. get_or shells.phases 1 0 ≡ 1) }
-{
-    let words = words(rt.alloc(), line)?;
-    let mut shells = spawner(rt, "/bin/sh")?;
-    start(&mut shells, 1, &words)?;
-    Ok(shells)
-}
-
 /// What becomes of a shell that runs this line.
 fn ends(rt: HostRuntime, line: &str) -> Result<Result<u8, Failed>, Fail> {
-    let mut shells = shell(rt, line)?;
+    let mut shells = spawner(rt, "/bin/sh")?;
+    start(&mut shells, 1, &words(rt.alloc(), line)?)?;
     let ended = shells.finish(1);
     shells.end();
     Ok(ended)
 }
 
-/// Children for roles 0 and 1 that say back what they hear.
-fn two_cats(rt: HostRuntime) -> Result<RealSpawner, Fail>
-    ensures { IfOk result (λ cats. (get_or cats.phases 0 0 ≡ 1) × (get_or cats.phases 1 0 ≡ 1)) }
-{
-    let mut cats = spawner(rt, "/bin/cat")?;
-    start(&mut cats, 0, &[])?;
-    start(&mut cats, 1, &[])?;
-    Ok(cats)
-}
-
-/// Whether the child of role 0 says two bytes back.
-fn says_back(cats: &mut RealSpawner) -> bool
-    requires { get_or cats.old.phases 0 0 ≡ 1 }
-    ensures runs { get_or cats.new.phases 0 0 ≡ 1 }
-    ensures others { get_or cats.new.phases 1 0 ≡ get_or cats.old.phases 1 0 }
-{
-    let mut buf = [0u8; 3];
-    let put = cats.write(0, b"ab");
-    let got = cats.read(0, &mut buf);
-    put == Ok(2) && got == Ok(2) && buf == *b"ab\0"
-}
-
-/// Whether both children end with status 0.
-fn both_finish(cats: &mut RealSpawner) -> bool
-    requires first { get_or cats.old.phases 0 0 ≡ 1 }
-    requires second { get_or cats.old.phases 1 0 ≡ 1 }
-{
-    let first = cats.finish(0);
-    let second = cats.finish(1);
-    first == Ok(0) && second == Ok(0)
-}
-
 #[test]
 fn children_say_back_what_they_hear(rt: HostRuntime) -> Result<(), Fail> {
-    let mut cats = two_cats(rt)?;
-    assert!(rt; says_back(&mut cats));
-    assert!(rt; both_finish(&mut cats));
+    let mut cats = spawner(rt, "/bin/cat")?;
+    let none = Vec::new(rt.alloc());
+    start(&mut cats, 0, &none)?;
+    start(&mut cats, 1, &none)?;
+    let mut buf = [0u8; 3];
+    assert_eq!(rt; cats.write(0, b"ab"), Ok(2));
+    assert_eq!(rt; cats.read(0, &mut buf), Ok(2));
+    assert_eq!(rt; buf, *b"ab\0");
+    assert_eq!(rt; cats.finish(0), Ok(0));
+    assert_eq!(rt; cats.finish(1), Ok(0));
     cats.end();
     Ok(())
 }
 
 #[test]
 fn a_child_ends_with_its_status(rt: HostRuntime) -> Result<(), Fail> {
-    assert!(rt; ends(rt, "exit 7")? == Ok(7));
-    assert!(rt; ends(rt, "cat; head -c 1000000 /dev/zero")? == Ok(0));
-    assert!(rt; ends(rt, "kill -9 $$")? == Err(Failed));
+    assert_eq!(rt; ends(rt, "exit 7")?, Ok(7));
+    assert_eq!(rt; ends(rt, "cat; head -c 1000000 /dev/zero")?, Ok(0));
+    assert_eq!(rt; ends(rt, "kill -9 $$")?, Err(Failed));
     Ok(())
 }
 
 /// The test ends long before the child would.
 #[test]
 fn a_child_that_runs_on_is_killed(rt: HostRuntime) -> Result<(), Fail> {
-    shell(rt, "exec sleep 1000")?.end();
+    let mut shells = spawner(rt, "/bin/sh")?;
+    start(&mut shells, 0, &words(rt.alloc(), "exec sleep 1000")?)?;
+    shells.end();
     Ok(())
 }

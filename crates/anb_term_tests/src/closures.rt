@@ -74,6 +74,7 @@ fn has_body(entries: &[Entry]) -> bool {
 /// Whether K, atom 1, taken as label 2, opens the seal into X.
 fn opens_late(alloc: Global, closure: &mut Closure) -> Result<bool, NoMemory>
     requires { nodes (labels_of closure.old) ≡ 4 }
+    ensures { IfOk result (λ b. nodes (labels_of closure.new) ≡ 5) }
 {
     let step = closure.add(alloc, &Term::Atom(1))?;
     Ok(step.label == 2 && is_opening(step.opened.as_slice()))
@@ -93,7 +94,9 @@ fn is_refused(alloc: Global, closure: &Closure, atom: u32) -> bool {
 }
 
 /// X, and X sealed under K, and then K, which opens the seal, where all this is so.
-fn opened(alloc: Global) -> Result<Option<Closure>, NoMemory> {
+fn opened(alloc: Global) -> Result<Option<Closure>, NoMemory>
+    ensures size { IfOk result (λ r. IfSome r (λ c. nodes (labels_of c) ≡ 5)) }
+{
     let Some(mut closure) = kept(alloc)? else {
         return Ok(None);
     };
@@ -105,6 +108,14 @@ fn opened(alloc: Global) -> Result<Option<Closure>, NoMemory> {
     }
 }
 
+/// Whether the key's entries are taken back with it.
+fn is_taken_back(alloc: Global, mut closure: Closure) -> bool
+    requires { nodes (labels_of closure) ≡ 5 }
+{
+    closure.take_back();
+    closure.entries().len() == 2 && is_refused(alloc, &closure, 1)
+}
+
 #[test]
 fn a_late_key_opens_a_kept_entry(rt: HostRuntime) -> Result<(), NoMemory> {
     match opened(rt.alloc())? {
@@ -112,31 +123,8 @@ fn a_late_key_opens_a_kept_entry(rt: HostRuntime) -> Result<(), NoMemory> {
         Some(closure) => {
             assert!(rt; has_body(closure.entries()));
             assert!(rt; is_entry(rt.alloc(), &closure, 0, 0));
+            assert!(rt; is_taken_back(rt.alloc(), closure), "the last label");
         }
     }
-    Ok(())
-}
-
-/// Whether K's label is taken back with what it opened.
-fn is_taken_back(alloc: Global, mut closure: Closure) -> Result<bool, NoMemory>
-    requires { nodes (labels_of closure) ≡ 4 }
-{
-    let _ = closure.add(alloc, &Term::Atom(1))?;
-    let entries = closure.entries().len();
-    closure.take_back();
-    Ok(entries == 4 && closure.entries().len() == 2 && is_refused(alloc, &closure, 1))
-}
-
-/// The same of the closure of X and X sealed under K.
-fn takes_back(alloc: Global) -> Result<bool, NoMemory> {
-    match kept(alloc)? {
-        None => Ok(false),
-        Some(closure) => is_taken_back(alloc, closure),
-    }
-}
-
-#[test]
-fn the_last_label_is_taken_back(rt: HostRuntime) -> Result<(), NoMemory> {
-    assert!(rt; takes_back(rt.alloc())?);
     Ok(())
 }
