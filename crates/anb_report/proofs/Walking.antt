@@ -10,8 +10,8 @@ opens (make o ns) = []
 opens (undo o ks n) = n ∷ []
 opens (equal a b) = []
 
--- registers that are looked at as a whole, that came with an arrival or with what was taken apart, and that are
--- neither changed
+-- registers that are looked at as a whole, that came with an arrival or with what was taken apart, and that aren't
+-- changed
 module _ (whole brought fixed : ℕ → Bool) where
   -- a built register didn't come, and where it is looked at so is what it is built of
   pub record MakesWell (ns : List ℕ) (next : ℕ) : Type 0 where
