@@ -21,7 +21,7 @@ import sys
 import tempfile
 import time
 
-SHIM = "import sys; sys.path.insert(0, {folder!r}); import gate; gate.noted({prover!r}, {log!r}, {run!r})"
+SHIM = "import sys; sys.path.insert(0, {folder!r}); import gate; gate.noted({prover!r}, {log!r}, {root!r}, {run!r})"
 
 
 PARTS = ("proof", "tests", "edits")
@@ -34,7 +34,28 @@ def part_of(words, folder):
     return "tests" if "--test" in words else "proof"
 
 
-def noted(prover, log, run=None):
+def edit_in(folder, crate):
+    """The name of the edit that stands in this copy of a crate, or None where it is as it was."""
+    def text_of(path):
+        with open(path) as file:
+            return file.read()
+
+    for edit in glob.glob(f"{crate}/must-fail/*.edit"):
+        path, old, texts = "", "", {}
+        for line in text_of(edit).split("\n"):
+            word, _, rest = line.partition(": ")
+            if word == "file":
+                path = rest.strip()
+            elif word == "old":
+                old = rest
+            elif word.startswith("new"):
+                texts[path] = texts.get(path, text_of(f"{crate}/{path}")).replace(old, rest)
+        if all(text_of(f"{folder}/{it}") == text for it, text in texts.items()):
+            return os.path.basename(edit).removesuffix(".edit")
+    return None
+
+
+def noted(prover, log, root, run=None):
     """Runs the prover in place of this program, and notes its processor seconds."""
     words, begun = sys.argv[1:], time.time()
     child = os.fork()
@@ -44,11 +65,14 @@ def noted(prover, log, run=None):
         signal.signal(number, lambda number, _: os.kill(child, number))
     _, status, used = os.wait4(child, 0)
     if "--crate-name" in words:
+        crate, part = words[words.index("--crate-name") + 1], part_of(words, os.getcwd())
         note = {
-            "crate": words[words.index("--crate-name") + 1],
-            "part": part_of(words, os.getcwd()),
+            "crate": crate,
+            "part": part,
+            "edit": edit_in(os.getcwd(), f"{root}/crates/{crate}") if part == "edits" else None,
             "run": run,
             "processor": used.ru_utime + used.ru_stime,
+            "begun": begun,
             "wall": time.time() - begun,
         }
         with open(log, "a") as file:
@@ -128,7 +152,7 @@ def main(words):
         module, prover = gate(shim)
         folder, begun = os.path.dirname(os.path.abspath(__file__)), time.time()
         with open(shim, "w") as file:
-            file.write(f"#!{sys.executable}\n{SHIM.format(folder=folder, prover=prover, log=log, run=begun)}\n")
+            file.write(f"#!{sys.executable}\n{SHIM.format(folder=folder, prover=prover, log=log, root=os.getcwd(), run=begun)}\n")
         os.chmod(shim, 0o755)
         try:
             status = (0 if some(module, words) else 1) if words else module.main(["ci"])

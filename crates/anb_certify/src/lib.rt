@@ -22,6 +22,7 @@ pub use certifying::certify;
 pub use laws::{
     certified_fits, classes_are_tied, none_is_both, refusals_are_unique, shut_has_none,
 };
+pub use numbers::{composing, marks, put_all};
 pub use reasons::{Refusal, reason};
 pub use refusal::CertifyNo;
 pub use shut_lists::shut;

@@ -11,8 +11,9 @@ use anb_intern::{Node, NodeId, Pool};
 use anb_term::{NoMemory, Term};
 use std::alloc::Global;
 
-/// The numbers of these terms, which are put in as far as they aren't there yet.
-pub(crate) fn put_all(
+/// The numbers of these terms, which are put in as far as they aren't there yet. Each node of the terms
+/// is looked up once.
+pub fn put_all(
     alloc: Global,
     pool: &mut Pool,
     terms: &[Term],
@@ -29,8 +30,9 @@ pub(crate) fn put_all(
     Ok(ids)
 }
 
-/// For each number, whether it is one of these.
-pub(crate) fn marks(alloc: Global, pool: &Pool, ids: &[NodeId]) -> Result<Vec<bool>, NoMemory>
+/// For each number of the pool, whether it is one of these. This takes a flag for each number, and a
+/// look at each of these.
+pub fn marks(alloc: Global, pool: &Pool, ids: &[NodeId]) -> Result<Vec<bool>, NoMemory>
     requires { AreUnder (length pool.now) ids.now }
     ensures { IfOk result (λ flags.
         flags.items ≡ map (is_among (operands_at pool.now ids.now)) pool.now) }
@@ -49,8 +51,9 @@ pub(crate) fn same_flags(alloc: Global, count: usize, flag: bool) -> Result<Vec<
     Ok(vec![in alloc; flag; count]?)
 }
 
-/// For each number, whether its term composes from the terms with a mark.
-pub(crate) fn composing(alloc: Global, pool: &Pool, marks: &[bool]) -> Result<Vec<bool>, NoMemory>
+/// For each number of the pool, whether its term composes from the terms with a mark. This looks at each
+/// operand of each number once.
+pub fn composing(alloc: Global, pool: &Pool, marks: &[bool]) -> Result<Vec<bool>, NoMemory>
     requires { length marks.now ≡ length pool.now }
     ensures { IfOk result (λ flags. (S : List Tree) → marks.now ≡ map (is_among S) pool.now
         → flags.items ≡ map (composes S) pool.now) }

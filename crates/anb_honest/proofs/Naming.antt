@@ -6,7 +6,9 @@ use Rattle.std.specs.Str.{bytes_eq}
 use Rattle.std.proofs.lemmas.List.{length-map, map-append}
 use Rattle.std.proofs.lemmas.List.Elements.{filter-append, All-nil, All-cons}
 use Rattle.anb_lemmas.proofs.Each.{take_next}
+use Rattle.anb_base.specs.declared.TheConstants.{SMALL_FILE}
 use Rattle.anb_resolve.specs.Protocols.{ProtocolValue}
+use Rattle.anb_honest.specs.declared.TheConstants.{TURNS}
 use Rattle.anb_honest.specs.Words.{is_blank, is_word, words_of, role_of, names_none}
 use Rattle.anb_honest.proofs.Wording.{few_words}
 use Rattle.anb_honest.proofs.Valuing.{dropped}
@@ -30,7 +32,7 @@ joined [] (suc i) = refl
 joined (x ∷ xs) (suc i) = ap (λ l. x ∷ l) (joined xs i)
 
 -- there are few
-pub few_named : (p : ProtocolValue) (text turns : List ℕ) (k : ℕ) → length text ≤ 1048576 → AreNamed p turns (filter is_word (take k (slice_split is_blank text))) → length turns ≤ 524288
+pub few_named : (p : ProtocolValue) (text turns : List ℕ) (k : ℕ) → length text ≤ SMALL_FILE → AreNamed p turns (filter is_word (take k (slice_split is_blank text))) → length turns ≤ TURNS
 few_named p text turns k small named =
     let parts = slice_split is_blank text in
     let whole : words_of text ≡ filter is_word (take k parts) ++ filter is_word (drop k parts) = ap (filter is_word) (sym (joined parts k)) ∙ filter-append is_word (take k parts) (drop k parts) in

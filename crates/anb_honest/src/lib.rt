@@ -22,3 +22,6 @@ pub use order::follows;
 pub use rehearsing::rehearse;
 pub use report::{Messages, RehearseEnd, Report};
 pub use words::{ScheduleNo, schedule};
+
+/// The most turns of a schedule: a name and a blank have two bytes, and a schedule is a small file.
+pub const TURNS: u32 = 524_288;

@@ -2,6 +2,7 @@
 ghost use Rattle.std.specs.Prelude.{◌≡◌, ◌<◌, ◌≤◌, length, All, IfOk};
 ghost use Rattle.anb_base.specs.declared.TheConstants.{ARRIVAL};
 ghost use Rattle.anb_resolve.specs.Texts.{known_names};
+ghost use Rattle.anb_honest.specs.declared.TheConstants.{TURNS};
 ghost use Rattle.anb_honest.specs.Order.{FollowRoles};
 ghost use Rattle.anb_honest.specs.Joint.{cast, joint};
 
@@ -31,7 +32,7 @@ pub fn rehearse(
     requires atoms { length atoms.now ≡ length (known_names p.now) }
     requires short { All (λ value. length value ≤ ARRIVAL) atoms.now }
     requires roles { All (λ role. role < length p.now.roles) turns.now }
-    requires few { length turns.now ≤ 524288 }
+    requires few { length turns.now ≤ TURNS }
     ensures { IfOk result (λ end.
         end ≡ joint (cast p.now codes.now atoms.now seed.now) turns.now) }
 {

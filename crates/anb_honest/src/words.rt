@@ -1,6 +1,8 @@
 //! Schedules from their texts.
 ghost use Rattle.std.specs.Prelude.{◌≡◌, ◌<◌, ◌≤◌, ◌+◌, ◌++◌, ℕ, [], ◌∷◌, length, map, filter, true, All, IfOk, OnOk, Some, None, Err};
 ghost use Rattle.std.specs.List.{position_from};
+ghost use Rattle.anb_base.specs.declared.TheConstants.{SMALL_FILE};
+ghost use Rattle.anb_honest.specs.declared.TheConstants.{TURNS};
 ghost use Rattle.anb_honest.specs.declared.words.ScheduleNo.TheVariants as refusal;
 ghost use Rattle.anb_honest.specs.Words.{is_blank, is_word, names_none, role_of, words_of};
 
@@ -25,13 +27,13 @@ impl<T: Drop> From<AllocFailed<T>> for ScheduleNo {
 
 /// Reads a schedule: names of roles, between blanks. The answer has their numbers.
 pub fn schedule(alloc: Global, p: &Protocol, text: &[u8]) -> Result<Vec<u32>, ScheduleNo>
-    requires { length text.now ≤ 1048576 }
+    requires { length text.now ≤ SMALL_FILE }
     ensures turns { IfOk result (λ turns.
         map Some turns.items ≡ map (role_of p.now) (words_of text.now)) }
     ensures refused { (n : ℕ) → result ≡ Err (ScheduleNo.BadTurn n)
         → position_from (names_none p.now) 1 (words_of text.now) ≡ Some n }
     ensures roles { IfOk result (λ turns. All (λ role. role < length p.now.roles) turns.items) }
-    ensures few { IfOk result (λ turns. length turns.items ≤ 524288) }
+    ensures few { IfOk result (λ turns. length turns.items ≤ TURNS) }
 {
     let mut turns = Vec::new(alloc);
     for word in text.split(|byte| is_blank(*byte)) {
@@ -44,7 +46,7 @@ pub fn schedule(alloc: Global, p: &Protocol, text: &[u8]) -> Result<Vec<u32>, Sc
 
 /// Appends the number of the role that a word names, unless the word is empty.
 fn put_turn(p: &Protocol, turns: &mut Vec<u32>, word: &[u8]) -> Result<(), ScheduleNo>
-    requires { length turns.old.items < 1048576 }
+    requires { length turns.old.items < SMALL_FILE }
     ensures turns { OnOk result (map Some turns.new.items
         ≡ map Some turns.old.items ++ map (role_of p.now) (filter is_word (word.now ∷ []))) }
     ensures refused { (n : ℕ) → result ≡ Err (ScheduleNo.BadTurn n)

@@ -3,7 +3,7 @@ ghost use Rattle.std.specs.Prelude.{◌≡◌, ◌<◌, ◌≤◌, length, All, 
 ghost use Rattle.anb_base.specs.declared.TheConstants.{ARRIVAL};
 ghost use Rattle.anb_honest.specs.Order.{FollowRoles, FollowsRole};
 
-use anb_base::{ARRIVAL, Bytes};
+use anb_base::{ARRIVAL, Bytes, SMALL_FILE};
 use anb_code::RoleCode;
 use anb_honest::{RehearseEnd, Report, follows, rehearse, schedule};
 use anb_resolve::Protocol;
@@ -22,7 +22,7 @@ pub(crate) fn ends_with(
     a: &str,
     b: &str,
 ) -> Result<RehearseEnd, Fail> {
-    assert!(rt; narration.len() <= 1_048_576);
+    assert!(rt; narration.len() <= SMALL_FILE as usize);
     let p = protocol_in(alloc, narration.as_bytes())?;
     let mut codes = Vec::new(alloc);
     codes.push(loaded(rt, alloc, a)?)?;
@@ -69,7 +69,7 @@ fn ends(
     assert_follow(rt, alloc, p, codes)?;
     let values = values(alloc, digits)?;
     assert!(rt; p.atoms(alloc)?.len() == values.len());
-    assert!(rt; text.len() <= 1_048_576);
+    assert!(rt; text.len() <= SMALL_FILE as usize);
     let turns = schedule(alloc, p, text.as_bytes())?;
     Ok(rehearse(alloc, p, codes, &values, &[0; 32], &turns)?)
 }

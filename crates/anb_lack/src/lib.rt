@@ -5,7 +5,6 @@
 //! from these terms. Each line ends with the byte 0A.
 #![tactic(auto)]
 
-mod composing;
 mod laws;
 mod lines;
 mod origins;

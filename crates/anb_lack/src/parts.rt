@@ -8,7 +8,7 @@ ghost use Rattle.anb_certify.specs.Decided.{composes};
 ghost use Rattle.anb_lack.specs.Listing.{IsListing};
 ghost use Rattle.anb_lack.specs.Parts.{lacking, lacks, parts, parts_of_all};
 
-use crate::composing::{composing, marks, put_all};
+use anb_certify::{composing, marks, put_all};
 use anb_intern::{Node, NodeId, Pool};
 use anb_term::{NoMemory, Term};
 use std::alloc::Global;

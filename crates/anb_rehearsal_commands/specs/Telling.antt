@@ -6,6 +6,7 @@ use Rattle.anb_base.specs.Moves.{Put, PutPrefix}
 use Rattle.anb_base.specs.declared.TheConstants.{ARRIVAL}
 use Rattle.anb_code.specs.CodeValue.{CodeValue}
 use Rattle.anb_compile.specs.Fitting.{FitRoles}
+use Rattle.anb_honest.specs.declared.TheConstants.{TURNS}
 use Rattle.anb_honest.specs.declared.report.RehearseEnd.{RehearseEnd}
 use Rattle.anb_honest.specs.declared.report.RehearseEnd.TheVariants.{AllDone, Part, Stopped, LongMessage}
 use Rattle.anb_honest.specs.Honest.{AreHonest, honest_end}
@@ -26,7 +27,7 @@ pub record CanRehearse (p : ProtocolValue) (codes : List CodeValue) (values : Li
   pub bytes : AllByRecursion IsBytes values
   pub short : All (λ value. length value ≤ ARRIVAL) values
   pub roles : All (λ role. role < length p.roles) turns
-  pub few : length turns ≤ 524288
+  pub few : length turns ≤ TURNS
 
 abbrev pub setting_by : ProtocolValue → (values : List (List ℕ)) → (seed : List ℕ) → Setting
 setting_by p values seed = record { protocol = p; values = values; seed = seed }

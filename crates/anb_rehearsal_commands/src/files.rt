@@ -5,6 +5,7 @@ ghost use Rattle.anb_base.specs.Bytes.{IsBytes};
 ghost use Rattle.anb_base.specs.Moves.{Rose};
 ghost use Rattle.anb_base.specs.declared.TheConstants.{ARRIVAL};
 ghost use Rattle.anb_compile.specs.Fitting.{FitRoles};
+ghost use Rattle.anb_honest.specs.declared.TheConstants.{TURNS};
 ghost use Rattle.anb_resolve.specs.Plays.{IsSendable};
 ghost use Rattle.anb_resolve.specs.Texts.{known_names};
 ghost use Rattle.anb_command.specs.Fetches.{Fetches, IfTold, IsOneOf};
@@ -201,7 +202,7 @@ fn schedule_in_file<F: Shelf>(
     ensures given { IfOk result (λ turns. IfTold (F.files shelf.old) (λ files.
         ScheduleInFile files name.now protocol.now (given turns.items))) }
     ensures roles { IfOk result (λ turns. All (λ role. role < length protocol.now.roles) turns.items) }
-    ensures few { IfOk result (λ turns. length turns.items ≤ 524288) }
+    ensures few { IfOk result (λ turns. length turns.items ≤ TURNS) }
     ensures refused { IfErr result (λ status. IsFailure status
         (λ file. (file ≡ name.now) × Rose (F.faults shelf.old file) (F.faults shelf.new file))
         (IfTold (F.files shelf.old) (λ files.
@@ -221,7 +222,7 @@ fn schedule_of_text(alloc: Global, protocol: &Protocol, text: &[u8]) -> Result<V
     requires { length text.now ≤ SCHEDULE_LIMIT }
     ensures given { IfOk result (λ turns. ScheduleIs protocol.now text.now (given turns.items)) }
     ensures roles { IfOk result (λ turns. All (λ role. role < length protocol.now.roles) turns.items) }
-    ensures few { IfOk result (λ turns. length turns.items ≤ 524288) }
+    ensures few { IfOk result (λ turns. length turns.items ≤ TURNS) }
     ensures refused { IfErr result (λ status. IsFailure status (λ file. ⊥)
         (ScheduleIs protocol.now text.now (refused status))) }
     ensures early { IfErr result IsEarly }

@@ -2,6 +2,7 @@
 ghost use Rattle.std.specs.Prelude.{◌≡◌, ◌⊎◌, ◌<◌, ◌≤◌, [], ◌∷◌, length, Some, false, All};
 ghost use Rattle.anb_base.specs.declared.TheConstants.{ARRIVAL};
 ghost use Rattle.anb_base.specs.declared.place.Place.TheVariants as place;
+ghost use Rattle.anb_honest.specs.declared.TheConstants.{TURNS};
 ghost use Rattle.anb_honest.specs.Joint.{cast, joint};
 ghost use Rattle.anb_honest.specs.Order.{FollowRoles};
 ghost use Rattle.anb_resolve.specs.Texts.{known_names};
@@ -98,7 +99,7 @@ fn rehearse_now<W: Wire>(alloc: Global, wire: &mut W, prepared: &Prepared) -> St
     requires short { All (λ value. length value ≤ ARRIVAL) prepared.now.staged.values }
     requires roles { All (λ role. role < length prepared.now.staged.protocol.roles)
         prepared.now.turns.items }
-    requires few { length prepared.now.turns.items ≤ 524288 }
+    requires few { length prepared.now.turns.items ≤ TURNS }
     requires goes_on { GoesOn (joint (cast prepared.now.staged.protocol
         prepared.now.staged.codes.items prepared.now.staged.values prepared.now.staged.seed)
         prepared.now.turns.items) }
