@@ -3,10 +3,11 @@ use Rattle.std.proofs.Common.{◌≡◌, ◌<◌, ℕ, List, [], length, get_or,
 use Rattle.std.specs.Prelude.{slice_get, ◌==◌}
 use Rattle.std.specs.Option.{option_map_or}
 use Rattle.std.proofs.lemmas.Bool.{eq-eqb, eqb-true, and_parts}
-use Rattle.anb_format.specs.Formats.{FormatValue, field_count, is_sound}
+use Rattle.anb_lemmas.proofs.Lists.{got_within}
+use Rattle.anb_format.specs.Formats.{FormatValue, field_count, is_sound, pieces_at}
 use Rattle.anb_term.specs.declared.term.Op.TheVariants.{Format}
-use Rattle.anb_term.proofs.Lists.{slice_get-at, slice_get-within}
-use Rattle.anb_algebra.specs.ByteMeaning.{has_operator, pieces_at, StandsAt}
+use Rattle.anb_term.proofs.Lists.{slice_get-at}
+use Rattle.anb_algebra.specs.ByteMeaning.{has_operator, StandsAt}
 
 operators_at : (found : Option FormatValue) (fields : ℕ) → ((format : FormatValue) → found ≡ Some format → is_sound format.pieces ≡ true)
     → (option_map_or (λ (format : FormatValue). is_sound format.pieces && (field_count format.pieces == fields)) found false ≡ true → (format : FormatValue) × (found ≡ Some format) × (field_count format.pieces ≡ fields))
@@ -29,7 +30,7 @@ has_place (Some format) fields e = (format, refl)
 
 -- an operator's format stands in the list
 pub has_within : (formats : List FormatValue) (i fields : ℕ) → has_operator formats (Format i fields) ≡ true → i < length formats
-has_within formats i fields e = let there = has_place (slice_get formats i) fields e in slice_get-within formats i there.0 there.1
+has_within formats i fields e = let there = has_place (slice_get formats i) fields e in got_within formats i there.0 there.1
 
 pub pieces_at-there : (formats : List FormatValue) (i : ℕ) (format : FormatValue) → i < length formats → format ≡ get_or formats i format → pieces_at formats i ≡ format.pieces
 pieces_at-there formats i format h e = ap (λ (found : Option FormatValue). option_map_or (λ (f : FormatValue). f.pieces) found []) (slice_get-at formats i format h e)

@@ -1,8 +1,9 @@
 -- The values that stand at some places of a table.
-use Rattle.std.proofs.Common.{◌≡◌, ◌<◌, ℕ, zero, suc, List, [], ◌∷◌, length, get_or, Some, refl, ap, arith}
+use Rattle.std.proofs.Common.{◌≡◌, ◌<◌, ℕ, zero, suc, List, [], ◌∷◌, length, get_or, Some, refl, ap, arith, IsTrue}
 use Rattle.std.specs.Prelude.{slice_get}
 use Rattle.std.specs.List.{All, AllByRecursion}
 use Rattle.std.proofs.lemmas.List.Elements.{recursion_from_All}
+use Rattle.anb_base.specs.Bytes.{IsBytes, is_bytes, IsBytes-pass, is_bytes-IsBytes}
 use Rattle.anb_term.specs.Lawful.{picked}
 use Rattle.anb_term.proofs.Lists.{slice_get-there}
 
@@ -39,3 +40,11 @@ two_picked _ a b n ea eb = absurd (omega (arith, n))
 pub three_picked : (xs : List (List ℕ)) (a b c : List ℕ) → length xs ≡ 3 → slice_get xs 0 ≡ Some a → slice_get xs 1 ≡ Some b → slice_get xs 2 ≡ Some c → xs ≡ a ∷ b ∷ c ∷ []
 three_picked (x ∷ y ∷ z ∷ []) a b c n ea eb ec = cc
 three_picked _ a b c n ea eb ec = absurd (omega (arith, n))
+
+pub strings : (bs : List (List ℕ)) → AllByRecursion (λ b. IsTrue (is_bytes b)) bs → AllByRecursion IsBytes bs
+strings [] all = tt
+strings (b ∷ bs) all = (IsBytes-pass b all.0, strings bs all.1)
+
+pub tests : (bs : List (List ℕ)) → AllByRecursion IsBytes bs → AllByRecursion (λ b. IsTrue (is_bytes b)) bs
+tests [] all = tt
+tests (b ∷ bs) all = (is_bytes-IsBytes b all.0, tests bs all.1)

@@ -8,8 +8,10 @@ use Rattle.std.proofs.lemmas.List.Elements.{recursion_from_All, All-from_recursi
 use Rattle.std.proofs.lemmas.Slice.Eq.{bytes_eq-Decides}
 use Rattle.anb_base.specs.Bytes.{IsBytes, is_bytes, IsBytes-pass, is_bytes-IsBytes}
 use Rattle.anb_base.specs.declared.content.Suite.{Suite}
-use Rattle.anb_format.specs.Formats.{FormatValue, field_count, format_bytes, is_sound}
-use Rattle.anb_format.proofs.Facts.{IsSound-pass, IsParts-parts_of, parts_of-format_bytes, IsBytes-format_bytes}
+use Rattle.anb_format.specs.Formats.{FormatValue, field_count, format_bytes, is_sound, pieces_at}
+use Rattle.anb_format.proofs.Facts.{parts_of-format_bytes, IsBytes-format_bytes}
+use Rattle.anb_format.proofs.BuiltLemmas.{sound_test}
+use Rattle.anb_format.proofs.ReadingLemmas.{parts_of-builds}
 use Rattle.anb_seal.specs.Primitives.{sealed, unsealed, wrapped, unwrapped}
 use Rattle.anb_seal.proofs.ByteLemmas.{bytes-hash_of, bytes-mac_of}
 use Rattle.anb_seal.proofs.SealLemmas.{unsealed_exactly, unwrapped_exactly, bytes-sealed, bytes-unsealed, bytes-wrapped, bytes-unwrapped}
@@ -17,7 +19,7 @@ use Rattle.anb_term.specs.declared.term.Op.{Op}
 use Rattle.anb_term.specs.declared.term.Op.TheVariants.{Hash, Mac, Seal, Wrap, Format}
 use Rattle.anb_term.specs.Operator.{arity, keys, undoable}
 use Rattle.anb_term.specs.Lawful.{Lawful}
-use Rattle.anb_algebra.specs.ByteMeaning.{has_operator, pieces_at, built_bytes, undone_bytes, byte_meaning}
+use Rattle.anb_algebra.specs.ByteMeaning.{has_operator, built_bytes, undone_bytes, byte_meaning}
 
 all_strings : (bs : List (List ℕ)) → AllByRecursion (λ b. IsTrue (is_bytes b)) bs → AllByRecursion IsBytes bs
 all_strings [] all = tt
@@ -41,7 +43,7 @@ AllBytes bs = AllByRecursion (λ b. IsTrue (is_bytes b)) bs
 builds_bytes : (formats : List FormatValue) (suite : Suite) (op : Op) (xs : List (List ℕ)) → has_operator formats op ≡ true → length xs ≡ arity op → AllBytes xs → is_bytes (built_bytes formats suite op xs) ≡ true
 builds_bytes formats suite (Format i fields) xs h n v =
     let there = format_there (slice_get formats i) fields h in
-    is_bytes-IsBytes (format_bytes (pieces_at formats i) xs) (IsBytes-format_bytes (pieces_at formats i) xs (IsSound-pass (pieces_at formats i) there.0) (all_strings xs v))
+    is_bytes-IsBytes (format_bytes (pieces_at formats i) xs) (IsBytes-format_bytes (pieces_at formats i) xs (sound_test (pieces_at formats i) there.0) (all_strings xs v))
 builds_bytes formats suite Hash (m ∷ []) h n v = bytes-hash_of suite m
 builds_bytes formats suite Mac (k ∷ m ∷ []) h n v = bytes-mac_of suite k m
 builds_bytes formats suite Seal (k ∷ m ∷ []) h n v = bytes-sealed suite k m v.1.0
@@ -70,7 +72,7 @@ undoes_bytes formats suite Wrap (k ∷ d ∷ []) ps v u h n vv e =
     subst P part.2 ((unwrapped_exactly suite k d v part.0).0 part.1, refl, (bytes-unwrapped suite k d v part.0 vv part.1, tt))
 undoes_bytes formats suite (Format i fields) [] ps v u h n vv e =
     let there = format_there (slice_get formats i) fields h in
-    let parts = IsParts-parts_of (pieces_at formats i) v ps e in
+    let parts = parts_of-builds (pieces_at formats i) v ps e in
     (parts.built, parts.count ∙ there.1, all_tests ps parts.strings)
 undoes_bytes formats suite _ _ ps v u h n vv e = absurd (omega (arith, n))
 
@@ -82,7 +84,7 @@ undone_of_bytes formats suite Seal (k ∷ []) (m ∷ []) u h n c v = ap (option_
 undone_of_bytes formats suite Wrap (k ∷ d ∷ []) (m ∷ []) u h n c v = ap (option_map (λ m. m ∷ [])) ((unwrapped_exactly suite k d (wrapped suite k d m) m).1 refl)
 undone_of_bytes formats suite (Format i fields) [] ps u h n c v =
     let there = format_there (slice_get formats i) fields h in
-    parts_of-format_bytes (pieces_at formats i) ps (IsSound-pass (pieces_at formats i) there.0) (c ∙ sym there.1) (all_strings ps v)
+    parts_of-format_bytes (pieces_at formats i) ps (sound_test (pieces_at formats i) there.0) (c ∙ sym there.1) (all_strings ps v)
 undone_of_bytes formats suite _ _ _ u h n c v = absurd (omega (arith, n, c))
 
 never_bytes : (formats : List FormatValue) (suite : Suite) (op : Op) (ks : List (List ℕ)) (v : List ℕ) → undoable op ≡ false → undone_bytes formats suite op ks v ≡ None
@@ -98,7 +100,7 @@ counts_bytes formats suite Hash ks ps v u h n e = absurd (cc u)
 counts_bytes formats suite Mac ks ps v u h n e = absurd (cc u)
 counts_bytes formats suite Seal (k ∷ []) ps v u h n e = let part = one_part (unsealed suite k v) ps e in ap (λ (qs : List (List ℕ)). length (k ∷ qs)) (sym part.2)
 counts_bytes formats suite Wrap (k ∷ d ∷ []) ps v u h n e = let part = one_part (unwrapped suite k d v) ps e in ap (λ (qs : List (List ℕ)). length (k ∷ d ∷ qs)) (sym part.2)
-counts_bytes formats suite (Format i fields) [] ps v u h n e = (IsParts-parts_of (pieces_at formats i) v ps e).count ∙ (format_there (slice_get formats i) fields h).1
+counts_bytes formats suite (Format i fields) [] ps v u h n e = (parts_of-builds (pieces_at formats i) v ps e).count ∙ (format_there (slice_get formats i) fields h).1
 counts_bytes formats suite _ _ ps v u h n e = absurd (omega (arith, n))
 
 pub bytes_are_lawful : (formats : List FormatValue) (suite : Suite) → Lawful (byte_meaning formats suite)

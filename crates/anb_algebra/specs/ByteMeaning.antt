@@ -5,7 +5,7 @@ use Rattle.std.specs.Str.{bytes_eq}
 use Rattle.anb_base.specs.Bytes.{is_bytes}
 use Rattle.anb_base.specs.declared.content.Suite.{Suite}
 use Rattle.anb_format.specs.declared.pieces.Piece.{Piece}
-use Rattle.anb_format.specs.Formats.{FormatValue, field_count, format_bytes, is_sound}
+use Rattle.anb_format.specs.Formats.{FormatValue, field_count, format_bytes, is_sound, pieces_at}
 use Rattle.anb_format.specs.Reading.{parts_of}
 use Rattle.anb_seal.specs.Primitives.{hash_of, mac_of, sealed, unsealed, wrapped, unwrapped}
 use Rattle.anb_term.specs.declared.term.Op.{Op}
@@ -20,9 +20,6 @@ StandsAt formats i arity = (format : FormatValue) × (slice_get formats i ≡ So
 abbrev pub has_operator : List FormatValue → Op → Bool
 has_operator formats (Format i arity) = option_map_or (λ (format : FormatValue). is_sound format.pieces && (field_count format.pieces == arity)) (slice_get formats i) false
 has_operator formats op = true
-
-abbrev pub pieces_at : List FormatValue → ℕ → List Piece
-pieces_at formats i = option_map_or (λ (format : FormatValue). format.pieces) (slice_get formats i) []
 
 -- what an operator builds; on another number of operands it has no use
 abbrev pub built_bytes : List FormatValue → Suite → Op → List (List ℕ) → List ℕ

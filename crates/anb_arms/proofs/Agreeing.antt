@@ -4,25 +4,28 @@ use Rattle.std.specs.Prelude.{slice_get, not, ◌||◌, if◌then◌else◌}
 use Rattle.std.specs.Option.{option_map, option_map_or}
 use Rattle.std.specs.List.{AllByRecursion, list_any}
 use Rattle.std.specs.Str.{bytes_eq}
-use Rattle.std.proofs.lemmas.List.{take-append-drop}
+use Rattle.std.proofs.lemmas.List.{take-append-drop, map-append}
+use Rattle.anb_index.specs.Places.{among}
+use Rattle.anb_lemmas.proofs.Options.{none_mapped}
+use Rattle.anb_lemmas.proofs.Each.{each_got, each_as}
 use Rattle.anb_base.specs.declared.content.Suite.{Suite}
 use Rattle.anb_format.specs.Formats.{FormatValue}
 use Rattle.anb_term.specs.Tree.{Tree}
 use Rattle.anb_term.specs.Value.{Meaning}
 use Rattle.anb_seal.specs.Streams.{draw_of}
 use Rattle.anb_algebra.specs.ByteMeaning.{byte_meaning}
-use Rattle.anb_plays.specs.Plans.{Event, know, fresh, send, recv, known}
+use Rattle.anb_plays.specs.Plans.{Event, know, recv, known}
 use Rattle.anb_plays.specs.Plays.{Played, Judge, Walk, Play}
+use Rattle.anb_plays.proofs.Plays.{known-append}
 use Rattle.anb_resolve.specs.Choices.{refuse_if}
-use Rattle.anb_resolve.specs.Names.{among}
 use Rattle.anb_resolve.specs.Protocols.{ProtocolValue, role_number}
 use Rattle.anb_resolve.specs.Plans.{PlanEvent, to_know, to_make, to_send, to_receive}
 use Rattle.anb_resolve.specs.Plays.{event_of, events_of, meaning_of, IsPlay}
-use Rattle.anb_resolve.proofs.PlanLaws.{knows_first, map-append}
+use Rattle.anb_resolve.proofs.PlanLaws.{knows_first}
 use Rattle.anb_branch.specs.Lawful.{BranchedValue, IsLawful, IsLike, AreAlike, roles_in, plan_named, stem_len, stem_part, arm_part, is_free, received_format, told_by, tells, unseen_in, blind_in}
 use Rattle.anb_arms.specs.Taken.{count_receives, receives_in}
 use Rattle.anb_arms.specs.Laws.{ArmsPlayAlike}
-use Rattle.anb_arms.proofs.Members.{of_among, none_first, none_mapped, none_after, each_at}
+use Rattle.anb_arms.proofs.Members.{of_among, none_first, none_after}
 
 -- ---- walks
 
@@ -42,15 +45,8 @@ module _ {A : Type 0} (m : Meaning A) (draw : ℕ → A) (t u : Tree) (es fs : L
 
 -- ---- what is known
 
-known_joined : (xs ys : List Event) → known (xs ++ ys) ≡ known xs ++ known ys
-known_joined [] ys = refl
-known_joined (know t ∷ xs) ys = ap (λ l. t ∷ l) (known_joined xs ys)
-known_joined (fresh t ∷ xs) ys = known_joined xs ys
-known_joined (send t ∷ xs) ys = known_joined xs ys
-known_joined (recv t ∷ xs) ys = known_joined xs ys
-
 tail_known : (ts : List Tree) (rest S es : List Event) (t : Tree) → map know ts ++ rest ≡ S ++ (recv t ∷ es) → known rest ≡ [] → known es ≡ []
-tail_known [] rest S es t is none = last (known S) (known es) (sym (known_joined S (recv t ∷ es)) ∙ ap known (sym is) ∙ none) where
+tail_known [] rest S es t is none = last (known S) (known es) (sym (known-append S (recv t ∷ es)) ∙ ap known (sym is) ∙ none) where
   last : (xs ys : List Tree) → xs ++ ys ≡ [] → ys ≡ []
   last [] ys e = e
   last (x ∷ xs) ys e = cc
@@ -58,7 +54,7 @@ tail_known (v ∷ ts) rest [] es t is none = cc
 tail_known (v ∷ ts) rest (s ∷ S) es t is none = (let e : map know ts ++ rest ≡ S ++ (recv t ∷ es) = cc in tail_known ts rest S es t e none)
 
 known_part : (S es : List Event) (t : Tree) → known es ≡ [] → known (S ++ (recv t ∷ es)) ≡ known S
-known_part S es t none = known_joined S (recv t ∷ es) ∙ ap (λ l. known S ++ l) none ∙ append-nil (known S)
+known_part S es t none = known-append S (recv t ∷ es) ∙ ap (λ l. known S ++ l) none ∙ append-nil (known S)
 
 -- ---- where a role sees the arm
 
@@ -91,10 +87,6 @@ tells_each before (Some i) h = (i, refl)
 mapped_each : {X Y : Type 0} (f : X → Y) (P : Y → Type 0) (xs : List X) → AllByRecursion P (map f xs) → AllByRecursion (λ x. P (f x)) xs
 mapped_each f P [] all = tt
 mapped_each f P (x ∷ xs) all = (all.0, mapped_each f P xs all.1)
-
-each_as : {X : Type 0} (P Q : X → Type 0) (xs : List X) → ((x : X) → P x → Q x) → AllByRecursion P xs → AllByRecursion Q xs
-each_as P Q [] f all = tt
-each_as P Q (x ∷ xs) f all = (f x all.0, each_as P Q xs f all.1)
 
 -- ---- arms of a lawful branched text
 
@@ -209,5 +201,5 @@ arms_alike b role law must i j p q at_p at_q init seed session arrivals few play
     let f = first_arm b role law must.is_role in
     let sees = sees_each b role law must.is_role must.other must.free in
     let short : length arrivals ≤ receives_in b.stem role f.one = omega (arith, few, ap (λ o. option_map_or (receives_in b.stem role) o 0) f.at) in
-    same_plays b.stem role init seed session arrivals played f.one p q (each_at (HasStem b.stem role f.one) b.arms i p f.stems at_p) (each_at (HasStem b.stem role f.one) b.arms j q f.stems at_q)
-    (each_at (Sees b.stem role) b.arms i p sees at_p) (each_at (Sees b.stem role) b.arms j q sees at_q) short plays
+    same_plays b.stem role init seed session arrivals played f.one p q (each_got (HasStem b.stem role f.one) b.arms i p f.stems at_p) (each_got (HasStem b.stem role f.one) b.arms j q f.stems at_q)
+    (each_got (Sees b.stem role) b.arms i p sees at_p) (each_got (Sees b.stem role) b.arms j q sees at_q) short plays

@@ -2,10 +2,9 @@
 use Rattle.std.proofs.Common.{◌≡◌, ℕ, List, [], ◌∷◌, ◌++◌, length, drop, sym, ap, ◌∙◌, subst, append_assoc, inl, inr}
 use Rattle.std.proofs.Math.Seq.{drop-append_seam}
 use Rattle.std.proofs.lemmas.List.{append-nil}
-use Rattle.anb_plays.specs.Plays.{Played, End, waiting, ends, says}
+use Rattle.anb_plays.specs.Plays.{Played, End, waiting, ends, says, Run}
 use Rattle.anb_plays.specs.Runs.{no_place, without_place}
 use Rattle.anb_machine.specs.Machines.{MachineValue, gives}
-use Rattle.anb_session.specs.Sessions.{Run}
 use Rattle.anb_arms.specs.Stems.{said, StandsBehind, AgreesAt, behind}
 
 -- ---- where a machine stands
@@ -99,11 +98,3 @@ pub behind_taken : (R F : Run) (past sent : List (List ℕ)) (b : List ℕ) (v :
 behind_taken R F past sent b v is st more =
     ap (λ (p : Played (List ℕ)). record p { sent = drop (length sent) p.sent }) (is more ∙ ap without_place (st.comes (b ∷ more)))
     ∙ ap (λ (l : List (List ℕ)). record (without_place (gives v (b ∷ more))) { sent = l }) (drop-append_seam sent (gives v (b ∷ more)).sent)
-
--- the messages that a machine dropped are those of R, where R waits
-pub same_sent : (R G F : Run) (past sent again : List (List ℕ)) (v u : MachineValue) (event other : ℕ)
-    → AgreesAt R G past → AgreesAt R F past → StandsBehind G past sent v → gives v [] ≡ ends (waiting event) []
-    → StandsBehind F past again u → gives u [] ≡ ends (waiting other) [] → again ≡ sent
-same_sent R G F past sent again v u event other a f st waits su waits_too =
-    sym (ap (λ (p : Played (List ℕ)). p.sent) (over_now R F past again u (waiting other) f su waits_too))
-    ∙ ap (λ (p : Played (List ℕ)). p.sent) (over_now R G past sent v (waiting event) a st waits)

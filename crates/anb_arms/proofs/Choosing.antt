@@ -5,13 +5,13 @@ use Rattle.std.specs.Option.{option_map_or}
 use Rattle.std.specs.List.{list_any}
 use Rattle.std.proofs.lemmas.List.{append-nil}
 use Rattle.anb_base.specs.Wires.{WireState}
-use Rattle.anb_plays.specs.Plays.{Played, End, stopped, waiting, done, ends}
-use Rattle.anb_plays.specs.Runs.{no_place, without_place}
+use Rattle.anb_plays.specs.Plays.{Played, waiting, done, ends, Run}
+use Rattle.anb_plays.specs.Runs.{without_place}
+use Rattle.anb_plays.proofs.Runs.{waiting_placeless}
 use Rattle.anb_code.specs.CodeValue.{CodeValue}
 use Rattle.anb_machine.specs.ByteRuns.{run_bytes}
 use Rattle.anb_machine.specs.Machines.{MachineValue, gives}
 use Rattle.anb_session.specs.declared.PlayEnd.{PlayEnd}
-use Rattle.anb_session.specs.Sessions.{Run}
 use Rattle.anb_branch.specs.Lawful.{BranchedValue, is_free}
 use Rattle.anb_arms.specs.Taken.{place_begun, stem_receives, run_at, run_taken}
 use Rattle.anb_arms.specs.Stems.{said, StandsBehind, AgreeUpTo, behind, Closes, Chooses, EndsBefore, RunsTo, WaitsAt}
@@ -24,11 +24,6 @@ slice_get_seam [] ys x zero e = refl
 slice_get_seam [] ys x (suc n) e = cc
 slice_get_seam (y ∷ xs) ys x zero e = cc
 slice_get_seam (y ∷ xs) ys x (suc n) e = slice_get_seam xs ys x n (omega (arith, e))
-
-waiting_placeless : (x : End) (event : ℕ) → no_place x ≡ waiting event → x ≡ waiting event
-waiting_placeless done event e = cc
-waiting_placeless (stopped k at) event e = cc
-waiting_placeless (waiting k) event e = e
 
 -- ---- a code that goes on behind what came before
 

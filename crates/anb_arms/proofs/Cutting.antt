@@ -1,7 +1,7 @@
 -- A plan cut at the choice, event by event.
-use Rattle.std.proofs.Common.{◌≡◌, ℕ, ◌+◌, ◌<◌, ◌≤◌, List, [], ◌∷◌, length, map, drop, get_or, Bool, true, false, refl, sym, ap, ◌∙◌, arith}
+use Rattle.std.proofs.Common.{◌≡◌, ℕ, ◌+◌, ◌<◌, List, [], ◌∷◌, length, map, drop, get_or, Bool, true, false, refl, sym, ap, ◌∙◌, arith}
 use Rattle.std.specs.Prelude.{if◌then◌else◌}
-use Rattle.std.proofs.lemmas.List.{drop_more, drop_all}
+use Rattle.std.proofs.lemmas.List.{drop_more}
 use Rattle.anb_resolve.specs.declared.plans.Event.{Event}
 use Rattle.anb_resolve.specs.Plans.{PlanEvent}
 use Rattle.anb_resolve.specs.Views.{plan_event}
@@ -40,14 +40,5 @@ len_over_made stem len i e es same = by (is_of_stem stem (e ∷ es)) (is_of_stem
   by true false h = cc
   by false true h = cc
 
-pub len_off : (stem len i : ℕ) (e : PlanEvent) (es : List PlanEvent) → is_of_stem stem (e ∷ es) ≡ false → len_from stem len i (e ∷ es) ≡ len
-len_off stem len i e es is = by (is_of_stem stem (e ∷ es)) is where
-  by : (b : Bool) → b ≡ false → (if b then i + (if b then 1 + stem_len stem es else 0) else len) ≡ len
-  by true h = cc
-  by false h = refl
-
 pub next_event : (events : List Event) (i : ℕ) (e : Event) → i < length events → e ≡ get_or events i e → map plan_event (drop i events) ≡ plan_event e ∷ map plan_event (drop (i + 1) events)
 next_event events i e within at = ap (map plan_event) (drop_more events i e within ∙ ap (λ x. x ∷ drop (i + 1) events) (sym at))
-
-pub no_event : (events : List Event) (i : ℕ) → length events ≤ i → map plan_event (drop i events) ≡ []
-no_event events i all = ap (map plan_event) (drop_all i events all)

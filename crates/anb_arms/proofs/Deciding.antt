@@ -6,9 +6,11 @@ use Rattle.std.specs.List.{AllByRecursion, AllZip, list_any}
 use Rattle.std.specs.Str.{bytes_eq}
 use Rattle.std.proofs.lemmas.Option.{slice_get_past, get_or_from_slice_get, slice_get_within}
 use Rattle.std.proofs.lemmas.List.{length-map}
+use Rattle.anb_index.specs.Places.{among}
+use Rattle.anb_lemmas.proofs.Each.{each_got}
 use Rattle.anb_base.specs.Bytes.{IsBytes}
 use Rattle.anb_seal.specs.Streams.{draw_of}
-use Rattle.anb_plays.specs.Plays.{Played, End, stopped, waiting, done, ends}
+use Rattle.anb_plays.specs.Plays.{Played, End, stopped, waiting, done, ends, Run}
 use Rattle.anb_plays.specs.Runs.{no_place, without_place}
 use Rattle.anb_plays.specs.Statements.{Grows}
 use Rattle.anb_plays.proofs.Grows.{run_grows}
@@ -16,18 +18,16 @@ use Rattle.anb_code.specs.CodeValue.{CodeValue}
 use Rattle.anb_code.specs.Meaning.{acts_of}
 use Rattle.anb_code.specs.Taking.{take_texts}
 use Rattle.anb_machine.specs.ByteRuns.{run_bytes, meaning_of}
-use Rattle.anb_resolve.specs.Names.{among}
 use Rattle.anb_resolve.specs.Protocols.{ProtocolValue, role_number}
 use Rattle.anb_resolve.specs.Texts.{known_by}
 use Rattle.anb_resolve.specs.Plays.{IsPlay}
 use Rattle.anb_compile.specs.Fitting.{FitsRole}
 use Rattle.anb_compile.specs.Laws.{FittingCodesPlay}
-use Rattle.anb_session.specs.Sessions.{Run}
 use Rattle.anb_branch.specs.Lawful.{BranchedValue, IsLawful, roles_in, is_free}
 use Rattle.anb_arms.specs.Arms.{FitArms}
 use Rattle.anb_arms.specs.Taken.{begins_arm, place_begun, place_taken, stem_receives, IsTold, run_at, run_taken, PlaysTaken}
 use Rattle.anb_arms.specs.Stems.{AgreeUpTo}
-use Rattle.anb_arms.proofs.Members.{chosen_within, each_at, zipped_there}
+use Rattle.anb_arms.proofs.Members.{chosen_within, zipped_there}
 use Rattle.anb_arms.proofs.Agreeing.{arms_alike}
 
 -- ---- runs that grow
@@ -67,7 +67,7 @@ module _ (b : BranchedValue) (role : List ℕ) (init : List (List ℕ)) (seed : 
       let (arm, code, arm_at, code_at, fits) = zipped_there Fitting b.arms codes place fit within in
       let taken : length init ≡ length (take_texts code.instrs) = count_at place code code_at in
       let known : length init ≡ length (known_by arm (role_number arm.roles role)) = taken ∙ ap length fits.texts ∙ length-map (known_by arm (role_number arm.roles role)) _ in
-      let law = each_at FittingCodesPlay b.arms place arm play arm_at in
+      let law = each_got FittingCodesPlay b.arms place arm play arm_at in
       record {
         arm = arm;
         code = code;

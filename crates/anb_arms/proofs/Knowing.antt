@@ -1,7 +1,8 @@
 -- What a role knows is the same in all arms.
-use Rattle.std.proofs.Common.{◌≡◌, ℕ, zero, suc, ◌+◌, List, [], ◌∷◌, ◌++◌, length, map, take, Bool, true, false, cond, Some, refl, sym, ap, ◌∙◌, arith, append-nil}
+use Rattle.std.proofs.Common.{◌≡◌, ℕ, zero, suc, ◌+◌, List, [], ◌∷◌, ◌++◌, length, map, take, Bool, true, false, cond, refl, sym, ap, ◌∙◌, arith}
 use Rattle.std.specs.Prelude.{slice_get, ◌==◌}
 use Rattle.std.specs.Option.{option_map_or}
+use Rattle.anb_lemmas.proofs.Each.{each_got}
 use Rattle.anb_format.specs.Formats.{FormatValue}
 use Rattle.anb_term.specs.declared.term.Op.{Op}
 use Rattle.anb_term.specs.declared.term.Op.TheVariants.{Hash, Mac, Seal, Wrap, Format}
@@ -10,14 +11,12 @@ use Rattle.anb_syntax.specs.Grammar.{atom, apply, Trees, none, more}
 use Rattle.anb_syntax.specs.Canon.{canon_tree}
 use Rattle.anb_resolve.specs.declared.parts.Atom.{Atom}
 use Rattle.anb_resolve.specs.Choices.{each_after}
-use Rattle.anb_resolve.specs.Names.{among}
 use Rattle.anb_resolve.specs.Protocols.{ActionValue, ProtocolValue, role_number}
 use Rattle.anb_resolve.specs.Plans.{PlanEvent, to_know, to_make, to_send, to_receive, events_at, made, plan_of}
-use Rattle.anb_resolve.specs.Texts.{known_by, known_texts, spelled, spelled_all, term_text, written}
-use Rattle.anb_branch.specs.Lawful.{BranchedValue, IsLawful, stem_len, stem_part, plan_named}
+use Rattle.anb_resolve.specs.Texts.{known_by, spelled, spelled_all, term_text, written}
+use Rattle.anb_branch.specs.Lawful.{stem_len, stem_part}
 use Rattle.anb_arms.specs.Laws.{ArmsKnowAlike}
 use Rattle.anb_arms.proofs.Agreeing.{HasStem, first_arm}
-use Rattle.anb_arms.proofs.Members.{each_at}
 
 -- ---- terms
 
@@ -109,8 +108,8 @@ module _ (p q : ProtocolValue) (atoms : p.atoms ≡ q.atoms) (formats : p.format
 pub know_alike : ArmsKnowAlike
 know_alike b role law is i j p q at_p at_q =
     let f = first_arm b role law is in
-    let hp = each_at (HasStem b.stem role f.one) b.arms i p f.stems at_p in
-    let hq = each_at (HasStem b.stem role f.one) b.arms j q f.stems at_q in
+    let hp = each_got (HasStem b.stem role f.one) b.arms i p f.stems at_p in
+    let hq = each_got (HasStem b.stem role f.one) b.arms j q f.stems at_q in
     let known : known_by p (role_number p.roles role) ≡ known_by q (role_number q.roles role) =
     sym (leading_stem b.stem p (role_number p.roles role)) ∙ ap leading (hp.part ∙ sym hq.part) ∙ leading_stem b.stem q (role_number q.roles role) in
     ap (map (term_text p)) known

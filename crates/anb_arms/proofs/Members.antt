@@ -1,17 +1,12 @@
 -- Items of lists, and roles by their names.
-use Rattle.std.proofs.Common.{◌≡◌, ℕ, zero, suc, ◌+◌, ◌<◌, List, [], ◌∷◌, ◌++◌, length, Bool, true, false, cond, Option, Some, None, refl, sym, ap, ◌∙◌, subst, arith}
-use Rattle.std.specs.Prelude.{slice_get, slice_index_or, unwrap_or, ◌||◌, ◌&&◌}
-use Rattle.std.specs.Option.{option_map, option_or}
-use Rattle.std.specs.List.{AllByRecursion, AllZip, list_all, position_from}
+use Rattle.std.proofs.Common.{◌≡◌, ℕ, zero, suc, ◌+◌, ◌<◌, List, [], ◌∷◌, ◌++◌, length, Bool, true, false, cond, Option, Some, None, refl, subst, arith}
+use Rattle.std.specs.Prelude.{slice_get, unwrap_or, ◌||◌}
+use Rattle.std.specs.List.{AllByRecursion, AllZip, position_from}
 use Rattle.std.specs.Str.{bytes_eq}
-use Rattle.std.proofs.lemmas.Option.{slice_get-get_or}
+use Rattle.anb_index.specs.Places.{among}
 use Rattle.anb_lemmas.proofs.Items.{bytes_are_one}
+use Rattle.anb_lemmas.proofs.Options.{or_is_none}
 use Rattle.anb_resolve.specs.Choices.{first, first_after}
-use Rattle.anb_resolve.specs.Names.{among}
-use Rattle.anb_resolve.specs.Protocols.{role_number}
-
-pub item_at : {X : Type 0} (xs : List X) (i : ℕ) (x : X) → i < length xs → x ≡ slice_index_or xs i x → slice_get xs i ≡ Some x
-item_at xs i x within is = slice_get-get_or xs i x within ∙ ap Some (sym is)
 
 pub zipped_at : {A B : Type 0} (R : A → B → Type 0) (xs : List A) (ys : List B) (i : ℕ) (x : A) (y : B) → AllZip R xs ys → slice_get xs i ≡ Some x → slice_get ys i ≡ Some y → R x y
 zipped_at R [] [] i x y z a b = cc
@@ -30,10 +25,6 @@ zipped_there R [] ys i z h = absurd (omega (arith, h))
 zipped_there R (v ∷ xs) [] i z h = absurd z
 zipped_there R (v ∷ xs) (w ∷ ys) zero z h = (v, w, refl, refl, z.0)
 zipped_there R (v ∷ xs) (w ∷ ys) (suc i) z h = zipped_there R xs ys i z.1 (omega (arith, h))
-
-pub both_true : (a b : Bool) → (a && b) ≡ true → (a ≡ true) × (b ≡ true)
-both_true true b e = (refl, e)
-both_true false b e = cc
 
 -- the place of an item is one of the list
 pub place_within : {K : Type 0} (t : K → Bool) (i : ℕ) (xs : List K) (k : ℕ) → position_from t i xs ≡ Some k → k < i + length xs
@@ -58,11 +49,6 @@ named_place (y ∷ names) x i is = by (bytes_eq y x) is (named_place names x (i 
   by true e later = (i, refl)
   by false e later = later e
 
-pub number_within : (names : List (List ℕ)) (x : List ℕ) → among names x ≡ true → role_number names x < length names
-number_within names x is =
-    let (k, at) = named_place names x 0 is in
-    omega (arith, place_within (λ y. bytes_eq y x) 0 names k at, ap (λ o. unwrap_or o 0) at)
-
 -- what holds of all names holds of one among them
 pub of_among : (P : List ℕ → Type 0) (names : List (List ℕ)) (x : List ℕ) → among names x ≡ true → AllByRecursion P names → P x
 of_among P [] x is all = cc
@@ -71,39 +57,17 @@ of_among P (y ∷ names) x is all = by (bytes_eq y x) refl is (λ h. of_among P 
   by true e h later = subst P (bytes_are_one y x e) all.0
   by false e h later = later h
 
-all_of_test : {X : Type 0} (t : X → Bool) (xs : List X) → list_all t xs ≡ true → AllByRecursion (λ x. t x ≡ true) xs
-all_of_test t [] is = tt
-all_of_test t (x ∷ xs) is = (let h = both_true (t x) (list_all t xs) is in (h.0, all_of_test t xs h.1))
-
--- a name among these is among those, where all of these are
-pub among_others : (xs ys : List (List ℕ)) (x : List ℕ) → list_all (among ys) xs ≡ true → among xs x ≡ true → among ys x ≡ true
-among_others xs ys x all is = of_among (λ y. among ys y ≡ true) xs x is (all_of_test (among ys) xs all)
-
--- where nothing answers, nothing among these does
-option_none : {R : Type 0} (o p : Option R) → option_or o p ≡ None → (o ≡ None) × (p ≡ None)
-option_none None p e = (refl, e)
-option_none (Some r) p e = cc
-
 none_each : {R : Type 0} (f : List ℕ → Option R) (names : List (List ℕ)) → first f names ≡ None → AllByRecursion (λ y. f y ≡ None) names
 none_each f [] none = tt
-none_each f (y ∷ names) none = (let h = option_none (f y) (first f names) none in (h.0, none_each f names h.1))
+none_each f (y ∷ names) none = (let h = or_is_none (f y) (first f names) none in (h.0, none_each f names h.1))
 
 pub none_first : {R : Type 0} (f : List ℕ → Option R) (names : List (List ℕ)) (x : List ℕ) → first f names ≡ None → among names x ≡ true → f x ≡ None
 none_first f names x none is = of_among (λ y. f y ≡ None) names x is (none_each f names none)
-
-pub none_mapped : {A B : Type 0} (f : A → B) (o : Option A) → option_map f o ≡ None → o ≡ None
-none_mapped f None e = refl
-none_mapped f (Some x) e = cc
 
 -- and nothing answers behind those before it
 pub none_after : {X R : Type 0} (f : List X → X → Option R) (before xs : List X) (P : X → Type 0) → ((b : List X) (x : X) → f b x ≡ None → P x)
     → first_after f before xs ≡ None → AllByRecursion P xs
 none_after f before [] P so none = tt
 none_after f before (x ∷ xs) P so none =
-    let h = option_none (f before x) (first_after f (before ++ x ∷ []) xs) none in
+    let h = or_is_none (f before x) (first_after f (before ++ x ∷ []) xs) none in
     (so before x h.0, none_after f (before ++ x ∷ []) xs P so h.1)
-
-pub each_at : {X : Type 0} (P : X → Type 0) (xs : List X) (i : ℕ) (x : X) → AllByRecursion P xs → slice_get xs i ≡ Some x → P x
-each_at P [] i x all at = cc
-each_at P (y ∷ xs) zero x all at = (let e : y ≡ x = cc in subst P e all.0)
-each_at P (y ∷ xs) (suc i) x all at = each_at P xs i x all.1 at

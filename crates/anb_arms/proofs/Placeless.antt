@@ -5,11 +5,11 @@ use Rattle.anb_base.specs.Wires.{WireState}
 use Rattle.anb_frame.specs.Frames.{frame}
 use Rattle.anb_frame.specs.Cuts.{Tail, Short, Long}
 use Rattle.anb_frame.specs.Cuts.{End as Whole}
-use Rattle.anb_plays.specs.Plays.{End, stopped, waiting, done}
+use Rattle.anb_plays.specs.Plays.{End, stopped, waiting, done, Run}
 use Rattle.anb_plays.specs.Runs.{no_place, without_place}
 use Rattle.anb_session.specs.declared.PlayEnd.{PlayEnd}
 use Rattle.anb_session.specs.declared.PlayEnd.TheVariants.{Done, Stopped, Waiting, Truncated, TooLarge, ReadFault, WriteFault, NoMemory}
-use Rattle.anb_session.specs.Sessions.{Run, Runs, Concludes, Reads, end_at, due, due_at, IsPrompt}
+use Rattle.anb_session.specs.Sessions.{Runs, Concludes, Reads, end_at, due, due_at, IsPrompt}
 use Rattle.anb_session.specs.Turns.{Ends}
 use Rattle.anb_arms.specs.Stems.{Closes, no_halt}
 

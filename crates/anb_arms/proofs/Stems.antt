@@ -1,9 +1,9 @@
 -- All turns up to the choice, and going on behind it.
 use Rattle.std.proofs.Common.{◌≡◌, ◌≤◌, ℕ, List, [], length, sym, ◌∙◌, subst}
+use Rattle.anb_plays.specs.Plays.{Run}
 use Rattle.anb_base.specs.Wires.{WireState}
 use Rattle.anb_machine.specs.Machines.{MachineValue, gives}
 use Rattle.anb_session.specs.declared.PlayEnd.{PlayEnd}
-use Rattle.anb_session.specs.Sessions.{Run}
 use Rattle.anb_arms.specs.Stems.{AreBytes, AreShort, StandsBehind, AgreeUpTo, behind, Passes, GoesOn, Arrives, IsOver, Chooses, EndsBefore}
 use Rattle.anb_arms.proofs.Behind.{stands_same, behind_waiting}
 use Rattle.anb_arms.proofs.Turns.{passes_nowhere, passes_joined, closes_behind}

@@ -4,19 +4,19 @@ use Rattle.anb_base.specs.Moves.{Put}
 use Rattle.anb_base.specs.Bytes.{IsBytes}
 use Rattle.anb_base.specs.Wires.{WireState}
 use Rattle.anb_base.specs.declared.TheConstants.{ARRIVAL}
+use Rattle.anb_base.proofs.Moving.{put_nothing}
 use Rattle.anb_frame.specs.Frames.{frame}
 use Rattle.anb_frame.specs.Cuts.{Tail}
-use Rattle.anb_plays.specs.Plays.{Played, End, stopped, waiting, done, ends, says}
+use Rattle.anb_plays.specs.Plays.{Played, End, stopped, waiting, done, ends, says, Run}
 use Rattle.anb_plays.specs.Runs.{no_place}
 use Rattle.anb_machine.specs.Machines.{MachineValue, gives, left}
 use Rattle.anb_machine.specs.declared.turn.Halt.{Halt}
 use Rattle.anb_session.specs.declared.PlayEnd.{PlayEnd}
 use Rattle.anb_session.specs.declared.PlayEnd.TheVariants.{Done, Stopped, Waiting, Truncated, TooLarge, ReadFault, WriteFault, NoMemory}
-use Rattle.anb_session.specs.Sessions.{Run, Runs}
+use Rattle.anb_session.specs.Sessions.{Runs}
 use Rattle.anb_session.specs.Turns.{Ends, EndsSending, EndsWaiting, Receives, WaitsPromptly, ReceivesPromptly, SendsPromptly, TookNothing}
 use Rattle.anb_session.proofs.Continued.{saying, receiving, going_nowhere, continued, ending, is_done, is_stopped}
 use Rattle.anb_session.proofs.Prompt.{prompt_nothing, prompt_still, nowhere_promptly, joined_promptly, prompt_as}
-use Rattle.anb_session.proofs.Written.{put_nothing}
 use Rattle.anb_arms.specs.Stems.{AreBytes, AreShort, StandsBehind, behind, Passes, Closes, Hears, GoesOn, IsOver}
 use Rattle.anb_arms.proofs.Behind.{stands_saying, stands_hearing, behind_saying, behind_waiting, behind_over, behind_hearing}
 

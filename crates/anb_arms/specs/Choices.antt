@@ -2,9 +2,9 @@
 use Rattle.std.specs.Prelude.{◌≡◌, ℕ, List, ◌∷◌, length, true, None, Some, slice_get}
 use Rattle.std.specs.List.{list_any}
 use Rattle.anb_plays.specs.Runs.{without_place}
+use Rattle.anb_plays.specs.Plays.{Run}
 use Rattle.anb_code.specs.CodeValue.{CodeValue}
 use Rattle.anb_machine.specs.ByteRuns.{run_bytes}
-use Rattle.anb_session.specs.Sessions.{Run}
 use Rattle.anb_branch.specs.Lawful.{BranchedValue, is_free}
 use Rattle.anb_arms.specs.declared.signs.Sign.{Sign}
 use Rattle.anb_arms.specs.Taken.{stem_receives, run_taken}

@@ -4,13 +4,13 @@ use Rattle.std.specs.List.{AllByRecursion}
 use Rattle.anb_base.specs.Bytes.{IsBytes}
 use Rattle.anb_base.specs.Wires.{WireState}
 use Rattle.anb_base.specs.declared.TheConstants.{ARRIVAL}
-use Rattle.anb_plays.specs.Plays.{Played, waiting, ends}
+use Rattle.anb_plays.specs.Plays.{Played, waiting, ends, Run}
 use Rattle.anb_plays.specs.Runs.{without_place}
 use Rattle.anb_plays.specs.Statements.{Grows}
 use Rattle.anb_machine.specs.Machines.{MachineValue, gives, left, waits}
 use Rattle.anb_session.specs.declared.PlayEnd.{PlayEnd}
 use Rattle.anb_session.specs.declared.PlayEnd.TheVariants.{Stopped}
-use Rattle.anb_session.specs.Sessions.{Run, IsPrompt}
+use Rattle.anb_session.specs.Sessions.{IsPrompt}
 use Rattle.anb_session.specs.Turns.{Ends, Continues, GoesOnPromptly}
 use Rattle.anb_arms.specs.declared.stem.Step.{Step}
 use Rattle.anb_arms.specs.declared.stem.Step.TheVariants.{On, Arrived, Over}

@@ -5,7 +5,7 @@ use Rattle.std.specs.List.{AllByRecursion, list_any, position_from, starts_with}
 use Rattle.std.specs.Str.{bytes_eq}
 use Rattle.anb_base.specs.Bytes.{IsBytes}
 use Rattle.anb_format.specs.Formats.{FormatValue, head}
-use Rattle.anb_plays.specs.Plays.{Played, done, ends}
+use Rattle.anb_plays.specs.Plays.{Played, done, ends, Run}
 use Rattle.anb_plays.specs.Runs.{without_place}
 use Rattle.anb_code.specs.CodeValue.{CodeValue}
 use Rattle.anb_code.specs.Taking.{take_texts}
@@ -13,7 +13,6 @@ use Rattle.anb_machine.specs.ByteRuns.{run_bytes}
 use Rattle.anb_resolve.specs.Protocols.{ProtocolValue, role_number}
 use Rattle.anb_resolve.specs.Plans.{PlanEvent, to_know, to_make, to_send, to_receive}
 use Rattle.anb_resolve.specs.Plays.{IsPlay}
-use Rattle.anb_session.specs.Sessions.{Run}
 use Rattle.anb_branch.specs.Lawful.{BranchedValue, plan_named, stem_part, is_free, told_by}
 
 -- how many of these events are receives

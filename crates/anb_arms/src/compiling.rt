@@ -1,6 +1,6 @@
 //! The codes of a role in all arms.
 ghost use Rattle.std.specs.Prelude.{◌≡◌, ◌<◌, ◌≤◌, ◌+◌, length, true, All, IfOk, OnOk, IfErr};
-ghost use Rattle.anb_resolve.specs.Names.{among};
+ghost use Rattle.anb_index.specs.Places.{among};
 ghost use Rattle.anb_resolve.specs.Protocols.{role_number};
 ghost use Rattle.anb_resolve.specs.Plays.{IsSendable};
 ghost use Rattle.anb_compile.specs.Fitting.{FitsRole};

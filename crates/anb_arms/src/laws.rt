@@ -1,6 +1,6 @@
 //! Laws of the arms of a branched text.
 ghost use Rattle.std.specs.Prelude.{◌≡◌, true};
-ghost use Rattle.anb_resolve.specs.Names.{among};
+ghost use Rattle.anb_index.specs.Places.{among};
 ghost use Rattle.anb_branch.specs.Lawful.{IsLawful, roles_in};
 ghost use Rattle.anb_branch.specs.Views.{branched_of};
 ghost use Rattle.anb_arms.specs.Arms.{FitArms};

@@ -1,6 +1,7 @@
 //! A branched text played over a wire.
 ghost use Rattle.std.specs.Prelude.{◌≡◌, ◌≤◌, ◌<◌, ℕ, List, length, All, true, None};
 ghost use Rattle.std.specs.List.{AllByRecursion};
+ghost use Rattle.anb_index.specs.Places.{among};
 ghost use Rattle.anb_base.specs.Bytes.{IsBytes};
 ghost use Rattle.anb_base.specs.Moves.{Rose};
 ghost use Rattle.anb_base.specs.declared.TheConstants.{ARRIVAL};
@@ -8,7 +9,6 @@ ghost use Rattle.anb_frame.specs.Cuts.{Tail, CutLeft};
 ghost use Rattle.anb_plays.specs.Runs.{without_place};
 ghost use Rattle.anb_code.specs.Taking.{take_texts};
 ghost use Rattle.anb_machine.specs.ByteRuns.{run_bytes};
-ghost use Rattle.anb_resolve.specs.Names.{among};
 ghost use Rattle.anb_compile.specs.Laws.{FittingCodesPlay};
 ghost use Rattle.anb_session.specs.Sessions.{Runs, IsPrompt};
 ghost use Rattle.anb_branch.specs.Lawful.{IsLawful, roles_in};

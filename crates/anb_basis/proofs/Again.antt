@@ -2,9 +2,10 @@
 use Rattle.std.proofs.Common.{◌≡◌, ℕ, suc, ◌+◌, ◌<◌, ◌≤◌, List, [], ◌∷◌, length, Bool, true, false, Some, refl, sym, ap, subst, arith, ⊎_elim}
 use Rattle.std.specs.Prelude.{slice_get}
 use Rattle.std.proofs.Math.ListN.{set, length-set}
-use Rattle.anb_term.proofs.Lists.{slice_get-within, slice_get-there, set-at, set-same, set-other}
+use Rattle.anb_lemmas.proofs.Numbers.{below_or_last}
+use Rattle.anb_lemmas.proofs.Lists.{got_within}
+use Rattle.anb_term.proofs.Lists.{slice_get-there, set-at, set-same}
 use Rattle.anb_close.specs.declared.entry.Entry.{Entry}
-use Rattle.anb_close.proofs.Indexing.{below_or}
 use Rattle.anb_basis.specs.declared.check.Check.{Check}
 use Rattle.anb_basis.specs.Checks.{entry_of, IsGiven}
 use Rattle.anb_basis.proofs.Marks.{set_stays}
@@ -16,15 +17,9 @@ pub record IsMarked (cs : List Check) (ms : List Bool) (n : ℕ) : Type 0 where
 
 pub none_marked : (cs : List Check) (ms : List Bool) (n : ℕ) → length ms ≤ n → ((i : ℕ) → i < n → slice_get ms i ≡ Some false) → IsMarked cs ms 0
 none_marked cs ms n long off = record {
-  sound = λ i e. let f = off i (omega (arith, long, slice_get-within ms i true e)) in cc;
+  sound = λ i e. let f = off i (omega (arith, long, got_within ms i true e)) in cc;
   complete = λ k c h. absurd (omega arith);
 }
-
-pub off_next : (ms : List Bool) (n : ℕ) → ((i : ℕ) → i < n → slice_get ms i ≡ Some false) → n < length ms → (i : ℕ) → i < n + 1 → slice_get (set ms n false) i ≡ Some false
-off_next ms n off h i l = ⊎_elim
-    (λ a. set-other ms n i false false (off i a) (λ e. absurd (omega (arith, a, e))))
-    (λ b. let t = slice_get-there ms n h in subst (λ k. slice_get (set ms n false) k ≡ Some false) (sym b) (set-same ms n false t.0 t.1))
-    (below_or i n l)
 
 module _ (cs : List Check) (ms : List Bool) (n : ℕ) (x : Check) (so_far : IsMarked cs ms n) (here : slice_get cs n ≡ Some x) where
   pub marked_next : entry_of x < length ms → IsMarked cs (set ms (entry_of x) true) (n + 1)
@@ -37,7 +32,7 @@ module _ (cs : List Check) (ms : List Bool) (n : ℕ) (x : Check) (so_far : IsMa
         let s : x ≡ c = cc in
         let t = slice_get-there ms (entry_of x) h in
         subst (λ d. slice_get (set ms (entry_of x) true) (entry_of d) ≡ Some true) s (set-same ms (entry_of x) true t.0 t.1))
-        (below_or k n l);
+        (below_or_last k n l);
   }
 
   pub passed_next : length ms ≤ entry_of x → IsMarked cs ms (n + 1)
@@ -49,7 +44,7 @@ module _ (cs : List Check) (ms : List Bool) (n : ℕ) (x : Check) (so_far : IsMa
         let q : slice_get cs n ≡ Some c = subst (λ m. slice_get cs m ≡ Some c) b at in
         let s : x ≡ c = cc in
         absurd (omega (arith, h, within, ap entry_of s)))
-        (below_or k n l);
+        (below_or_last k n l);
   }
 
 -- marks that are true at the same places are the same
@@ -67,5 +62,5 @@ marks_are es cs ms ms' n given long all marked = same_trues ms' ms (sym long)
     (λ i e. let m = marked.sound i e in subst (λ j. slice_get ms j ≡ Some true) m.3 (given.of_check m.0 m.1 m.2))
     (λ i e.
     let m = given.of_mark i e in
-    let h = slice_get-within ms i true e in
-    subst (λ j. slice_get ms' j ≡ Some true) m.3 (marked.complete m.0 m.1 (omega (arith, all, slice_get-within cs m.0 m.1 m.2)) m.2 (omega (arith, h, long, m.3))))
+    let h = got_within ms i true e in
+    subst (λ j. slice_get ms' j ≡ Some true) m.3 (marked.complete m.0 m.1 (omega (arith, all, got_within cs m.0 m.1 m.2)) m.2 (omega (arith, h, long, m.3))))

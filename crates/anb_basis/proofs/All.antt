@@ -3,6 +3,7 @@ use Rattle.std.proofs.Common.{◌≡◌, ℕ, zero, suc, ◌-◌, ◌<◌, ◌�
 use Rattle.std.specs.Prelude.{slice_get}
 use Rattle.std.proofs.Math.ListN.{replicate}
 use Rattle.std.proofs.lemmas.List.{length-replicate, length-map}
+use Rattle.anb_lemmas.proofs.Lists.{got_within}
 use Rattle.anb_term.specs.declared.term.Op.{Op}
 use Rattle.anb_term.specs.Tree.{Tree, node}
 use Rattle.anb_term.specs.Operator.{undoable}
@@ -16,7 +17,7 @@ use Rattle.anb_close.specs.declared.made.Made.{Made}
 use Rattle.anb_close.specs.MadeView.{made_tree}
 use Rattle.anb_close.specs.Entries.{rows, terms_of, IsKnown}
 use Rattle.anb_close.proofs.Finding.{rows_append, rows_length}
-use Rattle.anb_term.proofs.Lists.{slice_get-append, slice_get-within, slice_get-there}
+use Rattle.anb_term.proofs.Lists.{slice_get-append, slice_get-there}
 use Rattle.anb_close.proofs.Growing.{terms_later}
 use Rattle.anb_close.proofs.Closing.{opened_row}
 use Rattle.anb_basis.specs.declared.check.Check.{Check}
@@ -128,13 +129,13 @@ module _ (es : List Entry) (known : IsKnown es) where
         (k, w, here ∙ ap (λ n. Some (Equal n w)) of, one_composition i (made_tree w) d (subst (λ n. IsComparedWith es n (made_tree w)) of fits) h)
 
     compared_within : (i : ℕ) (c : Tree) → IsComparedWith es i c → i < length (rows es)
-    compared_within i c (inl (t, row, at, made)) = slice_get-within (rows es) i None row
-    compared_within i c (inr (o, us, ns, row, u, made, is)) = slice_get-within (rows es) i (Some (node o us)) row
+    compared_within i c (inl (t, row, at, made)) = got_within (rows es) i None row
+    compared_within i c (inr (o, us, ns, row, u, made, is)) = got_within (rows es) i (Some (node o us)) row
 
     pub are_all : AreAll es cs
     are_all = record {
       opens = λ f e o ks i at is.
-          let m = basis.given.of_mark i (basis.opens f e o ks i (slice_get-within es f e at) at is) in
+          let m = basis.given.of_mark i (basis.opens f e o ks i (got_within es f e at) at is) in
           (m.0, by_open f e o ks i m.0 m.1 at is m.2 m.3 (basis.given.fits m.0 m.1 m.2));
       equals = λ i c h.
           let m = basis.given.of_mark i (basis.equals i c (omega (arith, compared_within i c h, rows_length es)) h) in
@@ -171,7 +172,7 @@ module _ (es later : List Entry) (cs : List Check) (ms : List Bool) (basis : IsB
   unmarked_by (Open x) f e o ks i h at is of fits =
       let here = slice_get-append es later x.first fits.0 fits.1 in
       let u = one_opening (es ++ later) known f x.first e fits.0 o x.op ks x.keys i x.of at is here fits.2 of in
-      let w = slice_get-within es x.first fits.0 fits.1 in
+      let w = got_within es x.first fits.0 fits.1 in
       omega (arith, u.0, w)
   unmarked_by (Equal j w) f e o ks i h at is of fits =
       not_both (es ++ later) known f e o ks i (made_tree w) at is (subst (λ n. IsComparedWith (es ++ later) n (made_tree w)) of (compared_later es later j (made_tree w) fits))

@@ -1,18 +1,17 @@
 -- The checks give the three facts, and what was chosen stays chosen.
-use Rattle.std.proofs.Common.{◌≡◌, ◌≤◌, List, [], ◌∷◌, ◌++◌, length, map, take, drop, Bool, true, false, cond, IsTrue, Some, None, refl, sym, ap, ◌∙◌, subst, inl, inr, ◌⊎◌, ⊎_elim, arith, take-append-drop, length-take-le}
+use Rattle.std.proofs.Common.{◌≡◌, List, [], ◌∷◌, ◌++◌, length, map, take, drop, Bool, true, false, cond, IsTrue, Some, None, refl, sym, ap, ◌∙◌, subst, inl, inr, ◌⊎◌, ⊎_elim, arith, take-append-drop, length-take-le}
 use Rattle.std.proofs.lemmas.List.{length-map}
-use Rattle.anb_term.specs.declared.term.Op.TheVariants.{Hash, Mac, Seal, Wrap, Format}
 use Rattle.std.specs.Prelude.{unwrap_or}
 use Rattle.std.specs.List.{AllByRecursion}
 use Rattle.anb_term.specs.declared.term.Op.{Op}
 use Rattle.anb_term.specs.Tree.{Tree, leaf, node, Trees, none, more, trees_of, list_of, tree_eqb, IsFormed, AreFormed}
-use Rattle.anb_term.specs.TreeSame.{list_of-trees_of, tree_same, tree_itself}
+use Rattle.anb_term.specs.TreeSame.{list_of-trees_of, tree_itself}
 use Rattle.anb_term.specs.Value.{Meaning}
 use Rattle.anb_term.specs.Operator.{arity, keys, undoable}
 use Rattle.anb_term.specs.Composes.{Among, Composes, ComposeAll}
 use Rattle.anb_basis.specs.Facts.{ThreeFacts}
 use Rattle.anb_basis.specs.Chosen.{terms_in, found, chosen, chosen_all, Checked}
-use Rattle.anb_term.proofs.Lists.{all_drop, all_take, map-append}
+use Rattle.anb_term.proofs.Lists.{all_drop, all_take, map-append, keys_fit, each_formed, tree_differs}
 
 -- whether a term is an entry
 Whether : {A : Type 0} → List (Tree × A) → Tree → Type 0
@@ -36,10 +35,6 @@ found_stays : {A : Type 0} (es : List (Tree × A)) (e : Tree × A) (t : Tree) �
 found_stays [] e t f = rw f
 found_stays (x ∷ es) e t f = ap (cond (tree_eqb x.0 t) (Some x.1)) (found_stays es e t f)
 
-differs : (b : Bool) (x y : Tree) → tree_eqb x y ≡ b → (x ≡ y → ⊥) → tree_eqb x y ≡ false
-differs true x y e h = absurd (h (tree_same x y e))
-differs false x y e h = e
-
 to_list : (es : List Tree) (ts : Trees) → ComposeAll es ts → AllByRecursion (Composes es) (list_of ts)
 to_list es none h = tt
 to_list es (more t ts) h = (h.0, to_list es ts h.1)
@@ -47,17 +42,6 @@ to_list es (more t ts) h = (h.0, to_list es ts h.1)
 to_trees : (es ts : List Tree) → AllByRecursion (Composes es) ts → ComposeAll es (trees_of ts)
 to_trees es [] h = tt
 to_trees es (t ∷ ts) h = (h.0, to_trees es ts h.1)
-
-keys_fit : (o : Op) → keys o ≤ arity o
-keys_fit Hash = omega arith
-keys_fit Mac = omega arith
-keys_fit Seal = omega arith
-keys_fit Wrap = omega arith
-keys_fit (Format i a) = omega arith
-
-formed_list : (has : Op → Bool) (us : Trees) → AreFormed has us → AllByRecursion (IsFormed has) (list_of us)
-formed_list has none a = tt
-formed_list has (more u us) a = (a.0, formed_list has us a.1)
 
 formed_trees : (has : Op → Bool) (us : List Tree) → AllByRecursion (IsFormed has) us → AreFormed has (trees_of us)
 formed_trees has [] a = tt
@@ -71,7 +55,7 @@ module _ {A : Type 0} (m : Meaning A) (d : A) where
   -- a further entry that did not compose changes nothing of what was chosen
   module _ (es : List (Tree × A)) (e : Tree × A) (new : Composes (terms_in es) e.0 → ⊥) where
     other : (t : Tree) → Composes (terms_in es) t → found (es ++ e ∷ []) t ≡ found es t
-    other t h = found_stays es e t (differs (tree_eqb e.0 t) e.0 t refl (λ s. new (subst (Composes (terms_in es)) (sym s) h)))
+    other t h = found_stays es e t (tree_differs (tree_eqb e.0 t) e.0 t refl (λ s. new (subst (Composes (terms_in es)) (sym s) h)))
 
     same_when_found : (t : Tree) (x y : A) → Among (terms_in es) t → Whether es t → unwrap_or (found es t) x ≡ unwrap_or (found es t) y
     unfolding Whether
@@ -157,7 +141,7 @@ module _ {A : Type 0} (m : Meaning A) (d : A) where
           let all' = subst (AllByRecursion (Composes (terms_in es))) (sym same) composed in
           (((h, count, formed_trees m.has ts formed), inr (count, to_trees (terms_in es) ts composed)), by_operands o (trees_of ts) count all' (found_cases es (node o (trees_of ts))) ∙ ap (λ l. m.built o (map (chosen m d es) l)) same);
       opens = λ o ts h u p hk.
-          let formed = formed_list m.has ts p.0.2 in
+          let formed = each_formed m.has ts p.0.2 in
           let e = entry o ts h u formed p.1 (seconds (take (keys o) (list_of ts)) hk) (found_cases es (node o ts)) in
           (pairs (drop (keys o) (list_of ts)) (all_drop (IsFormed m.has) (keys o) (list_of ts) formed) e.0, e.1);
     }

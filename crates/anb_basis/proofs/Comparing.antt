@@ -2,6 +2,8 @@
 use Rattle.std.proofs.Common.{◌≡◌, ℕ, ◌<◌, List, [], length, get_or, true, false, Option, Some, None, refl, sym, ap, ◌∙◌, arith, inl, inr, ⊎_elim}
 use Rattle.std.specs.Prelude.{slice_get, ◌==◌}
 use Rattle.std.proofs.lemmas.List.{length-map}
+use Rattle.anb_lemmas.proofs.Options.{mapped_from}
+use Rattle.anb_lemmas.proofs.Lists.{got_within}
 use Rattle.anb_term.specs.declared.term.Op.{Op}
 use Rattle.anb_term.specs.declared.term.Term.{Term}
 use Rattle.anb_term.specs.declared.term.Term.TheVariants.{Atom, Node}
@@ -9,16 +11,16 @@ use Rattle.anb_term.specs.Tree.{Tree, leaf, node, Trees, trees_of, list_of, IsFo
 use Rattle.anb_term.specs.Operator.{arity, undoable}
 use Rattle.anb_term.specs.View.{tree_of}
 use Rattle.anb_close.specs.Rows.{place, made_for, mades_for}
-use Rattle.anb_close.proofs.Rows.{mapped, optional, built_some, place_at, place_own, row_term, entry_made, made_leaf}
+use Rattle.anb_close.proofs.Rows.{optional, built_some, place_at, place_own, row_term, entry_made, made_leaf}
 use Rattle.anb_close.specs.declared.entry.Entry.{Entry}
 use Rattle.anb_close.specs.Entries.{rows, terms_of, IsKnown}
 use Rattle.anb_close.proofs.Finding.{rows_length}
-use Rattle.anb_term.proofs.Lists.{slice_get-map, slice_get-at, slice_get-within, slice_get-there}
+use Rattle.anb_term.proofs.Lists.{slice_get-map, slice_get-at, slice_get-there}
 use Rattle.anb_close.proofs.Growing.{formed_at}
 use Rattle.anb_basis.specs.Checks.{IsComparedWith}
 
 leaf_place : (rs : List (Option Tree)) (t : Tree) (i : ℕ) → made_for rs t ≡ Some (leaf i) → place rs t ≡ Some i
-leaf_place rs (leaf n) i e = let h = mapped leaf (place rs (leaf n)) (leaf i) e in let a = h.1 in let b = h.2 in let s : h.0 ≡ i = cc in a ∙ ap Some s
+leaf_place rs (leaf n) i e = let h = mapped_from leaf (place rs (leaf n)) (leaf i) e in let a = h.1 in let b = h.2 in let s : h.0 ≡ i = cc in a ∙ ap Some s
 leaf_place rs (node o ts) i e =
     ⊎_elim
     (λ (j, p). let s : j ≡ i = (let q = rw p at e in cc) in p ∙ ap Some s)
@@ -46,7 +48,7 @@ module _ (es : List Entry) (known : IsKnown es) (i : ℕ) (term : Term) (here : 
       absurd (other (let q : c ≡ leaf i = cc in q))
 
   pub compared : (c : Tree) → Some c ≡ made_for (rows es) (tree_of term) → (c ≡ leaf i → ⊥) → IsComparedWith es i c
-  compared c e other = let r = slice_get-there (rows es) i (omega (arith, rows_length es, slice_get-within (terms_of es) i (tree_of term) here, length-map es (λ (y : Entry). tree_of y.term))) in by_row r.0 c r.1 e other
+  compared c e other = let r = slice_get-there (rows es) i (omega (arith, rows_length es, got_within (terms_of es) i (tree_of term) here, length-map es (λ (y : Entry). tree_of y.term))) in by_row r.0 c r.1 e other
 
   module _ (lone : Some (leaf i) ≡ made_for (rows es) (tree_of term)) where
     row : slice_get (rows es) i ≡ Some (Some (tree_of term))

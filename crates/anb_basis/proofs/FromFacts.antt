@@ -1,8 +1,12 @@
 -- The three facts are enough.
-use Rattle.std.proofs.Common.{◌≡◌, ℕ, suc, List, [], ◌∷◌, length, map, Bool, true, false, ◌&&◌, cond, Option, Some, None, take, drop, refl, sym, ap, ◌∙◌, subst}
+use Rattle.std.proofs.Common.{◌≡◌, ℕ, suc, List, [], ◌∷◌, length, map, ◌&&◌, Option, Some, take, drop, refl, sym, ap, ◌∙◌, subst}
 use Rattle.std.specs.Prelude.{slice_get, option_and_then, ◌==◌}
 use Rattle.std.specs.List.{AllByRecursion}
-use Rattle.std.proofs.lemmas.Bool.{eqb-true}
+use Rattle.std.proofs.lemmas.Bool.{eqb-true, and_parts}
+use Rattle.std.proofs.lemmas.Option.{cond_some}
+use Rattle.anb_close.proofs.Composing.{no_part}
+use Rattle.anb_lemmas.proofs.Options.{guard_passed}
+use Rattle.anb_lemmas.proofs.Each.{each_got}
 use Rattle.anb_term.specs.declared.term.Op.{Op}
 use Rattle.anb_term.specs.Tree.{Tree, leaf, node, trees_of, list_of, trees_eqb}
 use Rattle.anb_term.specs.Operator.{op_eqb, arity, keys, undoable}
@@ -10,24 +14,20 @@ use Rattle.anb_term.specs.Value.{Meaning, RecipeTree, label, build, part, Recipe
 use Rattle.anb_term.specs.FreeAlgebra.{parts_of, terms_over}
 use Rattle.anb_term.specs.Agree.{Agree}
 use Rattle.anb_basis.specs.Facts.{ThreeFacts}
-use Rattle.anb_term.proofs.Steps.{both, bound, chosen, consed, guard}
-use Rattle.anb_term.proofs.Lists.{all_at, slice_get-map}
+use Rattle.anb_term.proofs.Steps.{bound, consed}
+use Rattle.anb_term.proofs.Lists.{slice_get-map}
 use Rattle.anb_term.specs.TreeSame.{list_of-trees_of, op_same, trees_same}
 
 map_length : {A B : Type 0} (f : A → B) (xs : List A) → length (map f xs) ≡ length xs
 map_length f [] = refl
 map_length f (x ∷ xs) = ap suc (map_length f xs)
 
-no_part : (b : Bool) (j : ℕ) (t : Tree) → cond b (option_and_then (λ (ps : List Tree). slice_get ps j) None) None ≡ Some t → ⊥
-no_part true j t e = cc
-no_part false j t e = cc
-
 module _ {A : Type 0} (m : Meaning A) (frame : List Tree) (vs : List A) (P : Tree → Type 0) (of : Tree → A) (facts : ThreeFacts m frame vs P of) where
   -- an operator on terms that compose
   built : (o : Op) (ts : List Tree) (t : Tree) → AllByRecursion P ts → build_if (terms_over m.has) o ts ≡ Some t → P t × (build_if m o (map of ts) ≡ Some (of t))
   built o ts t h e =
-      let c = chosen (m.has o && (length ts == arity o)) (node o (trees_of ts)) t e in
-      let d = both (m.has o) (length ts == arity o) c.0 in
+      let c = cond_some (m.has o && (length ts == arity o)) (node o (trees_of ts)) t e in
+      let d = and_parts (m.has o) (length ts == arity o) c.0 in
       let f = facts.builds o ts d.0 (eqb-true _ _ d.1) h in
       let Q : Tree → Type 0 = λ u. P u × (build_if m o (map of ts) ≡ Some (of u)) in
       subst Q c.1 (f.0, rw (map_length of ts, d.0, d.1) (ap Some (sym f.1)))
@@ -36,20 +36,20 @@ module _ {A : Type 0} (m : Meaning A) (frame : List Tree) (vs : List A) (P : Tre
   opened : (o : Op) (j : ℕ) (ks : List Tree) (v t : Tree) → AllByRecursion P ks → P v → part_if (terms_over m.has) o j ks v ≡ Some t → P t × (part_if m o j (map of ks) (of v) ≡ Some (of t))
   opened o j ks (leaf n) t hk hv e = absurd (no_part (m.has o && (length ks == keys o)) j t e)
   opened o j ks (node p ts) t hk hv e =
-      let g = guard (m.has o && (length ks == keys o)) (option_and_then (λ ps. slice_get ps j) (parts_of o ks (node p ts))) t e in
-      let h = both (m.has o) (length ks == keys o) g.0 in
+      let g = guard_passed (m.has o && (length ks == keys o)) (option_and_then (λ ps. slice_get ps j) (parts_of o ks (node p ts))) t e in
+      let h = and_parts (m.has o) (length ks == keys o) g.0 in
       let b = bound (λ ps. slice_get ps j) (parts_of o ks (node p ts)) t g.1 in
-      let c = chosen (undoable o && op_eqb o p && (length (list_of ts) == arity o) && trees_eqb (trees_of ks) (trees_of (take (keys o) (list_of ts)))) (drop (keys o) (list_of ts)) b.0 b.1 in
-      let d = both (undoable o && op_eqb o p && (length (list_of ts) == arity o)) _ c.0 in
-      let l = both (undoable o && op_eqb o p) _ d.0 in
-      let f = both (undoable o) (op_eqb o p) l.0 in
+      let c = cond_some (undoable o && op_eqb o p && (length (list_of ts) == arity o) && trees_eqb (trees_of ks) (trees_of (take (keys o) (list_of ts)))) (drop (keys o) (list_of ts)) b.0 b.1 in
+      let d = and_parts (undoable o && op_eqb o p && (length (list_of ts) == arity o)) _ c.0 in
+      let l = and_parts (undoable o && op_eqb o p) _ d.0 in
+      let f = and_parts (undoable o) (op_eqb o p) l.0 in
       let same : o ≡ p = op_same o p f.1 in
       let is_keys : ks ≡ take (keys o) (list_of ts) = sym (list_of-trees_of ks) ∙ ap list_of (trees_same _ _ d.1) ∙ list_of-trees_of _ in
       let v : P (node o ts) = subst (λ q. P (node q ts)) (sym same) hv in
       let w = facts.opens o ts h.0 f.0 v (subst (AllByRecursion P) is_keys hk) in
       let at : slice_get (drop (keys o) (list_of ts)) j ≡ Some t = subst (λ ps. slice_get ps j ≡ Some t) (sym c.1) b.2 in
       let undone : m.undone o (map of ks) (of (node p ts)) ≡ Some (map of (drop (keys o) (list_of ts))) = rw (← same, is_keys) w.1 in
-      (all_at P _ j t w.0 at, rw (map_length of ks, h.0, h.1, undone) (slice_get-map of _ j t at))
+      (each_got P _ j t w.0 at, rw (map_length of ks, h.0, h.1, undone) (slice_get-map of _ j t at))
 
   mutual
     pub has_value : (r : RecipeTree) (t : Tree) → value (terms_over m.has) frame r ≡ Some t → P t × (value m vs r ≡ Some (of t))

@@ -5,7 +5,7 @@ mod Meeting
 mod Worths
 mod Sound
 mod Comparing
-mod Marks
+pub mod Marks
 mod All
 mod Ordering
 mod Frames

@@ -1,16 +1,17 @@
 -- The old entries that may have come to be compared.
-use Rattle.std.proofs.Common.{◌≡◌, ℕ, ◌+◌, ◌<◌, ◌≤◌, List, length, take, Bool, true, false, Some, refl, sym, ap, ◌∙◌, subst, arith, inl, inr, ◌⊎◌, ⊎_elim}
+use Rattle.std.proofs.Common.{◌≡◌, ℕ, ◌+◌, ◌<◌, ◌≤◌, List, length, take, Bool, true, false, Some, sym, ap, ◌∙◌, subst, arith, inl, inr, ◌⊎◌, ⊎_elim}
 use Rattle.std.specs.Prelude.{slice_get}
 use Rattle.std.proofs.lemmas.List.{take_all}
+use Rattle.anb_lemmas.proofs.Numbers.{below_or_last}
+use Rattle.anb_lemmas.proofs.Lists.{got_within}
 use Rattle.anb_term.specs.declared.term.Op.{Op}
 use Rattle.anb_term.specs.Operator.{undoable}
-use Rattle.anb_term.specs.Tree.{Tree, node, Trees, none, more, trees_of, list_of}
-use Rattle.anb_term.proofs.Lists.{slice_get-within}
+use Rattle.anb_term.specs.Tree.{Tree, node, Trees, trees_of, list_of}
+use Rattle.anb_term.specs.TreeSame.{trees_of-list_of}
 use Rattle.anb_close.specs.Rows.{mades_for}
 use Rattle.anb_close.specs.declared.entry.Entry.{Entry}
 use Rattle.anb_close.specs.Entries.{rows}
 use Rattle.anb_close.specs.Listed.{IsListed, AreTouched}
-use Rattle.anb_close.proofs.Indexing.{below_or}
 use Rattle.anb_basis.specs.Checks.{IsComparedWith, EqualsMarked, RestMarked, MarksStay}
 
 -- those of these that are compared are marked
@@ -28,25 +29,21 @@ listed_next es ks from ms ms' n i so_far stay at new = record {
       let q : slice_get ks n ≡ Some j = subst (λ m. slice_get ks m ≡ Some j) b here in
       let s : i ≡ j = cc in
       subst (λ m. slice_get ms' m ≡ Some true) s (new c (subst (λ m. m < from) (sym s) old) (subst (λ m. IsComparedWith es m c) (sym s) h)))
-      (below_or k n l);
+      (below_or_last k n l);
 }
 
 -- so all first ones that are compared are marked
 pub first_marked : (es : List Entry) (ks : List ℕ) (from : ℕ) (ms ms' : List Bool) (n : ℕ) → RestMarked es ms from ks → MarksStay ms ms' → length ks ≤ n → ListedMarked es ks from ms' n → EqualsMarked es ms' from
 first_marked es ks from ms ms' n rest stay long so_far i c h k = ⊎_elim
     (λ a. stay i a)
-    (λ (m, at). so_far.each m i c (omega (arith, long, slice_get-within ks m i at)) at h k)
+    (λ (m, at). so_far.each m i c (omega (arith, long, got_within ks m i at)) at h k)
     (rest i c h k)
-
-trees_back : (us : Trees) → trees_of (list_of us) ≡ us
-trees_back none = refl
-trees_back (more u us) = ap (more u) (trees_back us)
 
 -- one that is compared by its operands was so before, or is touched
 pub compared_before : (es es' : List Entry) (ks : List ℕ) → AreTouched (rows es) (rows es') ks → (i : ℕ) (c : Tree)
     → (o : Op) × (us : Trees) × (ms : Trees) × (slice_get (rows es') i ≡ Some (Some (node o us))) × (undoable o ≡ false) × (mades_for (rows es') us ≡ Some ms) × (node o ms ≡ c) → IsComparedWith es i c ⊎ IsListed ks i
 compared_before es es' ks touched i c (o, us, ms, row, u, made, same) =
-    let all : trees_of (take (length (list_of us)) (list_of us)) ≡ us = ap trees_of (take_all (length (list_of us)) (list_of us) (omega arith)) ∙ trees_back us in
+    let all : trees_of (take (length (list_of us)) (list_of us)) ≡ us = ap trees_of (take_all (length (list_of us)) (list_of us) (omega arith)) ∙ trees_of-list_of us in
     ⊎_elim
     (λ (row', made'). inl (inr (o, us, ms, row', u, ap (mades_for (rows es)) (sym all) ∙ made', same)))
     (λ l. inr l)

@@ -1,10 +1,10 @@
 -- Checks that are given.
-use Rattle.std.proofs.Common.{◌≡◌, ℕ, zero, suc, ◌+◌, ◌<◌, ◌≤◌, List, [], ◌∷◌, ◌++◌, length, drop, get_or, Bool, true, false, Some, refl, sym, ap, ◌∙◌, subst, arith, inl, inr, ◌⊎◌, ⊎_elim, append_assoc, length-append}
+use Rattle.std.proofs.Common.{◌≡◌, ℕ, zero, suc, ◌+◌, ◌<◌, ◌≤◌, List, [], ◌∷◌, ◌++◌, length, drop, get_or, Bool, true, false, Some, refl, sym, ap, ◌∙◌, subst, arith, ◌⊎◌, ⊎_elim, append_assoc, length-append}
 use Rattle.std.specs.Prelude.{slice_get}
 use Rattle.std.proofs.Math.ListN.{set, length-set}
 use Rattle.std.proofs.lemmas.List.{append-nil}
-use Rattle.std.proofs.Math.Dec.{ltb}
-use Rattle.std.proofs.lemmas.Bool.{ltb-true, ltb-false}
+use Rattle.anb_lemmas.proofs.Numbers.{below_or_last}
+use Rattle.anb_lemmas.proofs.Lists.{get_seam, got_within}
 use Rattle.anb_term.specs.declared.term.Op.{Op}
 use Rattle.anb_term.specs.Tree.{Tree, list_of}
 use Rattle.anb_close.specs.declared.entry.Entry.{Entry}
@@ -12,14 +12,10 @@ use Rattle.anb_close.specs.declared.entry.Origin.TheVariants.{Label, Part}
 use Rattle.anb_term.specs.Operator.{keys}
 use Rattle.anb_close.specs.Entries.{rows, IsKnown, part_entries}
 use Rattle.anb_close.proofs.Finding.{rows_length}
-use Rattle.anb_term.proofs.Lists.{slice_get-at, slice_get-last, slice_get-append, slice_get-within, set-at, set-same}
+use Rattle.anb_term.proofs.Lists.{slice_get-at, slice_get-last, slice_get-append, set-at, set-same}
 use Rattle.anb_basis.specs.declared.check.Check.TheVariants.{Open}
 use Rattle.anb_basis.specs.declared.check.Check.{Check}
 use Rattle.anb_basis.specs.Checks.{Fits, entry_of, trues, IsGiven, OpensMarked, EqualsMarked, IsComparedWith, MarksStay, After}
-
-at_seam : {A : Type 0} (xs ys : List A) (y : A) → slice_get (xs ++ y ∷ ys) (length xs) ≡ Some y
-at_seam [] ys y = refl
-at_seam (x ∷ xs) ys y = at_seam xs ys y
 
 pub set_stays : (xs : List Bool) (i : ℕ) → MarksStay xs (set xs i true)
 set_stays [] i j e = cc
@@ -54,7 +50,7 @@ given_more es cs cs' ms at c g fits of free is =
           (λ (a, b). let n : at ≡ entry_of d = sym of ∙ ap entry_of b in subst (λ i. slice_get (set ms at true) i ≡ Some true) n (set-same ms at true false free))
           (slice_get-last cs c d k e);
       of_mark = λ i e. ⊎_elim
-          (λ (a, v). (length cs, c, at_seam cs [] c, of ∙ sym a))
+          (λ (a, v). (length cs, c, get_seam cs [] c, of ∙ sym a))
           (λ old. let m = g.of_mark i old in (m.0, m.1, slice_get-append cs (c ∷ []) m.0 m.1 m.2, m.3))
           (set-at ms at i true true e);
       once = λ k j d f a b same. ⊎_elim
@@ -76,18 +72,11 @@ after_none xs = ([], sym (append-nil xs))
 pub after_more : {A : Type 0} (xs ys zs : List A) → After xs ys → After ys zs → After xs zs
 after_more xs ys zs a b = (a.0 ++ b.0, b.1 ∙ ap (λ l. l ++ b.0) a.1 ∙ append_assoc xs a.0 b.0)
 
-below : (i n : ℕ) → i < n + 1 → (i < n) ⊎ (i ≡ n)
-below i n h = by (ltb i n) refl
-  where
-    by : (b : Bool) → ltb i n ≡ b → (i < n) ⊎ (i ≡ n)
-    by true e = inl (ltb-true i n e)
-    by false e = inr (omega (arith, ltb-false i n e))
-
 pub opens_next : (es : List Entry) (ms ms' : List Bool) (f : ℕ) → OpensMarked es ms f → MarksStay ms ms' → ((e : Entry) (o : Op) (ks : List Tree) (i : ℕ) → slice_get es f ≡ Some e → e.origin ≡ Part o 0 ks i → slice_get ms' i ≡ Some true) → OpensMarked es ms' (f + 1)
-opens_next es ms ms' f before stay now g e o ks i h at is = ⊎_elim (λ l. stay i (before g e o ks i l at is)) (λ z. now e o ks i (subst (λ n. slice_get es n ≡ Some e) z at) is) (below g f h)
+opens_next es ms ms' f before stay now g e o ks i h at is = ⊎_elim (λ l. stay i (before g e o ks i l at is)) (λ z. now e o ks i (subst (λ n. slice_get es n ≡ Some e) z at) is) (below_or_last g f h)
 
 pub equals_next : (es : List Entry) (ms ms' : List Bool) (n : ℕ) → EqualsMarked es ms n → MarksStay ms ms' → ((c : Tree) → IsComparedWith es n c → slice_get ms' n ≡ Some true) → EqualsMarked es ms' (n + 1)
-equals_next es ms ms' n before stay now i c h k = ⊎_elim (λ l. stay i (before i c l k)) (λ z. subst (λ j. slice_get ms' j ≡ Some true) (sym z) (now c (subst (λ j. IsComparedWith es j c) z k))) (below i n h)
+equals_next es ms ms' n before stay now i c h k = ⊎_elim (λ l. stay i (before i c l k)) (λ z. subst (λ j. slice_get ms' j ≡ Some true) (sym z) (now c (subst (λ j. IsComparedWith es j c) z k))) (below_or_last i n h)
 
 -- the entry that stands at a place
 pub entry_here : (es : List Entry) (f : ℕ) (x e : Entry) → f < length es → x ≡ get_or es f x → slice_get es f ≡ Some e → x ≡ e
@@ -108,7 +97,7 @@ pub of_within : (es : List Entry) (f : ℕ) (x : Entry) (p : Op) (j : ℕ) (qs :
 of_within es f x p j qs m known h own part =
     let k = known.parted f x p j qs m (slice_get-at es f x h own) part in
     let o = k.opened in
-    omega (arith, slice_get-within (rows o.front) m _ o.own, rows_length o.front, ap length o.lies, length-append o.front (part_entries o.op o.keys_made m 0 (drop (keys o.op) (list_of o.operands)) ++ o.back))
+    omega (arith, got_within (rows o.front) m _ o.own, rows_length o.front, ap length o.lies, length-append o.front (part_entries o.op o.keys_made m 0 (drop (keys o.op) (list_of o.operands)) ++ o.back))
 
 pub fits_here : (es : List Entry) (f : ℕ) (x : Entry) (p : Op) (j : ℕ) (qs ks : List Tree) (m : ℕ) → f < length es → x ≡ get_or es f x → x.origin ≡ Part p j qs m → j ≡ 0 → ks ≡ qs → Fits es (Open (record { op = p; keys = ks; of = m; first = f }))
 fits_here es f x p j qs ks m h own part z same = (x, slice_get-at es f x h own, part ∙ ap (λ n. Part p n qs m) z ∙ ap (λ l. Part p 0 l m) (sym same))

@@ -1,12 +1,13 @@
 -- What it means for an algebra's values that a check holds.
 use Rattle.std.proofs.Common.{◌≡◌, ℕ, zero, suc, List, [], ◌∷◌, true, Option, Some, None, refl, sym, ap, ◌∙◌, subst}
 use Rattle.std.specs.Prelude.{slice_get, option_and_then}
+use Rattle.std.proofs.lemmas.Bool.{and_parts}
 use Rattle.anb_term.specs.declared.term.Op.{Op}
 use Rattle.anb_term.specs.Tree.{trees_of}
 use Rattle.anb_term.specs.Value.{Meaning, RecipeTree, RecipeTrees, value, values}
 use Rattle.anb_term.specs.Lawful.{Lawful}
 use Rattle.anb_term.specs.Demand.{holds, all_hold, undone_if, undoing, is_there}
-use Rattle.anb_term.proofs.Steps.{both, bound}
+use Rattle.anb_term.proofs.Steps.{bound}
 use Rattle.anb_term.proofs.Demands.{alike_are, undone_is}
 use Rattle.anb_close.specs.declared.entry.Entry.{Entry}
 use Rattle.anb_close.specs.MadeView.{made_tree}
@@ -17,7 +18,7 @@ use Rattle.anb_basis.specs.declared.check.Check.TheVariants.{Open, Equal}
 use Rattle.anb_basis.specs.Checks.{entry_recipe, demand_of, demands_of}
 
 module _ {A : Type 0} (m : Meaning A) (vs : List A) where
-  -- both recipes have one value
+  -- and_parts recipes have one value
   abbrev pub IsSame : RecipeTree → RecipeTree → Type 0
   IsSame r s = (v : A) × (value m vs r ≡ Some v) × (value m vs s ≡ Some v)
 
@@ -57,9 +58,9 @@ module _ {A : Type 0} (m : Meaning A) (vs : List A) where
     pub all_meet : (es : List Entry) (cs : List Check) → all_hold m vs (demands_of es cs) ≡ true → AllMeet es cs
     all_meet es [] e k c at = cc
     all_meet es (d ∷ cs) e zero c at =
-        let b = both (holds m vs (demand_of es d)) (all_hold m vs (demands_of es cs)) e in
+        let b = and_parts (holds m vs (demand_of es d)) (all_hold m vs (demands_of es cs)) e in
         let s : d ≡ c = cc in
         subst (Meets es) s (meets es d b.0)
     all_meet es (d ∷ cs) e (suc k) c at =
-        let b = both (holds m vs (demand_of es d)) (all_hold m vs (demands_of es cs)) e in
+        let b = and_parts (holds m vs (demand_of es d)) (all_hold m vs (demands_of es cs)) e in
         all_meet es cs b.1 k c at

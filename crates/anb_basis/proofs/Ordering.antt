@@ -2,6 +2,7 @@
 use Rattle.std.proofs.Common.{◌≡◌, ℕ, zero, suc, ◌+◌, ◌<◌, ◌≤◌, List, [], ◌∷◌, ◌++◌, length, map, drop, get_or, Bool, true, false, Some, refl, sym, ap, ◌∙◌, arith, append_assoc}
 use Rattle.std.specs.Prelude.{slice_get}
 use Rattle.std.proofs.lemmas.List.{drop_more, drop_all, append-nil}
+use Rattle.anb_lemmas.proofs.Each.{each_in_both}
 use Rattle.anb_term.specs.declared.term.Op.{Op}
 use Rattle.anb_term.specs.Tree.{Tree}
 use Rattle.anb_close.specs.declared.entry.Entry.{Entry}
@@ -10,9 +11,7 @@ use Rattle.anb_close.specs.declared.entry.Origin.{Origin}
 use Rattle.anb_close.specs.declared.entry.Origin.TheVariants.{Label, Part}
 use Rattle.anb_close.specs.Entries.{opening_at, openings_from}
 use Rattle.anb_basis.specs.declared.check.Check.{Check}
-use Rattle.anb_basis.specs.declared.check.Check.TheVariants.{Open, Equal}
-use Rattle.anb_close.specs.declared.made.Made.{Made}
-use Rattle.anb_term.proofs.Lists.{all_append}
+use Rattle.anb_basis.specs.declared.check.Check.TheVariants.{Open}
 use Rattle.anb_basis.specs.Checks.{IsEqual, AfterEquals, InOrder}
 
 pub label_none : (f n : ℕ) (x : Origin) → x ≡ Label n → opening_at f x ≡ []
@@ -55,12 +54,8 @@ not_true (m ∷ ms) (suc i) h never = not_true ms i (omega arith) never
 pub no_equals : (cs : List Check) → AfterEquals cs cs
 no_equals cs = ([], tt, sym (append-nil cs))
 
-pub one_more_equal : (cs ds ds' : List Check) (i : ℕ) (w : Made) → AfterEquals cs ds → ds' ≡ ds ++ Equal i w ∷ [] → AfterEquals cs ds'
-one_more_equal cs ds ds' i w a is =
-    (a.0 ++ Equal i w ∷ [], all_append IsEqual a.0 (Equal i w ∷ []) a.1 (tt, tt), is ∙ ap (λ l. l ++ Equal i w ∷ []) a.2 ∙ append_assoc cs a.0 (Equal i w ∷ []))
-
 pub more_equals : (cs ds ds' : List Check) → AfterEquals cs ds → AfterEquals ds ds' → AfterEquals cs ds'
-more_equals cs ds ds' a b = (a.0 ++ b.0, all_append IsEqual a.0 b.0 a.1 b.1, b.2 ∙ ap (λ l. l ++ b.0) a.2 ∙ append_assoc cs a.0 b.0)
+more_equals cs ds ds' a b = (a.0 ++ b.0, each_in_both IsEqual a.0 b.0 a.1 b.1, b.2 ∙ ap (λ l. l ++ b.0) a.2 ∙ append_assoc cs a.0 b.0)
 
 pub in_order : (n m : ℕ) (es es' : List Entry) (cs ds cs' : List Check) → n ≡ m → es ≡ es' → ds ≡ cs ++ map Open (openings_from n (drop n es)) → AfterEquals ds cs' → InOrder m es' cs cs'
 in_order n m es es' cs ds cs' en ee listed a =

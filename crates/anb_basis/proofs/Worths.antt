@@ -3,15 +3,19 @@ use Rattle.std.proofs.Common.{◌≡◌, ℕ, zero, suc, ◌+◌, ◌<◌, ◌�
 use Rattle.std.specs.Prelude.{slice_get, option_and_then, ◌==◌}
 use Rattle.std.specs.List.{All, AllByRecursion}
 use Rattle.std.proofs.Math.Dec.{ltb}
-use Rattle.std.proofs.lemmas.Bool.{eq-eqb, eqb-true, ltb-true, ltb-false}
+use Rattle.std.proofs.lemmas.Bool.{eq-eqb, eqb-true, ltb-true, ltb-false, and_parts}
 use Rattle.std.proofs.lemmas.List.{length-map, append-nil}
 use Rattle.std.proofs.lemmas.List.Elements.{All-from_recursion, recursion_from_All}
+use Rattle.std.proofs.lemmas.Option.{cond_some}
+use Rattle.anb_lemmas.proofs.Options.{mapped_from}
+use Rattle.anb_lemmas.proofs.Each.{each_got}
+use Rattle.anb_lemmas.proofs.Lists.{got_within}
 use Rattle.anb_term.specs.declared.term.Op.{Op}
 use Rattle.anb_term.specs.declared.term.Op.TheVariants.{Hash, Mac, Seal, Wrap, Format}
 use Rattle.anb_term.specs.Tree.{Tree, leaf, node, Trees, none, more, trees_of, list_of, tree_eqb, IsFormed, AreFormed}
 use Rattle.anb_term.specs.View.{term_of, tree_of}
 use Rattle.anb_term.specs.TreeSame.{list_of-trees_of, trees_of-list_of, tree_of-term_of}
-use Rattle.anb_term.specs.Value.{Meaning, RecipeTree, RecipeTrees, label, build, part, value, values, build_if, part_if, cons_both}
+use Rattle.anb_term.specs.Value.{Meaning, RecipeTree, RecipeTrees, label, build, part, value, values, build_if, part_if}
 use Rattle.anb_term.specs.Operator.{arity, keys, undoable}
 use Rattle.anb_term.specs.Lawful.{Lawful, AreValues}
 use Rattle.anb_term.specs.FreeAlgebra.{terms}
@@ -19,9 +23,9 @@ use Rattle.anb_term.specs.Composes.{Among, Composes}
 use Rattle.anb_close.specs.Rows.{place, made_for, mades_for, seen, made_recipe, mades_recipes}
 use Rattle.anb_basis.specs.Chosen.{terms_in, found, chosen, Checked}
 use Rattle.anb_term.specs.Agree.{Agree}
-use Rattle.anb_close.proofs.Rows.{mapped, optional, both_some, built_some, place_at, place_own, row_term, made_worth, mades_worth, composes_made, compose_mades, entry_made, mades_length, row_not_none, row_among, place_among}
-use Rattle.anb_term.proofs.Steps.{bound, consed, both}
-use Rattle.anb_term.proofs.Lists.{all_at, all_take, slice_get-map, map-append, slice_get-within, slice_get-last, slice_get-there}
+use Rattle.anb_close.proofs.Rows.{optional, both_some, built_some, place_at, place_own, row_term, made_worth, mades_worth, composes_made, compose_mades, entry_made, mades_length, row_not_none, row_among, place_among}
+use Rattle.anb_term.proofs.Steps.{bound, consed}
+use Rattle.anb_term.proofs.Lists.{all_take, slice_get-map, map-append, slice_get-last, slice_get-there, keys_fit, formed_items, formed_take}
 use Rattle.anb_close.proofs.Composing.{from_all}
 use Rattle.anb_basis.proofs.Chosen.{all_chosen}
 use Rattle.anb_basis.proofs.Enough.{enough}
@@ -31,9 +35,9 @@ use Rattle.anb_close.specs.declared.entry.Origin.TheVariants.{Label, Part}
 use Rattle.anb_close.specs.Entries.{rows, terms_of, labels_of, IsOpened, IsKnown, keys_for, Follow, OriginFits, part_entries, is_label}
 use Rattle.anb_close.specs.Recipes.{recipe_for, recipes}
 use Rattle.anb_close.proofs.Finding.{rows_length}
-use Rattle.anb_close.proofs.Growing.{formed_at, formed_list, formed_drop, keys_later, labels_append}
+use Rattle.anb_close.proofs.Growing.{formed_at, formed_drop, keys_later, labels_append}
 use Rattle.anb_close.proofs.Closing.{opened_row, entries_compose}
-use Rattle.anb_close.proofs.Sound.{sound, formed_take}
+use Rattle.anb_close.proofs.Sound.{sound}
 use Rattle.anb_close.proofs.Origins.{recipe_at, first_part, each_part}
 use Rattle.anb_basis.specs.declared.check.Check.{Check}
 use Rattle.anb_basis.specs.Checks.{entry_recipe, AreAll}
@@ -55,13 +59,13 @@ pairs_terms (Some t ∷ rs) (v ∷ vs) n = ap (λ l. t ∷ l) (pairs_terms rs vs
 
 found_step : {A : Type 0} (b : Bool) (v x : A) (vs : List A) (o : Option A) (p : Option ℕ) (i : ℕ) → ((j : ℕ) → p ≡ Some j → slice_get vs j ≡ Some x → o ≡ Some x) → cond b (Some 0) (option_map suc p) ≡ Some i → slice_get (v ∷ vs) i ≡ Some x → cond b (Some v) o ≡ Some x
 found_step true v x vs o p i h e at = let z : 0 ≡ i = cc in subst (λ n. slice_get (v ∷ vs) n ≡ Some x) (sym z) at
-found_step false v x vs o p i h e at = let q = mapped suc p i e in h q.0 q.1 (subst (λ n. slice_get (v ∷ vs) n ≡ Some x) (sym q.2) at)
+found_step false v x vs o p i h e at = let q = mapped_from suc p i e in h q.0 q.1 (subst (λ n. slice_get (v ∷ vs) n ≡ Some x) (sym q.2) at)
 
 found_place : {A : Type 0} (rs : List (Option Tree)) (vs : List A) (t : Tree) (i : ℕ) (x : A) → length rs ≡ length vs → place rs t ≡ Some i → slice_get vs i ≡ Some x → found (pairs rs vs) t ≡ Some x
 found_place [] vs t i x n p at = cc
 found_place (None ∷ rs) [] t i x n p at = cc
 found_place (Some u ∷ rs) [] t i x n p at = cc
-found_place (None ∷ rs) (v ∷ vs) t i x n p at = let q = mapped suc (place rs t) i p in found_place rs vs t q.0 x (omega arith) q.1 (subst (λ n. slice_get (v ∷ vs) n ≡ Some x) (sym q.2) at)
+found_place (None ∷ rs) (v ∷ vs) t i x n p at = let q = mapped_from suc (place rs t) i p in found_place rs vs t q.0 x (omega arith) q.1 (subst (λ n. slice_get (v ∷ vs) n ≡ Some x) (sym q.2) at)
 found_place (Some u ∷ rs) (v ∷ vs) t i x n p at =
     let l : length rs ≡ length vs = omega arith in
     found_step (tree_eqb u t) v x vs (found (pairs rs vs) t) (place rs t) i (λ j q e. found_place rs vs t j x l q e) p at
@@ -83,21 +87,7 @@ found_none (None ∷ rs) (v ∷ vs) t n p = found_none rs vs t (omega arith) (un
 found_none (Some u ∷ rs) (v ∷ vs) t n p = let l : length rs ≡ length vs = omega arith in none_step (tree_eqb u t) v (found (pairs rs vs) t) (place rs t) (found_none rs vs t l) p
 
 at_all : {A : Type 0} (P : A → Type 0) (xs : List A) (i : ℕ) (x : A) → All P xs → slice_get xs i ≡ Some x → P x
-at_all P xs i x h e = all_at P xs i x (recursion_from_All P xs h) e
-
-joined : {A : Type 0} (a : Option A) (b : Option (List A)) (x : A) (xs : List A) → a ≡ Some x → b ≡ Some xs → cons_both a b ≡ Some (x ∷ xs)
-joined a b x xs e f = rw (e, f)
-
-chosen_if : {A : Type 0} (b : Bool) (x t : A) → cond b (Some x) None ≡ Some t → (b ≡ true) × (x ≡ t)
-chosen_if true x t e = (refl, cc)
-chosen_if false x t e = cc
-
-fit : (o : Op) → keys o ≤ arity o
-fit Hash = omega arith
-fit Mac = omega arith
-fit Seal = omega arith
-fit Wrap = omega arith
-fit (Format i a) = omega arith
+at_all P xs i x h e = each_got P xs i x (recursion_from_All P xs h) e
 
 chosen_found : {A : Type 0} (m : Meaning A) (d : A) (es : List (Tree × A)) (t : Tree) (x : A) → found es t ≡ Some x → chosen m d es t ≡ x
 chosen_found m d es (leaf n) x e = rw e
@@ -176,7 +166,7 @@ part_here es k e i f o j at is h =
       here = ap (slice_get (drop (keys o.op) (list_of o.operands))) z ∙ t.1;
       is = ap (λ (y : Entry). tree_of y.term) (sym same) ∙ tree_of-term_of t.0;
       origin = ap (λ (y : Entry). y.origin) (sym same);
-      earlier = omega (arith, slice_get-within (rows o.front) i _ o.own, rows_length o.front, o.at);
+      earlier = omega (arith, got_within (rows o.front) i _ o.own, rows_length o.front, o.at);
       later = omega arith;
       within = omega arith;
     }
@@ -189,13 +179,13 @@ module _ {A : Type 0} (m : Meaning A) (lawful : Lawful m) (vs : List A) (are_val
   module _ (rs : List (Option Tree)) (rcs : List RecipeTree) (good : (t : Tree) (i : ℕ) → place rs t ≡ Some i → (v : A) → value m vs (made_recipe rcs (leaf i)) ≡ Some v → IsGood v) where
     built_good : (o : Op) (xs : List A) (v : A) → AllByRecursion IsGood xs → build_if m o xs ≡ Some v → IsGood v
     built_good o xs v h e =
-        let c = chosen_if (m.has o && (length xs == arity o)) (m.built o xs) v e in
-        let d = both (m.has o) (length xs == arity o) c.0 in
+        let c = cond_some (m.has o && (length xs == arity o)) (m.built o xs) v e in
+        let d = and_parts (m.has o) (length xs == arity o) c.0 in
         subst IsGood c.1 (lawful.builds o xs d.0 (eqb-true _ _ d.1) (All-from_recursion IsGood xs h))
 
     mutual
       made_good : (t mk : Tree) → made_for rs t ≡ Some mk → (v : A) → value m vs (made_recipe rcs mk) ≡ Some v → IsGood v
-      made_good (leaf n) mk e v h = let p = mapped leaf (place rs (leaf n)) mk e in good (leaf n) p.0 p.1 v (subst (λ x. value m vs (made_recipe rcs x) ≡ Some v) (sym p.2) h)
+      made_good (leaf n) mk e v h = let p = mapped_from leaf (place rs (leaf n)) mk e in good (leaf n) p.0 p.1 v (subst (λ x. value m vs (made_recipe rcs x) ≡ Some v) (sym p.2) h)
       made_good (node o ts) mk e v h =
           ⊎_elim (λ (i, p). let s : leaf i ≡ mk = (let q = rw p at e in cc) in good (node o ts) i p v (subst (λ x. value m vs (made_recipe rcs x) ≡ Some v) (sym s) h))
           (λ p.
@@ -236,7 +226,7 @@ module _ {A : Type 0} (m : Meaning A) (lawful : Lawful m) (vs : List A) (are_val
     opened_key_count : (i f : ℕ) (o : IsOpened es i f) (xs : List A) → length (list_of o.operands) ≡ arity o.op → values m vs (mades_recipes (recipes es) (trees_of o.keys_made)) ≡ Some xs → length xs ≡ keys o.op
     opened_key_count i f o xs n h =
         let kv = take (keys o.op) (list_of o.operands) in
-        values_count (recipes es) (trees_of o.keys_made) xs h ∙ mades_length (rows o.front) (trees_of kv) (trees_of o.keys_made) o.made ∙ ap length (list_of-trees_of kv) ∙ length-take-le (keys o.op) (list_of o.operands) (omega (arith, fit o.op))
+        values_count (recipes es) (trees_of o.keys_made) xs h ∙ mades_length (rows o.front) (trees_of kv) (trees_of o.keys_made) o.made ∙ ap length (list_of-trees_of kv) ∙ length-take-le (keys o.op) (list_of o.operands) (omega (arith, keys_fit o.op))
 
     -- the parts of an opening
     record Opening (i f : ℕ) (o : IsOpened es i f) : Type 0 where
@@ -287,16 +277,16 @@ module _ {A : Type 0} (m : Meaning A) (lawful : Lawful m) (vs : List A) (are_val
         let own = row_term (terms_of es) i (node o.op o.operands) (opened_row es i f o) in
         let formed = w.formed (node o.op o.operands) own in
         let x = opening i f o formed (λ v e. let wi = w.is in let s : w.worth ≡ v = cc in subst IsGood s w.good)
-        (λ t n q v e. let wn = before n (omega (arith, slice_get-within (rows o.front) n (Some t) (place_at (rows o.front) t n q), rows_length o.front, o.at, h.later)) in let wi = wn.is in let s : wn.worth ≡ v = cc in subst IsGood s wn.good) in
+        (λ t n q v e. let wn = before n (omega (arith, got_within (rows o.front) n (Some t) (place_at (rows o.front) t n q), rows_length o.front, o.at, h.later)) in let wi = wn.is in let s : wn.worth ≡ v = cc in subst IsGood s wn.good) in
         let v = slice_get-there x.parts j (omega (arith, x.count, x.key_count, formed.1, length-append x.keys_of x.parts, length-drop (keys o.op) (list_of o.operands), h.within)) in
         let r : entry_recipe es k ≡ part o.op j (mades_recipes (recipes es) (trees_of o.keys_made)) (entry_recipe es i) = recipe_at es known k e at ∙ ap (recipe_for (recipes es)) h.origin in
         record {
           worth = v.0;
           is = ap (value m vs) r ∙ part_value o.op j (mades_recipes (recipes es) (trees_of o.keys_made)) (entry_recipe es i) x.keys_of x.of x.have_keys x.has_of ∙ part_given o.op j x.keys_of x.of x.parts v.0 formed.0 x.key_count x.undoes v.1;
-          good = all_at IsGood x.parts j v.0 x.good v.1;
+          good = each_got IsGood x.parts j v.0 x.good v.1;
           formed = λ t at_t.
               let same : h.term ≡ t = (let a = slice_get-map (λ (y : Entry). tree_of y.term) es k e at in let b = h.is in cc) in
-              subst (IsFormed m.has) same (formed_at m.has (drop (keys o.op) (list_of o.operands)) j h.term (formed_drop m.has (keys o.op) (list_of o.operands) (formed_list m.has o.operands formed.2)) h.here);
+              subst (IsFormed m.has) same (formed_at m.has (drop (keys o.op) (list_of o.operands)) j h.term (formed_drop m.has (keys o.op) (list_of o.operands) (formed_items m.has o.operands formed.2)) h.here);
         }
 
     -- an entry's value, where those of the entries before it are known
@@ -305,7 +295,7 @@ module _ {A : Type 0} (m : Meaning A) (lawful : Lawful m) (vs : List A) (are_val
         let at_term = slice_get-map (λ (y : Entry). tree_of y.term) es k e at in
         let r : entry_recipe es k ≡ label n = recipe_at es known k e at ∙ ap (recipe_for (recipes es)) is in
         let l = label_value k n (tree_of e.term) r at_term in
-        let v = slice_get-there vs n (omega (arith, slice_get-within (labels_of es) n (tree_of e.term) l)) in
+        let v = slice_get-there vs n (omega (arith, got_within (labels_of es) n (tree_of e.term) l)) in
         record {
           worth = v.0;
           is = ap (value m vs) r ∙ v.1;
@@ -356,7 +346,7 @@ module _ {A : Type 0} (m : Meaning A) (lawful : Lawful m) (vs : List A) (are_val
 
       stands : (t : Tree) (i : ℕ) → place (rows es) t ≡ Some i → value m vs (made_recipe (recipes es) (leaf i)) ≡ Some (ch t)
       stands t i p =
-          let x = slice_get-there vals i (omega (arith, slice_get-within (rows es) i (Some t) (place_at (rows es) t i p), stood)) in
+          let x = slice_get-there vals i (omega (arith, got_within (rows es) i (Some t) (place_at (rows es) t i p), stood)) in
           (each i x.0 x.1).0 ∙ ap Some (sym (chosen_found m d ps t x.0 (found_place (rows es) vals t i x.0 stood p x.1)))
 
       builds : (o : Op) (ts : Trees) → place (rows es) (node o ts) ≡ None → ch (node o ts) ≡ m.built o (map (chosen m d ps) (list_of ts))
@@ -388,7 +378,7 @@ module _ {A : Type 0} (m : Meaning A) (lawful : Lawful m) (vs : List A) (are_val
           cc
 
       worth_chosen : (k : ℕ) (t : Tree) (v : A) → slice_get (terms_of es) k ≡ Some t → slice_get vals k ≡ Some v → v ≡ ch t
-      worth_chosen k t v at e = let r = slice_get-there (rows es) k (omega (arith, slice_get-within vals k v e, stood)) in by_row r.0 k t v r.1 at e
+      worth_chosen k t v at e = let r = slice_get-there (rows es) k (omega (arith, got_within vals k v e, stood)) in by_row r.0 k t v r.1 at e
 
       -- an entry that was opened, by values
       record Undone (i f : ℕ) (o : IsOpened es i f) (x : A) : Type 0 where
@@ -406,10 +396,10 @@ module _ {A : Type 0} (m : Meaning A) (lawful : Lawful m) (vs : List A) (are_val
           let row = opened_row es i f o in
           let term_at = row_term (terms_of es) i (node o.op o.operands) row in
           let fm = formed i (node o.op o.operands) term_at in
-          let fl = formed_list m.has o.operands fm.2 in
+          let fl = formed_items m.has o.operands fm.2 in
           let front_long : length o.front ≤ length es = omega (arith, ap length o.lies, length-append o.front (part_entries o.op o.keys_made i 0 ts ++ o.back)) in
-          let p = opening i f o fm (λ v e. good_entry i v (omega (arith, slice_get-within vals i x at, count)) e)
-          (λ t n q v e. good_entry n v (omega (arith, slice_get-within (rows o.front) n (Some t) (place_at (rows o.front) t n q), rows_length o.front)) e) in
+          let p = opening i f o fm (λ v e. good_entry i v (omega (arith, got_within vals i x at, count)) e)
+          (λ t n q v e. good_entry n v (omega (arith, got_within (rows o.front) n (Some t) (place_at (rows o.front) t n q), rows_length o.front)) e) in
           let later : keys_for es o.op o.operands ≡ Some (trees_of o.keys_made) = ap (λ l. keys_for l o.op o.operands) o.lies ∙ keys_later o.front (part_entries o.op o.keys_made i 0 ts ++ o.back) o.op o.operands (trees_of o.keys_made) o.made in
           let worths = worths_made (trees_of ks) (trees_of o.keys_made) (formed_take m.has (keys o.op) (list_of o.operands) fl) later ∙ ap (λ l. Some (map g l)) (list_of-trees_of ks) in
           let kv : p.keys_of ≡ map g ks = (let a = p.have_keys in cc) in
@@ -417,14 +407,14 @@ module _ {A : Type 0} (m : Meaning A) (lawful : Lawful m) (vs : List A) (are_val
           let long : length p.parts ≡ length ts = omega (arith, p.count, p.key_count, fm.1, length-append p.keys_of p.parts, length-drop (keys o.op) (list_of o.operands)) in
           let parts : p.parts ≡ map g ts = same_list g p.parts ts long (λ j t e.
           let entry = each_part es i f o j t e in
-          let w = slice_get-there p.parts j (omega (arith, slice_get-within ts j t e, long)) in
+          let w = slice_get-there p.parts j (omega (arith, got_within ts j t e, long)) in
           let k = f + j in
           let r : entry_recipe es k ≡ part o.op (0 + j) (mades_recipes (recipes es) (trees_of o.keys_made)) (entry_recipe es i) = recipe_at es known k _ entry in
           let z : 0 + j ≡ j = omega arith in
           let worth : value m vs (entry_recipe es k) ≡ Some w.0 = ap (value m vs) r ∙ part_value o.op (0 + j) (mades_recipes (recipes es) (trees_of o.keys_made)) (entry_recipe es i) p.keys_of p.of p.have_keys p.has_of
           ∙ part_given o.op (0 + j) p.keys_of p.of p.parts w.0 fm.0 p.key_count p.undoes (ap (slice_get p.parts) z ∙ w.1) in
           let here = slice_get-map (λ (y : Entry). tree_of y.term) es k _ entry ∙ ap Some (tree_of-term_of t) in
-          let v = value_at k w.0 (slice_get-within es k _ entry) worth in
+          let v = value_at k w.0 (got_within es k _ entry) worth in
           w.1 ∙ ap Some (worth_chosen k t w.0 here v.0)) in
           let split : map g (list_of o.operands) ≡ map g ks ++ map g ts = ap (map g) (sym (take-append-drop (keys o.op) (list_of o.operands))) ∙ map-append g ks ts in
           record {
@@ -439,7 +429,7 @@ module _ {A : Type 0} (m : Meaning A) (lawful : Lawful m) (vs : List A) (are_val
       found_some t x e =
           ⊎_elim
           (λ (i, p).
-          let y = slice_get-there vals i (omega (arith, slice_get-within (rows es) i (Some t) (place_at (rows es) t i p), stood)) in
+          let y = slice_get-there vals i (omega (arith, got_within (rows es) i (Some t) (place_at (rows es) t i p), stood)) in
           let f = found_place (rows es) vals t i y.0 stood p y.1 in
           let s : y.0 ≡ x = cc in
           (i, p, y.1 ∙ ap Some s))
@@ -498,16 +488,16 @@ module _ {A : Type 0} (m : Meaning A) (lawful : Lawful m) (vs : List A) (are_val
         formed = λ t a. let r = row_among (rows es) t (subst (λ l. Among l t) same_terms a) in formed r.0 t (row_term (terms_of es) r.0 t r.1);
         are_values = λ t f c.
             let mk = composes_made (rows es) t (subst (λ l. Composes l t) same_terms c) in
-            made_good (rows es) (recipes es) (λ u i p v e. good_entry i v (omega (arith, slice_get-within (rows es) i (Some u) (place_at (rows es) u i p), rows_length es)) e) t mk.0 mk.1 (ch t) (worth_made t mk.0 f mk.1);
+            made_good (rows es) (recipes es) (λ u i p v e. good_entry i v (omega (arith, got_within (rows es) i (Some u) (place_at (rows es) u i p), rows_length es)) e) t mk.0 mk.1 (ch t) (worth_made t mk.0 f mk.1);
         labels = λ n t e.
             let k = label_entry [] es known.follow n t e in
             let at = slice_get-map (λ (y : Entry). tree_of y.term) es k.0 k.1 k.2 ∙ ap Some k.4 in
             let z : 0 + n ≡ n = omega arith in
             let r : entry_recipe es k.0 ≡ label n = recipe_at es known k.0 k.1 k.2 ∙ ap (recipe_for (recipes es)) (k.3 ∙ ap Label z) in
-            let x = slice_get-there vals k.0 (omega (arith, slice_get-within es k.0 k.1 k.2, count)) in
+            let x = slice_get-there vals k.0 (omega (arith, got_within es k.0 k.1 k.2, count)) in
             let v = (each k.0 x.0 x.1).0 in (
               formed k.0 t at,
-              subst (λ l. Composes l t) (sym same_terms) (all_at (Composes (seen (rows es))) (terms_of es) k.0 t (entries_compose (terms_of es)) at),
+              subst (λ l. Composes l t) (sym same_terms) (each_got (Composes (seen (rows es))) (terms_of es) k.0 t (entries_compose (terms_of es)) at),
               ap (value m vs) (sym r) ∙ v ∙ ap Some (worth_chosen k.0 t x.0 at x.1),
             );
         equal = λ o ts x f n h.
@@ -528,5 +518,5 @@ module _ {A : Type 0} (m : Meaning A) (lawful : Lawful m) (vs : List A) (are_val
     pub agree : Agree m (labels_of es) vs
     agree =
         let c = collect (length es) (λ k h. worth_at (suc k) k (omega arith) h) in
-        let fs = λ (k : ℕ) (t : Tree) (at : slice_get (terms_of es) k ≡ Some t). let h : k < length es = omega (arith, slice_get-within (terms_of es) k t at, length-map es (λ (y : Entry). tree_of y.term)) in (worth_at (suc k) k (omega arith) h).formed t at in
+        let fs = λ (k : ℕ) (t : Tree) (at : slice_get (terms_of es) k ≡ Some t). let h : k < length es = omega (arith, got_within (terms_of es) k t at, length-map es (λ (y : Entry). tree_of y.term)) in (worth_at (suc k) k (omega arith) h).formed t at in
         enough m lawful (labels_of es) vs (pairs (rows es) c.0) (m.built Hash []) long (checked c.0 c.1 c.2 fs)

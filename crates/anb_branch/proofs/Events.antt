@@ -1,18 +1,17 @@
 -- Events up to the choice.
 use Rattle.std.proofs.Common.{◌≡◌, ◌↔◌, ℕ, zero, suc, ◌+◌, ◌<◌, ◌≤◌, List, [], ◌∷◌, length, map, take, drop, get_or, Bool, true, false, IsTrue, refl, sym, ap, ◌∙◌, arith, cond}
 use Rattle.std.proofs.lemmas.List.{drop-map, take-map}
+use Rattle.anb_lemmas.proofs.Lists.{map_drop_next}
 use Rattle.anb_term.specs.declared.term.Term.{Term}
-use Rattle.anb_term.specs.declared.term.Term.TheVariants.{Atom, Node}
-use Rattle.anb_term.specs.Tree.{Tree, list_of, trees_of}
-use Rattle.anb_term.specs.View.{term_of, tree_of}
+use Rattle.anb_term.specs.View.{tree_of}
+use Rattle.anb_term.proofs.Lists.{one_term}
 use Rattle.anb_resolve.specs.declared.plans.Event.{Event}
 use Rattle.anb_resolve.specs.Plans.{PlanEvent, to_know, to_make, to_send, to_receive, term_in}
 use Rattle.anb_resolve.specs.Views.{plan_event}
-use Rattle.anb_resolve.proofs.FirstLemmas.{rest_at}
 use Rattle.anb_branch.specs.Lawful.{arm_part, is_of_stem, stem_len, stem_part}
 
 pub next_event : (xs : List Event) (i : ℕ) (x : Event) → i < length xs → x ≡ get_or xs i x → drop i (map plan_event xs) ≡ plan_event x ∷ drop (i + 1) (map plan_event xs)
-next_event xs i x h e = drop-map plan_event i xs ∙ rest_at plan_event xs i x h e ∙ ap (λ l. plan_event x ∷ l) (sym (drop-map plan_event (i + 1) xs))
+next_event xs i x h e = drop-map plan_event i xs ∙ map_drop_next plan_event xs i x h e ∙ ap (λ l. plan_event x ∷ l) (sym (drop-map plan_event (i + 1) xs))
 
 -- an event that tells whether the events belong to the stem
 pub told_here : (stem : ℕ) (xs : List Event) (i : ℕ) (x : Event) (v : Bool) → i < length xs → x ≡ get_or xs i x
@@ -42,28 +41,12 @@ within_more : (b : Bool) (n m : ℕ) → n ≤ m → cond b (1 + n) 0 ≤ suc m
 within_more true n m h = omega (arith, h)
 within_more false n m h = omega arith
 
-pub stem_within : (stem : ℕ) (es : List PlanEvent) → stem_len stem es ≤ length es
-stem_within stem [] = omega arith
-stem_within stem (e ∷ es) = within_more (is_of_stem stem (e ∷ es)) (stem_len stem es) (length es) (stem_within stem es)
-
 -- the part of a plan before the choice, and the part behind it, by what the code has of them
 pub stem_seen : (stem : ℕ) (plan : List PlanEvent) (es : List Event) (k : ℕ) → map plan_event es ≡ plan → k ≡ stem_len stem (map plan_event es) → map plan_event (take k es) ≡ stem_part stem plan
 stem_seen stem plan es k e f = sym (take-map plan_event k es) ∙ ap (λ n. take n (map plan_event es)) f ∙ ap (stem_part stem) e
 
 pub arm_seen : (stem : ℕ) (plan : List PlanEvent) (es : List Event) (k : ℕ) → map plan_event es ≡ plan → k ≡ stem_len stem (map plan_event es) → map plan_event (drop k es) ≡ arm_part stem plan
 arm_seen stem plan es k e f = sym (drop-map plan_event k es) ∙ ap (λ n. drop n (map plan_event es)) f ∙ ap (arm_part stem) e
-
--- a term is one tree's
-list_back : (ts : List Tree) → list_of (trees_of ts) ≡ ts
-list_back [] = refl
-list_back (t ∷ ts) = ap (λ l. t ∷ l) (list_back ts)
-
-back : (t : Term) → term_of (tree_of t) ≡ t
-back (Atom n) = refl
-back (Node o ts) = ap (Node o) (list_back ts)
-
-one_term : (t u : Term) → tree_of t ≡ tree_of u → t ≡ u
-one_term t u e = sym (back t) ∙ ap term_of e ∙ back u
 
 -- events are the same where their terms and numbers are
 pub same_know : (r : Bool) (t u : Term) → IsTrue r ↔ (t ≡ u) → IsTrue r ↔ (to_know (tree_of t) ≡ to_know (tree_of u))

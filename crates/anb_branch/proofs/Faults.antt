@@ -2,13 +2,11 @@
 use Rattle.std.proofs.Common.{◌≡◌, ◌≢◌, ◌⊎◌, inl, inr, ℕ, List, Bool, true, false, Option, Some, None, refl, sym, ap, ◌∙◌}
 use Rattle.std.specs.Prelude.{not}
 use Rattle.std.specs.Option.{option_map, option_or}
+use Rattle.anb_index.specs.Places.{among}
 use Rattle.anb_resolve.specs.Choices.{refuse_if}
-use Rattle.anb_resolve.specs.Names.{among}
-use Rattle.anb_branch.specs.declared.marks.Mark.{Mark}
-use Rattle.anb_branch.specs.declared.order.Span.{Span}
 use Rattle.anb_branch.specs.declared.refusal.BranchNo.{BranchNo}
 use Rattle.anb_branch.specs.declared.refusal.BranchNo.TheVariants.{Token, Shape, ArmRead, ArmResolve, Roles, Chooser, Blind, NoMemory}
-use Rattle.anb_branch.specs.Branching.{ArmIsRefused, BranchedText, IsOrdered, IsRefusal, blind_refusal, choice_fault, other_roles, straights}
+use Rattle.anb_branch.specs.Branching.{BranchedText, IsRefusal, blind_refusal, choice_fault, other_roles}
 use Rattle.anb_branch.specs.Laws.{NoneIsBoth, RefusalsAreUnique}
 use Rattle.anb_branch.specs.Lawful.{BranchedValue, IsLawful, blind, roles_in}
 use Rattle.anb_branch.proofs.Names.{alike_names}
@@ -39,21 +37,7 @@ choice_refusal x b (ArmRead arm no1) text e = let never = of_choice (other_roles
 choice_refusal x b (ArmResolve arm no1) text e = let never = of_choice (other_roles b) (not (among (roles_in b) b.chooser)) (blind b) (ArmResolve arm no1) e in cc
 choice_refusal x b NoMemory text e = let never = of_choice (other_roles b) (not (among (roles_in b) b.chooser)) (blind b) NoMemory e in cc
 
--- and so is what is wrong with an arm
-pub arm_refusal : (x : List ℕ) (ms : List Mark) (spans : List Span) (why : BranchNo) → IsOrdered x ms spans → ArmIsRefused (straights x ms spans) why → IsRefusal x why
-arm_refusal x ms spans (Token at) ordered r = absurd r
-arm_refusal x ms spans (Shape at) ordered r = absurd r
-arm_refusal x ms spans (ArmRead arm why) ordered r = (ms, spans, ordered, r)
-arm_refusal x ms spans (ArmResolve arm why) ordered r = (ms, spans, ordered, r)
-arm_refusal x ms spans (Roles arm) ordered r = absurd r
-arm_refusal x ms spans Chooser ordered r = absurd r
-arm_refusal x ms spans (Blind role arm) ordered r = absurd r
-arm_refusal x ms spans NoMemory ordered r = absurd r
-
 -- ---- the first that is wrong with a choice
-
-pub fault_of_roles : (b : BranchedValue) (arm : ℕ) → other_roles b ≡ Some arm → choice_fault b ≡ Some (Roles arm)
-fault_of_roles b arm e = ap (λ o. option_or (option_map Roles o) (option_or (refuse_if (not (among (roles_in b) b.chooser)) Chooser) (option_map blind_refusal (blind b)))) e
 
 module _ (b : BranchedValue) (roles : other_roles b ≡ None) where
   past_roles : choice_fault b ≡ option_or (refuse_if (not (among (roles_in b) b.chooser)) Chooser) (option_map blind_refusal (blind b))

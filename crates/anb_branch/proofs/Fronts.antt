@@ -1,5 +1,5 @@
 -- The tokens at the front: how many come before some kinds, and whether they are of given kinds.
-use Rattle.std.proofs.Common.{◌≡◌, ℕ, zero, suc, ◌+◌, ◌<◌, ◌≤◌, List, [], ◌∷◌, length, drop, get_or, Bool, true, false, Option, Some, None, refl, sym, ap, ◌∙◌, arith, cond}
+use Rattle.std.proofs.Common.{◌≡◌, ℕ, zero, suc, ◌+◌, ◌<◌, ◌≤◌, List, [], ◌∷◌, length, drop, get_or, Bool, true, false, Some, refl, sym, ap, ◌∙◌, arith, cond}
 use Rattle.std.specs.Prelude.{not}
 use Rattle.std.specs.List.{list_any}
 use Rattle.std.proofs.lemmas.List.{drop_more}
@@ -59,13 +59,3 @@ misfit_short (x ∷ ks) [] zero h w = refl
 misfit_short (x ∷ ks) [] (suc i) h w = ap (λ (l : List Mark). misfit (drop i ks) l) (sym (drop_none i)) ∙ misfit_short ks [] i (omega (arith, h)) (omega arith)
 misfit_short (x ∷ ks) (m ∷ ms) zero h w = absurd (omega (arith, w))
 misfit_short (x ∷ ks) (m ∷ ms) (suc i) h w = misfit_short ks ms i (omega (arith, h)) (omega (arith, w))
-
-fits_more : (b : Bool) (o : Option ℕ) (at n m : ℕ) → (o ≡ None → n ≤ m) → cond b o (Some at) ≡ None → suc n ≤ suc m
-fits_more true o at n m h e = let more = h e in omega (arith, more)
-fits_more false o at n m h e = cc
-
--- where all fit, there are as many tokens
-pub fits_within : (ks : List Kind) (ms : List Mark) → misfit ks ms ≡ None → length ks ≤ length ms
-fits_within [] ms e = omega arith
-fits_within (k ∷ ks) [] e = cc
-fits_within (k ∷ ks) (m ∷ ms) e = fits_more (kind_eqb k m.kind) (misfit ks ms) m.at (length ks) (length ms) (λ f. fits_within ks ms f) e

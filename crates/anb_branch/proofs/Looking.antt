@@ -86,9 +86,6 @@ module _ (x : List ℕ) (from : ℕ) where
 abbrev pub Gone : List ℕ → ℕ → List Mark → Type 0
 Gone x from ms = (ts : List Tok) → Lexes 0 x ts → (us : List Tok) × Lexes from (drop from x) us × (looked x ts ≡ ms ++ looked x us)
 
-pub gone_none : (x : List ℕ) → Gone x 0 []
-gone_none x = λ ts l. (ts, l, refl)
-
 -- a token's mark
 same_mark : (x : List ℕ) (u : Tok) (w : Word) (at len : ℕ) → u.word ≡ w → u.at ≡ at → len_of (token_here (drop at x)) ≡ len
     → mark_of x u ≡ record { kind = kind_of w; at = at; past = at + len }

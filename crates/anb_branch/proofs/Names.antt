@@ -1,18 +1,16 @@
 -- Names that are among others.
 use Rattle.std.proofs.Common.{◌≡◌, ℕ, List, [], ◌∷◌, Bool, true, false, Option, None, refl, sym, ap, subst, ◌∙◌, get_or, length, ◌<◌, zero, suc, arith, ◌+◌, append_assoc}
-use Rattle.std.specs.Prelude.{◌&&◌, ◌||◌, not, ◌++◌, IfOk, Result, Ok, Err, slice_get}
+use Rattle.std.specs.Prelude.{◌||◌, not, ◌++◌, slice_get}
 use Rattle.std.specs.Option.{option_map_or, option_or}
 use Rattle.std.specs.List.{AllByRecursion, AllZip, list_all}
 use Rattle.std.specs.Str.{bytes_eq}
+use Rattle.std.proofs.lemmas.Bool.{and_parts, not-false, and_from}
+use Rattle.anb_index.specs.Places.{among}
 use Rattle.anb_lemmas.proofs.Items.{bytes_are_one, bytes_eq-same}
+use Rattle.anb_lemmas.proofs.Bools.{or_true}
 use Rattle.anb_resolve.specs.Choices.{first_after, refuse_if}
-use Rattle.anb_resolve.specs.Names.{among}
 use Rattle.anb_resolve.specs.Protocols.{ProtocolValue}
 use Rattle.anb_branch.specs.Lawful.{AreAlike, IsLike, are_same_names}
-
-pub both : (a b : Bool) → (a && b) ≡ true → (a ≡ true) × (b ≡ true)
-both true b e = (refl, e)
-both false b e = cc
 
 among_next : (b : Bool) (z x : List ℕ) (xs ys : List (List ℕ)) → bytes_eq z x ≡ b → among ys z ≡ true → (among xs x ≡ true → among ys x ≡ true) → (b || among xs x) ≡ true → among ys x ≡ true
 among_next true z x xs ys e here later f = ap (among ys) (sym (bytes_are_one z x e)) ∙ here
@@ -22,24 +20,17 @@ among_next false z x xs ys e here later f = later f
 pub among_others : (xs ys : List (List ℕ)) (x : List ℕ) → list_all (among ys) xs ≡ true → among xs x ≡ true → among ys x ≡ true
 among_others [] ys x all here = cc
 among_others (z ∷ xs) ys x all here =
-    let parts = both (among ys z) (list_all (among ys) xs) all in
+    let parts = and_parts (among ys z) (list_all (among ys) xs) all in
     among_next (bytes_eq z x) z x xs ys refl parts.0 (λ f. among_others xs ys x parts.1 f) here
 
 pub same_names_have : (xs ys : List (List ℕ)) (x : List ℕ) → are_same_names xs ys ≡ true → among xs x ≡ true → among ys x ≡ true
-same_names_have xs ys x same here = among_others xs ys x (both (list_all (among ys) xs) (list_all (among xs) ys) same).0 here
-
-or-true : (b : Bool) → (b || true) ≡ true
-or-true true = refl
-or-true false = refl
-
-bytes-same : (x : List ℕ) → bytes_eq x x ≡ true
-bytes-same x = bytes_eq-same x
+same_names_have xs ys x same here = among_others xs ys x (and_parts (list_all (among ys) xs) (list_all (among xs) ys) same).0 here
 
 -- each name is among its list
 pub among_itself : (xs : List (List ℕ)) (i : ℕ) (x : List ℕ) → i < length xs → x ≡ get_or xs i x → among xs x ≡ true
 among_itself [] i x h e = absurd (omega (arith, h))
-among_itself (y ∷ xs) zero x h e = ap (λ (z : List ℕ). bytes_eq z x || among xs x) (sym e) ∙ ap (λ b. b || among xs x) (bytes-same x)
-among_itself (y ∷ xs) (suc i) x h e = ap (λ b. bytes_eq y x || b) (among_itself xs i x (omega (arith, h)) e) ∙ or-true (bytes_eq y x)
+among_itself (y ∷ xs) zero x h e = ap (λ (z : List ℕ). bytes_eq z x || among xs x) (sym e) ∙ ap (λ b. b || among xs x) (bytes_eq-same x)
+among_itself (y ∷ xs) (suc i) x h e = ap (λ b. bytes_eq y x || b) (among_itself xs i x (omega (arith, h)) e) ∙ or_true (bytes_eq y x)
 
 passes_next : {X R : Type 0} (b : Bool) (test : X → Bool) (x : X) (xs : List X) (r : R) (o : Option R) → test x ≡ b → (o ≡ None → AllByRecursion (λ y. test y ≡ true) xs)
     → option_or (refuse_if (not b) r) o ≡ None → AllByRecursion (λ y. test y ≡ true) (x ∷ xs)
@@ -51,12 +42,6 @@ pub none_refused : {X R : Type 0} (test : X → Bool) (r : List X → R) (before
     → first_after (λ us x. refuse_if (not (test x)) (r us)) before xs ≡ None → AllByRecursion (λ x. test x ≡ true) xs
 none_refused test r before [] e = tt
 none_refused test r before (x ∷ xs) e = passes_next (test x) test x xs (r before) _ refl (λ f. none_refused test r (before ++ x ∷ []) xs f) e
-
--- what holds of each holds of one
-pub one_of_all : {X : Type 0} (P : X → Type 0) (xs : List X) (i : ℕ) (x : X) → i < length xs → x ≡ get_or xs i x → AllByRecursion P xs → P x
-one_of_all P [] i x h e all = absurd (omega (arith, h))
-one_of_all P (y ∷ xs) zero x h e all = subst P (sym e) all.0
-one_of_all P (y ∷ xs) (suc i) x h e all = one_of_all P xs i x (omega (arith, h)) e all.1
 
 -- so all lists with these names have one of the names
 pub all_have : {X : Type 0} (names : X → List (List ℕ)) (roles : List (List ℕ)) (xs : List X) (x : List ℕ) → among roles x ≡ true
@@ -71,45 +56,24 @@ zip_at R (a ∷ xs) [] i x y h k e f all = absurd (omega (arith, k))
 zip_at {A} {B} R (a ∷ xs) (b ∷ ys) zero x y h k e f all = subst (λ (v : A). R v y) (sym e) (subst (λ (w : B). R a w) (sym f) all.0)
 zip_at R (a ∷ xs) (b ∷ ys) (suc i) x y h k e f all = zip_at R xs ys i x y (omega (arith, h)) (omega (arith, k)) e f all.1
 
--- the roles of the first arm
-pub first_roles : (arms : List ProtocolValue) (one : ProtocolValue) → 0 < length arms → one ≡ get_or arms 0 one → option_map_or (λ (p : ProtocolValue). p.roles) (slice_get arms 0) [] ≡ one.roles
-first_roles [] one h e = absurd (omega (arith, h))
-first_roles (p ∷ arms) one h e = ap (λ (q : ProtocolValue). q.roles) (sym e)
-
--- arms that are all like the first
-pub alike_of : (stem : ℕ) (arms : List ProtocolValue) (one : ProtocolValue) → one ≡ get_or arms 0 one → AllByRecursion (IsLike stem one) arms → AreAlike stem arms
-alike_of stem [] one e all = tt
-alike_of stem (p ∷ arms) one e all = subst (λ (q : ProtocolValue). AllByRecursion (IsLike stem q) arms) e all.1
-
-pub if_ok : {A E : Type 0} (r : Result A E) (P Q : A → Type 0) → ((a : A) → P a → Q a) → IfOk r P → IfOk r Q
-if_ok (Ok a) P Q f h = f a h
-if_ok (Err e) P Q f h = h
-
-not_false : (b : Bool) → not b ≡ false → b ≡ true
-not_false true e = refl
-not_false false e = cc
-
 -- byte strings that a comparison didn't tell apart
 pub not_apart : (a b c d : List ℕ) (r : Bool) → r ≡ not (bytes_eq c d) → c ≡ a → d ≡ b → r ≡ false → a ≡ b
-not_apart a b c d r e f g h = sym f ∙ bytes_are_one c d (not_false (bytes_eq c d) (sym e ∙ h)) ∙ g
+not_apart a b c d r e f g h = sym f ∙ bytes_are_one c d (not-false (bytes_eq c d) (sym e ∙ h)) ∙ g
 
 -- ---- arms that are alike have the same role names
 
 among_middle : (front : List (List ℕ)) (x : List ℕ) (xs : List (List ℕ)) → among (front ++ x ∷ xs) x ≡ true
-among_middle [] x xs = ap (λ b. b || among xs x) (bytes-same x)
-among_middle (y ∷ front) x xs = ap (λ b. bytes_eq y x || b) (among_middle front x xs) ∙ or-true (bytes_eq y x)
-
-both_true : (a b : Bool) → a ≡ true → b ≡ true → (a && b) ≡ true
-both_true a b e f = ap (λ c. c && b) e ∙ f
+among_middle [] x xs = ap (λ b. b || among xs x) (bytes_eq-same x)
+among_middle (y ∷ front) x xs = ap (λ b. bytes_eq y x || b) (among_middle front x xs) ∙ or_true (bytes_eq y x)
 
 all_among_behind : (front xs : List (List ℕ)) → list_all (among (front ++ xs)) xs ≡ true
 all_among_behind front [] = refl
 all_among_behind front (x ∷ xs) =
-    both_true (among (front ++ x ∷ xs) x) (list_all (among (front ++ x ∷ xs)) xs) (among_middle front x xs)
+    and_from (among (front ++ x ∷ xs) x) (list_all (among (front ++ x ∷ xs)) xs) (among_middle front x xs)
     (subst (λ (l : List (List ℕ)). list_all (among l) xs ≡ true) (append_assoc front (x ∷ []) xs) (all_among_behind (front ++ x ∷ []) xs))
 
 same_itself : (xs : List (List ℕ)) → are_same_names xs xs ≡ true
-same_itself xs = both_true (list_all (among xs) xs) (list_all (among xs) xs) (all_among_behind [] xs) (all_among_behind [] xs)
+same_itself xs = and_from (list_all (among xs) xs) (list_all (among xs) xs) (all_among_behind [] xs) (all_among_behind [] xs)
 
 pass_none : {X R : Type 0} (test : X → Bool) (r : List X → R) (before xs : List X) → AllByRecursion (λ x. test x ≡ true) xs
     → first_after (λ us x. refuse_if (not (test x)) (r us)) before xs ≡ None

@@ -2,6 +2,7 @@
 use Rattle.std.proofs.Common.{◌≡◌, ◌⊎◌, inl, inr, ℕ, ◌+◌, List, [], ◌∷◌, ◌++◌, length, Option, Some, None, Result, Ok, Err, refl, sym, ap, subst, ◌∙◌}
 use Rattle.std.specs.Option.{option_map, option_or}
 use Rattle.std.specs.List.{AllZip}
+use Rattle.std.proofs.lemmas.Option.{same_Some}
 use Rattle.anb_base.specs.declared.TheConstants.{ARRIVAL, WIDE}
 use Rattle.anb_syntax.specs.Laws.{TokensAreUnique}
 use Rattle.anb_read.specs.Laws as read
@@ -21,9 +22,6 @@ found s = Ok s
 
 ok_one : (s t : List Span) → found s ≡ found t → s ≡ t
 ok_one s t e = cc
-
-some_one : {A : Type 0} (a b : A) → Some a ≡ Some b → a ≡ b
-some_one a b e = cc
 
 abbrev value : List ℕ → ℕ → List ProtocolValue → BranchedValue
 value c m ps = record { chooser = c; stem = m; arms = ps }
@@ -181,7 +179,7 @@ module _ (tokens : TokensAreUnique) (narrations : read.NarrationsAreUnique) wher
       refused_one text number (ArmResolve arm r) (ArmRead arm2 r2) one two = absurd (never text one.1.0 r2 one.1.1 two.1)
       refused_one text number (ArmResolve arm r) (ArmResolve arm2 r2) one two =
           let same = narrations text one.1.0 two.1.0 one.1.1 two.1.1 in
-          ap (λ k. ArmResolve k r) (one.0 ∙ sym two.0) ∙ ap (ArmResolve arm2) (some_one r r2 (sym one.1.2 ∙ ap (fault ARRIVAL WIDE) same ∙ two.1.2))
+          ap (λ k. ArmResolve k r) (one.0 ∙ sym two.0) ∙ ap (ArmResolve arm2) (same_Some r r2 (sym one.1.2 ∙ ap (fault ARRIVAL WIDE) same ∙ two.1.2))
       refused_one text number (ArmResolve arm r) (Roles arm2) one two = absurd two
       refused_one text number (ArmResolve arm r) Chooser one two = absurd two
       refused_one text number (ArmResolve arm r) (Blind role2 arm2) one two = absurd two
@@ -205,7 +203,7 @@ module _ (tokens : TokensAreUnique) (narrations : read.NarrationsAreUnique) wher
       pub refusal_one : (x : List ℕ) (why other : BranchNo) → IsRefusal x why → IsRefusal x other → why ≡ other
       refusal_one x why other one two = by_form (form x why one) (form x other two) where
         by_form : Form x why → Form x other → why ≡ other
-        by_form (inl a) (inl b) = some_one why other (sym a.2 ∙ ap head_fault (marks_one x a.0 b.0 a.1 b.1) ∙ b.2)
+        by_form (inl a) (inl b) = same_Some why other (sym a.2 ∙ ap head_fault (marks_one x a.0 b.0 a.1 b.1) ∙ b.2)
         by_form (inl a) (inr b) = let e = sym a.2 ∙ ap head_fault (marks_one x a.0 b.0 a.1 b.2.marks) ∙ ordered_none x b.0 b.1 b.2 in cc
         by_form (inr a) (inl b) = let e = sym b.2 ∙ ap head_fault (marks_one x b.0 a.0 b.1 a.2.marks) ∙ ordered_none x a.0 a.1 a.2 in cc
         by_form (inr a) (inr b) = behind (straights_one x a.0 b.0 a.1 b.1 a.2 b.2) a.3 b.3 where
@@ -213,4 +211,4 @@ module _ (tokens : TokensAreUnique) (narrations : read.NarrationsAreUnique) wher
           behind same (inl f) (inl g) = arm_one (straights x b.0 b.1) why other (subst (λ l. ArmIsRefused l why) same f) g
           behind same (inl f) (inr g) = absurd (none_refused (straights x b.0 b.1) g.0.arms why g.1.0 (subst (λ l. ArmIsRefused l why) same f))
           behind same (inr f) (inl g) = absurd (none_refused (straights x a.0 a.1) f.0.arms other f.1.0 (subst (λ l. ArmIsRefused l other) (sym same) g))
-          behind same (inr f) (inr g) = some_one why other (sym f.2 ∙ ap choice_fault (choice_one x f.0 g.0 f.1.1 g.1.1) ∙ g.2)
+          behind same (inr f) (inr g) = same_Some why other (sym f.2 ∙ ap choice_fault (choice_one x f.0 g.0 f.1.1 g.1.1) ∙ g.2)

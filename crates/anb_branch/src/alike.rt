@@ -1,7 +1,7 @@
 //! Which arms belong together.
 ghost use Rattle.std.specs.Prelude.{◌≡◌, ◌≤◌, ◌<◌, ◌^◌, length, true, Some, None, IfOk, OnOk, IsTrue};
 ghost use Rattle.std.specs.List.{AllByRecursion, AllZip, list_all};
-ghost use Rattle.anb_resolve.specs.Names.{among};
+ghost use Rattle.anb_index.specs.Places.{among};
 ghost use Rattle.anb_resolve.specs.Protocols.{ProtocolValue};
 ghost use Rattle.anb_branch.specs.Branching.{other_roles};
 ghost use Rattle.anb_branch.specs.Headers.{HasHeader};

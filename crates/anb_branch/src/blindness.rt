@@ -2,8 +2,8 @@
 ghost use Rattle.std.specs.Prelude.{◌≡◌, ◌≤◌, ◌<◌, ◌^◌, length, map, true, Some, None, IfOk};
 ghost use Rattle.std.specs.List.{AllByRecursion, list_any};
 ghost use Rattle.std.specs.Option.{option_map};
+ghost use Rattle.anb_index.specs.Places.{among};
 ghost use Rattle.anb_term.specs.View.{tree_of};
-ghost use Rattle.anb_resolve.specs.Names.{among};
 ghost use Rattle.anb_resolve.specs.Protocols.{ProtocolValue};
 ghost use Rattle.anb_resolve.specs.Views.{plan_event};
 ghost use Rattle.anb_branch.specs.Lawful.{are_same_names, arm_part, blind, blind_in, is_format, is_free, plan_named, received_format, root_format, roles_in, stem_len, tells, told_by, unseen_in};

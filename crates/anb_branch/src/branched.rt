@@ -18,7 +18,7 @@ pub struct Branched {
 
 impl Branched {
     ghost use Rattle.std.specs.Prelude.{◌≡◌};
-    ghost use Rattle.anb_resolve.specs.Names.{among};
+    ghost use Rattle.anb_index.specs.Places.{among};
     ghost use Rattle.anb_branch.specs.Lawful.{roles_in};
     ghost use Rattle.anb_branch.specs.Views.{branched_of};
 

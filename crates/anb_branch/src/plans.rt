@@ -1,6 +1,6 @@
 //! Plans of roles by name, and their parts before and behind the choice.
 ghost use Rattle.std.specs.Prelude.{◌≡◌, ◌≤◌, ◌↔◌, length, drop, map, true, IfOk, IsTrue};
-ghost use Rattle.anb_resolve.specs.Names.{among};
+ghost use Rattle.anb_index.specs.Places.{among};
 ghost use Rattle.anb_resolve.specs.Views.{plan_event};
 ghost use Rattle.anb_branch.specs.Lawful.{is_of_stem, plan_named, stem_len};
 

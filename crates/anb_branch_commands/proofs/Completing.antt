@@ -6,6 +6,8 @@ use Rattle.std.specs.List.{list_any}
 use Rattle.std.specs.Str.{bytes_eq}
 use Rattle.std.proofs.lemmas.List.{get_or_append_left}
 use Rattle.std.proofs.lemmas.Option.{slice_get-get_or}
+use Rattle.anb_index.specs.Places.{among}
+use Rattle.anb_lemmas.proofs.Each.{each_got}
 use Rattle.anb_base.specs.Wires.{WireState}
 use Rattle.anb_base.specs.declared.TheConstants.{ARRIVAL}
 use Rattle.anb_frame.specs.Cuts.{HasCut}
@@ -13,14 +15,12 @@ use Rattle.anb_seal.specs.Streams.{draw_of}
 use Rattle.anb_term.specs.Tree.{Tree}
 use Rattle.anb_term.specs.Value.{Meaning}
 use Rattle.anb_plays.specs.Plans.{Event, known, recv}
-use Rattle.anb_resolve.specs.Names.{among}
 use Rattle.anb_resolve.specs.Plans.{PlanEvent, to_know, to_make, to_send, to_receive}
 use Rattle.anb_resolve.specs.Plays.{IsPlay, event_of, events_of, meaning_of}
 use Rattle.anb_resolve.specs.Protocols.{ProtocolValue, role_number}
 use Rattle.anb_branch.specs.Lawful.{BranchedValue, IsLawful, is_free, plan_named, roles_in, stem_part}
 use Rattle.anb_arms.specs.Taken.{IsTold, count_receives, place_begun, place_taken, receives_in, stem_receives}
 use Rattle.anb_arms.proofs.Agreeing.{HasStem, Sees, first_arm, sees_each, split_plan}
-use Rattle.anb_arms.proofs.Members.{each_at}
 use Rattle.anb_command.specs.declared.status.Status.{Status}
 use Rattle.anb_command.specs.declared.status.Status.TheVariants.{NoMemory}
 use Rattle.anb_command.specs.Fetches.{Files}
@@ -59,9 +59,9 @@ module _ (job : BranchJob) (left later : List ℕ) (hears : HearsArm job left la
       → stem_receives b job.role < length hears.hears.heard
   heard_past_choice place at other free =
       let arm = hears.arm in
-      let sees = each_at (Sees b.stem job.role) b.arms place arm (sees_each b job.role lawful is_role other free) at in
+      let sees = each_got (Sees b.stem job.role) b.arms place arm (sees_each b job.role lawful is_role other free) at in
       let first = first_arm b job.role lawful is_role in
-      let stem = each_at (HasStem b.stem job.role first.one) b.arms place arm first.stems at in
+      let stem = each_got (HasStem b.stem job.role first.one) b.arms place arm first.stems at in
       let part = stem_part b.stem (plan_named arm job.role) in
       let agrees = hears.hears.agrees.1 in
       let more = more_heard (meaning_of arm) (draw_of job.seed 0) part sees.message (map event_of sees.after) (known (events_of arm (role_number arm.roles job.role))) job.initial 0 hears.hears.heard

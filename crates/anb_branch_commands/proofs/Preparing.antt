@@ -1,10 +1,10 @@
 -- From the steps of the preparation to what is asked.
 use Rattle.std.proofs.Common.{◌≡◌, ℕ, Bool, true, List, Option, Some, None, refl, sym, subst, inl, inr}
 use Rattle.std.specs.Prelude.{All}
-use Rattle.anb_resolve.specs.Names.{among}
+use Rattle.anb_plays.specs.Plays.{Run}
+use Rattle.anb_index.specs.Places.{among}
 use Rattle.anb_resolve.specs.Plays.{IsSendable}
 use Rattle.anb_branch.specs.Lawful.{BranchedValue, IsLawful, roles_in}
-use Rattle.anb_session.specs.Sessions.{Run}
 use Rattle.anb_arms.specs.Taken.{IsTold, PlaysTaken}
 use Rattle.anb_values.specs.declared.fitted.Fitted.{Fitted}
 use Rattle.anb_command.specs.declared.status.Status.{Status}

@@ -8,13 +8,14 @@ use Rattle.std.proofs.lemmas.Bool.{cases_order, le-leb, leb-true}
 use Rattle.std.proofs.lemmas.List.{get_or-take, length-take}
 use Rattle.std.proofs.lemmas.List.Elements.{All-from_recursion}
 use Rattle.std.proofs.lemmas.Option.{get_or_from_slice_get, slice_get_within}
+use Rattle.anb_index.specs.Places.{among}
 use Rattle.anb_code.specs.CodeValue.{CodeValue}
 use Rattle.anb_code.specs.Taking.{take_texts}
 use Rattle.anb_resolve.specs.Choices.{refuse_if}
-use Rattle.anb_resolve.specs.Names.{among}
 use Rattle.anb_resolve.specs.Plays.{IsSendable}
 use Rattle.anb_resolve.specs.Protocols.{ProtocolValue, role_number}
 use Rattle.anb_resolve.specs.Texts.{known_texts}
+use Rattle.anb_resolve.proofs.Building.{role_below}
 use Rattle.anb_compile.specs.Fitting.{FitsRole}
 use Rattle.anb_compile.specs.Unsent.{IsFirstUnsentOfAll}
 use Rattle.anb_branch.specs.Lawful.{BranchedValue, IsLawful, roles_in}
@@ -23,7 +24,6 @@ use Rattle.anb_arms.specs.Laws.{ArmsKnowAlike}
 use Rattle.anb_arms.specs.Taken.{IsTold, TakeAll}
 use Rattle.anb_arms.specs.declared.compiling.ArmNo.TheVariants.{CannotSend}
 use Rattle.anb_arms.proofs.Agreeing.{first_arm}
-use Rattle.anb_arms.proofs.Members.{number_within}
 use Rattle.anb_command.specs.declared.status.Status.TheVariants.{ArmCannotSend, BadArm}
 use Rattle.anb_command.specs.Errands.{draws}
 use Rattle.anb_command.specs.Steps.{refused, given, HasOneAnswer}
@@ -148,7 +148,7 @@ pub numbered_first : (b : BranchedValue) (role : List ℕ) (one : ProtocolValue)
     → name ≡ role → place ≡ position_from (λ y. bytes_eq y name) 0 one.roles → number ≡ unwrap_or place 0 → number < length one.roles
 numbered_first b role one name place number first is_role named at is =
     let roles : roles_in b ≡ one.roles = ap (λ (o : Option ProtocolValue). option_map_or (λ (p : ProtocolValue). p.roles) o []) first in
-    let within = number_within one.roles role (subst (λ (names : List (List ℕ)). among names role ≡ true) roles is_role) in
+    let within = role_below one.roles role (subst (λ (names : List (List ℕ)). among names role ≡ true) roles is_role) in
     subst (λ (n : ℕ). n < length one.roles) (sym (number_first role one name place number named at is)) within
 
 -- what it knows there

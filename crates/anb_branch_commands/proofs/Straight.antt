@@ -3,19 +3,20 @@ use Rattle.std.proofs.Common.{◌≡◌, ℕ, zero, suc, Bool, true, false, List
 use Rattle.std.specs.Prelude.{◌||◌, slice_get, unwrap_or}
 use Rattle.std.specs.List.{list_any}
 use Rattle.std.proofs.lemmas.Option.{get_or_from_slice_get, slice_get_within}
-use Rattle.anb_resolve.specs.Names.{among}
+use Rattle.anb_index.specs.Places.{among}
+use Rattle.anb_lemmas.proofs.Each.{each_got}
 use Rattle.anb_resolve.specs.Plays.{IsSendable}
-use Rattle.anb_resolve.specs.Protocols.{ProtocolValue, role_number}
+use Rattle.anb_resolve.specs.Protocols.{ProtocolValue, role_number, role_named}
 use Rattle.anb_branch.specs.Branching.{BranchedText, Tells, straights}
 use Rattle.anb_branch.specs.Lawful.{BranchedValue}
 use Rattle.anb_arms.specs.Laws.{ArmsKnowAlike}
-use Rattle.anb_arms.proofs.Members.{each_at, named_place, zipped_at}
+use Rattle.anb_arms.proofs.Members.{named_place, zipped_at}
 use Rattle.anb_arms.proofs.Refusals.{roles_there}
 use Rattle.anb_values.specs.declared.fitted.Fitted.{Fitted}
 use Rattle.anb_command.specs.declared.limits.TheConstants.{NARRATION_LIMIT}
 use Rattle.anb_command.specs.Fetches.{Files}
 use Rattle.anb_command.specs.Files.{HasFile, ValuesInFile}
-use Rattle.anb_command.specs.Roles.{Part, PartInFile, role_named}
+use Rattle.anb_command.specs.Roles.{Part, PartInFile}
 use Rattle.anb_command.specs.Seeds.{SeedIs, seed_of}
 use Rattle.anb_command.specs.Steps.{given, InTurn, AnswersWith}
 use Rattle.anb_command.proofs.Ones.{same_given}
@@ -61,7 +62,7 @@ module _ (alike : ArmsKnowAlike) (files : Files) (role values : List ℕ) (told 
   part_in : PartInFile files name role (given part)
   part_in =
       let told_by = zipped_at Tells (straights text tells.marks tells.spans) b.arms place straight arm tells.arms here arm_at in
-      let named = numbered arm.roles role arm refl (each_at (λ (p : ProtocolValue). among p.roles role ≡ true) b.arms place arm (roles_there b role seat.lawful seat.is_role) arm_at) in
+      let named = numbered arm.roles role arm refl (each_got (λ (p : ProtocolValue). among p.roles role ≡ true) b.arms place arm (roles_there b role seat.lawful seat.is_role) arm_at) in
       let sendable : IsSendable arm = subst IsSendable (get_or_from_slice_get b.arms place arm arm arm_at) (seat.sendable place arm (slice_get_within b.arms place arm arm_at)) in
       inr (
         arm,

@@ -1,8 +1,8 @@
 -- For proofs alone: a role that can be played in each arm.
 use Rattle.std.specs.Prelude.{◌≡◌, ◌≤◌, ℕ, List, length, true, All, Option}
+use Rattle.anb_index.specs.Places.{among}
 use Rattle.anb_base.specs.declared.TheConstants.{ARRIVAL}
 use Rattle.anb_code.specs.CodeValue.{CodeValue}
-use Rattle.anb_resolve.specs.Names.{among}
 use Rattle.anb_branch.specs.Lawful.{BranchedValue, IsLawful, roles_in}
 use Rattle.anb_arms.specs.Arms.{FitArms}
 use Rattle.anb_arms.specs.Taken.{IsTold, TakeAll}

@@ -3,8 +3,8 @@ use Rattle.std.specs.Prelude.{◌≡◌, ◌⊎◌, ℕ, ◌&&◌, not, nat_le, 
 use Rattle.std.specs.Option.{option_map_or}
 use Rattle.std.specs.List.{list_any}
 use Rattle.std.specs.Str.{bytes_eq}
+use Rattle.anb_index.specs.Places.{among}
 use Rattle.anb_resolve.specs.Choices.{refuse_if}
-use Rattle.anb_resolve.specs.Names.{among}
 use Rattle.anb_resolve.specs.Plays.{IsSendable}
 use Rattle.anb_resolve.specs.Protocols.{ProtocolValue, role_number}
 use Rattle.anb_resolve.specs.Texts.{known_texts}

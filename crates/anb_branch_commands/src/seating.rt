@@ -1,7 +1,7 @@
 //! A role of a branched text, and its codes in all arms.
 ghost use Rattle.std.specs.Prelude.{◌≡◌, ◌≤◌, [], ◌∷◌, length, true, IfOk, IfErr, OnOk};
+ghost use Rattle.anb_index.specs.Places.{among};
 ghost use Rattle.anb_base.specs.Moves.{Rose};
-ghost use Rattle.anb_resolve.specs.Names.{among};
 ghost use Rattle.anb_branch.specs.Lawful.{IsLawful, roles_in};
 ghost use Rattle.anb_branch.specs.Views.{branched_of};
 ghost use Rattle.anb_arms.specs.Arms.{FitArms};

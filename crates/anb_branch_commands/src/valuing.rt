@@ -1,9 +1,9 @@
 //! The values and the seed that a role of a branched text is played with.
 ghost use Rattle.std.specs.Prelude.{◌≡◌, ◌≢◌, ◌≤◌, ℕ, List, [], ◌∷◌, length, true, All, AllPairs, IfOk, IfErr};
 ghost use Rattle.std.specs.List.{list_any};
+ghost use Rattle.anb_index.specs.Places.{among};
 ghost use Rattle.anb_base.specs.declared.TheConstants.{ARRIVAL};
 ghost use Rattle.anb_base.specs.Moves.{Rose};
-ghost use Rattle.anb_resolve.specs.Names.{among};
 ghost use Rattle.anb_branch.specs.Lawful.{IsLawful, roles_in};
 ghost use Rattle.anb_branch.specs.Views.{branched_of};
 ghost use Rattle.anb_command.specs.Errands.{draws};

@@ -1,7 +1,7 @@
 //! Roles of branched texts, compiled and played over wires in memory.
 ghost use Rattle.std.specs.Prelude.{◌≡◌, ◌≤◌, length, All, true, IfOk};
+ghost use Rattle.anb_index.specs.Places.{among};
 ghost use Rattle.anb_base.specs.declared.TheConstants.{ARRIVAL};
-ghost use Rattle.anb_resolve.specs.Names.{among};
 ghost use Rattle.anb_branch.specs.Lawful.{IsLawful, roles_in};
 ghost use Rattle.anb_branch.specs.Views.{branched_of};
 ghost use Rattle.anb_arms.specs.Taken.{IsTold, TakeAll};

@@ -2,17 +2,20 @@
 use Rattle.std.proofs.Common.{◌≡◌, ℕ, zero, suc, ◌<◌, List, [], ◌∷◌, take, Bool, true, false, Option, Some, None, refl, sym, ap, ◌∙◌, subst, inl, inr, ◌⊎◌, ⊎_elim, arith}
 use Rattle.std.specs.Prelude.{slice_get, ◌==◌, ◌||◌, ◌↔◌, not}
 use Rattle.std.specs.List.{list_any, list_all}
-use Rattle.std.proofs.lemmas.Bool.{eqb-true, eq-eqb, and_parts, and_from}
+use Rattle.std.proofs.lemmas.Bool.{eqb-true, eq-eqb, and_parts, and_from, or_right, not-true, not_from_false, or_left, or_cases}
+use Rattle.anb_close.specs.Rows.{is_at}
+use Rattle.anb_close.proofs.Rows.{is_at_same}
 use Rattle.anb_term.specs.declared.term.Op.{Op}
 use Rattle.anb_term.specs.Operator.{keys, undoable, op_eqb}
 use Rattle.anb_term.specs.Tree.{Tree, leaf, node, list_of, tree_eqb}
-use Rattle.anb_term.specs.TreeSame.{op_same, op_itself, tree_same, tree_itself}
+use Rattle.anb_term.specs.TreeSame.{op_same, op_itself, tree_itself}
 use Rattle.anb_term.specs.Composes.{Composes}
 use Rattle.anb_plays.specs.Codes.{Work, make, undo, equal}
 use Rattle.anb_certify.specs.Tied.{Did, InPairs, Ties, Tied, KeepsRules}
 use Rattle.anb_certify.specs.Decided.{composes}
-use Rattle.anb_certify.specs.Classes.{both_are, in_class, Saturated, AreNamed, ClassesAreTied, RulesTie, all_below, hashes_it, knows_it, is_term, rule_test, register_test, RulesAreDecided}
-use Rattle.anb_certify.proofs.Deciding.{or_parts, or_left, or_right, decides, decided, all_from, all_true, if_then, then_if}
+use Rattle.anb_certify.specs.Classes.{both_are, in_class, Saturated, AreNamed, ClassesAreTied, RulesTie, all_below, hashes_it, knows_it, rule_test, register_test, RulesAreDecided}
+use Rattle.anb_certify.proofs.Deciding.{decides, decided, all_from, all_true, if_then, then_if}
+use Rattle.anb_certify.proofs.Falling.{back_tied, on_tied}
 
 both_parts : (x y : Option ℕ) → both_are x y ≡ true → (c : ℕ) × (x ≡ Some c) × (y ≡ Some c)
 both_parts (Some c) (Some d) e = (c, refl, ap Some (sym (eqb-true c d e)))
@@ -24,7 +27,7 @@ Classed cs a b = (a ≡ b) ⊎ ((c : ℕ) × (slice_get cs a ≡ Some c) × (sli
 
 pub classed : (cs : List ℕ) (a b : ℕ) → in_class cs a b ≡ true → Classed cs a b
 unfolding Classed
-classed cs a b e = ⊎_elim (λ s. inl (eqb-true a b s)) (λ s. inr (both_parts _ _ s)) (or_parts (a == b) (both_are (slice_get cs a) (slice_get cs b)) e)
+classed cs a b e = ⊎_elim (λ s. inl (eqb-true a b s)) (λ s. inr (both_parts _ _ s)) (or_cases (a == b) (both_are (slice_get cs a) (slice_get cs b)) e)
 
 pub in_one : (cs : List ℕ) (a b c : ℕ) → slice_get cs a ≡ Some c → slice_get cs b ≡ Some c → in_class cs a b ≡ true
 in_one cs a b c e f = or_right (a == b) _ (rw (e, f) (eq-eqb c c refl))
@@ -57,17 +60,11 @@ ties did cs s = record {
 itself : (did : List (ℕ × Work)) (a b : ℕ) → a ≡ b → Tied did a b
 itself did a b e = λ Q t. subst (λ c. Q a c ≡ true) e (t.itself a)
 
-back : (did : List (ℕ × Work)) (a b : ℕ) → Tied did a b → Tied did b a
-back did a b h = λ Q t. t.turned a b (h Q t)
-
-then : (did : List (ℕ × Work)) (a b c : ℕ) → Tied did a b → Tied did b c → Tied did a c
-then did a b c h k = λ Q t. t.joined a b c (h Q t) (k Q t)
-
 -- registers of one class are tied
 named : (did : List (ℕ × Work)) (cs : List ℕ) → AreNamed did cs → (a b : ℕ) → Classed cs a b → Tied did a b
 unfolding Classed
 named did cs j a b (inl e) = itself did a b e
-named did cs j a b (inr e) = then did a e.0 b (j a e.0 e.1) (back did b e.0 (j b e.0 e.2))
+named did cs j a b (inr e) = on_tied did a e.0 b (j a e.0 e.1) (back_tied did b e.0 (j b e.0 e.2))
 
 pub classes_are_tied : ClassesAreTied
 classes_are_tied did cs s j a b = (λ t. t (in_class cs) (ties did cs s), λ e. named did cs j a b (classed cs a b e))
@@ -97,7 +94,7 @@ some_from f (s ∷ did) at w (inr d) e = or_right (f s) _ (some_from f did at w 
 
 some_is : (f : ℕ × Work → Bool) (did : List (ℕ × Work)) → list_any f did ≡ true → (at : ℕ) × (w : Work) × Did did at w × (f (at, w) ≡ true)
 some_is f [] e = cc
-some_is f (s ∷ did) e = ⊎_elim (λ a. (s.0, s.1, inl (refl, refl), a)) (λ b. let r = some_is f did b in (r.0, r.1, inr r.2, r.3)) (or_parts (f s) _ e)
+some_is f (s ∷ did) e = ⊎_elim (λ a. (s.0, s.1, inl (refl, refl), a)) (λ b. let r = some_is f did b in (r.0, r.1, inr r.2, r.3)) (or_cases (f s) _ e)
 
 below_from : (f : ℕ → Bool) (n : ℕ) → ((k : ℕ) → k < n → f k ≡ true) → all_below f n ≡ true
 below_from f zero h = refl
@@ -121,25 +118,13 @@ not_is : (a b : Bool) → (a || b) ≡ true → a ≡ false → b ≡ true
 not_is true b e f = cc
 not_is false b e f = e
 
-is_false : (a : Bool) → not a ≡ true → a ≡ false
-is_false true e = cc
-is_false false e = refl
-
-from_false : (a : Bool) → a ≡ false → not a ≡ true
-from_false true e = cc
-from_false false e = refl
-
-term_from : (o : Option Tree) (t : Tree) → o ≡ Some t → is_term o t ≡ true
+term_from : (o : Option Tree) (t : Tree) → o ≡ Some t → is_at o t ≡ true
 term_from None t e = cc
 term_from (Some u) t e = let s : u ≡ t = cc in subst (λ z. tree_eqb u z ≡ true) s (tree_itself u)
 
-term_is : (o : Option Tree) (t : Tree) → is_term o t ≡ true → o ≡ Some t
-term_is None t e = cc
-term_is (Some u) t e = ap Some (tree_same u t e)
-
 module _ (did : List (ℕ × Work)) (cs : List ℕ) (ts : List Tree) (exact : (a b : ℕ) → Tied did a b ↔ (in_class cs a b ≡ true)) where
   hash_of : (i : ℕ) (at : ℕ) (w : Work) → Did did at w → hashes_it cs i (at, w) ≡ true → (at : ℕ) × (p : Op) × (ns : List ℕ) × (undoable p ≡ false) × Did did at (make p ns) × Tied did i at
-  hash_of i at (make p ns) d e = let b = and_parts (not (undoable p)) _ e in (at, p, ns, is_false _ b.0, d, (exact i at).1 b.1)
+  hash_of i at (make p ns) d e = let b = and_parts (not (undoable p)) _ e in (at, p, ns, not-true _ b.0, d, (exact i at).1 b.1)
   hash_of i at (undo p ks n) d e = cc
   hash_of i at (equal a b) d e = cc
 
@@ -154,7 +139,7 @@ module _ (did : List (ℕ × Work)) (cs : List ℕ) (ts : List Tree) (exact : (a
   keeps_rule i keeps (node o us) at = and_from _ _
       (unless (undoable o) _ (λ u. if_then (list_all (composes ts) (list_of us)) _ (λ e.
       let h = keeps.hashes o us at u (all_true (Composes ts) (composes ts) (decided ts) (list_of us) e) in
-      some_from (hashes_it cs i) did h.0 (make h.1 h.2) h.4 (and_from _ _ (from_false _ h.3) ((exact i h.0).0 h.5)))))
+      some_from (hashes_it cs i) did h.0 (make h.1 h.2) h.4 (and_from _ _ (not_from_false _ h.3) ((exact i h.0).0 h.5)))))
       (if_then (undoable o) _ (λ u. if_then (list_all (composes ts) (take (keys o) (list_of us))) _ (λ e.
       ⊎_elim (λ h. some_from (knows_it cs i o) did h.0 (make o h.1) h.2 (and_from _ _ (op_itself o) ((exact i h.0).0 h.3)))
       (λ h. some_from (knows_it cs i o) did h.0 (undo h.1 h.2 h.3) h.4 ((exact i h.3).0 h.5))
@@ -163,12 +148,12 @@ module _ (did : List (ℕ × Work)) (cs : List ℕ) (ts : List Tree) (exact : (a
   keeps_test : (i : ℕ) → KeepsRules did ts i → (o : Option Tree) → slice_get ts i ≡ o → register_test did cs ts i o ≡ true
   keeps_test i keeps None at = refl
   keeps_test i keeps (Some t) at = and_from _ _
-      (below_from _ i (λ k l. if_then (is_term (slice_get ts k) t) _ (λ e. (exact k i).0 (keeps.alike k t l (term_is _ t e) at))))
+      (below_from _ i (λ k l. if_then (is_at (slice_get ts k) t) _ (λ e. (exact k i).0 (keeps.alike k t l (is_at_same _ t e) at))))
       (keeps_rule i keeps t at)
 
   test_keeps : (i : ℕ) → register_test did cs ts i (slice_get ts i) ≡ true → KeepsRules did ts i
   test_keeps i e = record {
-    alike = λ k t l ek ei. let b = and_parts _ _ (tested t ei) in (exact k i).1 (then_if (is_term (slice_get ts k) t) _ (below_is _ i b.0 k l) (term_from _ t ek));
+    alike = λ k t l ek ei. let b = and_parts _ _ (tested t ei) in (exact k i).1 (then_if (is_at (slice_get ts k) t) _ (below_is _ i b.0 k l) (term_from _ t ek));
     hashes = λ o us ei u all. let b = and_parts _ _ (tested (node o us) ei) in let c = and_parts _ _ b.1 in
         let s = then_if (list_all (composes ts) (list_of us)) _ (not_is (undoable o) _ c.0 u) (all_from (Composes ts) (composes ts) (decides ts) (list_of us) all) in
         let r = some_is (hashes_it cs i) did s in hash_of i r.0 r.1 r.2 r.3;

@@ -2,24 +2,14 @@
 use Rattle.std.proofs.Common.{◌≡◌, List, [], ◌∷◌, length, take, drop, Bool, true, false, ◌&&◌, ◌||◌, IsTrue, refl, sym, ◌∙◌, subst, inl, inr, ◌⊎◌, ⊎_elim}
 use Rattle.std.specs.Prelude.{◌==◌, not, ◌↔◌}
 use Rattle.std.specs.List.{AllByRecursion, list_all}
-use Rattle.std.proofs.lemmas.Bool.{eqb-true, eq-eqb, and_parts, and_from}
+use Rattle.std.proofs.lemmas.Bool.{eqb-true, eq-eqb, and_parts, and_from, or_right, or_left, or_cases}
+use Rattle.anb_lemmas.proofs.Bools.{not_from_never, never_from_not}
 use Rattle.anb_term.specs.Operator.{arity, keys, undoable}
 use Rattle.anb_term.specs.Tree.{Tree, leaf, node, Trees, none, more, list_of, tree_eqb}
 use Rattle.anb_term.specs.TreeSame.{tree_same, tree_itself}
 use Rattle.anb_term.specs.Composes.{Among, Composes, ComposeAll}
 use Rattle.anb_certify.specs.Shut.{IsShut}
 use Rattle.anb_certify.specs.Decided.{is_among, composes, all_compose, parts_in, shut_test}
-
-pub or_parts : (a b : Bool) → (a || b) ≡ true → (a ≡ true) ⊎ (b ≡ true)
-or_parts true b e = inl refl
-or_parts false b e = inr e
-
-pub or_left : (a b : Bool) → a ≡ true → (a || b) ≡ true
-or_left a b e = rw e refl
-
-pub or_right : (a b : Bool) → b ≡ true → (a || b) ≡ true
-or_right true b e = refl
-or_right false b e = e
 
 pub among_true : (es : List Tree) (t : Tree) → Among es t → is_among es t ≡ true
 among_true [] t h = absurd h
@@ -28,7 +18,7 @@ among_true (e ∷ es) t (inr h) = or_right (tree_eqb e t) _ (among_true es t h)
 
 pub among_from : (es : List Tree) (t : Tree) → is_among es t ≡ true → Among es t
 among_from [] t e = cc
-among_from (x ∷ es) t e = ⊎_elim (λ s. inl (tree_same x t s)) (λ r. inr (among_from es t r)) (or_parts (tree_eqb x t) (is_among es t) e)
+among_from (x ∷ es) t e = ⊎_elim (λ s. inl (tree_same x t s)) (λ r. inr (among_from es t r)) (or_cases (tree_eqb x t) (is_among es t) e)
 
 mutual
   pub decides : (es : List Tree) (t : Tree) → Composes es t → composes es t ≡ true
@@ -46,7 +36,7 @@ mutual
   decided es (node o ts) e =
       ⊎_elim (λ s. inl (among_from es (node o ts) s))
       (λ s. let b = and_parts (length (list_of ts) == arity o) _ s in inr (eqb-true _ _ b.0, all_decided es ts b.1))
-      (or_parts (is_among es (node o ts)) _ e)
+      (or_cases (is_among es (node o ts)) _ e)
 
   all_decided : (es : List Tree) (ts : Trees) → all_compose es ts ≡ true → ComposeAll es ts
   all_decided es none e = tt
@@ -69,14 +59,6 @@ pub among_all : (P : Tree → Type 0) (xs : List Tree) → ((t : Tree) → Among
 among_all P [] h = tt
 among_all P (x ∷ xs) h = (h x (inl refl), among_all P xs (λ t a. h t (inr a)))
 
-not_true : (b : Bool) → (b ≡ true → ⊥) → not b ≡ true
-not_true true h = absurd (h refl)
-not_true false h = refl
-
-not_false : (b : Bool) → not b ≡ true → b ≡ true → ⊥
-not_false true e f = cc
-not_false false e f = cc
-
 -- if a then b, as a test
 pub if_then : (a b : Bool) → (a ≡ true → b ≡ true) → (not a || b) ≡ true
 if_then true b h = h refl
@@ -98,7 +80,7 @@ module _ (frame S : List Tree) (t : Tree) where
   tested shut = and_from (list_all (is_among S) frame) _ (all_from (Among S) (is_among S) (λ x a. among_true S x a) frame shut.labels)
       (and_from (list_all (parts_in S) S) _
       (all_from (λ u. parts_in S u ≡ true) (parts_in S) (λ u e. e) S (among_all (λ u. parts_in S u ≡ true) S (parts_test shut)))
-      (not_true (composes S t) (λ e. shut.apart (decided S t e))))
+      (not_from_never (composes S t) (λ e. shut.apart (decided S t e))))
 
   from_test : shut_test frame S t ≡ true → IsShut frame S t
   from_test e =
@@ -110,11 +92,8 @@ module _ (frame S : List Tree) (t : Tree) where
             let p = at_among (λ v. parts_in S v ≡ true) S (node o us) (all_true (λ v. parts_in S v ≡ true) (parts_in S) (λ v f. f) S b.0) h in
             all_true (Among S) (is_among S) (among_from S) (drop (keys o) (list_of us))
             (then_if (undoable o && list_all (composes S) (take (keys o) (list_of us))) _ p (and_from (undoable o) _ u (all_from (Composes S) (composes S) (decides S) (take (keys o) (list_of us)) ks)));
-        apart = λ c. not_false (composes S t) b.1 (decides S t c);
+        apart = λ c. never_from_not (composes S t) b.1 (decides S t c);
       }
-
-pub shut_is_decided : (frame S : List Tree) (t : Tree) → IsTrue (shut_test frame S t) ↔ IsShut frame S t
-shut_is_decided frame S t = (from_test frame S t, tested frame S t)
 
 -- step by step
 pub no_labels : (frame S : List Tree) (t : Tree) → list_all (is_among S) frame ≡ false → IsTrue false ↔ IsShut frame S t

@@ -2,21 +2,23 @@
 use Rattle.std.proofs.Common.{◌≡◌, ℕ, zero, suc, ◌+◌, ◌<◌, List, [], ◌∷◌, ◌++◌, length, set, get_or, Bool, Some, refl, sym, ap, ◌∙◌, subst, inl, inr, ◌⊎◌, ⊎_elim, arith}
 use Rattle.std.specs.Prelude.{slice_get}
 use Rattle.std.proofs.lemmas.List.Sums.{sum_by-set}
-use Rattle.anb_term.proofs.Lists.{all_append, set-at, set-other, set-same, slice_get-there, slice_get-within}
+use Rattle.anb_lemmas.proofs.Numbers.{below_or_it, same_or_not}
+use Rattle.anb_lemmas.proofs.Each.{each_in_both}
+use Rattle.anb_lemmas.proofs.Lists.{got_within}
+use Rattle.anb_term.proofs.Lists.{set-at, set-other, set-same, slice_get-there}
 use Rattle.anb_plays.specs.Codes.{Work}
 use Rattle.anb_certify.specs.Classes.{AreNamed}
 use Rattle.anb_certify.specs.Tied.{Tied}
 use Rattle.anb_certify.specs.declared.links.Pair.{Pair}
 use Rattle.anb_certify.specs.Falling.{AreApart, AreFlat, AreLow, LinkApart, weight}
 use Rattle.anb_certify.specs.Numbered.{AreBegun}
-use Rattle.anb_certify.proofs.Grouping.{get_here, same_or}
-use Rattle.anb_certify.proofs.Ruling.{same_or_not}
+use Rattle.anb_certify.proofs.Grouping.{get_here}
 
 -- one link more
 pub apart_next : (cs : List ℕ) (links links2 : List Pair) (m : Pair) (d : ℕ) → links2 ≡ links ++ m ∷ [] → m.0 < length cs → m.1 < length cs → (get_or cs m.0 d ≡ get_or cs m.1 d → ⊥) → LinkApart cs links → LinkApart cs links2
 apart_next cs links links2 m d is la lb apart h =
     let own : AreApart cs m.0 m.1 = λ e. apart (let f : Some (get_or cs m.0 d) ≡ Some (get_or cs m.1 d) = sym (get_here cs m.0 d la) ∙ e ∙ get_here cs m.1 d lb in cc) in
-    subst (LinkApart cs) (sym is) (all_append (λ l. AreApart cs l.0 l.1) links (m ∷ []) h (own, tt))
+    subst (LinkApart cs) (sym is) (each_in_both (λ l. AreApart cs l.0 l.1) links (m ∷ []) h (own, tt))
 
 -- ---- the start
 
@@ -25,7 +27,7 @@ begun_low firsts flags names h low i c e = ⊎_elim (λ a. low i c a.1) (λ s. o
 
 pub begun_flat : (firsts : List ℕ) (flags : List Bool) (names : List ℕ) → length names ≡ length firsts → AreBegun firsts flags names → AreFlat firsts → AreFlat names
 begun_flat firsts flags names long h flat i c e = ⊎_elim
-    (λ a. let own = flat i c a.1 in let x = slice_get-there names c (omega (arith, slice_get-within firsts c c own, long)) in
+    (λ a. let own = flat i c a.1 in let x = slice_get-there names c (omega (arith, got_within firsts c c own, long)) in
     x.1 ∙ ap Some (⊎_elim (λ b. (let f : Some c ≡ Some x.0 = sym own ∙ b.1 in let g : c ≡ x.0 = cc in sym g)) (λ s. s) (h.each c x.0 x.1)))
     (λ s. subst (λ z. slice_get names z ≡ Some c) (sym s) e) (h.each i c e)
 
@@ -36,7 +38,7 @@ set_low cs i y low l k c e = ⊎_elim (λ a. omega (arith, a.0, a.1, l)) (λ b. 
 
 pub weight_set : (cs : List ℕ) (i y x : ℕ) → slice_get cs i ≡ Some x → weight (set cs i y) + x ≡ weight cs + y
 weight_set cs i y x e =
-    let l = slice_get-within cs i x e in
+    let l = got_within cs i x e in
     let f : Some (get_or cs i 0) ≡ Some x = sym (get_here cs i 0 l) ∙ e in
     let g : get_or cs i 0 ≡ x = cc in
     let s = sum_by-set (λ c. c) cs i y 0 l in
@@ -81,7 +83,7 @@ module _ (cs : List ℕ) (i c d : ℕ) (here : slice_get cs i ≡ Some c) (then 
 
   pub follow_flat : AreFlatBelow cs i → AreFlatBelow (set cs i d) (i + 1)
   follow_flat flat k x l e = ⊎_elim (λ a. by_root x (sym a.1)) (λ b. ⊎_elim (λ less. stays x (flat k x less b))
-      (λ s. by_root x (let f : Some d ≡ Some x = sym (set-same cs i d c here) ∙ ap (slice_get (set cs i d)) s ∙ e in cc)) (same_or k i l)) (set-at cs i k d x e) where
+      (λ s. by_root x (let f : Some d ≡ Some x = sym (set-same cs i d c here) ∙ ap (slice_get (set cs i d)) s ∙ e in cc)) (below_or_it k i l)) (set-at cs i k d x e) where
         by_root : (x : ℕ) → d ≡ x → slice_get (set cs i d) x ≡ Some x
         by_root x s = subst (λ z. slice_get (set cs i d) z ≡ Some z) s (stays d (own_root flat))
 

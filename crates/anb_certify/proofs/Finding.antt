@@ -8,7 +8,6 @@ use Rattle.std.specs.Cmp.Lexicographic.{slice_cmp}
 use Rattle.std.specs.BTreeMap.{insert_entry}
 use Rattle.std.proofs.lemmas.Map.Lookups.{exact_bytes}
 use Rattle.std.proofs.lemmas.List.{map_more}
-use Rattle.anb_term.specs.declared.term.Op.{Op}
 use Rattle.anb_term.specs.declared.term.Term.{Term}
 use Rattle.anb_term.specs.Tree.{Tree, leaf, node, Trees, none, more, trees_of, IsFormed, AreFormed}
 use Rattle.anb_term.specs.View.{tree_of}
@@ -151,16 +150,3 @@ found_next p frame xs i x a b c h own first next =
     (found_same p frame (λ u. OccursIn u (trees_of (map tree_of (take i xs))) ⊎ Occurs u (tree_of x)) (λ u. OccursIn u (trees_of (map tree_of (take i xs) ++ tree_of x ∷ []))) a c
     (occurs_before (map tree_of (take i xs)) (tree_of x)) (occurs_last (map tree_of (take i xs)) (tree_of x))
     (found_both p frame (λ u. OccursIn u (trees_of (map tree_of (take i xs)))) (λ u. Occurs u (tree_of x)) a b c first next))
-
--- a term with its operands
-pub found_node : (p : ProtocolValue) (frame : List Tree) (t : Tree) (o : Op) (us : Trees) (a b c : Found) → t ≡ node o us → Finds p frame (λ u. u ≡ t) a b → Finds p frame (λ u. OccursIn u us) b c → Finds p frame (λ u. Occurs u t) a c
-found_node p frame t o us a b c is first next =
-    let P : Tree → Type 0 = λ x. Finds p frame (λ u. u ≡ x) a b in
-    let Q : Tree → Type 0 = λ x. Finds p frame (λ u. Occurs u x) a c in
-    subst Q (sym is) (found_both p frame (λ u. u ≡ node o us) (λ u. OccursIn u us) a b c (subst P is first) next)
-
-pub found_leaf : (p : ProtocolValue) (frame : List Tree) (t : Tree) (n : ℕ) (a b : Found) → t ≡ leaf n → Finds p frame (λ u. u ≡ t) a b → Finds p frame (λ u. Occurs u t) a b
-found_leaf p frame t n a b is first =
-    let P : Tree → Type 0 = λ x. Finds p frame (λ u. u ≡ x) a b in
-    let Q : Tree → Type 0 = λ x. Finds p frame (λ u. Occurs u x) a b in
-    subst Q (sym is) (subst P is first)

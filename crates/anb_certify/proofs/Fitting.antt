@@ -2,9 +2,11 @@
 use Rattle.std.proofs.Common.{◌≡◌, ℕ, zero, suc, ◌+◌, ◌-◌, ◌<◌, ◌≤◌, List, [], ◌∷◌, ◌++◌, length, map, take, Bool, true, false, ◌&&◌, IsTrue, Option, Some, None, refl, sym, ap, ◌∙◌, subst, inl, inr, ◌⊎◌, ⊎_elim, arith, length-append}
 use Rattle.std.proofs.lemmas.List.{length-map, take_all}
 use Rattle.std.proofs.lemmas.List.Elements.{recursion_from_All}
-use Rattle.std.proofs.lemmas.Bool.{eq-eqb}
+use Rattle.std.proofs.lemmas.Bool.{eq-eqb, and_parts}
 use Rattle.std.specs.Prelude.{slice_get, option_and_then}
 use Rattle.std.specs.List.{AllByRecursion}
+use Rattle.anb_lemmas.proofs.Each.{each_in_parts}
+use Rattle.anb_lemmas.proofs.Lists.{get_last, take_suc_got}
 use Rattle.anb_term.specs.declared.term.Op.{Op}
 use Rattle.anb_term.specs.Operator.{arity, keys}
 use Rattle.anb_term.specs.Tree.{Tree, node, trees_of}
@@ -14,8 +16,8 @@ use Rattle.anb_term.specs.Value.{Meaning, RecipeTree, label, build, part, Recipe
 use Rattle.anb_term.specs.FreeAlgebra.{terms_over}
 use Rattle.anb_term.specs.FreeLawful.{parts_are}
 use Rattle.anb_term.specs.Demand.{Demand, opens, equals, all_hold, holds, undoing, undone_if, is_there}
-use Rattle.anb_term.proofs.Lists.{map-append, slice_get-append, slice_get-last, slice_get-there, slice_get-map}
-use Rattle.anb_term.proofs.Steps.{both, bound, consed}
+use Rattle.anb_term.proofs.Lists.{map-append, slice_get-append, slice_get-last, slice_get-there, slice_get-map, is_there_some, picked_length, values_length, hold_split}
+use Rattle.anb_term.proofs.Steps.{bound}
 use Rattle.anb_term.proofs.Frames.{values_more, value_same, values_same}
 use Rattle.anb_term.proofs.Values.{Valued, values_are, counted}
 use Rattle.anb_term.proofs.Demands.{hold_both, all_hold_more, alike_are, undone_is}
@@ -24,7 +26,7 @@ use Rattle.anb_plays.specs.Plans.{Event, know, fresh, send, recv, known}
 use Rattle.anb_plays.specs.Codes.{Act, takes, draws, receives, sends, works, Work, make, undo, equal, at_register, at_registers, parts, writes, demands}
 use Rattle.anb_plays.specs.Exec.{IsReady, count_written, IsVerified, HasTakes, NoTakes}
 use Rattle.anb_plays.specs.Fits.{Place, Along, after_take, after_label, after_work, start, AnySend, AnyWork, AnyBorder, SendsIt, IsSound, IsEnough}
-use Rattle.anb_plays.proofs.Registers.{values_join, register, registers, part_values, take_next}
+use Rattle.anb_plays.proofs.Registers.{values_join, register, registers, part_values}
 use Rattle.anb_certify.specs.Tied.{Did, AreEnough}
 use Rattle.anb_certify.specs.Along.{then_did, IsTight, AtBorder, Finds}
 use Rattle.anb_certify.specs.declared.refusal.CertifyNo.{CertifyNo}
@@ -40,10 +42,6 @@ get_after [] ys n j e = let s : n ≡ j = omega (arith, e) in ap (slice_get ys) 
 get_after (x ∷ xs) ys zero j e = absurd (omega (arith, e))
 get_after (x ∷ xs) ys (suc n) j e = get_after xs ys n j (omega (arith, e))
 
-pub get_last : {A : Type 0} (xs : List A) (x : A) → slice_get (xs ++ x ∷ []) (length xs) ≡ Some x
-get_last [] x = refl
-get_last (y ∷ ys) x = get_last ys x
-
 pub picked_more : {A : Type 0} (es more : List A) (ns : List ℕ) → AllByRecursion (λ n. n < length es) ns → picked (es ++ more) ns ≡ picked es ns
 picked_more es more [] h = refl
 picked_more es more (n ∷ ns) h = let x = slice_get-there es n h.0 in rw (x.1, slice_get-append es more n x.0 x.1) (ap (λ l. x.0 ∷ l) (picked_more es more ns h.1))
@@ -56,19 +54,11 @@ pub wider : (ns : List ℕ) (a b : ℕ) → a ≤ b → AllByRecursion (λ n. n 
 wider [] a b l h = tt
 wider (n ∷ ns) a b l h = (omega (arith, l, h.0), wider ns a b l h.1)
 
-pub picked_length : {A : Type 0} (es : List A) (ns : List ℕ) → AllByRecursion (λ n. n < length es) ns → length (picked es ns) ≡ length ns
-picked_length es [] h = refl
-picked_length es (n ∷ ns) h = let x = slice_get-there es n h.0 in rw x.1 (ap suc (picked_length es ns h.1))
-
 zipped : {A : Type 0} (ts : List Tree) (xs : List A) → length ts ≡ length xs → (es : List (Tree × A)) × (terms_in es ≡ ts) × (vals_in es ≡ xs)
 zipped [] [] e = ([], refl, refl)
 zipped [] (x ∷ xs) e = absurd (omega (arith, e))
 zipped (t ∷ ts) [] e = absurd (omega (arith, e))
 zipped (t ∷ ts) (x ∷ xs) e = let z = zipped ts xs (omega (arith, e)) in ((t, x) ∷ z.0, ap (λ l. t ∷ l) z.1, ap (λ l. x ∷ l) z.2)
-
-pub values_length : {A : Type 0} (m : Meaning A) (vs : List A) (regs : List RecipeTree) (xs : List A) → values m vs (recipe_trees regs) ≡ Some xs → length xs ≡ length regs
-values_length m vs [] xs e = let s : [] ≡ xs = cc in ap length (sym s)
-values_length m vs (r ∷ regs) xs e = let c = consed (value m vs r) (values m vs (recipe_trees regs)) xs e in ap length c.4 ∙ ap suc (values_length m vs regs c.1 c.3)
 
 -- a list that is not empty has a last
 last_of : {A : Type 0} (n : ℕ) (xs : List A) → length xs ≡ suc n → (ys : List A) × (y : A) × (xs ≡ ys ++ y ∷ []) × (length ys ≡ n)
@@ -77,33 +67,21 @@ last_of zero (x ∷ []) e = ([], x, refl, refl)
 last_of zero (x ∷ y ∷ xs) e = absurd (omega (arith, e))
 last_of (suc n) (x ∷ xs) e = let l = last_of n xs (omega (arith, e)) in (x ∷ l.0, l.1, ap (λ z. x ∷ z) l.2, ap suc l.3)
 
-all_parts : {A : Type 0} (P : A → Type 0) (xs ys : List A) → AllByRecursion P (xs ++ ys) → AllByRecursion P xs × AllByRecursion P ys
-all_parts P [] ys h = (tt, h)
-all_parts P (x ∷ xs) ys h = let r = all_parts P xs ys h.1 in ((h.0, r.0), r.1)
-
 pub did_cases : (did : List (ℕ × Work)) (at bt : ℕ) (w v : Work) → Did (did ++ (at, w) ∷ []) bt v → Did did bt v ⊎ ((at ≡ bt) × (w ≡ v))
 did_cases [] at bt w v (inl h) = inr h
 did_cases [] at bt w v (inr h) = absurd h
 did_cases (d ∷ did) at bt w v (inl h) = inl (inl h)
 did_cases (d ∷ did) at bt w v (inr h) = ⊎_elim (λ a. inl (inr a)) (λ a. inr a) (did_cases did at bt w v h)
 
-there : {A : Type 0} (o : Option A) → is_there o ≡ true → (x : A) × (o ≡ Some x)
-there None e = cc
-there (Some x) e = (x, refl)
-
 one_true : (b : Bool) → (b && true) ≡ true → b ≡ true
 one_true true e = refl
 one_true false e = cc
-
-hold_parts : {A : Type 0} (m : Meaning A) (vs : List A) (ds es : List Demand) → all_hold m vs (ds ++ es) ≡ true → (all_hold m vs ds ≡ true) × (all_hold m vs es ≡ true)
-hold_parts m vs [] es h = (refl, h)
-hold_parts m vs (d ∷ ds) es h = let b = both (holds m vs d) (all_hold m vs (ds ++ es)) h in let r = hold_parts m vs ds es b.1 in (rw b.0 r.0, r.1)
 
 -- a demand that is open is known by its values
 open_is : {A : Type 0} (m : Meaning A) (vs : List A) (o : Op) (ks : RecipeTrees) (r : RecipeTree) (kv : List A) (v : A) → values m vs ks ≡ Some kv → value m vs r ≡ Some v → holds m vs (opens o ks r) ≡ true
     → (ps : List A) × (m.has o ≡ true) × (length kv ≡ keys o) × (m.undone o kv v ≡ Some ps)
 open_is m vs o ks r kv v ek er h =
-    let x = there (undoing m vs o ks r) h in
+    let x = is_there_some (undoing m vs o ks r) h in
     let e : undone_if m o kv v ≡ Some x.0 = (let f : undoing m vs o ks r ≡ undone_if m o kv v = rw (ek, er) refl in sym f ∙ x.1) in
     let u = undone_is m o kv v x.0 e in
     (x.0, u.0, u.1, u.2)
@@ -115,7 +93,7 @@ module _ {A : Type 0} (m : Meaning A) (vs ws : List A) (frame : List Tree) (long
   -- a demand that is true in terms looks at earlier labels only
   holds_back : (d : Demand) → holds (terms_over m.has) frame d ≡ true → holds m (vs ++ ws) d ≡ true → holds m vs d ≡ true
   holds_back (opens o ks r) e h =
-      let x = there (undoing (terms_over m.has) frame o ks r) e in
+      let x = is_there_some (undoing (terms_over m.has) frame o ks r) e in
       let a = bound (λ kv. option_and_then (undone_if (terms_over m.has) o kv) (value (terms_over m.has) frame r)) (values (terms_over m.has) frame ks) x.0 x.1 in
       let b = bound (undone_if (terms_over m.has) o a.0) (value (terms_over m.has) frame r) x.0 a.2 in
       let f : undoing m (vs ++ ws) o ks r ≡ undoing m vs o ks r = rw (values_same (terms_over m.has) m frame vs ws long ks a.0 a.1, value_same (terms_over m.has) m frame vs ws long r b.0 b.1) refl in
@@ -128,8 +106,8 @@ module _ {A : Type 0} (m : Meaning A) (vs ws : List A) (frame : List Tree) (long
   all_back : (ds : List Demand) → all_hold (terms_over m.has) frame ds ≡ true → all_hold m (vs ++ ws) ds ≡ true → all_hold m vs ds ≡ true
   all_back [] e h = refl
   all_back (d ∷ ds) e h =
-      let b = both (holds (terms_over m.has) frame d) (all_hold (terms_over m.has) frame ds) e in
-      let c = both (holds m (vs ++ ws) d) (all_hold m (vs ++ ws) ds) h in
+      let b = and_parts (holds (terms_over m.has) frame d) (all_hold (terms_over m.has) frame ds) e in
+      let c = and_parts (holds m (vs ++ ws) d) (all_hold m (vs ++ ws) ds) h in
       rw (holds_back d b.0 c.0) (all_back ds b.1 c.1)
 
 labelled : {A : Type 0} (m : Meaning A) (regs : List RecipeTree) (vs table : List A) (x : A) → values m vs (recipe_trees regs) ≡ Some table → values m (vs ++ x ∷ []) (recipe_trees (regs ++ label (length vs) ∷ [])) ≡ Some (table ++ x ∷ [])
@@ -232,7 +210,7 @@ module _ {A : Type 0} (m : Meaning A) (lawful : Lawful m) where
   unfolding Holds
   after_label_holds s t did sound holds vs long valued ok =
       let l = last_of (length s.frame) vs (long ∙ (let f : length (s.frame ++ t ∷ []) ≡ suc (length s.frame) = omega (arith, length-append s.frame (t ∷ [])) in f)) in
-      let before : Valued m l.0 = (all_parts (λ x. IsTrue (m.is_value x)) l.0 (l.1 ∷ []) (subst (Valued m) l.2 valued)).0 in
+      let before : Valued m l.0 = (each_in_parts (λ x. IsTrue (m.is_value x)) l.0 (l.1 ∷ []) (subst (Valued m) l.2 valued)).0 in
       let h = holds l.0 l.3 before (all_back m l.0 (l.1 ∷ []) s.frame l.3 s.asked sound (subst (λ z. all_hold m z s.asked ≡ true) l.2 ok)) in
       let seen = label_seen s t did l.0 l.1 h.0 l.3 h.1 in
       (h.0 ++ (t, l.1) ∷ [], subst (λ z. Sees (s.frame ++ t ∷ []) (s.regs ++ label (length s.frame) ∷ []) z did (h.0 ++ (t, l.1) ∷ [])) (sym l.2) seen)
@@ -365,7 +343,7 @@ module _ {A : Type 0} (m : Meaning A) (lawful : Lawful m) where
   after_work_holds : (s : Place) (w : Work) (did : List (ℕ × Work)) → IsReady m.has (length s.regs) w → all_hold (terms_over m.has) s.frame (demands s.regs w) ≡ true → Holds s did → Holds (after_work s w) (then_did did s w)
   unfolding Holds Grown
   after_work_holds s w did ready sound holds vs long valued ok =
-      let o = hold_parts m vs s.asked (demands s.regs w) ok in
+      let o = hold_split m vs s.asked (demands s.regs w) ok in
       let h = holds vs long valued o.0 in
       grown s w did vs h.0 h.1 ready sound o.1
 
@@ -432,7 +410,7 @@ module _ {A : Type 0} (m : Meaning A) (lawful : Lawful m) where
   label_values q vs zero h = refl
   label_values q vs (suc k) h =
       let x = slice_get-there vs k (omega arith) in
-      values_join q vs (labels k) (label k ∷ []) (take k vs) (x.0 ∷ []) (label_values q vs k (omega arith)) (rw x.1 refl) ∙ ap Some (sym (take_next vs k x.0 x.1))
+      values_join q vs (labels k) (label k ∷ []) (take k vs) (x.0 ∷ []) (label_values q vs k (omega arith)) (rw x.1 refl) ∙ ap Some (sym (take_suc_got vs k x.0 x.1))
 
   begin : List Tree → ℕ → Place
   begin frame k = record { frame = frame; regs = labels k; asked = [] }

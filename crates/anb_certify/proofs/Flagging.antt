@@ -4,23 +4,20 @@ use Rattle.std.specs.Prelude.{slice_get, unwrap_or, ◌==◌, not, replicate}
 use Rattle.std.specs.List.{list_any, list_all}
 use Rattle.std.proofs.lemmas.List.{drop_more, take_more, map_more, length-map}
 use Rattle.std.proofs.lemmas.Option.{slice_get-get_or}
+use Rattle.anb_lemmas.proofs.Bools.{or_true, or_assoc, or_without}
+use Rattle.anb_lemmas.proofs.Lists.{got_within}
 use Rattle.anb_term.specs.Operator.{arity, keys, undoable}
 use Rattle.anb_term.specs.Tree.{Tree, leaf, node, Trees, none, more, trees_of, list_of, tree_eqb}
-use Rattle.anb_term.specs.TreeSame.{list_of-trees_of, tree_same, tree_itself}
-use Rattle.anb_term.proofs.Lists.{slice_get-there, slice_get-within, slice_get-map}
+use Rattle.anb_term.specs.TreeSame.{list_of-trees_of, tree_itself}
+use Rattle.anb_term.proofs.Lists.{slice_get-there, slice_get-map, tree_differs}
 use Rattle.anb_intern.specs.declared.node.NodeId.{NodeId}
 use Rattle.anb_intern.specs.declared.node.Node.{Node}
 use Rattle.anb_intern.specs.declared.node.Node.TheVariants.{Atom, Apply}
 use Rattle.anb_intern.specs.Nodes.{operands_at, tree_at, AreUnder, IsOver, AreDistinct}
-use Rattle.anb_intern.proofs.Nodes.{operands_stay}
+use Rattle.anb_intern.proofs.Nodes.{operands_stay, under_take, under_drop, under_more, over_more, operands_long, operands_take}
 use Rattle.anb_intern.proofs.Putting.{under_at, operands_last}
-use Rattle.anb_close.proofs.Indexing.{over_more, under_more}
 use Rattle.anb_certify.specs.Decided.{is_among, composes, all_compose, parts_in}
 use Rattle.anb_certify.specs.Flags.{flag_at, all_flagged, is_built, is_parted}
-
-or_assoc : (a b c : Bool) → ((a || b) || c) ≡ (a || (b || c))
-or_assoc true b c = refl
-or_assoc false b c = refl
 
 any_last : {A : Type 0} (f : A → Bool) (xs : List A) (x : A) → list_any f (xs ++ x ∷ []) ≡ (list_any f xs || f x)
 any_last f [] x = or_false (f x) where
@@ -29,23 +26,11 @@ any_last f [] x = or_false (f x) where
   or_false false = refl
 any_last f (y ∷ xs) x = ap (λ b. f y || b) (any_last f xs x) ∙ sym (or_assoc (f y) (list_any f xs) (f x))
 
-or_true : (b : Bool) → (b || true) ≡ true
-or_true true = refl
-or_true false = refl
-
-or_no : (a b : Bool) → b ≡ false → (a || b) ≡ a
-or_no true b e = refl
-or_no false b e = e
-
-differs : (b : Bool) (x t : Tree) → tree_eqb x t ≡ b → (x ≡ t → ⊥) → tree_eqb x t ≡ false
-differs true x t e h = absurd (h (tree_same x t e))
-differs false x t e h = e
-
-among_last : (S : List Tree) (x : Tree) → is_among (S ++ x ∷ []) x ≡ true
+pub among_last : (S : List Tree) (x : Tree) → is_among (S ++ x ∷ []) x ≡ true
 among_last S x = any_last (λ e. tree_eqb e x) S x ∙ ap (λ b. is_among S x || b) (tree_itself x) ∙ or_true (is_among S x)
 
-among_other : (S : List Tree) (x t : Tree) → (x ≡ t → ⊥) → is_among (S ++ x ∷ []) t ≡ is_among S t
-among_other S x t h = any_last (λ e. tree_eqb e t) S x ∙ or_no (is_among S t) (tree_eqb x t) (differs (tree_eqb x t) x t refl h)
+pub among_other : (S : List Tree) (x t : Tree) → (x ≡ t → ⊥) → is_among (S ++ x ∷ []) t ≡ is_among S t
+among_other S x t h = any_last (λ e. tree_eqb e t) S x ∙ or_without (is_among S t) (tree_eqb x t) (tree_differs (tree_eqb x t) x t refl h)
 
 none_changes : (S : List Tree) (x : Tree) (ts : List Tree) → ((j : ℕ) → slice_get ts j ≡ Some x → ⊥) → map (is_among S) ts ≡ map (is_among (S ++ x ∷ [])) ts
 none_changes S x [] h = refl
@@ -76,17 +61,13 @@ flags_are P ts flags is (i ∷ ids) u =
     let c = flags_are P ts flags is ids u.1 in
     ap (λ x. x && all_flagged flags ids) a ∙ ap (λ x. P there.0 && x) c ∙ ap (λ t. P t && list_all P (operands_at ts ids)) (sym b)
 
-pub operands_long : (ts : List Tree) (ids : List NodeId) → length (operands_at ts ids) ≡ length ids
-operands_long ts [] = refl
-operands_long ts (i ∷ ids) = ap suc (operands_long ts ids)
-
 pub all_listed : (S : List Tree) (ts : Trees) → all_compose S ts ≡ list_all (composes S) (list_of ts)
 all_listed S none = refl
 all_listed S (more t ts) = ap (λ b. composes S t && b) (all_listed S ts)
 
 -- a node's term composes where it is marked, or is built from what composes
 pub composes_at : (S ts : List Tree) (flags : List Bool) (k : Node) → flags ≡ map (composes S) ts → IsOver (length ts) k → (is_among S (tree_at ts k) || is_built flags k) ≡ composes S (tree_at ts k)
-composes_at S ts flags (Atom n) is u = or_no (is_among S (leaf n)) false refl
+composes_at S ts flags (Atom n) is u = or_without (is_among S (leaf n)) false refl
 composes_at S ts flags (Apply o ids) is u =
     let us = operands_at ts ids.items in
     let a : (length ids.items == arity o) ≡ (length (list_of (trees_of us)) == arity o) = ap (λ n. n == arity o) (sym (ap length (list_of-trees_of us) ∙ operands_long ts ids.items)) in
@@ -106,25 +87,10 @@ tree_at_front ts n (Apply o ids) h u = ap (λ us. node o (trees_of us)) (front i
         length_front [] (suc m) h = absurd (omega (arith, h))
         length_front (x ∷ xs) (suc m) h = ap suc (length_front xs m (omega (arith, h)))
 
-pub operands_take : (ts : List Tree) (n : ℕ) (ids : List NodeId) → operands_at ts (take n ids) ≡ take n (operands_at ts ids)
-operands_take ts zero ids = refl
-operands_take ts (suc n) [] = refl
-operands_take ts (suc n) (i ∷ ids) = ap (λ l. unwrap_or (slice_get ts i.0) (leaf 0) ∷ l) (operands_take ts n ids)
-
 pub operands_drop : (ts : List Tree) (n : ℕ) (ids : List NodeId) → operands_at ts (drop n ids) ≡ drop n (operands_at ts ids)
 operands_drop ts zero ids = refl
 operands_drop ts (suc n) [] = refl
 operands_drop ts (suc n) (i ∷ ids) = operands_drop ts n ids
-
-pub under_take : (m n : ℕ) (ids : List NodeId) → AreUnder m ids → AreUnder m (take n ids)
-under_take m zero ids u = tt
-under_take m (suc n) [] u = tt
-under_take m (suc n) (i ∷ ids) u = (u.0, under_take m n ids u.1)
-
-pub under_drop : (m n : ℕ) (ids : List NodeId) → AreUnder m ids → AreUnder m (drop n ids)
-under_drop m zero ids u = u
-under_drop m (suc n) [] u = tt
-under_drop m (suc n) (i ∷ ids) u = under_drop m n ids u.1
 
 -- whether a node is parted is whether its term is
 pub parted_is : (S ts : List Tree) (marks composing : List Bool) (k : Node) → marks ≡ map (is_among S) ts → composing ≡ map (composes S) ts → IsOver (length ts) k → is_parted marks composing k ≡ parts_in S (tree_at ts k)
@@ -192,7 +158,7 @@ kept p q m ids is under =
 pub flag_of : (P : Tree → Bool) (ts : List Tree) (flags : List Bool) (n : ℕ) (t : Tree) (d : Bool) → flags ≡ map P ts → slice_get ts n ≡ Some t → get_or flags n d ≡ P t
 flag_of P ts flags n t d is at =
     let f : slice_get flags n ≡ Some (P t) = ap (λ l. slice_get l n) is ∙ slice_get-map P ts n t at in
-    let e = slice_get-get_or flags n d (slice_get-within flags n (P t) f) in cc
+    let e = slice_get-get_or flags n d (got_within flags n (P t) f) in cc
 
 -- a list and labels, by their numbers in a pool
 pub record Pooled (frame list p : List Tree) (held labels : List NodeId) : Type 0 where

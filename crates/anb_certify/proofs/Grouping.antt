@@ -1,42 +1,29 @@
 -- Registers by the first of their term.
 use Rattle.std.proofs.Common.{◌≡◌, ℕ, zero, suc, ◌+◌, ◌<◌, ◌≤◌, List, [], ◌∷◌, ◌++◌, length, map, set, get_or, Option, Some, None, refl, sym, ap, ◌∙◌, subst, inl, inr, ◌⊎◌, ⊎_elim, arith}
 use Rattle.std.specs.Prelude.{slice_get, unwrap_or}
+use Rattle.anb_lemmas.proofs.Numbers.{below_or_it}
+use Rattle.anb_lemmas.proofs.Lists.{got_within}
 use Rattle.anb_term.specs.Tree.{Tree, leaf}
-use Rattle.anb_term.proofs.Lists.{slice_get-there, slice_get-within, slice_get-last, set-same, set-at}
+use Rattle.anb_term.proofs.Lists.{slice_get-there, slice_get-last, set-same, set-at}
 use Rattle.anb_plays.specs.Codes.{Work}
 use Rattle.anb_intern.specs.declared.node.NodeId.{NodeId}
 use Rattle.anb_intern.specs.Nodes.{operands_at, AreUnder, AreDistinct}
+use Rattle.anb_intern.proofs.Nodes.{operands_long}
 use Rattle.anb_certify.specs.declared.works.Done.{Done}
 use Rattle.anb_certify.specs.Tied.{Did}
 use Rattle.anb_certify.specs.Works.{did_of, work_of, AreTold}
 use Rattle.anb_certify.specs.Numbered.{IsFirst, AreFirsts, AreSeen, AreGrouped}
-use Rattle.anb_certify.proofs.Flagging.{operands_long}
 
 pub did_there : (done : List Done) (i : ℕ) (d : Done) → slice_get done i ≡ Some d → Did (map did_of done) d.at (work_of d.job)
 did_there [] i d e = cc
 did_there (x ∷ done) zero d e = let s : x ≡ d = cc in inl (ap (λ (z : Done). z.at) s, ap (λ (z : Done). work_of z.job) s)
 did_there (x ∷ done) (suc i) d e = inr (did_there done i d e)
 
-pub lists_same : {A : Type 0} (xs ys : List A) → length xs ≡ length ys → ((i : ℕ) (x : A) → slice_get xs i ≡ Some x → slice_get ys i ≡ Some x) → xs ≡ ys
-lists_same [] [] e h = refl
-lists_same [] (y ∷ ys) e h = absurd (omega (arith, e))
-lists_same (x ∷ xs) [] e h = absurd (omega (arith, e))
-lists_same (x ∷ xs) (y ∷ ys) e h =
-    let f : Some y ≡ Some x = h 0 x refl in
-    let s : x ≡ y = cc in
-    let r = lists_same xs ys (omega (arith, e)) (λ i z k. h (suc i) z k) in cc
-
 abbrev none_yet : Option ℕ
 none_yet = None
 
 id_is : (a b : NodeId) → a.0 ≡ b.0 → a ≡ b
 id_is a b e = let R : ℕ → NodeId = λ n. record { 0 = n } in ap R e
-
-pub same_or : (i j : ℕ) → i < j + 1 → (i < j) ⊎ (j ≡ i)
-same_or zero zero l = inr refl
-same_or zero (suc j) l = inl (omega arith)
-same_or (suc i) zero l = absurd (omega (arith, l))
-same_or (suc i) (suc j) l = ⊎_elim (λ a. inl (omega (arith, a))) (λ b. inr (ap suc b)) (same_or i j (omega (arith, l)))
 
 order : (i k : ℕ) → (i < k) ⊎ ((k < i) ⊎ (i ≡ k))
 order zero zero = inr (inr refl)
@@ -69,7 +56,7 @@ module _ (ids : List NodeId) (n : ℕ) (id : NodeId) (seen : List (Option ℕ)) 
         (λ b. ⊎_elim (λ less. h.none k i j b there same less) (λ s. (let g : slice_get ids n ≡ Some j = subst (λ z. slice_get ids z ≡ Some j) (sym s) there in
         let q : Some id ≡ Some j = sym here ∙ g in let r : id ≡ j = cc in let t : id.0 ≡ k = ap (λ (z : NodeId). z.0) r ∙ same in
         let u : slice_get (set seen id.0 (Some first)) k ≡ Some (Some first) = subst (λ z. slice_get (set seen id.0 (Some first)) z ≡ Some (Some first)) t (set-same seen id.0 (Some first) o at) in
-        let v : Some none_yet ≡ Some (Some first) = sym e ∙ u in no_first first (let w : none_yet ≡ Some first = cc in w))) (same_or i n l))
+        let v : Some none_yet ≡ Some (Some first) = sym e ∙ u in no_first first (let w : none_yet ≡ Some first = cc in w))) (below_or_it i n l))
         (set-at seen id.0 k (Some first) none_yet e);
     each = λ i f e. ⊎_elim (λ a. h.each i f a) (λ b. first_is i f (b.0 ∙ long) b.1) (slice_get-last firsts first f i e);
   } where
@@ -78,7 +65,7 @@ module _ (ids : List NodeId) (n : ℕ) (id : NodeId) (seen : List (Option ℕ)) 
 
     first_is : (i f : ℕ) → i ≡ n → first ≡ f → IsFirst ids i f
     first_is i f e g =
-        let F : IsFirst ids n first = record { here = slice_get-within ids first id is.1; same = is.1 ∙ sym here; least = λ k s l. is.2 k id (s ∙ here) refl l } in
+        let F : IsFirst ids n first = record { here = got_within ids first id is.1; same = is.1 ∙ sym here; least = λ k s l. is.2 k id (s ∙ here) refl l } in
         subst (λ z. IsFirst ids z f) (sym e) (subst (λ z. IsFirst ids n z) g F)
 
   pub seen_next : (first : ℕ) (o : Option ℕ) → slice_get seen id.0 ≡ Some o → (o ≡ Some first) ⊎ ((o ≡ None) × (first ≡ n)) → AreSeen ids (n + 1) (set seen id.0 (Some first)) (firsts ++ first ∷ [])
@@ -150,8 +137,8 @@ module _ (ts : List Tree) (ids : List NodeId) (under : AreUnder (length ts) ids)
         let b = none_past (operands_at ts ids) k (sym f ∙ e) in
         past_none firsts i (omega (arith, a, long, are.long)) ∙ sym (past_none firsts k (omega (arith, b, long, are.long)))
     alike_is i k (Some t) e f =
-        let li = slice_get-within (operands_at ts ids) i t e in
-        let lk = slice_get-within (operands_at ts ids) k t (sym f ∙ e) in
+        let li = got_within (operands_at ts ids) i t e in
+        let lk = got_within (operands_at ts ids) k t (sym f ∙ e) in
         let a = slice_get-there ids i (omega (arith, li, long)) in
         let b = slice_get-there ids k (omega (arith, lk, long)) in
         let same = one_number i k a.0 b.0 a.1 b.1 f in

@@ -2,12 +2,14 @@
 use Rattle.std.proofs.Common.{◌≡◌, ℕ, zero, suc, ◌+◌, ◌-◌, ◌<◌, List, [], ◌∷◌, ◌++◌, length, map, Bool, true, Option, Some, None, refl, sym, ap, ◌∙◌, subst, inl, inr, ◌⊎◌, ⊎_elim, arith}
 use Rattle.std.specs.Prelude.{slice_get}
 use Rattle.std.specs.List.{AllByRecursion}
+use Rattle.anb_lemmas.proofs.Each.{each_in_both}
+use Rattle.anb_lemmas.proofs.Lists.{got_within}
 use Rattle.anb_term.specs.declared.term.Op.{Op}
 use Rattle.anb_term.specs.Operator.{arity, keys}
 use Rattle.anb_term.specs.Tree.{Tree, leaf, node, trees_of, list_of}
 use Rattle.anb_term.specs.TreeSame.{list_of-trees_of}
 use Rattle.anb_term.specs.Lawful.{picked}
-use Rattle.anb_term.proofs.Lists.{slice_get-map, slice_get-there, slice_get-within, all_append}
+use Rattle.anb_term.proofs.Lists.{slice_get-map, slice_get-there}
 use Rattle.anb_plays.specs.Codes.{Work, make, undo, equal}
 use Rattle.anb_certify.specs.declared.links.Pair.{Pair}
 use Rattle.anb_certify.specs.Classes.{in_class, Saturated}
@@ -111,7 +113,7 @@ still cs old more new a b e h f = h (none_before old more new e f)
 module _ (did seen : List (ℕ × Work)) (cs : List ℕ) where
   -- what was linked is tied
   more_tied : (n a b count : ℕ) (old new : List Pair) → AreTiedLinks n did old → HasLinked cs a b count old new → ((j : ℕ) → j < count → (a + j < n) × (b + j < n) × Tied did (a + j) (b + j)) → AreTiedLinks n did new
-  more_tied n a b count old new h l tied = subst (AreTiedLinks n did) (sym l.are) (all_append (IsTiedLink n did) old l.more h (each l.more l.of)) where
+  more_tied n a b count old new h l tied = subst (AreTiedLinks n did) (sym l.are) (each_in_both (IsTiedLink n did) old l.more h (each l.more l.of)) where
     each : (more : List Pair) → AllByRecursion (IsLinkOf a b count) more → AllByRecursion (IsTiedLink n did) more
     each [] e = tt
     each (m ∷ more) e =
@@ -141,7 +143,7 @@ module _ (did seen : List (ℕ × Work)) (cs : List ℕ) where
         let t = g.told at (equal a b) g.done in
         let x : a + 0 ≡ a = omega arith in
         let y : b + 0 ≡ b = omega arith in
-        (omega (arith, slice_get-within g.terms a t.0 t.1, g.long), omega (arith, slice_get-within g.terms b t.0 t.2, g.long), rw (x, y) ((rules_tie did cs g.named).0 at a b g.done))
+        (omega (arith, got_within g.terms a t.0 t.1, g.long), omega (arith, got_within g.terms b t.0 t.2, g.long), rw (x, y) ((rules_tie did cs g.named).0 at a b g.done))
     zero_case (suc j) less = absurd (omega (arith, less))
 
     at_zero : (x y : ℕ) → (a ≡ x) → (b ≡ y) → Linked cs new x y
@@ -186,10 +188,10 @@ module _ (did seen : List (ℕ × Work)) (cs : List ℕ) where
         (rules_tie did cs g.named).1 x at o b.1 ns d g.done (pick_pairs cs b.1 ns (within b.0 b.1 x b.2) (within o ns at g.done) (sym e.1))
 
     x_there : x < length cs
-    x_there = let b = builders_in (sign_of made.classes o ns) x sg.owns in let t = g.told x (make b.0 b.1) b.2 in omega (arith, slice_get-within g.terms x _ t.2, g.long)
+    x_there = let b = builders_in (sign_of made.classes o ns) x sg.owns in let t = g.told x (make b.0 b.1) b.2 in omega (arith, got_within g.terms x _ t.2, g.long)
 
     at_there : at < length cs
-    at_there = let t = g.told at (make o ns) g.done in omega (arith, slice_get-within g.terms at _ t.2, g.long)
+    at_there = let t = g.told at (make o ns) g.done in omega (arith, got_within g.terms at _ t.2, g.long)
 
     zero_case : (j : ℕ) → j < 1 → (x + j < length cs) × (at + j < length cs) × Tied did (x + j) (at + j)
     zero_case zero less =
@@ -237,7 +239,7 @@ module _ (did seen : List (ℕ × Work)) (cs : List ℕ) where
     within : (q : Op) (ls : List ℕ) (k y : ℕ) → Did did y (undo q ls k) → AllByRecursion (λ i. i < length cs) (ls ++ k ∷ [])
     within q ls k y d =
         let t = g.told y (undo q ls k) d in
-        all_append (λ i. i < length cs) ls (k ∷ []) (subst (λ m. AllByRecursion (λ i. i < m) ls) g.long t.2) (omega (arith, slice_get-within g.terms k _ t.5, g.long), tt)
+        each_in_both (λ i. i < length cs) ls (k ∷ []) (subst (λ m. AllByRecursion (λ i. i < m) ls) g.long t.2) (omega (arith, got_within g.terms k _ t.5, g.long), tt)
 
     keys_count : (q : Op) (ls : List ℕ) (k y : ℕ) → Did did y (undo q ls k) → length ls ≡ keys q
     keys_count q ls k y d = (g.told y (undo q ls k) d).1
@@ -262,7 +264,7 @@ module _ (did seen : List (ℕ × Work)) (cs : List ℕ) where
     part_there y ls k j d less =
         let t = g.told y (undo o ls k) d in
         let q = slice_get-there t.3 j (omega (arith, less, t.4)) in
-        omega (arith, slice_get-within g.terms (y + j) q.0 (t.6 j (omega (arith, less, t.4)) ∙ q.1), g.long)
+        omega (arith, got_within g.terms (y + j) q.0 (t.6 j (omega (arith, less, t.4)) ∙ q.1), g.long)
 
     x_there : (j : ℕ) → j < arity o - keys o → x + j < length cs
     x_there j less = part_there x own.1 own.2 j own_did less
@@ -293,8 +295,8 @@ module _ (did seen : List (ℕ × Work)) (cs : List ℕ) where
   pub equal_bounds : (at a b : ℕ) → IsToLink did cs at (equal a b) → ((j : ℕ) → j < 1 → a + j < length cs) × ((j : ℕ) → j < 1 → b + j < length cs)
   equal_bounds at a b g =
       let t = g.told at (equal a b) g.done in (
-        λ j l. omega (arith, l, slice_get-within g.terms a t.0 t.1, g.long),
-        λ j l. omega (arith, l, slice_get-within g.terms b t.0 t.2, g.long),
+        λ j l. omega (arith, l, got_within g.terms a t.0 t.1, g.long),
+        λ j l. omega (arith, l, got_within g.terms b t.0 t.2, g.long),
       )
 
   pub make_within : (at : ℕ) (o : Op) (ns : List ℕ) → IsToLink did cs at (make o ns) → AllByRecursion (λ k. k < length cs) ns
@@ -304,15 +306,15 @@ module _ (did seen : List (ℕ × Work)) (cs : List ℕ) where
       → HasSigned made (sign_of made.classes o ns) at made2 x → ((j : ℕ) → j < 1 → x + j < length cs) × ((j : ℕ) → j < 1 → at + j < length cs)
   make_bounds at o ns x made made2 undone old g h sg =
       let u = g.told at (make o ns) g.done in
-      let below_at : at < length cs = omega (arith, slice_get-within g.terms at _ u.2, g.long) in
-      let below_x : x < length cs = ⊎_elim (λ a. (let b = h.builders (sign_of made.classes o ns) x a in let t = g.told x (make b.0 b.1) b.2 in omega (arith, slice_get-within g.terms x _ t.2, g.long))) (λ b. omega (arith, b.1, below_at))
+      let below_at : at < length cs = omega (arith, got_within g.terms at _ u.2, g.long) in
+      let below_x : x < length cs = ⊎_elim (λ a. (let b = h.builders (sign_of made.classes o ns) x a in let t = g.told x (make b.0 b.1) b.2 in omega (arith, got_within g.terms x _ t.2, g.long))) (λ b. omega (arith, b.1, below_at))
       (sg.only (sign_of made.classes o ns) x sg.owns) in
       (λ j l. omega (arith, l, below_x), λ j l. omega (arith, l, below_at))
 
   pub undo_within : (at : ℕ) (o : Op) (ks : List ℕ) (n : ℕ) → IsToLink did cs at (undo o ks n) → AllByRecursion (λ i. i < length cs) (ks ++ n ∷ [])
   undo_within at o ks n g =
       let t = g.told at (undo o ks n) g.done in
-      all_append (λ i. i < length cs) ks (n ∷ []) (subst (λ m. AllByRecursion (λ i. i < m) ks) g.long t.2) (omega (arith, slice_get-within g.terms n _ t.5, g.long), tt)
+      each_in_both (λ i. i < length cs) ks (n ∷ []) (subst (λ m. AllByRecursion (λ i. i < m) ks) g.long t.2) (omega (arith, got_within g.terms n _ t.5, g.long), tt)
 
   pub undo_bounds : (at : ℕ) (o : Op) (ks : List ℕ) (n x : ℕ) (made undone undone2 : SignsValue) (old : List Pair) → IsToLink did cs at (undo o ks n) → AreLinked did seen cs made undone old
       → HasSigned undone (sign_of undone.classes o (ks ++ n ∷ [])) at undone2 x → ((j : ℕ) → j < arity o - keys o → x + j < length cs) × ((j : ℕ) → j < arity o - keys o → at + j < length cs)
@@ -321,7 +323,7 @@ module _ (did seen : List (ℕ × Work)) (cs : List ℕ) where
     part_there y ls k j d less =
         let t = g.told y (undo o ls k) d in
         let q = slice_get-there t.3 j (omega (arith, less, t.4)) in
-        omega (arith, slice_get-within g.terms (y + j) q.0 (t.6 j (omega (arith, less, t.4)) ∙ q.1), g.long)
+        omega (arith, got_within g.terms (y + j) q.0 (t.6 j (omega (arith, less, t.4)) ∙ q.1), g.long)
 
     first : (j : ℕ) → j < arity o - keys o → x + j < length cs
     first j l = ⊎_elim (λ a. old_one j l a) (λ b. omega (arith, b.1, part_there at ks n j g.done l)) (sg.only (sign_of undone.classes o (ks ++ n ∷ [])) x sg.owns) where

@@ -1,8 +1,9 @@
 -- Lists that grow at their end.
-use Rattle.std.proofs.Common.{◌≡◌, ℕ, zero, suc, ◌+◌, ◌<◌, List, [], ◌∷◌, ◌++◌, length, map, take, get_or, true, Option, Some, None, refl, sym, ap, ◌∙◌, subst, inl, inr, ◌⊎◌, ⊎_elim, arith}
+use Rattle.std.proofs.Common.{◌≡◌, ℕ, zero, suc, ◌+◌, ◌<◌, List, [], ◌∷◌, ◌++◌, length, map, take, get_or, true, Option, Some, None, refl, sym, ap, ◌∙◌, subst, ◌⊎◌, ⊎_elim, arith}
 use Rattle.std.specs.Prelude.{slice_get}
 use Rattle.std.specs.List.{AllByRecursion}
 use Rattle.std.proofs.lemmas.List.{take_more}
+use Rattle.anb_lemmas.proofs.Numbers.{below_or_it}
 use Rattle.anb_term.specs.Lawful.{picked}
 use Rattle.anb_term.proofs.Lists.{map-append, slice_get-at}
 use Rattle.anb_certify.specs.Classes.{in_class}
@@ -31,28 +32,16 @@ map_next f xs i d l = ap (map f) (take_more xs i d l) ∙ map-append f (take i x
 
 -- ---- links
 
-pub none_linked : (cs : List ℕ) (a b : ℕ) (links : List Pair) → HasLinked cs a b 0 links links
-none_linked cs a b links = record { more = []; are = sym (append_nil links); of = tt; linked = λ j l. absurd (omega (arith, l)) } where
-  append_nil : (l : List Pair) → l ++ [] ≡ l
-  append_nil [] = refl
-  append_nil (x ∷ l) = ap (λ z. x ∷ z) (append_nil l)
-
 wider_links : (a b j : ℕ) (more : List Pair) → AllByRecursion (IsLinkOf a b j) more → AllByRecursion (IsLinkOf a b (j + 1)) more
 wider_links a b j [] h = tt
 wider_links a b j (m ∷ more) h = ((h.0.0, omega (arith, h.0.1), h.0.2, h.0.3), wider_links a b j more h.1)
-
-same_or : (i j : ℕ) → i < j + 1 → (i < j) ⊎ (j ≡ i)
-same_or zero zero l = inr refl
-same_or zero (suc j) l = inl (omega arith)
-same_or (suc i) zero l = absurd (omega (arith, l))
-same_or (suc i) (suc j) l = ⊎_elim (λ a. inl (omega (arith, a))) (λ b. inr (ap suc b)) (same_or i j (omega (arith, l)))
 
 pub one_skipped : (cs : List ℕ) (a b j : ℕ) (old new : List Pair) (d : ℕ) → HasLinked cs a b j old new → a + j < length cs → b + j < length cs → get_or cs (a + j) d ≡ get_or cs (b + j) d → HasLinked cs a b (j + 1) old new
 one_skipped cs a b j old new d h la lb e = record {
   more = h.more;
   are = h.are;
   of = wider_links a b j h.more h.of;
-  linked = λ i l none. ⊎_elim (λ less. h.linked i less none) (λ s. subst (λ k. in_class cs (a + k) (b + k) ≡ true) s here) (same_or i j l);
+  linked = λ i l none. ⊎_elim (λ less. h.linked i less none) (λ s. subst (λ k. in_class cs (a + k) (b + k) ≡ true) s here) (below_or_it i j l);
 } where
   here : in_class cs (a + j) (b + j) ≡ true
   here = in_one cs (a + j) (b + j) (get_or cs (a + j) d) (at cs (a + j) d la) (at cs (b + j) d lb ∙ ap Some (sym e)) where

@@ -2,17 +2,20 @@
 use Rattle.std.proofs.Common.{◌≡◌, ℕ, zero, suc, ◌+◌, ◌<◌, ◌≤◌, List, [], ◌∷◌, ◌++◌, length, set, Bool, true, false, Option, Some, None, refl, sym, ap, ◌∙◌, subst, inl, inr, ◌⊎◌, ⊎_elim, arith, length-append}
 use Rattle.std.specs.Prelude.{slice_get, replicate, ◌↔◌, ◌==◌, if◌then◌else◌}
 use Rattle.std.proofs.lemmas.Bool.{eqb-true, eq-eqb}
+use Rattle.anb_basis.specs.Checks.{MarksStay}
+use Rattle.anb_lemmas.proofs.Bools.{never_both}
+use Rattle.anb_lemmas.proofs.Numbers.{below_or_not, below_or_it}
+use Rattle.anb_lemmas.proofs.Lists.{get_last, got_within}
 use Rattle.anb_term.specs.Tree.{Tree, leaf}
-use Rattle.anb_term.proofs.Lists.{slice_get-append, slice_get-last, slice_get-there, slice_get-within}
+use Rattle.anb_term.proofs.Lists.{slice_get-append, slice_get-last, slice_get-there}
 use Rattle.anb_intern.specs.declared.node.NodeId.{NodeId}
 use Rattle.anb_plays.specs.Codes.{Work, make, undo, equal}
 use Rattle.anb_certify.specs.Classes.{in_class, AreNamed}
 use Rattle.anb_certify.specs.Numbered.{AreBelow, AreGrouped, AreSeen, AreSettled, IsFirst, IsKnown, Passes}
-use Rattle.anb_certify.specs.Progress.{wanted_test, AreCovered, IsCovered, StaySet, AreQuiet, AreSet, HasFound, HasRoom, HaveKnown, IsProgress, ProgressValue}
+use Rattle.anb_certify.specs.Progress.{wanted_test, AreCovered, IsCovered, AreQuiet, AreSet, HasFound, HasRoom, HaveKnown, IsProgress, ProgressValue}
 use Rattle.anb_certify.specs.Tied.{AreEnough, Did, KeepsRules, Tied, Ties}
 use Rattle.anb_certify.proofs.Classing.{classes_are_tied}
-use Rattle.anb_certify.proofs.Fitting.{get_last}
-use Rattle.anb_certify.proofs.Grouping.{same_or, seen_next, set_long}
+use Rattle.anb_certify.proofs.Grouping.{seen_next, set_long}
 use Rattle.anb_certify.proofs.Ruling.{firsts_saturated, passes_keeps}
 
 -- ---- more work
@@ -80,7 +83,7 @@ module _ (ids is : List NodeId) where
     some = λ k f e. let s = h.some k f e in (s.0, slice_get-append ids is f s.0 s.1, s.2, s.3);
     least = λ k f i id e there same l. let s = h.some k f e in h.least k f i id e (old_get i id (omega (arith, l, s.3, few)) there) same l;
     none = λ k i id e there same l. h.none k i id e (old_get i id (omega (arith, l, few)) there) same l;
-    each = λ i f e. first_wider i f (omega (arith, slice_get-within firsts i f e, few)) (h.each i f e);
+    each = λ i f e. first_wider i f (omega (arith, got_within firsts i f e, few)) (h.each i f e);
   }
 
 covered_wider : (ts us : List Tree) (firsts : List ℕ) (known : List Bool) (pending : List ℕ) → AreCovered ts firsts known pending → AreCovered (ts ++ us) firsts known pending
@@ -140,7 +143,7 @@ seen_room ids ts did v seen room h = record {
   few = h.few;
   flags_long = h.flags_long;
   known_long = h.known_long;
-  under = λ i id l e. let x = slice_get-there v.seen id.0 (h.under i id l e) in slice_get-within seen id.0 x.0 (room.kept id.0 x.0 x.1);
+  under = λ i id l e. let x = slice_get-there v.seen id.0 (h.under i id l e) in got_within seen id.0 x.0 (room.kept id.0 x.0 x.1);
   seen = record {
     some = λ n f e. h.seen.some n f (room.only n f e);
     least = λ n f i id e. h.seen.least n f i id (room.only n f e);
@@ -179,13 +182,13 @@ module _ (ids : List NodeId) (ts : List Tree) (did : List (ℕ × Work)) (v : Pr
       → Joins first pending
       → HasFound ids ts did (record { seen = set v.seen id.0 (Some first); firsts = v.firsts ++ first ∷ []; flags = v.flags ++ b ∷ []; known = v.known ++ false ∷ []; pending = pending })
   enter_next first o b pending at is flag case = record {
-    few = omega (arith, count, slice_get-within ids i id here);
+    few = omega (arith, count, got_within ids i id here);
     flags_long = omega (arith, h.flags_long, length-append v.flags (b ∷ []), length-append v.firsts (first ∷ []));
     known_long = omega (arith, h.known_long, length-append v.known (false ∷ []), length-append v.firsts (first ∷ []));
-    under = λ k j l e. subst (λ n. j.0 < n) (sym (set_long v.seen id.0 (Some first))) (⊎_elim (λ less. h.under k j (omega (arith, less, long)) e) (λ s. (let f : Some id ≡ Some j = sym here ∙ ap (slice_get ids) s ∙ e in let q : id ≡ j = cc in subst (λ (z : NodeId). z.0 < length v.seen) q below)) (same_or k i (omega (arith, l, count))));
+    under = λ k j l e. subst (λ n. j.0 < n) (sym (set_long v.seen id.0 (Some first))) (⊎_elim (λ less. h.under k j (omega (arith, less, long)) e) (λ s. (let f : Some id ≡ Some j = sym here ∙ ap (slice_get ids) s ∙ e in let q : id ≡ j = cc in subst (λ (z : NodeId). z.0 < length v.seen) q below)) (below_or_it k i (omega (arith, l, count))));
     seen = subst (λ n. AreSeen ids n (set v.seen id.0 (Some first)) (v.firsts ++ first ∷ [])) (sym count) (seen_next ids i id v.seen v.firsts here long (subst (λ n. AreSeen ids n v.seen v.firsts) long h.seen) first o at is);
-    settled = λ k f a e. ⊎_elim (λ x. ⊎_elim (λ y. h.settled k f x y) (λ y. absurd (omega (arith, y.0, slice_get-within v.flags k true x, h.flags_long))) (slice_get-last v.firsts first f k e))
-        (λ x. ⊎_elim (λ y. absurd (omega (arith, x.0, slice_get-within v.firsts k f y, h.flags_long))) (λ y. itself k f (x.0 ∙ h.flags_long ∙ long ∙ sym (flag x.1) ∙ y.1)) (slice_get-last v.firsts first f k e)) (slice_get-last v.flags b true k a);
+    settled = λ k f a e. ⊎_elim (λ x. ⊎_elim (λ y. h.settled k f x y) (λ y. absurd (omega (arith, y.0, got_within v.flags k true x, h.flags_long))) (slice_get-last v.firsts first f k e))
+        (λ x. ⊎_elim (λ y. absurd (omega (arith, x.0, got_within v.firsts k f y, h.flags_long))) (λ y. itself k f (x.0 ∙ h.flags_long ∙ long ∙ sym (flag x.1) ∙ y.1)) (slice_get-last v.firsts first f k e)) (slice_get-last v.flags b true k a);
     known = λ c e. ⊎_elim (λ x. known_names did v.firsts (first ∷ []) c (h.known c x)) (λ x. (let s : false ≡ true = x.1 in absurd (let none : ⊥ = cc in none))) (slice_get-last v.known false true c e);
     covered = λ f e. ⊎_elim (λ x. was_covered f (h.covered f x)) (λ x. inr (inr (listed f (x.1 ∙ x.0 ∙ long) (x.1)))) (slice_get-last v.firsts first f f e);
     below = below_next case;
@@ -228,7 +231,7 @@ module _ (ids : List NodeId) (ts : List Tree) (did : List (ℕ × Work)) (v : Pr
 pub left_on : (ts : List Tree) (known : List Bool) (pending left left2 : List ℕ) (i r : ℕ) → slice_get pending i ≡ Some r
     → (left2 ≡ left ++ r ∷ []) ⊎ ((left2 ≡ left) × ((slice_get known r ≡ Some true) ⊎ ((m : ℕ) × (slice_get ts r ≡ Some (leaf m)))))
     → ((k f : ℕ) → k < i → slice_get pending k ≡ Some f → IsCovered ts known left f) → (k f : ℕ) → k < i + 1 → slice_get pending k ≡ Some f → IsCovered ts known left2 f
-left_on ts known pending left left2 i r here case h k f l e = ⊎_elim (λ less. old case (h k f less e)) (λ s. (let g : Some r ≡ Some f = sym here ∙ ap (slice_get pending) s ∙ e in let same : r ≡ f = cc in subst (IsCovered ts known left2) same (own case))) (same_or k i l) where
+left_on ts known pending left left2 i r here case h k f l e = ⊎_elim (λ less. old case (h k f less e)) (λ s. (let g : Some r ≡ Some f = sym here ∙ ap (slice_get pending) s ∙ e in let same : r ≡ f = cc in subst (IsCovered ts known left2) same (own case))) (below_or_it k i l) where
   old : (left2 ≡ left ++ r ∷ []) ⊎ ((left2 ≡ left) × ((slice_get known r ≡ Some true) ⊎ ((m : ℕ) × (slice_get ts r ≡ Some (leaf m))))) → IsCovered ts known left f → IsCovered ts known left2 f
   old c (inl a) = inl a
   old c (inr (inl a)) = inr (inl a)
@@ -243,7 +246,7 @@ pub below_last : (n : ℕ) (left left2 : List ℕ) (r : ℕ) → left2 ≡ left 
 below_last n left left2 r s l h k c e = ⊎_elim (λ a. h k c a) (λ a. subst (λ z. z < n) a.1 l) (slice_get-last left r c k (ap (λ q. slice_get q k) (sym s) ∙ e))
 
 -- what is listed later covers as well
-pub covered_on : (ts : List Tree) (firsts : List ℕ) (known known2 : List Bool) (pending : List ℕ) → StaySet known known2 → AreCovered ts firsts known pending → AreCovered ts firsts known2 pending
+pub covered_on : (ts : List Tree) (firsts : List ℕ) (known known2 : List Bool) (pending : List ℕ) → MarksStay known known2 → AreCovered ts firsts known pending → AreCovered ts firsts known2 pending
 covered_on ts firsts known known2 pending stay h f e = ⊎_elim (λ a. inl (stay f a)) (λ b. inr b) (h f e)
 
 pub covered_left : (ts : List Tree) (firsts : List ℕ) (known : List Bool) (pending left : List ℕ) → ((k f : ℕ) → k < length pending → slice_get pending k ≡ Some f → IsCovered ts known left f) → AreCovered ts firsts known pending → AreCovered ts firsts known left
@@ -251,31 +254,22 @@ covered_left ts firsts known pending left h all f e = go (all f e) where
   go : IsCovered ts known pending f → IsCovered ts known left f
   go (inl a) = inl a
   go (inr (inl a)) = inr (inl a)
-  go (inr (inr a)) = h a.0 f (slice_get-within pending a.0 f a.1) a.1
+  go (inr (inr a)) = h a.0 f (got_within pending a.0 f a.1) a.1
 
 -- ---- flags
 
-before_or : (i n : ℕ) → (i < n) ⊎ (n ≤ i)
-before_or i zero = inr (omega arith)
-before_or zero (suc n) = inl (omega arith)
-before_or (suc i) (suc n) = ⊎_elim (λ a. inl (omega (arith, a))) (λ b. inr (omega (arith, b))) (before_or i n)
-
 -- those that were set stay so, and the new ones are set
-pub set_by_parts : (old new : List Bool) → AreSet old → StaySet old new → ((i : ℕ) (b : Bool) → length old ≤ i → slice_get new i ≡ Some b → b ≡ true) → AreSet new
+pub set_by_parts : (old new : List Bool) → AreSet old → MarksStay old new → ((i : ℕ) (b : Bool) → length old ≤ i → slice_get new i ≡ Some b → b ≡ true) → AreSet new
 set_by_parts old new was stay all i b e = ⊎_elim (λ l. (let x = slice_get-there old i l in let f : Some true ≡ Some b = sym (stay i (x.1 ∙ ap Some (was i x.0 x.1))) ∙ e in cc))
-    (λ l. all i b l e) (before_or i (length old))
+    (λ l. all i b l e) (below_or_not i (length old))
 
 -- ---- enough
-
-not_both : (b : Bool) → b ≡ true → b ≡ false → ⊥
-not_both true e f = cc
-not_both false e f = cc
 
 module _ (ts : List Tree) (did : List (ℕ × Work)) (firsts : List ℕ) (flags known : List Bool) (pending : List ℕ) (g : AreGrouped ts did firsts) (long : length flags ≡ length firsts)
     (settled : AreSettled did firsts flags) (all : AreSet flags) (knows : HaveKnown did firsts known) (covered : AreCovered ts firsts known pending) (quiet : AreQuiet ts pending) where
   named : AreNamed did firsts
   named i c e =
-      let x = slice_get-there flags i (omega (arith, slice_get-within firsts i c e, long)) in
+      let x = slice_get-there flags i (omega (arith, got_within firsts i c e, long)) in
       settled i c (x.1 ∙ ap Some (all i x.0 x.1)) e
 
   exact : (a b : ℕ) → Tied did a b ↔ (in_class firsts a b ≡ true)
@@ -283,7 +277,7 @@ module _ (ts : List Tree) (did : List (ℕ × Work)) (firsts : List ℕ) (flags 
 
   passes : (i : ℕ) (t : Tree) → slice_get ts i ≡ Some t → Passes firsts firsts known (wanted_test ts t) i
   passes i t here =
-      let x = slice_get-there firsts i (omega (arith, slice_get-within ts i t here, g.long)) in
+      let x = slice_get-there firsts i (omega (arith, got_within ts i t here, g.long)) in
       let f = x.0 in
       let at : slice_get ts f ≡ Some t = g.there i f x.1 ∙ here in
       let own : slice_get firsts f ≡ Some f = g.alike f i (at ∙ sym here) ∙ x.1 in
@@ -294,7 +288,7 @@ module _ (ts : List Tree) (did : List (ℕ × Work)) (firsts : List ℕ) (flags 
         of_first = own;
         of_it = x.1;
         as_wanted = λ w. ⊎_elim (λ a. a)
-            (λ b. ⊎_elim (λ c. absurd (let s : Some t ≡ Some (leaf c.0) = sym at ∙ c.1 in let e : t ≡ leaf c.0 = cc in not_both (wanted_test ts t) w (ap (wanted_test ts) e))) (λ d. absurd (not_both (wanted_test ts t) w (quiet d.0 f t d.1 at))) b)
+            (λ b. ⊎_elim (λ c. absurd (let s : Some t ≡ Some (leaf c.0) = sym at ∙ c.1 in let e : t ≡ leaf c.0 = cc in never_both (wanted_test ts t) w (ap (wanted_test ts) e))) (λ d. absurd (never_both (wanted_test ts t) w (quiet d.0 f t d.1 at))) b)
             (covered f own);
       }
 
@@ -310,7 +304,7 @@ module _ (ts : List Tree) (did : List (ℕ × Work)) (firsts : List ℕ) (flags 
 -- where the code is enough, each register is tied to the first of its term
 pub all_settled : (ids : List NodeId) (ts : List Tree) (did : List (ℕ × Work)) (firsts : List ℕ) (flags : List Bool) → AreGrouped ts did firsts → AreEnough did ts → AreSettled did firsts flags
 all_settled ids ts did firsts flags g enough i f a e =
-    let w = slice_get-within firsts i f e in
+    let w = got_within firsts i f e in
     let t = slice_get-there ts i (omega (arith, w, g.long)) in
     ⊎_elim (λ l. λ Q s. s.turned f i ((enough i (omega (arith, w, g.long))).alike f t.0 l (g.there i f e ∙ t.1) t.1 Q s)) (λ s. λ Q q. subst (λ z. Q i z ≡ true) (sym s) (q.itself i)) (below f i (g.least i f e)) where
       below : (f k : ℕ) → f < suc k → (f < k) ⊎ (f ≡ k)

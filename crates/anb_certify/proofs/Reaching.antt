@@ -1,38 +1,27 @@
 -- What is reached is shut for a term that has no recipe.
-use Rattle.std.proofs.Common.{◌≡◌, ℕ, zero, suc, ◌≤◌, List, [], ◌∷◌, length, take, drop, Bool, true, IsTrue, Option, Some, refl, sym, subst, inl, inr, arith, length-take-le}
+use Rattle.std.proofs.Common.{◌≡◌, ℕ, zero, suc, List, [], ◌∷◌, length, take, drop, Bool, true, IsTrue, Some, refl, sym, subst, inl, inr, arith, length-take-le}
 use Rattle.std.specs.Prelude.{slice_get}
 use Rattle.std.specs.List.{AllByRecursion}
 use Rattle.std.proofs.lemmas.Bool.{eq-eqb}
+use Rattle.anb_lemmas.proofs.Each.{each_from_got}
 use Rattle.anb_term.specs.declared.term.Op.{Op}
-use Rattle.anb_term.specs.declared.term.Op.TheVariants.{Hash, Mac, Seal, Wrap, Format}
 use Rattle.anb_term.specs.Operator.{arity, keys, undoable}
 use Rattle.anb_term.specs.Tree.{Tree, leaf, node, Trees, none, more, trees_of, list_of, IsFormed, AreFormed}
 use Rattle.anb_term.specs.TreeSame.{trees_of-list_of, op_itself, trees_itself}
-use Rattle.anb_term.specs.Value.{RecipeTree, label, build, part, RecipeTrees, no_recipes, more_recipes, value, values, cons_both}
+use Rattle.anb_term.specs.Value.{RecipeTree, label, build, part, RecipeTrees, no_recipes, more_recipes, value, values}
 use Rattle.anb_term.specs.FreeAlgebra.{terms_over}
 use Rattle.anb_term.specs.Composes.{Among, Composes, ComposeAll}
 use Rattle.anb_term.specs.Agree.{HasRecipe}
-use Rattle.anb_term.proofs.Lists.{all_take}
+use Rattle.anb_term.proofs.Lists.{all_take, cons_of_both, keys_fit, each_formed}
 use Rattle.anb_algebra.specs.ByteMeaning.{has_operator}
 use Rattle.anb_resolve.specs.Protocols.{ProtocolValue}
 use Rattle.anb_certify.specs.Shut.{IsShut, Occurs, OccursIn}
 use Rattle.anb_certify.specs.Reach.{OccursInOne, IsReach}
 
-all_from : {A : Type 0} (P : A → Type 0) (xs : List A) → ((j : ℕ) (x : A) → slice_get xs j ≡ Some x → P x) → AllByRecursion P xs
-all_from P [] h = tt
-all_from P (x ∷ xs) h = (h 0 x refl, all_from P xs (λ j y e. h (suc j) y e))
-
 at_drop : {A : Type 0} (n j : ℕ) (xs : List A) (x : A) → slice_get (drop n xs) j ≡ Some x → (k : ℕ) × (slice_get xs k ≡ Some x)
 at_drop zero j xs x e = (j, e)
 at_drop (suc n) j [] x e = cc
 at_drop (suc n) j (y ∷ xs) x e = let r = at_drop n j xs x e in (suc r.0, r.1)
-
-pair : {A : Type 0} (o : Option A) (os : Option (List A)) (x : A) (xs : List A) → o ≡ Some x → os ≡ Some xs → cons_both o os ≡ Some (x ∷ xs)
-pair o os x xs e f = rw (e, f)
-
-formed_list : (has : Op → Bool) (us : Trees) → AreFormed has us → AllByRecursion (IsFormed has) (list_of us)
-formed_list has none a = tt
-formed_list has (more u us) a = (a.0, formed_list has us a.1)
 
 -- what composes from terms with recipes has one
 module _ (has : Op → Bool) (frame S : List Tree) (given : (u : Tree) → Among S u → HasRecipe has frame u) where
@@ -49,21 +38,14 @@ module _ (has : Op → Bool) (frame S : List Tree) (given : (u : Tree) → Among
     recipes (more t ts) f h =
         let r = recipe t f.0 h.0 in
         let rs = recipes ts f.1 h.1 in
-        (more_recipes r.0 rs.0, pair (value (terms_over has) frame r.0) (values (terms_over has) frame rs.0) t (list_of ts) r.1 rs.1)
+        (more_recipes r.0 rs.0, cons_of_both (value (terms_over has) frame r.0) (values (terms_over has) frame rs.0) t (list_of ts) r.1 rs.1)
 
   list_recipes : (ts : List Tree) → AllByRecursion (IsFormed has) ts → AllByRecursion (Composes S) ts → (rs : RecipeTrees) × (values (terms_over has) frame rs ≡ Some ts)
   list_recipes [] f h = (no_recipes, refl)
   list_recipes (t ∷ ts) f h =
       let r = recipe t f.0 h.0 in
       let rs = list_recipes ts f.1 h.1 in
-      (more_recipes r.0 rs.0, pair (value (terms_over has) frame r.0) (values (terms_over has) frame rs.0) t ts r.1 rs.1)
-
-keys_few : (o : Op) → keys o ≤ arity o
-keys_few Hash = omega arith
-keys_few Mac = omega arith
-keys_few Seal = omega arith
-keys_few Wrap = omega arith
-keys_few (Format i a) = omega arith
+      (more_recipes r.0 rs.0, cons_of_both (value (terms_over has) frame r.0) (values (terms_over has) frame rs.0) t ts r.1 rs.1)
 
 pub occurs_itself : (t : Tree) → Occurs t t
 occurs_itself (leaf n) = refl
@@ -119,14 +101,14 @@ part_of_term : (has : Op → Bool) (frame : List Tree) (o : Op) (us : Trees) (rs
     → values (terms_over has) frame rs ≡ Some (take (keys o) (list_of us)) → value (terms_over has) frame r ≡ Some (node o us) → slice_get (drop (keys o) (list_of us)) j ≡ Some u
     → value (terms_over has) frame (part o j rs r) ≡ Some u
 part_of_term has frame o us rs r j u h n un ek er at =
-    let count : length (take (keys o) (list_of us)) ≡ keys o = length-take-le (keys o) (list_of us) (omega (arith, keys_few o, n)) in
+    let count : length (take (keys o) (list_of us)) ≡ keys o = length-take-le (keys o) (list_of us) (omega (arith, keys_fit o, n)) in
     rw (ek, er, h, eq-eqb (length (take (keys o) (list_of us))) (keys o) count, un, op_itself o, eq-eqb (length (list_of us)) (arity o) n, trees_itself (trees_of (take (keys o) (list_of us)))) at
 
 pub reach_shut : (p : ProtocolValue) (frame S : List Tree) (t : Tree) → AllByRecursion (IsFormed (has_operator p.formats)) frame → IsFormed (has_operator p.formats) t → IsReach p frame S
     → (HasRecipe (has_operator p.formats) frame t → ⊥) → IsShut frame S t
 reach_shut p frame S t formed own reach without = record {
-  labels = all_from (Among S) frame (λ j f e. reach.all f (one_at frame j f e) (label j, e));
-  parts = λ o us here u ks. all_from (Among S) (drop (keys o) (list_of us)) (λ j v e. held o us here u ks j v e);
+  labels = each_from_got (Among S) frame (λ j f e. reach.all f (one_at frame j f e) (label j, e));
+  parts = λ o us here u ks. each_from_got (Among S) (drop (keys o) (list_of us)) (λ j v e. held o us here u ks j v e);
   apart = λ c. without (recipe (has_operator p.formats) frame S (λ u h. (reach.held u h).1) t own c);
 } where
   held : (o : Op) (us : Trees) → Among S (node o us) → undoable o ≡ true → AllByRecursion (Composes S) (take (keys o) (list_of us)) → (j : ℕ) (v : Tree) → slice_get (drop (keys o) (list_of us)) j ≡ Some v → Among S v
@@ -134,6 +116,6 @@ reach_shut p frame S t formed own reach without = record {
       let has = has_operator p.formats in
       let a = reach.held (node o us) here in
       let f = formed_one has frame (node o us) formed a.0 in
-      let rs = list_recipes has frame S (λ w h. (reach.held w h).1) (take (keys o) (list_of us)) (all_take (IsFormed has) (keys o) (list_of us) (formed_list has us f.2)) ks in
+      let rs = list_recipes has frame S (λ w h. (reach.held w h).1) (take (keys o) (list_of us)) (all_take (IsFormed has) (keys o) (list_of us) (each_formed has us f.2)) ks in
       let k = at_drop (keys o) j (list_of us) v e in
       reach.all v (deeper_one frame o us v (occurs_at us k.0 v k.1) a.0) (part o j rs.0 a.1.0, part_of_term has frame o us rs.0 a.1.0 j v f.0 f.1 u rs.1 a.1.1 e)

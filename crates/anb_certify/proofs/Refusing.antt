@@ -1,13 +1,11 @@
 -- Where a plan can't go on, and what is told of it.
 use Rattle.std.proofs.Common.{◌≡◌, ℕ, zero, suc, ◌+◌, ◌<◌, ◌≤◌, List, [], ◌∷◌, ◌++◌, length, map, take, drop, get_or, true, Bool, refl, sym, ap, ◌∙◌, subst, inl, inr, ◌⊎◌, ⊎_elim, arith}
-use Rattle.std.specs.Prelude.{AllPairs}
 use Rattle.std.specs.List.{AllByRecursion}
 use Rattle.std.proofs.lemmas.List.{map_more, take_all}
 use Rattle.anb_term.specs.declared.term.Op.{Op}
 use Rattle.anb_term.specs.declared.term.Term.{Term}
 use Rattle.anb_term.specs.Tree.{Tree, leaf, node, Trees, none, more, trees_of, nodes, IsFormed, AreFormed}
 use Rattle.anb_term.specs.View.{tree_of}
-use Rattle.anb_term.specs.Composes.{Among}
 use Rattle.anb_term.specs.Agree.{HasRecipe}
 use Rattle.anb_algebra.specs.ByteMeaning.{has_operator}
 use Rattle.anb_resolve.specs.Protocols.{ProtocolValue}
@@ -20,14 +18,16 @@ use Rattle.anb_compile.specs.Unsent.{label_of, labels_of, IsUnsent, IsFirstUnsen
 use Rattle.anb_compile.proofs.Events.{labels_append, formed_any, formed_labels, labels_have, has_next}
 use Rattle.anb_compile.proofs.Protocols.{plan_is}
 use Rattle.anb_compile.proofs.Whole.{events_parted}
+use Rattle.anb_compile.proofs.Doing.{cut_last}
 use Rattle.anb_certify.specs.declared.found.Found.{Found}
 use Rattle.anb_certify.specs.declared.reasons.Refusal.{Refusal}
 use Rattle.anb_certify.specs.Shut.{Occurs, OccursIn, IsShut}
-use Rattle.anb_certify.specs.Reach.{OccursInOne, IsBefore, IsReach, IsReason}
-use Rattle.anb_certify.specs.Found.{trees_in, IsKeyed, Finds}
+use Rattle.anb_certify.specs.Reach.{OccursInOne, IsReach, IsReason}
+use Rattle.anb_certify.specs.Found.{Finds}
 use Rattle.anb_certify.specs.Stuck.{IsStuck}
 use Rattle.anb_certify.proofs.Finding.{found_both, found_same, is_formed}
 use Rattle.anb_certify.proofs.Reaching.{reach_shut}
+use Rattle.anb_certify.proofs.Deciding.{among_all}
 
 -- ---- an event's label
 
@@ -51,7 +51,7 @@ one_front (x ∷ xs) ys u (inl (inl h)) = inl h
 one_front (x ∷ xs) ys u (inl (inr h)) = inr (one_front xs ys u (inl h))
 one_front (x ∷ xs) ys u (inr h) = inr (one_front xs ys u (inr h))
 
-one_of_both : (xs ys : List Tree) (u : Tree) → OccursInOne (xs ++ ys) u → OccursInOne xs u ⊎ OccursInOne ys u
+pub one_of_both : (xs ys : List Tree) (u : Tree) → OccursInOne (xs ++ ys) u → OccursInOne xs u ⊎ OccursInOne ys u
 one_of_both [] ys u h = inr h
 one_of_both (x ∷ xs) ys u (inl h) = inl (inl h)
 one_of_both (x ∷ xs) ys u (inr h) = ⊎_elim (λ a. inl (inr a)) (λ a. inr a) (one_of_both xs ys u h)
@@ -70,14 +70,6 @@ found_event p frame events i x a b c h own first next =
     subst (λ l. Finds p frame (λ u. OccursInOne l u) a c) (sym (labels_next events i x h own))
     (found_same p frame (λ u. OccursInOne before u ⊎ OccursInOne here u) (λ u. OccursInOne (before ++ here) u) a c (one_front before here) (one_of_both before here)
     (found_both p frame (λ u. OccursInOne before u) (λ u. OccursInOne here u) a b c first next))
-
--- what was found is the reach
-pub reach_is : (p : ProtocolValue) (frame ts : List Tree) (a b : Found) → trees_in a ≡ [] → IsKeyed p a → Finds p frame (λ u. OccursInOne frame u) a b → ts ≡ trees_in b → AllPairs (IsBefore p) ts → IsReach p frame ts
-reach_is p frame ts a b empty keyed found is ordered = record {
-  held = λ u h. ⊎_elim (λ m. absurd (subst (λ l. Among l u) empty m)) (λ m. m) (found.only keyed u (subst (λ l. Among l u) is h));
-  all = λ u h r. subst (λ l. Among l u) (sym is) (found.all keyed u h r);
-  order = ordered;
-}
 
 -- ---- along a plan
 
@@ -139,16 +131,6 @@ module _ (p : ProtocolValue) (role : ℕ) (events : List Event) (i : ℕ) (frame
 abbrev pub NoneStuck : ProtocolValue → ℕ → List PlanEvent → Type 0
 NoneStuck p action before = (front back : List PlanEvent) (t : Tree) → before ≡ front ++ (to_send action t ∷ back) → (HasRecipe (has_operator p.formats) (labels_of front) t → ⊥) → ⊥
 
-cut_last : (xs front back : List PlanEvent) (e x : PlanEvent) → xs ++ e ∷ [] ≡ front ++ (x ∷ back) → ((xs ≡ front) × (e ≡ x)) ⊎ ((rest : List PlanEvent) × (xs ≡ front ++ (x ∷ rest)))
-cut_last [] [] back e x h = inl (refl, cc)
-cut_last [] (y ∷ []) back e x h = cc
-cut_last [] (y ∷ z ∷ front) back e x h = cc
-cut_last (y ∷ xs) [] back e x h = inr (xs, (let s : y ≡ x = cc in ap (λ z. z ∷ xs) s))
-cut_last (y ∷ xs) (z ∷ front) back e x h =
-    let s : y ≡ z = cc in
-    let r : xs ++ e ∷ [] ≡ front ++ (x ∷ back) = cc in
-    ⊎_elim (λ a. inl ((ap (λ l. y ∷ l) a.0 ∙ ap (λ q. q ∷ front) s), a.1)) (λ a. inr (a.0, ap (λ l. y ∷ l) a.1 ∙ ap (λ q. q ∷ (front ++ (x ∷ a.0))) s)) (cut_last xs front back e x r)
-
 pub none_next : (p : ProtocolValue) (action : ℕ) (events : List Event) (i : ℕ) (x : Event) → i < length events → x ≡ get_or events i x → NoneStuck p action (map plan_event (take i events))
     → (IsStuck p (labels_of (map plan_event (take i events))) action (plan_event x) → ⊥) → NoneStuck p action (map plan_event (take (i + 1) events))
 none_next p action events i x h own stuck free front back t is never =
@@ -202,15 +184,11 @@ term_of_one p [] u h e = absurd e
 term_of_one p (t ∷ frame) u h (inl e) = term_within p t u h.0 e
 term_of_one p (t ∷ frame) u h (inr e) = term_of_one p frame u h.1 e
 
-each_among : (P : Tree → Type 0) (ts : List Tree) → ((u : Tree) → Among ts u → P u) → AllByRecursion P ts
-each_among P [] h = tt
-each_among P (t ∷ ts) h = (h t (inl refl), each_among P ts (λ u a. h u (inr a)))
-
 pub reason_told : (p : ProtocolValue) (r : Refusal) → IsReason p r → AllByRecursion (λ e. IsTermOf p (term_in e)) (plan_of p r.role) → IsTermOf p (tree_of r.term) × AllByRecursion (IsTermOf p) r.terms
 reason_told p r reason all =
     let u = reason.unsent in
     let ours = subst (AllByRecursion (λ e. IsTermOf p (term_in e))) u.plan all in
     let frame = labels_have (IsTermOf p) u.before (to_send r.action u.message ∷ u.after) ours in (
       subst (IsTermOf p) reason.message (has_next (IsTermOf p) u.before u.after (to_send r.action u.message) ours),
-      each_among (IsTermOf p) r.terms (λ v a. term_of_one p (labels_of u.before) v frame (reason.reach.held v a).0),
+      among_all (IsTermOf p) r.terms (λ v a. term_of_one p (labels_of u.before) v frame (reason.reach.held v a).0),
     )

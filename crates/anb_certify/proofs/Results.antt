@@ -2,10 +2,6 @@
 use Rattle.std.proofs.Common.{Result, Ok, Err, OnOk}
 use Rattle.std.specs.Prelude.{IfErr, IfOk}
 
-pub on_ok : {A E P Q : Type 0} (r : Result A E) → (P → Q) → OnOk r P → OnOk r Q
-on_ok (Ok x) f p = f p
-on_ok (Err e) f p = tt
-
 pub on_both : {A E P Q R : Type 0} (r : Result A E) → (P → Q → R) → OnOk r P → OnOk r Q → OnOk r R
 on_both (Ok x) f p q = f p q
 on_both (Err e) f p q = tt
@@ -17,7 +13,3 @@ if_err (Err e) f p = f e p
 pub if_ok : {A E : Type 0} {P Q : A → Type 0} (r : Result A E) → ((x : A) → P x → Q x) → IfOk r P → IfOk r Q
 if_ok (Ok x) f p = f x p
 if_ok (Err e) f p = tt
-
-pub any_ok : {A E P : Type 0} (r : Result A E) → P → OnOk r P
-any_ok (Ok x) p = p
-any_ok (Err e) p = tt

@@ -2,28 +2,30 @@
 use Rattle.std.proofs.Common.{◌≡◌, ℕ, zero, suc, ◌+◌, ◌<◌, List, [], ◌∷◌, ◌++◌, length, map, set, take, Bool, true, false, Some, refl, sym, ap, ◌∙◌, subst, inl, inr, ◌⊎◌, ⊎_elim, arith}
 use Rattle.std.specs.Prelude.{slice_get, ◌↔◌}
 use Rattle.std.specs.List.{AllByRecursion, list_all}
+use Rattle.anb_lemmas.proofs.Numbers.{same_or_not}
+use Rattle.anb_lemmas.proofs.Lists.{got_within}
 use Rattle.anb_term.specs.declared.term.Op.{Op}
 use Rattle.anb_term.specs.Operator.{keys, undoable}
 use Rattle.anb_term.specs.Tree.{Tree, leaf, node, Trees, trees_of, list_of}
 use Rattle.anb_term.specs.TreeSame.{list_of-trees_of}
 use Rattle.anb_term.specs.Composes.{Composes}
 use Rattle.anb_term.specs.Lawful.{picked}
-use Rattle.anb_term.proofs.Lists.{slice_get-there, slice_get-within, set-other, set-same, set-at}
+use Rattle.anb_term.proofs.Lists.{slice_get-there, set-other, set-same, set-at}
 use Rattle.anb_intern.specs.declared.node.Node.{Node}
 use Rattle.anb_intern.specs.declared.node.Node.TheVariants.{Atom, Apply}
 use Rattle.anb_intern.specs.Nodes.{operands_at, tree_at, IsOver}
+use Rattle.anb_intern.proofs.Nodes.{under_take, operands_take}
 use Rattle.anb_plays.specs.Codes.{Work, make, undo, equal}
 use Rattle.anb_certify.specs.Classes.{in_class, Saturated}
 use Rattle.anb_certify.specs.Decided.{composes}
 use Rattle.anb_certify.specs.Flags.{all_flagged, is_wanted}
 use Rattle.anb_certify.specs.Tied.{Did, InPairs, Tied, KeepsRules}
-use Rattle.anb_certify.specs.Works.{AreTold}
 use Rattle.anb_certify.specs.Numbered.{AreGrouped, IsKnown, AreKnown, Passes}
-use Rattle.anb_certify.specs.Progress.{wanted_test, HaveKnown, StaySet}
+use Rattle.anb_certify.specs.Progress.{wanted_test, HaveKnown}
 use Rattle.anb_certify.proofs.Classing.{Classed, classed, in_one}
 use Rattle.anb_certify.proofs.Deciding.{decides, decided, all_from, all_true}
 use Rattle.anb_certify.proofs.Fitting.{did_cases}
-use Rattle.anb_certify.proofs.Flagging.{flags_are, operands_take, under_take}
+use Rattle.anb_certify.proofs.Flagging.{flags_are}
 use Rattle.anb_certify.proofs.Linking.{same_name}
 use Rattle.anb_certify.proofs.Telling.{tied_alike, built_alike, undone_alike}
 use Rattle.anb_certify.proofs.Tied.{node_is}
@@ -55,12 +57,6 @@ known_more : (did : List (ℕ × Work)) (names : List ℕ) (x : ℕ × Work) (d 
 known_more did names x d (inl k) = inl (k.0, k.1, k.2, did_more did x k.0 (make k.1 k.2) k.3, k.4)
 known_more did names x d (inr k) = inr (k.0, k.1, k.2, k.3, did_more did x k.0 (undo k.1 k.2 k.3) k.4, k.5)
 
-pub same_or_not : (a b : ℕ) → (a ≡ b) ⊎ (a ≡ b → ⊥)
-same_or_not zero zero = inl refl
-same_or_not zero (suc b) = inr (λ e. omega (arith, e))
-same_or_not (suc a) zero = inr (λ e. omega (arith, e))
-same_or_not (suc a) (suc b) = ⊎_elim (λ e. inl (ap suc e)) (λ n. inr (λ e. n (omega (arith, e)))) (same_or_not a b)
-
 -- a class more is known
 one_known : (old new : List (ℕ × Work)) (names : List ℕ) (flags : List Bool) (c : ℕ) → AreKnown old names flags → c < length flags → ((d : ℕ) → IsKnown new names d → IsKnown old names d ⊎ (c ≡ d)) → ((d : ℕ) → IsKnown old names d → IsKnown new names d)
     → IsKnown new names c → AreKnown new names (set flags c true)
@@ -91,9 +87,6 @@ make_had did names flags at o ns c d e h = have_one did names flags c h (inl (at
 
 pub undo_had : (did : List (ℕ × Work)) (names : List ℕ) (flags : List Bool) (at : ℕ) (o : Op) (ks : List ℕ) (n c : ℕ) → Did did at (undo o ks n) → slice_get names n ≡ Some c → HaveKnown did names flags → HaveKnown did names (set flags c true)
 undo_had did names flags at o ks n c d e h = have_one did names flags c h (inr (at, o, ks, n, d, e))
-
-pub one_set : (flags : List Bool) (c : ℕ) → StaySet flags (set flags c true)
-one_set flags c n e = ⊎_elim (λ s. subst (λ z. slice_get (set flags c true) z ≡ Some true) s (set-same flags c true true (subst (λ z. slice_get flags z ≡ Some true) (sym s) e))) (λ d. set-other flags c n true true e d) (same_or_not c n)
 
 pub none_known : (names : List ℕ) (d : ℕ) → IsKnown [] names d → ⊥
 none_known names d (inl k) = absurd k.3
@@ -187,7 +180,7 @@ module _ (did : List (ℕ × Work)) (ts : List Tree) (firsts names : List ℕ) (
 
   module _ (all : (c : ℕ) → IsKnown did names c → slice_get known c ≡ Some true) (keeps : KeepsRules did ts i) where
     there : (xs : List ℕ) → length xs ≡ length ts → (x : ℕ) × (slice_get xs i ≡ Some x)
-    there xs l = slice_get-there xs i (omega (arith, l, slice_get-within ts i t here))
+    there xs l = slice_get-there xs i (omega (arith, l, got_within ts i t here))
 
     name_of : (a : ℕ) → Tied did i a → (c : ℕ) → slice_get names i ≡ Some c → slice_get names a ≡ Some c
     name_of a tied c e = sym (same_name names i a ((exact i a).0 tied)) ∙ e
@@ -238,7 +231,7 @@ module _ (did : List (ℕ × Work)) (ts : List Tree) (firsts : List ℕ) (g : Ar
 
   one_class : (a b : ℕ) (t : Tree) → slice_get ts a ≡ Some t → slice_get ts a ≡ slice_get ts b → in_class firsts a b ≡ true
   one_class a b t e f =
-      let x = slice_get-there firsts a (omega (arith, slice_get-within ts a t e, g.long)) in
+      let x = slice_get-there firsts a (omega (arith, got_within ts a t e, g.long)) in
       in_one firsts a b x.0 x.1 (sym (g.alike a b f) ∙ x.1)
 
   pub firsts_saturated : Saturated did firsts
@@ -252,9 +245,3 @@ module _ (did : List (ℕ × Work)) (ts : List Tree) (firsts : List ℕ) (g : Ar
   }
 
 -- ---- where works write
-
-pub make_there : (ts : List Tree) (did : List (ℕ × Work)) (at : ℕ) (o : Op) (ns : List ℕ) → AreTold ts did → Did did at (make o ns) → at < length ts
-make_there ts did at o ns told d = slice_get-within ts at _ (told at (make o ns) d).2
-
-pub undo_there : (ts : List Tree) (did : List (ℕ × Work)) (at : ℕ) (o : Op) (ks : List ℕ) (n : ℕ) → AreTold ts did → Did did at (undo o ks n) → n < length ts
-undo_there ts did at o ks n told d = slice_get-within ts n _ (told at (undo o ks n) d).5

@@ -1,14 +1,14 @@
 -- Signs, and who owns them.
-use Rattle.std.proofs.Common.{◌≡◌, ℕ, zero, suc, ◌+◌, ◌<◌, ◌≤◌, List, [], ◌∷◌, ◌++◌, length, set, Option, Some, None, refl, sym, ap, ◌∙◌, subst, inl, inr, ◌⊎◌, ⊎_elim, arith, length-append}
+use Rattle.std.proofs.Common.{◌≡◌, ℕ, zero, suc, ◌+◌, ◌<◌, ◌≤◌, List, [], ◌∷◌, ◌++◌, length, Option, Some, None, refl, sym, ap, ◌∙◌, subst, inl, inr, ◌⊎◌, ⊎_elim, arith, length-append}
 use Rattle.std.specs.Prelude.{slice_get, unwrap_or, replicate}
+use Rattle.anb_lemmas.proofs.Lists.{get_last, got_within}
 use Rattle.anb_term.specs.declared.term.Op.{Op}
 use Rattle.anb_term.specs.Tree.{Tree, leaf, node, trees_of}
 use Rattle.anb_term.specs.Lawful.{picked}
-use Rattle.anb_term.proofs.Lists.{slice_get-append, slice_get-within, slice_get-last, set-other, set-same, set-at}
+use Rattle.anb_term.proofs.Lists.{slice_get-append}
 use Rattle.anb_intern.specs.declared.node.NodeId.{NodeId}
 use Rattle.anb_intern.specs.Nodes.{operands_at, AreUnder, AreDistinct, HasPut}
 use Rattle.anb_certify.specs.Signs.{sign_of, Owned, HasSigned}
-use Rattle.anb_certify.proofs.Fitting.{get_last}
 use Rattle.anb_certify.proofs.Flagging.{kept}
 
 abbrev pub no_owner : Option ℕ
@@ -52,23 +52,6 @@ under_picked m ids (n ∷ ns) u = go (slice_get ids n) refl (under_picked m ids 
   go None e f = rw e f
   go (Some i) e f = rw e (there ids n i u e, f)
 
-pub owner_pushed : (old new : List (Option ℕ)) (id at : ℕ) → id ≡ length old → new ≡ old ++ Some at ∷ [] → Owned old id at new at
-owner_pushed old new id at e f = subst (λ l. Owned old id at l at) (sym f) (record {
-  here = subst (λ k. slice_get (old ++ Some at ∷ []) k ≡ Some (Some at)) (sym e) (get_last old (Some at));
-  kept = λ k y h. slice_get-append old (Some at ∷ []) k (Some y) h;
-  only = λ k y h. ⊎_elim (λ a. inl a) (λ b. inr (b.0 ∙ sym e, let s : Some at ≡ Some y = b.1 in cc)) (slice_get-last old (Some at) (Some y) k h);
-})
-
-pub owner_found : (old : List (Option ℕ)) (id at x : ℕ) → slice_get old id ≡ Some (Some x) → Owned old id at old x
-owner_found old id at x e = record { here = e; kept = λ k y h. h; only = λ k y h. inl h }
-
-pub owner_set : (old : List (Option ℕ)) (id at : ℕ) → slice_get old id ≡ Some None → Owned old id at (set old id (Some at)) at
-owner_set old id at e = record {
-  here = set-same old id (Some at) None e;
-  kept = λ k y h. set-other old id k (Some at) (Some y) h (λ s. let f : slice_get old k ≡ Some None = subst (λ j. slice_get old j ≡ Some None) s e in cc);
-  only = λ k y h. ⊎_elim (λ a. inr (a.0, let s : Some y ≡ Some at = a.1 in cc)) (λ b. inl b) (set-at old id k (Some at) (Some y) h);
-}
-
 module _ (pool pool2 : List Tree) (classes : List NodeId) (owners owners2 : List (Option ℕ)) (id at x : ℕ) (o : Op) (ns : List ℕ) (ids : List NodeId) (are : ids ≡ picked classes ns)
     (put : HasPut pool (node o (trees_of (operands_at pool ids))) pool2) (stored : slice_get pool2 id ≡ Some (node o (trees_of (operands_at pool ids))))
     (under : AreUnder (length pool) classes) (distinct : AreDistinct pool2) (long : length owners ≡ length pool) (owned : Owned owners id at owners2 x) where
@@ -99,7 +82,7 @@ module _ (pool pool2 : List Tree) (classes : List NodeId) (owners owners2 : List
     classes = (kept pool pool2 grown.0 classes grown.1 under).1;
     owns = (id, stored ∙ ap Some sign_is, owned.here);
     kept = λ t y h. (h.0, front h.0 t h.1, owned.kept h.0 y h.2);
-    only = λ t y h. ⊎_elim (λ a. inl (h.0, back h.0 t (omega (arith, slice_get-within owners h.0 (Some y) a, long)) h.1, a))
+    only = λ t y h. ⊎_elim (λ a. inl (h.0, back h.0 t (omega (arith, got_within owners h.0 (Some y) a, long)) h.1, a))
         (λ b. inr (let e : Some t ≡ Some (node o (trees_of (operands_at pool ids))) = sym h.1 ∙ ap (slice_get pool2) b.0 ∙ stored in let f : t ≡ node o (trees_of (operands_at pool ids)) = cc in f ∙ sign_is, b.1))
         (owned.only h.0 y h.2);
     one = λ t y z h k.
@@ -112,5 +95,5 @@ owners_long pool pool2 t put = ⊎_elim (λ e. omega (arith, ap length e)) (λ e
 
 -- a sign that was put stands last, where it is new
 pub sign_place : (pool pool2 : List Tree) (t : Tree) (id : ℕ) → HasPut pool t pool2 → slice_get pool2 id ≡ Some t → AreDistinct pool2 → ((id < length pool) × (length pool2 ≡ length pool)) ⊎ ((id ≡ length pool) × (length pool2 ≡ length pool + 1))
-sign_place pool pool2 t id (inl e) at d = inl (omega (arith, slice_get-within pool2 id t at, ap length e), ap length e)
+sign_place pool pool2 t id (inl e) at d = inl (omega (arith, got_within pool2 id t at, ap length e), ap length e)
 sign_place pool pool2 t id (inr e) at d = inr (d id (length pool) t at (subst (λ l. slice_get l (length pool) ≡ Some t) (sym e) (get_last pool t)), ap length e ∙ length-append pool (t ∷ []))

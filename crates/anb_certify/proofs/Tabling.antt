@@ -2,19 +2,21 @@
 use Rattle.std.proofs.Common.{◌≡◌, ℕ, zero, suc, ◌<◌, List, [], ◌∷◌, ◌++◌, length, take, drop, Bool, true, false, Option, Some, None, refl, sym, ap, ◌∙◌, subst, ⊎_elim, arith, take-append-drop}
 use Rattle.std.specs.Prelude.{slice_get, unwrap_or, ◌==◌, ◌↔◌, IsTrue}
 use Rattle.std.proofs.lemmas.Bool.{eqb-true, eq-eqb}
+use Rattle.anb_lemmas.proofs.Lists.{got_within}
 use Rattle.anb_term.specs.declared.term.Op.{Op}
 use Rattle.anb_term.specs.Operator.{arity, keys}
 use Rattle.anb_term.specs.Tree.{Tree, leaf, node, trees_of, list_of, tree_eqb}
 use Rattle.anb_term.specs.TreeSame.{list_of-trees_of, tree_itself, tree_same}
 use Rattle.anb_term.specs.FreeAlgebra.{parts_of}
 use Rattle.anb_term.specs.FreeLawful.{parts_are, free_lawful}
-use Rattle.anb_term.proofs.Lists.{slice_get-there, slice_get-within}
+use Rattle.anb_term.proofs.Lists.{slice_get-there}
 use Rattle.anb_plays.specs.Codes.{equal}
 use Rattle.anb_intern.specs.declared.node.NodeId.{NodeId}
 use Rattle.anb_intern.specs.Nodes.{operands_at, AreUnder, AreDistinct, HasPut}
 use Rattle.anb_intern.proofs.Putting.{under_last, operands_last}
+use Rattle.anb_intern.proofs.Nodes.{under_take, operands_long, operands_take}
 use Rattle.anb_certify.specs.Numbered.{IsWritten, Opens, TableValue}
-use Rattle.anb_certify.proofs.Flagging.{kept, operands_long, operands_take, operands_drop}
+use Rattle.anb_certify.proofs.Flagging.{kept, operands_drop}
 use Rattle.anb_certify.proofs.Grouping.{at_register}
 use Rattle.anb_certify.proofs.Tied.{node_is}
 
@@ -29,7 +31,7 @@ pub one_more : (pool pool2 m : List Tree) (ids ids2 : List NodeId) (id : NodeId)
     → AreUnder (length pool2) ids2 × (operands_at pool2 ids2 ≡ operands_at pool ids ++ t ∷ [])
 one_more pool pool2 m ids ids2 id t grown under stored are =
     let k = kept pool pool2 m ids grown under in (
-      subst (AreUnder (length pool2)) (sym are) (under_last (length pool2) (length pool2) ids id (omega arith) (slice_get-within pool2 id.0 t stored) k.0),
+      subst (AreUnder (length pool2)) (sym are) (under_last (length pool2) (length pool2) ids id (omega arith) (got_within pool2 id.0 t stored) k.0),
       ap (operands_at pool2) are ∙ operands_last pool2 ids id ∙ ap (λ o. operands_at pool2 ids ++ unwrap_or o (leaf 0) ∷ []) stored ∙ ap (λ l. l ++ t ∷ []) k.1,
     )
 
@@ -89,16 +91,6 @@ front_of ts xs ks ps e = operands_take ts (length ks) xs ∙ ap (take (length ks
   seam [] = refl
   seam (x ∷ l) = ap (λ z. x ∷ z) (seam l)
 
-under_front : (m n : ℕ) (ids : List NodeId) → AreUnder m ids → AreUnder m (take n ids)
-under_front m zero ids u = tt
-under_front m (suc n) [] u = tt
-under_front m (suc n) (i ∷ ids) u = (u.0, under_front m n ids u.1)
-
-pub under_rest : (m n : ℕ) (ids : List NodeId) → AreUnder m ids → AreUnder m (drop n ids)
-under_rest m zero ids u = u
-under_rest m (suc n) [] u = tt
-under_rest m (suc n) (i ∷ ids) u = under_rest m n ids u.1
-
 pub parts_there : (ts : List Tree) (o : Op) (ks : List NodeId) (built : Op) (ids : List NodeId) → length ks ≡ keys o → Opens o ks built ids → parts_of o (operands_at ts ks) (node built (trees_of (operands_at ts ids))) ≡ Some (operands_at ts (drop (length ks) ids))
 parts_there ts o ks built ids n h =
     let P : Op → Type 0 = λ q. parts_of o (operands_at ts ks) (node q (trees_of (operands_at ts ids))) ≡ Some (operands_at ts (drop (length ks) ids)) in
@@ -119,7 +111,7 @@ parts_not ts o ks built ids d u v n = go (parts_of o (operands_at ts ks) (node b
       let same : operands_at ts ids ≡ operands_at ts ks ++ ps = sym (list_of-trees_of (operands_at ts ids)) ∙ ap list_of s.1 ∙ list_of-trees_of (operands_at ts ks ++ ps) in
       let long : length ids ≡ arity o = sym (operands_long ts ids) ∙ ap length same ∙ p.2 in
       let front : operands_at ts (take (length ks) ids) ≡ operands_at ts ks = ap (λ m. operands_at ts (take m ids)) (sym (operands_long ts ks)) ∙ front_of ts ids (operands_at ts ks) ps same in
-      absurd (n (p.0, sym s.0, long, same_numbers ts (take (length ks) ids) ks d (under_front (length ts) (length ks) ids u) v front))
+      absurd (n (p.0, sym s.0, long, same_numbers ts (take (length ks) ids) ks d (under_take (length ts) (length ks) ids u) v front))
 
 -- ---- comparisons
 

@@ -2,6 +2,8 @@
 use Rattle.std.proofs.Common.{◌≡◌, ℕ, ◌+◌, ◌-◌, ◌<◌, List, [], ◌∷◌, ◌++◌, length, Bool, true, false, Option, Some, None, refl, sym, ap, ◌∙◌, subst, inl, inr, ◌⊎◌, arith, length-append}
 use Rattle.std.proofs.lemmas.List.Elements.{recursion_from_All}
 use Rattle.std.specs.Prelude.{slice_get}
+use Rattle.std.proofs.lemmas.Option.{cond_some}
+use Rattle.anb_lemmas.proofs.Lists.{get_last}
 use Rattle.anb_term.specs.declared.term.Op.{Op}
 use Rattle.anb_term.specs.Operator.{arity, keys}
 use Rattle.anb_term.specs.Tree.{Tree, node, trees_of, list_of, tree_eqb}
@@ -10,14 +12,14 @@ use Rattle.anb_term.specs.Lawful.{picked}
 use Rattle.anb_term.specs.FreeAlgebra.{terms, terms_over, parts_of}
 use Rattle.anb_term.specs.FreeLawful.{parts_are}
 use Rattle.anb_term.specs.Demand.{alike}
-use Rattle.anb_term.proofs.Lists.{slice_get-append, slice_get-there}
-use Rattle.anb_term.proofs.Steps.{bound, chosen}
+use Rattle.anb_term.proofs.Lists.{slice_get-append, slice_get-there, picked_length}
+use Rattle.anb_term.proofs.Steps.{bound}
 use Rattle.anb_term.proofs.Demands.{alike_are}
 use Rattle.anb_plays.specs.Codes.{Work, make, undo, equal}
 use Rattle.anb_plays.specs.Exec.{worked, IsReady}
 use Rattle.anb_certify.specs.Tied.{Did, InPairs, Ties, Tied}
 use Rattle.anb_certify.specs.Works.{TellsTerms, AreTold}
-use Rattle.anb_certify.proofs.Fitting.{get_after, get_last, picked_more, wider, picked_length, did_cases}
+use Rattle.anb_certify.proofs.Fitting.{get_after, picked_more, wider, did_cases}
 use Rattle.anb_certify.proofs.Tied.{node_is}
 
 -- what is written doesn't depend on which operators there are
@@ -71,7 +73,7 @@ tells_own has ts ws (undo o ks n) ready is =
       λ j l. get_after ts ws (length ts + j) j (omega arith),
     )
 tells_own has ts ws (equal a b) ready is =
-    let c = chosen (alike terms (slice_get ts a) (slice_get ts b)) [] ws is in
+    let c = cond_some (alike terms (slice_get ts a) (slice_get ts b)) [] ws is in
     let s = alike_are terms (slice_get ts a) (slice_get ts b) c.0 in
     (s.0, slice_get-append ts ws a s.0 s.2, slice_get-append ts ws b s.0 (s.3 ∙ ap Some (sym (tree_same s.0 s.1 s.4))))
 

@@ -3,10 +3,12 @@ use Rattle.std.proofs.Common.{◌≡◌, ℕ, zero, suc, ◌+◌, ◌-◌, ◌<�
 use Rattle.std.proofs.lemmas.List.{length-map}
 use Rattle.std.proofs.lemmas.List.Elements.{All-from_recursion}
 use Rattle.std.proofs.Math.Dec.{ltb}
-use Rattle.std.proofs.lemmas.Bool.{ltb-true, ltb-false}
+use Rattle.std.proofs.lemmas.Bool.{ltb-true, ltb-false, and_parts}
 use Rattle.std.proofs.Math.Seq.{take-append_seam, drop-append_seam}
 use Rattle.std.specs.Prelude.{slice_get}
 use Rattle.std.specs.List.{AllByRecursion}
+use Rattle.anb_lemmas.proofs.Each.{each_in_both, each_by}
+use Rattle.anb_lemmas.proofs.Lists.{got_within}
 use Rattle.anb_term.specs.declared.term.Op.{Op}
 use Rattle.anb_term.specs.declared.term.Op.TheVariants.{Hash, Mac, Seal, Wrap, Format}
 use Rattle.anb_term.specs.Operator.{arity, keys, undoable}
@@ -16,19 +18,14 @@ use Rattle.anb_term.specs.Lawful.{Lawful, AreValues, picked}
 use Rattle.anb_term.specs.Value.{Meaning}
 use Rattle.anb_term.specs.Composes.{Among, Composes, ComposeAll}
 use Rattle.anb_term.specs.Agree.{Agree}
-use Rattle.anb_term.proofs.Lists.{all_drop, all_take, all_append, map-append, slice_get-within}
+use Rattle.anb_term.proofs.Lists.{all_drop, all_take, map-append}
 use Rattle.anb_term.specs.FreeAlgebra.{parts_of}
 use Rattle.anb_term.specs.FreeLawful.{parts_are}
-use Rattle.anb_term.proofs.Steps.{both}
 use Rattle.anb_term.proofs.Related.{Pairs, Facts, agree_by}
 use Rattle.anb_plays.specs.Codes.{Work, make, undo}
 use Rattle.anb_basis.specs.Chosen.{terms_in, found, chosen, chosen_all}
 use Rattle.anb_certify.specs.Tied.{Did, InPairs, Ties, Tied, AreEnough}
 use Rattle.anb_certify.specs.Tables.{vals_in, ComposesBy, ComposeAllBy, Told, Covers, TiedAgree}
-
-pub all_map : {A : Type 0} (P Q : A → Type 0) → ((x : A) → P x → Q x) → (xs : List A) → AllByRecursion P xs → AllByRecursion Q xs
-all_map P Q f [] h = tt
-all_map P Q f (x ∷ xs) h = (f x h.0, all_map P Q f xs h.1)
 
 mutual
   -- what composes with some operators composes
@@ -43,7 +40,7 @@ mutual
 
 -- registers with one term are tied
 tied_by : (b : Bool) (did : List (ℕ × Work)) (ts : List Tree) (i k : ℕ) (t : Tree) → AreEnough did ts → ltb i k ≡ b → slice_get ts i ≡ Some t → slice_get ts k ≡ Some t → i ≤ k → Tied did i k
-tied_by true did ts i k t rules l e f h = (rules k (slice_get-within ts k t f)).alike i t (ltb-true i k l) e f
+tied_by true did ts i k t rules l e f h = (rules k (got_within ts k t f)).alike i t (ltb-true i k l) e f
 tied_by false did ts i k t rules l e f h = let s : i ≡ k = omega (arith, ltb-false i k l, h) in subst (Tied did i) s (λ Q ties. ties.itself i)
 
 pub alike_tied : (did : List (ℕ × Work)) (ts : List Tree) → AreEnough did ts → (i k : ℕ) (t : Tree) → slice_get ts i ≡ Some t → slice_get ts k ≡ Some t → Tied did i k
@@ -124,7 +121,7 @@ module _ {A : Type 0} (m : Meaning A) (lawful : Lawful m) (did : List (ℕ × Wo
   row_tells None None e = refl
   row_tells None (Some y) e = cc
   row_tells (Some x) None e = cc
-  row_tells (Some x) (Some y) e = let b = both (tree_eqb x.0 y.0) (m.same x.1 y.1) e in ap Some (pair_is x y (tree_same _ _ b.0) (lawful.tells _ _ b.1))
+  row_tells (Some x) (Some y) e = let b = and_parts (tree_eqb x.0 y.0) (m.same x.1 y.1) e in ap Some (pair_is x y (tree_same _ _ b.0) (lawful.tells _ _ b.1))
 
   row_itself : (x : Option (Tree × A)) → same_row x x ≡ true
   unfolding same_row
@@ -274,19 +271,19 @@ module _ {A : Type 0} (m : Meaning A) (lawful : Lawful m) (did : List (ℕ × Wo
         let ps = u.0 in
         let v = u.1 in
         let K = picked es ks in
-        let st = all_append Stands K ps (picked_stand ks) (rows_stand ps (λ j l. (at + j, u.2.6 j l))) in
+        let st = each_in_both Stands K ps (picked_stand ks) (rows_stand ps (λ j l. (at + j, u.2.6 j l))) in
         let b = lawful.undoes p (vals_in K) (vals_in ps) v u.2.1 u.2.0 (length-map K (λ e. e.1) ∙ u.2.2) (all_values (vals_in K) (kept_values K (picked_stand ks))) (covers.are_values n (node p (trees_of (terms_in (K ++ ps))), v) u.2.4) u.2.5 in
         whole_at o p us (trees_of (terms_in (K ++ ps))) x v (sym h ∙ tied i n t ∙ u.2.4)
         (whole_of p (K ++ ps) v u.2.0 u.2.3 st (sym b.0 ∙ ap (m.built p) (sym (map-append (λ e. e.1) K ps))))
 
     other_whole : (i : ℕ) (o : Op) (us : Trees) (x : A) → slice_get es i ≡ Some (node o us, x) → undoable o ≡ true → AllByRecursion P (take (keys o) (list_of us)) → Whole o us x
     unfolding P
-    other_whole i o us x h u ks = ⊎_elim (λ a. made_whole i o us x h a.0 o a.1 a.2 a.3) (λ a. undone_whole i o us x h a.0 a.1 a.2 a.3 a.4 a.5) ((rules i (slice_get-within (terms_in es) i (node o us) (term_at es i (node o us, x) h))).others o us (term_at es i (node o us, x) h) u (all_map (ComposesBy m.has (terms_in es)) (Composes (terms_in es)) (by_any m.has (terms_in es)) (take (keys o) (list_of us)) ks))
+    other_whole i o us x h u ks = ⊎_elim (λ a. made_whole i o us x h a.0 o a.1 a.2 a.3) (λ a. undone_whole i o us x h a.0 a.1 a.2 a.3 a.4 a.5) ((rules i (got_within (terms_in es) i (node o us) (term_at es i (node o us, x) h))).others o us (term_at es i (node o us, x) h) u (each_by (ComposesBy m.has (terms_in es)) (Composes (terms_in es)) (by_any m.has (terms_in es)) (take (keys o) (list_of us)) ks))
 
     row_whole : (b : Bool) (i : ℕ) (o : Op) (us : Trees) (x : A) → undoable o ≡ b → slice_get es i ≡ Some (node o us, x) → AllByRecursion P (list_of us) → Whole o us x
     unfolding P
     row_whole true i o us x is h all = other_whole i o us x h is (all_take (ComposesBy m.has (terms_in es)) (keys o) (list_of us) all)
-    row_whole false i o us x is h all = let a = (rules i (slice_get-within (terms_in es) i (node o us) (term_at es i (node o us, x) h))).hashes o us (term_at es i (node o us, x) h) is (all_map (ComposesBy m.has (terms_in es)) (Composes (terms_in es)) (by_any m.has (terms_in es)) (list_of us) all) in made_whole i o us x h a.0 a.1 a.2 a.4 a.5
+    row_whole false i o us x is h all = let a = (rules i (got_within (terms_in es) i (node o us) (term_at es i (node o us, x) h))).hashes o us (term_at es i (node o us, x) h) is (each_by (ComposesBy m.has (terms_in es)) (Composes (terms_in es)) (by_any m.has (terms_in es)) (list_of us) all) in made_whole i o us x h a.0 a.1 a.2 a.4 a.5
 
     to_list : (ts : Trees) → ComposeAllBy m.has (terms_in es) ts → AllByRecursion P (list_of ts)
     unfolding P

@@ -1,6 +1,7 @@
 -- A code has at most one finding.
 use Rattle.std.proofs.Common.{◌≡◌, ◌≢◌, ℕ, ◌+◌, ◌<◌, List, [], ◌∷◌, length, Option, Some, None, refl, sym, ap, ◌∙◌, subst, inl, inr}
 use Rattle.std.proofs.lemmas.Bool.{cases_order}
+use Rattle.std.proofs.lemmas.Option.{same_Some}
 use Rattle.anb_term.specs.Tree.{Tree}
 use Rattle.anb_term.specs.Value.{Meaning}
 use Rattle.anb_plays.specs.Plans.{Event, know, fresh, send, recv}
@@ -17,13 +18,10 @@ use Rattle.anb_certify.specs.Certified.{FindsOf, HasFrame, IsCertified, Refuses}
 use Rattle.anb_certify.specs.Statements.{NoneIsBoth, RefusalsAreUnique}
 use Rattle.anb_certify.specs.Tied.{KeepsRules}
 
-same_some : {X : Type 0} (x y : X) → Some x ≡ Some y → x ≡ y
-same_some x y e = cc
-
 module _ {A : Type 0} (m : Meaning A) where
   module _ (s : Place) (did : List (ℕ × Work)) where
     same_terms : (ts us : List Tree) → HaveTerms m s ts → HaveTerms m s us → ts ≡ us
-    same_terms ts us x y = same_some ts us (sym x ∙ y)
+    same_terms ts us x y = same_Some ts us (sym x ∙ y)
 
     never_both : (i : ℕ) → IsTight m s did → IsFirstLoose m s did i → ⊥
     never_both i (ts, have, enough) (us, has, within, loose, before) =
@@ -72,14 +70,14 @@ module _ (p : ProtocolValue) (role : ℕ) (code : CodeValue) where
   same_frame i j (inl (never, x)) (inl (also, y)) = x ∙ sym y
   same_frame i j (inl (never, x)) (inr (named, y)) = absurd (never named)
   same_frame i j (inr (named, x)) (inl (never, y)) = absurd (never named)
-  same_frame i j (inr (named, x)) (inr (also, y)) = same_some i j (sym x ∙ y)
+  same_frame i j (inr (named, x)) (inr (also, y)) = same_Some i j (sym x ∙ y)
 
   framed : (n : ℕ) → HasFrame p role code → Refuses p role code (Frame n) → ⊥
   framed n frame (inl (never, x)) = never frame.0
   framed n frame (inr (named, x)) = let e : Some n ≡ None = sym x ∙ frame.1 in absurd (cc)
 
   one_finding : (one other : CertifyNo) → FindsOf p role code (Some one) → FindsOf p role code (Some other) → one ≡ other
-  one_finding one other x y = same_some one other (found_one (Some one) (Some other) x y)
+  one_finding one other x y = same_Some one other (found_one (Some one) (Some other) x y)
 
   unique : (one other : CertifyNo) → one ≢ NoMemory → other ≢ NoMemory → Refuses p role code one → Refuses p role code other → one ≡ other
   unique NoMemory other some also x y = absurd (some refl)

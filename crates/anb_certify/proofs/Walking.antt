@@ -1,12 +1,13 @@
 -- Steps along a code.
-use Rattle.std.proofs.Common.{◌≡◌, ℕ, zero, suc, ◌+◌, ◌<◌, List, [], ◌∷◌, ◌++◌, length, drop, Bool, true, false, Option, Some, None, refl, sym, ap, ◌∙◌, subst, inl, inr, arith, length-append}
+use Rattle.std.proofs.Common.{◌≡◌, ℕ, suc, ◌+◌, ◌<◌, List, [], ◌∷◌, ◌++◌, length, drop, Bool, true, false, Option, Some, None, refl, sym, ap, ◌∙◌, subst, inl, inr, arith, length-append}
 use Rattle.std.specs.Prelude.{slice_get}
+use Rattle.anb_lemmas.proofs.Lists.{get_last, drop_got}
 use Rattle.anb_term.specs.declared.term.Op.{Op}
 use Rattle.anb_term.specs.Tree.{Tree}
 use Rattle.anb_term.specs.Value.{label, values, recipe_trees}
 use Rattle.anb_term.specs.FreeAlgebra.{terms, terms_over}
 use Rattle.anb_term.specs.FreeLawful.{free_lawful}
-use Rattle.anb_term.proofs.Lists.{slice_get-there}
+use Rattle.anb_term.proofs.Lists.{slice_get-there, values_length}
 use Rattle.anb_term.proofs.Frames.{values_more}
 use Rattle.anb_algebra.specs.ByteMeaning.{has_operator}
 use Rattle.anb_plays.specs.Plans.{Event, know, fresh, send, recv, known}
@@ -14,6 +15,7 @@ use Rattle.anb_plays.specs.Codes.{Act, takes, draws, receives, sends, works, Wor
 use Rattle.anb_plays.specs.Exec.{worked, IsReady, IsVerified, NoTakes, HasTakes, count_written}
 use Rattle.anb_plays.specs.Fits.{Along, AnySend, AnyWork, AnyBorder, after_take, after_label, after_work, SendsIt}
 use Rattle.anb_plays.proofs.Registers.{values_join, register, work}
+use Rattle.anb_plays.proofs.Growing.{goes_on, no_next}
 use Rattle.anb_code.specs.CodeValue.{CodeValue}
 use Rattle.anb_resolve.specs.Protocols.{ProtocolValue}
 use Rattle.anb_resolve.specs.Plays.{meaning_of}
@@ -24,34 +26,7 @@ use Rattle.anb_certify.specs.Certified.{FindsOf, Refuses}
 use Rattle.anb_certify.specs.Numbered.{TableValue, HasWorked, IsLoose}
 use Rattle.anb_certify.specs.Tied.{AreEnough}
 use Rattle.anb_certify.specs.Walking.{Stands}
-use Rattle.anb_certify.proofs.Fitting.{get_last, values_length}
 use Rattle.anb_certify.proofs.Telling.{worked_any, told_more, told_next}
-
--- acts without a take, over so many registers
-goes_on : (has : Op → Bool) (acts : List Act) (k : ℕ) → IsVerified has acts k → NoTakes has acts → HasTakes has acts k k
-goes_on has (takes ∷ acts) k v none = absurd none
-goes_on has [] k v none = (refl, v, none)
-goes_on has (draws ∷ acts) k v none = (refl, v, none)
-goes_on has (receives ∷ acts) k v none = (refl, v, none)
-goes_on has (sends r ∷ acts) k v none = (refl, v, none)
-goes_on has (works w ∷ acts) k v none = (refl, v, none)
-
-no_next : {X : Type 0} (has : Op → Bool) (acts later : List Act) → NoTakes has acts → acts ≡ takes ∷ later → X
-no_next has (takes ∷ acts) later none e = absurd none
-no_next has [] later none e = cc
-no_next has (draws ∷ acts) later none e = cc
-no_next has (receives ∷ acts) later none e = cc
-no_next has (sends r ∷ acts) later none e = cc
-no_next has (works w ∷ acts) later none e = cc
-
-next_item : {A : Type 0} (xs : List A) (n : ℕ) (x : A) (ys : List A) → drop n xs ≡ x ∷ ys → (slice_get xs n ≡ Some x) × (drop (n + 1) xs ≡ ys)
-next_item [] zero x ys e = cc
-next_item [] (suc n) x ys e = cc
-next_item (z ∷ xs) zero x ys e = (let s : z ≡ x = cc in ap Some s, cc)
-next_item (z ∷ xs) (suc n) x ys e =
-    let i = next_item xs n x ys e in
-    let m : suc n + 1 ≡ suc (n + 1) = omega arith in
-    (i.0, ap (λ k. drop k (z ∷ xs)) m ∙ i.1)
 
 -- a term more, and what was done is the same
 abbrev pub heard : TableValue → Tree → TableValue
@@ -128,7 +103,7 @@ module _ (p : ProtocolValue) (role : ℕ) (code : CodeValue) where
   take_on : (acts : List Act) (t : Tree) (es : List Event) (n : ℕ) (v : TableValue) → At (takes ∷ acts) (know t ∷ es) n v → At acts es (n + 1) (heard v t)
   take_on acts t es n v s =
       let regs : length v.terms ≡ length s.place.regs = values_length (terms_over has) s.place.frame s.place.regs v.terms s.have in
-      let next = next_item s.place.frame (length v.terms) t (known es) (s.takes_next acts refl) in
+      let next = drop_got s.place.frame (length v.terms) t (known es) (s.takes_next acts refl) in
       let at : slice_get s.place.frame (length s.place.regs) ≡ Some t = ap (slice_get s.place.frame) (sym regs) ∙ next.0 in
       let one : values (terms_over has) s.place.frame (recipe_trees (label (length s.place.regs) ∷ [])) ≡ Some (t ∷ []) = rw at refl in
       let long : length (v.terms ++ t ∷ []) ≡ length v.terms + 1 = length-append v.terms (t ∷ []) in

@@ -1,6 +1,7 @@
 -- Tied, as classes of registers.
 use Rattle.std.specs.Prelude.{◌≡◌, ℕ, zero, suc, ◌+◌, ◌-◌, ◌<◌, List, take, Bool, true, false, ◌&&◌, ◌||◌, ◌==◌, not, Option, Some, None, slice_get, ◌↔◌}
 use Rattle.std.specs.List.{list_any, list_all}
+use Rattle.anb_close.specs.Rows.{is_at}
 use Rattle.anb_term.specs.declared.term.Op.{Op}
 use Rattle.anb_term.specs.Operator.{arity, keys, undoable, op_eqb}
 use Rattle.anb_term.specs.Tree.{Tree, leaf, node, list_of, tree_eqb}
@@ -59,10 +60,6 @@ knows_it cs i o (at, make p ns) = op_eqb o p && in_class cs i at
 knows_it cs i o (at, undo p ks n) = in_class cs i n
 knows_it cs i o (at, equal a b) = false
 
-abbrev pub is_term : Option Tree → Tree → Bool
-is_term None t = false
-is_term (Some u) t = tree_eqb u t
-
 module _ (did : List (ℕ × Work)) (cs : List ℕ) (ts : List Tree) where
   abbrev pub rule_test : ℕ → Tree → Bool
   rule_test i (leaf n) = true
@@ -71,7 +68,7 @@ module _ (did : List (ℕ × Work)) (cs : List ℕ) (ts : List Tree) where
 
   abbrev pub register_test : ℕ → Option Tree → Bool
   register_test i None = true
-  register_test i (Some t) = all_below (λ k. not (is_term (slice_get ts k) t) || in_class cs k i) i && rule_test i t
+  register_test i (Some t) = all_below (λ k. not (is_at (slice_get ts k) t) || in_class cs k i) i && rule_test i t
 
 -- a register keeps the rules exactly where it passes, over classes that are exactly what is tied
 abbrev pub RulesAreDecided : Type 0

@@ -28,10 +28,6 @@ IsCovered ts known pending f = (slice_get known f ≡ Some true) ⊎ (((m : ℕ)
 abbrev pub AreCovered : List Tree → List ℕ → List Bool → List ℕ → Type 0
 AreCovered ts firsts known pending = (f : ℕ) → slice_get firsts f ≡ Some f → IsCovered ts known pending f
 
--- flags that were set stay so
-abbrev pub StaySet : List Bool → List Bool → Type 0
-StaySet old new = (n : ℕ) → slice_get old n ≡ Some true → slice_get new n ≡ Some true
-
 -- all flags are set
 abbrev pub AreSet : List Bool → Type 0
 AreSet flags = (i : ℕ) (b : Bool) → slice_get flags i ≡ Some b → b ≡ true

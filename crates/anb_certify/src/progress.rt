@@ -4,12 +4,13 @@
 //! first register of its term. What was tied, built or undone stays so. So a border looks at the
 //! registers and jobs since the last one, and beyond them at terms that were neither built nor undone.
 ghost use Rattle.std.specs.Prelude.{◌≡◌, ◌≤◌, ◌<◌, ◌++◌, ◌∷◌, [], ◌⊎◌, ℕ, List, None, Some, true, false, if◌then◌else◌, length, map, slice_get, set, IsTrue, IfOk, OnOk};
+ghost use Rattle.anb_basis.specs.Checks.{MarksStay};
 ghost use Rattle.anb_intern.specs.Nodes.{operands_at, tree_at, AreUnder};
 ghost use Rattle.anb_intern.specs.declared.node.NodeId.{NodeId as number};
 ghost use Rattle.anb_plays.specs.Codes.{Work};
 ghost use Rattle.anb_term.specs.Tree.{leaf, Tree};
 ghost use Rattle.anb_certify.specs.Numbered.{AreBelow, AreGrouped, AreSettled};
-ghost use Rattle.anb_certify.specs.Progress.{found_in, AreCovered, AreQuiet, AreSet, HasFound, HasRoom, HaveKnown, IsProgress, StaySet};
+ghost use Rattle.anb_certify.specs.Progress.{found_in, AreCovered, AreQuiet, AreSet, HasFound, HasRoom, HaveKnown, IsProgress};
 ghost use Rattle.anb_certify.specs.Tied.{AreEnough, Did};
 ghost use Rattle.anb_certify.specs.Works.{did_of, work_of, AreTold, TellsTerms};
 
@@ -100,7 +101,7 @@ impl Progress {
             (map did_of done.now) (found_in self.new)) }
         ensures grouped { OnOk result (AreGrouped (operands_at pool.now ids.now)
             (map did_of done.now) self.new.firsts.items) }
-        ensures kept { OnOk result (StaySet self.old.flags.items self.new.flags.items) }
+        ensures kept { OnOk result (MarksStay self.old.flags.items self.new.flags.items) }
     {
         self.enter(pool.len(), ids)?;
         learn_all(
@@ -137,7 +138,7 @@ impl Progress {
         ensures found { OnOk result ((ts : List Tree) (did : List (ℕ × Work))
             → HasFound ids.now ts did (found_in self.old)
             → HasFound ids.now ts did (found_in self.new)) }
-        ensures kept { OnOk result (StaySet self.old.flags.items self.new.flags.items) }
+        ensures kept { OnOk result (MarksStay self.old.flags.items self.new.flags.items) }
     {
         make_room(&mut self.seen, numbers as usize)?;
         for i in self.firsts.len()..ids.len() {
@@ -209,9 +210,9 @@ fn learn_all(
     requires known { length known.old.items ≡ length firsts.now }
     requires flags { length flags.old.items ≡ length firsts.now }
     ensures known { (length known.new.items ≡ length firsts.now)
-        × StaySet known.old.items known.new.items }
+        × MarksStay known.old.items known.new.items }
     ensures flags { (length flags.new.items ≡ length firsts.now)
-        × StaySet flags.old.items flags.new.items }
+        × MarksStay flags.old.items flags.new.items }
     ensures are_known { HaveKnown (map did_of done.now) firsts.now known.old.items
         → HaveKnown (map did_of done.now) firsts.now known.new.items }
     ensures settled { (ts : List Tree) → AreGrouped ts (map did_of done.now) firsts.now

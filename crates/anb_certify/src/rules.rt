@@ -1,11 +1,12 @@
 //! The rules, over classes of registers and terms by number.
 ghost use Rattle.std.specs.Prelude.{◌≡◌, ◌↔◌, ◌<◌, ◌++◌, ◌∷◌, [], ℕ, List, length, map, IsTrue, IfOk, MatchOption};
+ghost use Rattle.anb_basis.specs.Checks.{MarksStay};
 ghost use Rattle.anb_intern.specs.Nodes.{operands_at, AreUnder, IsOver};
 ghost use Rattle.anb_term.specs.Tree.{Tree};
 ghost use Rattle.anb_certify.specs.Flags.{is_wanted};
 ghost use Rattle.anb_certify.specs.Numbered.{AreBelow, AreGrouped, AreKnown, AreSettled, IsLoose, Passes};
 ghost use Rattle.anb_plays.specs.Codes.{Work};
-ghost use Rattle.anb_certify.specs.Progress.{HaveKnown, StaySet};
+ghost use Rattle.anb_certify.specs.Progress.{HaveKnown};
 ghost use Rattle.anb_certify.specs.Tied.{AreEnough, Did};
 ghost use Rattle.anb_certify.specs.Works.{did_of, work_of, AreTold, TellsTerms};
 
@@ -72,7 +73,7 @@ pub(crate) fn learn(names: &[u32], d: &Done, flags: &mut Vec<bool>)
     requires below { AreBelow (length names.now) names.now }
     requires long { length flags.old.items ≡ length names.now }
     ensures long { length flags.new.items ≡ length flags.old.items }
-    ensures kept { StaySet flags.old.items flags.new.items }
+    ensures kept { MarksStay flags.old.items flags.new.items }
     ensures have { (did : List (ℕ × Work)) → Did did d.now.at (work_of d.now.job)
         → HaveKnown did names.now flags.old.items → HaveKnown did names.now flags.new.items }
     ensures known { (did : List (ℕ × Work)) → AreKnown did names.now flags.old.items

@@ -1,11 +1,10 @@
 //! What instructions do on registers alone.
 ghost use Rattle.std.specs.Prelude.{◌≡◌, ◌≤◌, false, slice_get, Some, IfOk, MatchOption};
 ghost use Rattle.std.specs.List.{AllByRecursion};
-ghost use Rattle.anb_format.specs.Formats.{FormatValue, field_count};
+ghost use Rattle.anb_format.specs.Formats.{FormatValue, field_count, pieces_at};
 ghost use Rattle.anb_term.specs.declared.term.Op.TheVariants as op;
 ghost use Rattle.anb_plays.specs.Codes.{works, make, undo};
 ghost use Rattle.anb_code.specs.Meaning.{act_of};
-ghost use Rattle.anb_code.specs.Registers.{pieces_at};
 ghost use Rattle.anb_code.specs.Verified.{HasItsFormat};
 ghost use Rattle.anb_certify.specs.Certified.{is_work};
 ghost use Rattle.anb_certify.specs.Works.{work_of};

@@ -1,11 +1,12 @@
 -- Participants are no words, and are told apart.
 use Rattle.std.proofs.Common.{◌≡◌, ℕ, ◌+◌, ◌<◌, ◌^◌, ◌%◌, List, [], ◌∷◌, ◌++◌, Bool, true, false, cond, refl, sym, ap, ◌∙◌, arith}
-use Rattle.std.specs.Prelude.{◌==◌, ◌&&◌, decimal, not}
+use Rattle.std.specs.Prelude.{◌==◌, decimal, not}
 use Rattle.std.specs.List.{list_all}
 use Rattle.std.proofs.lemmas.Bool.Decides.{leb_tells, nat_tests}
 use Rattle.std.proofs.lemmas.Fmt.{decimal_by_steps, decimal_is_IsNumeral}
 use Rattle.std.proofs.lemmas.List.Folds.{list_all-append}
 use Rattle.std.specs.Str.Parse.{digits_value}
+use Rattle.std.proofs.lemmas.Bool.{and_parts}
 use Rattle.anb_syntax.specs.Words.{is_letter, is_name_byte, is_spelled}
 use Rattle.anb_chart.specs.Participants.{escaped, is_word}
 
@@ -27,13 +28,9 @@ digits_open =
     (λ n h. let one : is_open (48 + n) ≡ true = grind (arith, nat_tests) in rw one refl)
     (λ n ds h e. let one : is_open (48 + n % 10) ≡ true = grind (arith, nat_tests) in list_all-append is_open ds _ ∙ rw (e, one) refl)
 
-both : (a b : Bool) → (a && b) ≡ true → (a ≡ true) × (b ≡ true)
-both true b e = (refl, e)
-both false b e = cc
-
 not_open : (y : ℕ) (ys : List ℕ) → 59 ≡ y → list_all is_open (y ∷ ys) ≡ true → ⊥
 not_open y ys same all =
-    let is : is_open y ≡ true = (both (is_open y) (list_all is_open ys) all).0 in
+    let is : is_open y ≡ true = (and_parts (is_open y) (list_all is_open ys) all).0 in
     let closed : is_open 59 ≡ true = ap is_open same ∙ is in
     cc
 
@@ -44,7 +41,7 @@ cut (x ∷ xs) [] r s a b e = let same : 59 ≡ x = cc in absurd (not_open x xs 
 cut (x ∷ xs) (y ∷ ys) r s a b e =
     let same : x ≡ y = cc in
     let rest : xs ++ 59 ∷ r ≡ ys ++ 59 ∷ s = cc in
-    let k = cut xs ys r s (both (is_open x) (list_all is_open xs) a).1 (both (is_open y) (list_all is_open ys) b).1 rest in
+    let k = cut xs ys r s (and_parts (is_open x) (list_all is_open xs) a).1 (and_parts (is_open y) (list_all is_open ys) b).1 rest in
     (rw (same, k.0) refl, k.1)
 
 value : (n : ℕ) → n < 2 ^ 64 → digits_value 10 (decimal n) ≡ n
@@ -73,4 +70,4 @@ pub told_apart : (x y : List ℕ) → is_spelled x ≡ true → is_spelled y ≡
 told_apart [] y sx sy e = cc
 told_apart (b ∷ r) [] sx sy e = cc
 told_apart (b ∷ r) (d ∷ s) sx sy e =
-    by_words b d r s (both (is_letter b) (list_all is_name_byte r) sx).0 (both (is_letter d) (list_all is_name_byte s) sy).0 (is_word (b ∷ r)) (is_word (d ∷ s)) e
+    by_words b d r s (and_parts (is_letter b) (list_all is_name_byte r) sx).0 (and_parts (is_letter d) (list_all is_name_byte s) sy).0 (is_word (b ∷ r)) (is_word (d ∷ s)) e

@@ -1,7 +1,9 @@
 -- One action more.
 use Rattle.std.proofs.Common.{◌≡◌, ℕ, zero, suc, ◌+◌, ◌<◌, List, [], ◌∷◌, ◌++◌, length, map, drop, get_or, Some, sym, ap, ◌∙◌, subst, arith, length-append}
 use Rattle.std.specs.Prelude.{slice_get}
-use Rattle.anb_term.proofs.Lists.{all_at, slice_get-map, slice_get-at}
+use Rattle.anb_lemmas.proofs.Each.{each_in_parts, each_got}
+use Rattle.anb_lemmas.proofs.Lists.{drop_got, drop_next}
+use Rattle.anb_term.proofs.Lists.{slice_get-map, slice_get-at}
 use Rattle.anb_resolve.specs.declared.parts.Action.{Action}
 use Rattle.anb_resolve.specs.Choices.{each_after}
 use Rattle.anb_resolve.specs.Laws.{HoldsOf, IsActionOf}
@@ -9,16 +11,7 @@ use Rattle.anb_resolve.specs.Plans.{made_at, messages, names_made_at}
 use Rattle.anb_resolve.specs.Protocols.{ActionValue, ProtocolValue}
 use Rattle.anb_resolve.specs.Texts.{IsTermOf, atom_name, known_terms}
 use Rattle.anb_resolve.specs.Views.{action_value}
-use Rattle.anb_resolve.proofs.Faultless.{all_parts}
-use Rattle.anb_text.proofs.Written.{from_item}
 use Rattle.anb_chart.specs.Charts.{action_lines, action_text}
-
--- what a list that goes on so has there
-item_drop : {A : Type 0} (xs rest : List A) (i : ℕ) (x : A) → drop i xs ≡ x ∷ rest → (slice_get xs i ≡ Some x) × (drop (i + 1) xs ≡ rest)
-item_drop [] rest zero x e = cc
-item_drop [] rest (suc i) x e = cc
-item_drop (y ∷ xs) rest zero x e = (let s : y ≡ x = cc in ap Some s, cc)
-item_drop (y ∷ xs) rest (suc i) x e = let m : suc i + 1 ≡ suc (i + 1) = omega arith in rw m (item_drop xs rest i x e)
 
 -- an item there, whatever stands for a missing one
 item_got : {A : Type 0} (xs : List A) (i : ℕ) (x other : A) → slice_get xs i ≡ Some x → get_or xs i other ≡ x
@@ -40,11 +33,11 @@ module _ (p : ProtocolValue) (actions : List Action) (i : ℕ) (x : Action) (wit
     stands = subst (λ (l : List ActionValue). slice_get l i ≡ Some value) all (slice_get-map action_value actions i x (slice_get-at actions i x within is))
 
     pub ends : IsActionOf p value
-    ends = all_at (IsActionOf p) p.actions i value holds.ends stands
+    ends = each_got (IsActionOf p) p.actions i value holds.ends stands
 
     pub message_ours : IsTermOf p value.message
     message_ours =
-        all_at (IsTermOf p) (messages p.actions) i value.message (all_parts (IsTermOf p) (known_terms p) (messages p.actions) holds.terms).1
+        each_got (IsTermOf p) (messages p.actions) i value.message (each_in_parts (IsTermOf p) (known_terms p) (messages p.actions) holds.terms).1
         (slice_get-map (λ (a : ActionValue). a.message) p.actions i value stands)
 
   -- its lines are the first that are due
@@ -52,13 +45,13 @@ module _ (p : ProtocolValue) (actions : List Action) (i : ℕ) (x : Action) (wit
   module _ (made : List (List (List ℕ))) (before : List ActionValue) (many : length before ≡ i)
       (due : drop i made ≡ each_after (names_made_at p) before (map action_value (drop i actions))) where
     item : map action_value (drop i actions) ≡ value ∷ later
-    item = ap (map action_value) (from_item actions i x within is)
+    item = ap (map action_value) (drop_next actions i x within is)
 
     abbrev its_names : List (List ℕ)
     its_names = map (atom_name p) (made_at p before value)
 
     here : (slice_get made i ≡ Some its_names) × (drop (i + 1) made ≡ each_after (names_made_at p) (before ++ value ∷ []) later)
-    here = item_drop made (each_after (names_made_at p) (before ++ value ∷ []) later) i its_names (due ∙ ap (each_after (names_made_at p) before) item)
+    here = drop_got made (each_after (names_made_at p) (before ++ value ∷ []) later) i its_names (due ∙ ap (each_after (names_made_at p) before) item)
 
     pub counted : length (before ++ value ∷ []) ≡ i + 1
     counted = omega (arith, length-append before (value ∷ []), many)

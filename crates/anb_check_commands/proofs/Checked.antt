@@ -1,6 +1,7 @@
 -- From a verdict to what `check` does.
 use Rattle.std.proofs.Common.{◌≡◌, ◌⊎◌, ℕ, Bool, true, false, List, [], take, Option, Some, None, refl, ap, sym, ◌∙◌, subst, inl, inr}
 use Rattle.anb_base.specs.Moves.{Put}
+use Rattle.anb_base.proofs.Moving.{put_nothing}
 use Rattle.anb_read.specs.Laws.{NarrationsAreUnique, RefusalsAreUnique, NoneIsBoth}
 use Rattle.anb_command.specs.declared.limits.TheConstants.{NARRATION_LIMIT}
 use Rattle.anb_command.specs.declared.status.Status.{Status}
@@ -13,7 +14,7 @@ use Rattle.anb_command.specs.Steps.{HasOneAnswer, IsFailure, refused, given}
 use Rattle.anb_command.specs.Writing.{IsWritten}
 use Rattle.anb_command.proofs.Chains.{told_map}
 use Rattle.anb_command.proofs.Ones.{file_one, is_one, narration_one, not_both, protocol_one, same_given, same_refusal, send_one, then_one}
-use Rattle.anb_command.proofs.Written.{faulty, put_nothing}
+use Rattle.anb_command.proofs.Written.{faulty}
 use Rattle.anb_check_commands.specs.CheckCommand.{CompletesCheck, IsTelling, IsVerdict, IsVerdictOnFile, SendableOfText, Tells}
 use Rattle.anb_check_commands.specs.Telling.{IsLast, IsTold, ended_by}
 

@@ -1,6 +1,5 @@
 -- The verdict on a text from those on its parts.
-use Rattle.std.proofs.Common.{◌≡◌, ℕ, List, Some, None, Result, Ok, Err, refl, sym, subst, inl, inr}
-use Rattle.std.specs.Prelude.{IfOk}
+use Rattle.std.proofs.Common.{◌≡◌, ℕ, List, Some, None, refl, sym, subst, inl, inr}
 use Rattle.anb_base.specs.declared.TheConstants.{ARRIVAL, WIDE}
 use Rattle.anb_syntax.specs.Grammar.{Narration}
 use Rattle.anb_syntax.specs.Text.{Text}
@@ -43,8 +42,3 @@ module _ (name x : List ℕ) where
   -- and one whose protocol this is
   pub well : (n : Narration) (p : ProtocolValue) (s : Status) (said : List ℕ) → fault ARRIVAL WIDE n ≡ None → p ≡ protocol_of n → IsVerdictOnProtocol p s said → IsVerdictOnNarration name x n s said
   well n p s said formed is on = inr (formed, subst (λ (q : ProtocolValue). IsVerdictOnProtocol q s said) is on)
-
--- of what was had
-pub if_ok_map : {A B : Type 0} (r : Result A B) (P Q : A → Type 0) → ((a : A) → P a → Q a) → IfOk r P → IfOk r Q
-if_ok_map (Ok a) P Q each p = each a p
-if_ok_map (Err e) P Q each p = tt

@@ -6,6 +6,8 @@ use Rattle.std.proofs.Math.Dec.{ltb}
 use Rattle.std.proofs.lemmas.Bool.{ltb-true, ltb-false}
 use Rattle.std.proofs.lemmas.List.{drop_all}
 use Rattle.std.proofs.lemmas.Option.{slice_get-get_or}
+use Rattle.anb_lemmas.proofs.Each.{each_in_front, each_from_got}
+use Rattle.anb_lemmas.proofs.Lists.{got_within}
 use Rattle.anb_term.specs.declared.term.Op.{Op}
 use Rattle.anb_term.specs.Tree.{Tree, node, Trees, trees_of, list_of, nodes}
 use Rattle.anb_term.specs.TreeSame.{list_of-trees_of}
@@ -19,22 +21,13 @@ use Rattle.anb_close.specs.declared.entry.Entry.{Entry}
 use Rattle.anb_close.specs.Entries.{rows, terms_of, part_entries, labels_of, IsOpened, IsPartOf, IsRest, IsKnown, EachSmall, keys_for}
 use Rattle.anb_close.proofs.Finding.{rows_length, rows_append}
 use Rattle.anb_close.proofs.Growing.{terms_append, parts_terms, grown_few}
-use Rattle.anb_term.proofs.Lists.{slice_get-within}
-
-all_of : {A : Type 0} (P : A → Type 0) (xs : List A) → ((i : ℕ) (x : A) → slice_get xs i ≡ Some x → P x) → AllByRecursion P xs
-all_of P [] h = tt
-all_of P (x ∷ xs) h = (h 0 x refl, all_of P xs (λ i. h (suc i)))
 
 pub all_back : {A : Type 0} (P : A → Type 0) (xs ys : List A) → AllByRecursion P (xs ++ ys) → AllByRecursion P ys
 all_back P [] ys h = h
 all_back P (x ∷ xs) ys h = all_back P xs ys h.1
 
-pub all_front : {A : Type 0} (P : A → Type 0) (xs ys : List A) → AllByRecursion P (xs ++ ys) → AllByRecursion P xs
-all_front P [] ys h = tt
-all_front P (x ∷ xs) ys h = (h.0, all_front P xs ys h.1)
-
 pub entries_compose : (ts : List Tree) → AllByRecursion (Composes (seen (rows_of ts))) ts
-entries_compose ts = all_of (Composes (seen (rows_of ts))) ts (λ i t e. let m = entry_made [] ts i t e in made_composes (rows_of ts) t m.0 m.1)
+entries_compose ts = each_from_got (Composes (seen (rows_of ts))) ts (λ i t e. let m = entry_made [] ts i t e in made_composes (rows_of ts) t m.0 m.1)
 
 -- the parts of an entry that was opened
 pub opened_terms : (es : List Entry) (i f : ℕ) (o : IsOpened es i f) → AllByRecursion (Composes (seen (rows es))) (drop (keys o.op) (list_of o.operands))
@@ -44,7 +37,7 @@ opened_terms es i f o =
     let P = Composes (seen (rows es)) in
     let is : terms_of es ≡ terms_of o.front ++ (ts ++ terms_of o.back) =
     ap terms_of o.lies ∙ terms_append o.front (ps ++ o.back) ∙ ap (λ l. terms_of o.front ++ l) (terms_append ps o.back ∙ ap (λ l. l ++ terms_of o.back) (parts_terms o.op o.keys_made i 0 ts)) in
-    all_front P ts (terms_of o.back) (all_back P (terms_of o.front) (ts ++ terms_of o.back) (subst (AllByRecursion P) is (entries_compose (terms_of es))))
+    each_in_front P ts (terms_of o.back) (all_back P (terms_of o.front) (ts ++ terms_of o.back) (subst (AllByRecursion P) is (entries_compose (terms_of es))))
 
 -- the row of an entry that was opened
 pub opened_row : (es : List Entry) (i f : ℕ) (o : IsOpened es i f) → slice_get (rows es) i ≡ Some (Some (node o.op o.operands))
@@ -80,7 +73,7 @@ module _ (es : List Entry) (fs : List ℕ) (rest : IsRest es fs) where
   unfolding Parts
   by_parts false i o us ms is row can made = let none = drop_all (keys o) (list_of us) (ltb-false _ _ is) in subst (AllByRecursion (Composes (seen (rows es)))) (sym none) tt
   by_parts true i o us ms is row can made =
-      let h : i < length fs = omega (arith, slice_get-within (rows es) i _ row, rows_length es, rest.grown.long) in
+      let h : i < length fs = omega (arith, got_within (rows es) i _ row, rows_length es, rest.grown.long) in
       by_first i (get_or fs i 0) o us ms row can (ltb-true _ _ is) made (slice_get-get_or fs i 0 h)
 
   first_opened : (i f : ℕ) (o : Op) (us ms : Trees) → slice_get (rows es) i ≡ Some (Some (node o us)) → IsTrue (undoable o) → keys o < length (list_of us) → keys_for es o us ≡ Some ms → slice_get fs i ≡ Some f → (g : ℕ) × IsOpened es i g
@@ -89,7 +82,7 @@ module _ (es : List Entry) (fs : List ℕ) (rest : IsRest es fs) where
 
   opened_at : (i : ℕ) (o : Op) (us ms : Trees) → slice_get (rows es) i ≡ Some (Some (node o us)) → IsTrue (undoable o) → keys o < length (list_of us) → keys_for es o us ≡ Some ms → (f : ℕ) × IsOpened es i f
   opened_at i o us ms row can some made =
-      let h : i < length fs = omega (arith, slice_get-within (rows es) i _ row, rows_length es, rest.grown.long) in
+      let h : i < length fs = omega (arith, got_within (rows es) i _ row, rows_length es, rest.grown.long) in
       first_opened i (get_or fs i 0) o us ms row can some made (slice_get-get_or fs i 0 h)
 
   pub closed : IsClosed (seen (rows es))

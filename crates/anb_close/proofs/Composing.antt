@@ -1,8 +1,10 @@
 -- Whatever has a value composes.
-use Rattle.std.proofs.Common.{◌≡◌, ℕ, List, [], ◌∷◌, length, Bool, true, false, ◌&&◌, cond, IsTrue, Option, Some, None, take, drop, refl, sym, ap, ◌∙◌, subst, inl, inr, ◌⊎◌}
+use Rattle.std.proofs.Common.{◌≡◌, ℕ, List, [], ◌∷◌, length, Bool, true, false, ◌&&◌, cond, IsTrue, Option, Some, None, take, drop, sym, ap, ◌∙◌, subst, inl, inr, ◌⊎◌}
 use Rattle.std.specs.Prelude.{slice_get, option_and_then, ◌==◌}
 use Rattle.std.specs.List.{AllByRecursion}
-use Rattle.std.proofs.lemmas.Bool.{eqb-true}
+use Rattle.std.proofs.lemmas.Bool.{eqb-true, and_parts}
+use Rattle.std.proofs.lemmas.Option.{cond_some}
+use Rattle.anb_lemmas.proofs.Each.{each_got}
 use Rattle.anb_term.specs.declared.term.Op.{Op}
 use Rattle.anb_term.specs.Tree.{Tree, leaf, node, Trees, none, more, trees_of, list_of, trees_eqb}
 use Rattle.anb_term.specs.Operator.{op_eqb, arity, keys, undoable}
@@ -11,18 +13,14 @@ use Rattle.anb_term.specs.TreeSame.{list_of-trees_of, op_same, trees_same}
 use Rattle.anb_term.specs.FreeAlgebra.{terms, parts_of}
 use Rattle.anb_term.specs.Composes.{Among, Composes, ComposeAll}
 use Rattle.anb_close.specs.Closed.{IsClosed, EveryRecipeComposes}
-use Rattle.anb_term.proofs.Lists.{all_at, all_drop}
-use Rattle.anb_term.proofs.Steps.{both, bound, consed}
-
-pub chosen : {A : Type 0} (b : Bool) (x t : A) → cond b (Some x) None ≡ Some t → (b ≡ true) × (x ≡ t)
-chosen true x t e = (refl, cc)
-chosen false x t e = cc
+use Rattle.anb_term.proofs.Lists.{all_drop}
+use Rattle.anb_term.proofs.Steps.{bound, consed}
 
 pub under : {A : Type 0} (b : Bool) (o : Option A) (t : A) → cond b o None ≡ Some t → o ≡ Some t
 under true o t e = e
 under false o t e = cc
 
-no_part : (b : Bool) (j : ℕ) (t : Tree) → cond b (option_and_then (λ (ps : List Tree). slice_get ps j) None) None ≡ Some t → ⊥
+pub no_part : (b : Bool) (j : ℕ) (t : Tree) → cond b (option_and_then (λ (ps : List Tree). slice_get ps j) None) None ≡ Some t → ⊥
 no_part true j t e = cc
 no_part false j t e = cc
 
@@ -37,7 +35,7 @@ module _ (es : List Tree) where
 
   -- an operator on terms that compose
   built : (o : Op) (ts : List Tree) (t : Tree) → AllByRecursion (Composes es) ts → build_if terms o ts ≡ Some t → Composes es t
-  built o ts t h e = let c = chosen (length ts == arity o) (node o (trees_of ts)) t e in subst (Composes es) c.1 (inr (ap length (list_of-trees_of ts) ∙ eqb-true (length ts) (arity o) c.0, from_all ts h))
+  built o ts t h e = let c = cond_some (length ts == arity o) (node o (trees_of ts)) t e in subst (Composes es) c.1 (inr (ap length (list_of-trees_of ts) ∙ eqb-true (length ts) (arity o) c.0, from_all ts h))
 
   -- the parts compose where the term and its keys do
   parts_compose : IsClosed es → (o : Op) (ks : List Tree) (ts : Trees) → IsTrue (undoable o) → ks ≡ take (keys o) (list_of ts) → AllByRecursion (Composes es) ks
@@ -51,19 +49,19 @@ module _ (es : List Tree) where
   opened closed o j ks (node p ts) t hk hv e =
       let a = under (length ks == keys o) (option_and_then (λ ps. slice_get ps j) (parts_of o ks (node p ts))) t e in
       let b = bound (λ ps. slice_get ps j) (parts_of o ks (node p ts)) t a in
-      let c = chosen (undoable o && op_eqb o p && (length (list_of ts) == arity o) && trees_eqb (trees_of ks) (trees_of (take (keys o) (list_of ts)))) (drop (keys o) (list_of ts)) b.0 b.1 in
-      let d = both (undoable o && op_eqb o p && (length (list_of ts) == arity o)) _ c.0 in
-      let l = both (undoable o && op_eqb o p) _ d.0 in
-      let f = both (undoable o) (op_eqb o p) l.0 in
+      let c = cond_some (undoable o && op_eqb o p && (length (list_of ts) == arity o) && trees_eqb (trees_of ks) (trees_of (take (keys o) (list_of ts)))) (drop (keys o) (list_of ts)) b.0 b.1 in
+      let d = and_parts (undoable o && op_eqb o p && (length (list_of ts) == arity o)) _ c.0 in
+      let l = and_parts (undoable o && op_eqb o p) _ d.0 in
+      let f = and_parts (undoable o) (op_eqb o p) l.0 in
       let same : o ≡ p = op_same o p f.1 in
       let is_keys : ks ≡ take (keys o) (list_of ts) = sym (list_of-trees_of ks) ∙ ap list_of (trees_same _ _ d.1) ∙ list_of-trees_of _ in
       let v : Composes es (node o ts) = subst (λ q. Composes es (node q ts)) (sym same) hv in
-      all_at (Composes es) b.0 j t (subst (AllByRecursion (Composes es)) c.1 (parts_compose closed o ks ts f.0 is_keys hk v)) b.2
+      each_got (Composes es) b.0 j t (subst (AllByRecursion (Composes es)) c.1 (parts_compose closed o ks ts f.0 is_keys hk v)) b.2
 
 module _ (es frame : List Tree) (closed : IsClosed es) (known : AllByRecursion (Composes es) frame) where
   mutual
     pub composes : (r : RecipeTree) (t : Tree) → value terms frame r ≡ Some t → Composes es t
-    composes (label n) t e = all_at (Composes es) frame n t known e
+    composes (label n) t e = each_got (Composes es) frame n t known e
     composes (build o rs) t e =
         let b = bound (build_if terms o) (values terms frame rs) t e in
         built es o b.0 t (compose_all rs b.0 b.1) b.2

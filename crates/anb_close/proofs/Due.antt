@@ -1,18 +1,18 @@
 -- The entries that are listed to be opened.
-use Rattle.std.proofs.Common.{◌≡◌, ℕ, zero, suc, ◌+◌, ◌<◌, ◌≤◌, List, [], ◌∷◌, ◌++◌, length, Option, Some, None, Result, Ok, Err, OnErr, sym, ap, ◌∙◌, subst, arith, inl, inr, ◌⊎◌, ⊎_elim, append_assoc}
+use Rattle.std.proofs.Common.{◌≡◌, ℕ, suc, ◌+◌, ◌<◌, ◌≤◌, List, [], ◌∷◌, ◌++◌, length, Option, Some, None, sym, ap, ◌∙◌, subst, arith, inl, inr, ◌⊎◌, ⊎_elim, append_assoc}
 use Rattle.std.specs.Prelude.{slice_get}
-use Rattle.std.proofs.Math.ListN.{set}
-use Rattle.std.proofs.lemmas.List.{append-nil}
+use Rattle.anb_lemmas.proofs.Numbers.{below_or_not, below_or_last}
+use Rattle.anb_lemmas.proofs.Lists.{got_within}
 use Rattle.anb_term.specs.Operator.{keys}
 use Rattle.anb_term.specs.Tree.{Tree, node}
-use Rattle.anb_term.proofs.Lists.{slice_get-append, slice_get-within}
+use Rattle.anb_term.proofs.Lists.{slice_get-append}
 use Rattle.anb_close.specs.Rows.{rows_of}
 use Rattle.anb_close.specs.Listed.{AreTouched}
 use Rattle.anb_close.specs.declared.entry.Entry.{Entry}
 use Rattle.anb_close.specs.Entries.{rows, terms_of, keys_for, CanOpen, NoKeys, IsRest, Extends, HasTouched, HasShut, AreDue, unopened}
 use Rattle.anb_close.proofs.Rows.{optional}
 use Rattle.anb_close.proofs.Finding.{rows_length}
-use Rattle.anb_close.proofs.Indexing.{below_or, front_get, set_either}
+use Rattle.anb_close.proofs.Indexing.{front_get}
 use Rattle.anb_close.proofs.Linking.{listed_more, listed_behind}
 
 -- what was touched
@@ -21,9 +21,6 @@ are_touched rs rs' rs'' ks ls a b i o us n ms row made = ⊎_elim
     (λ (row', made'). ⊎_elim (λ before. inl before) (λ l. inr (listed_more ks ls i l)) (a i o us n ms row' made'))
     (λ l. inr (listed_behind ks ls i l))
     (b i o us n ms row made)
-
-pub touched_none : (es : List Entry) (ks : List ℕ) → HasTouched es ks es ks
-touched_none es ks = record { later = []; is = sym (append-nil ks); touched = λ i o us n ms row made. inl (row, made) }
 
 pub touched_more : (es es' es'' : List Entry) (ks ks' ks'' : List ℕ) → HasTouched es ks es' ks' → HasTouched es' ks' es'' ks'' → HasTouched es ks es'' ks''
 touched_more es es' es'' ks ks' ks'' a b = record {
@@ -42,11 +39,6 @@ touched_rows es es' ts ts' ks ks' is is' (later, more, touched) = record {
 pub touched_all : (es es' : List Entry) (ks : List ℕ) → HasTouched es [] es' ks → AreTouched (rows es) (rows es') ks
 touched_all es es' ks t = subst (AreTouched (rows es) (rows es')) (sym t.is) t.touched
 
-below_or_not : (k n : ℕ) → (k < n) ⊎ (n ≤ k)
-below_or_not k zero = inr (omega arith)
-below_or_not zero (suc n) = inl (omega arith)
-below_or_not (suc k) (suc n) = ⊎_elim (λ a. inl (omega (arith, a))) (λ b. inr (omega (arith, b))) (below_or_not k n)
-
 behind : (ks later : List ℕ) (k i : ℕ) → slice_get later k ≡ Some i → slice_get (ks ++ later) (length ks + k) ≡ Some i
 behind [] later k i e = let q : k ≡ 0 + k = omega arith in subst (λ m. slice_get later m ≡ Some i) q e
 behind (x ∷ ks) later k i e = let q : suc (length ks + k) ≡ length (x ∷ ks) + k = omega arith in subst (λ m. slice_get (x ∷ (ks ++ later)) m ≡ Some i) q (behind ks later k i e)
@@ -55,7 +47,7 @@ behind (x ∷ ks) later k i e = let q : suc (length ks + k) ≡ length (x ∷ ks
 pub due_first : (es es' : List Entry) (fs fs' : List ℕ) (more : List Entry) (ks : List ℕ) → IsRest es fs → Extends es fs es' fs' more → HasTouched es [] es' ks → AreDue es' fs' ks 0
 due_first es es' fs fs' more ks rest extends touched i o us ms can made = ⊎_elim
     (λ (row, before).
-    let h = slice_get-within (rows es) i (Some (node o us)) row in
+    let h = got_within (rows es) i (Some (node o us)) row in
     let shut : slice_get fs i ≡ Some 0 = front_get fs (unopened more) i 0 (omega (arith, h, rows_length es, rest.grown.long)) (subst (λ l. slice_get l i ≡ Some 0) extends.firsts can.closed) in
     let none = rest.shut i o us (record { own = row; can = can.can; some_part = can.some_part; closed = shut }) in
     let no : None ≡ Some ms = sym none ∙ before in
@@ -68,7 +60,7 @@ module _ (es es' : List Entry) (fs fs' ks ks' : List ℕ) (from after of : ℕ) 
   pub due_next : AreDue es' fs' ks' after
   due_next i o us ms can made = ⊎_elim
       (λ (row, before).
-      let h = slice_get-within (rows es) i (Some (node o us)) row in
+      let h = got_within (rows es) i (Some (node o us)) row in
       let s = shut i (omega (arith, h, rows_length es, long)) can.closed in
       let could : CanOpen es fs i o us = record { own = row; can = can.can; some_part = can.some_part; closed = s.1 } in
       let d = due i o us ms could before in
@@ -97,22 +89,11 @@ none_next es fs ks from n x so_far here shut k i h l at = ⊎_elim
     let q : slice_get ks n ≡ Some i = subst (λ m. slice_get ks m ≡ Some i) b at in
     let s : x ≡ i = cc in
     subst (NoKeys es fs) s shut)
-    (below_or k n l)
+    (below_or_last k n l)
 
 -- and one that can be opened is found
 pub found_next : (es : List Entry) (fs ks : List ℕ) (from n x : ℕ) → ((k i : ℕ) → from ≤ k → k < n → slice_get ks k ≡ Some i → NoKeys es fs i) → slice_get ks n ≡ Some x → (k i : ℕ) → from ≤ k → k < n + 1 → slice_get ks k ≡ Some i → (i ≡ x) ⊎ NoKeys es fs i
 found_next es fs ks from n x so_far here k i h l at = ⊎_elim
     (λ a. inr (so_far k i h a at))
     (λ b. let q : slice_get ks n ≡ Some i = subst (λ m. slice_get ks m ≡ Some i) b at in inl (let s : i ≡ x = cc in s))
-    (below_or k n l)
-
--- an entry is opened
-pub has_shut : (es : List Entry) (fs fs' : List ℕ) (more : List Entry) (i n : ℕ) → i < length es → n ≡ length es → fs' ≡ fs ++ unopened more → HasShut fs i (set fs' i n)
-has_shut es fs fs' more i n h long is k l at = ⊎_elim
-    (λ (same, zero_is). absurd (omega (arith, h, long, zero_is)))
-    (λ (other, before). ((λ e. other (sym e)), front_get fs (unopened more) k 0 l (subst (λ x. slice_get x k ≡ Some 0) is before)))
-    (set_either fs' i k n 0 at)
-
-pub where_err : {T E P : Type 0} (r : Result T E) → P → OnErr r P
-where_err (Ok x) p = tt
-where_err (Err e) p = p
+    (below_or_last k n l)

@@ -1,5 +1,5 @@
 -- Looking a term up, and composing it.
-use Rattle.std.proofs.Common.{◌≡◌, ℕ, zero, suc, ◌+◌, ◌<◌, ◌≤◌, List, [], ◌∷◌, ◌++◌, length, map, take, drop, get_or, Bool, true, false, Option, Some, None, refl, sym, ap, ◌∙◌, arith, option_map}
+use Rattle.std.proofs.Common.{◌≡◌, ℕ, suc, ◌+◌, ◌<◌, ◌≤◌, List, [], ◌∷◌, ◌++◌, length, map, take, drop, get_or, Bool, true, false, Option, Some, None, refl, sym, ap, ◌∙◌, arith, option_map}
 use Rattle.std.specs.Prelude.{slice_get, ◌==◌}
 use Rattle.std.proofs.lemmas.List.{drop_more, drop_all, length-map}
 use Rattle.std.proofs.lemmas.Option.{slice_get-get_or}
@@ -7,16 +7,16 @@ use Rattle.std.proofs.lemmas.Bool.{eq-eqb, eqb-true}
 use Rattle.anb_term.specs.declared.term.Op.{Op}
 use Rattle.anb_term.specs.declared.term.Term.{Term}
 use Rattle.anb_term.specs.declared.term.Term.TheVariants.{Node}
-use Rattle.anb_term.specs.Tree.{Tree, node, Trees, none, more, trees_of, list_of, tree_eqb, tree_size, trees_size}
-use Rattle.anb_term.specs.TreeSame.{tree_itself, tree_same, list_of-trees_of, term_of-tree_of}
-use Rattle.anb_term.specs.View.{term_of, tree_of}
+use Rattle.anb_term.specs.Tree.{Tree, node, Trees, none, more, trees_of, list_of, tree_eqb}
+use Rattle.anb_term.specs.TreeSame.{tree_itself, list_of-trees_of}
+use Rattle.anb_term.specs.View.{tree_of}
 use Rattle.anb_term.specs.Operator.{arity}
 use Rattle.anb_close.specs.Rows.{is_at, place, both_more, or_built, made_for, mades_for, rows_from, rows_of, row_unless}
 use Rattle.anb_close.proofs.Rows.{length_rows, row_term, rows_more}
 use Rattle.anb_close.specs.declared.entry.Entry.{Entry}
 use Rattle.anb_close.specs.Entries.{rows, terms_of, is_double}
 use Rattle.anb_close.specs.Joined.{after}
-use Rattle.anb_term.proofs.Lists.{map-append, slice_get-at, slice_get-map}
+use Rattle.anb_term.proofs.Lists.{map-append, slice_get-at, slice_get-map, one_term, split_at, tree_differs}
 
 pub rows_length : (es : List Entry) → length (rows es) ≡ length es
 rows_length es = omega (arith, length_rows [] (terms_of es), length-map es (λ e. tree_of e.term))
@@ -24,9 +24,6 @@ rows_length es = omega (arith, length_rows [] (terms_of es), length-map es (λ e
 own_row : (r : Option Tree) (es : List Entry) (i : ℕ) (x : Entry) → slice_get (rows es) i ≡ Some r → slice_get (terms_of es) i ≡ Some (tree_of x.term) → is_double r ≡ false → r ≡ Some (tree_of x.term)
 own_row None es i x at t d = cc
 own_row (Some u) es i x at t d = let s = row_term (terms_of es) i u at in cc
-
-one_term : (x y : Term) → tree_of x ≡ tree_of y → x ≡ y
-one_term x y e = sym (term_of-tree_of x) ∙ ap term_of e ∙ term_of-tree_of y
 
 -- the row at a place
 pub row_here : (es : List Entry) (ds : List Bool) (i : ℕ) (b : Bool) → ds ≡ map is_double (rows es) → i < length es
@@ -63,10 +60,6 @@ pub not_double : (r : Option Tree) (t : Tree) → is_double r ≡ true → is_at
 not_double None t e = refl
 not_double (Some u) t e = cc
 
-pub differs : (b : Bool) (x y : Tree) → tree_eqb x y ≡ b → (x ≡ y → ⊥) → tree_eqb x y ≡ false
-differs true x y e h = absurd (h (tree_same x y e))
-differs false x y e h = e
-
 -- a composition that was built
 pub built_none : (rs : List (Option Tree)) (o : Op) (ts : List Tree) → None ≡ place rs (node o (trees_of ts)) → (length ts ≡ arity o → ⊥) → None ≡ made_for rs (node o (trees_of ts))
 built_none rs o ts p n =
@@ -82,14 +75,6 @@ built_none rs o ts p n =
 pub built_from : (rs : List (Option Tree)) (o : Op) (ts : List Tree) (p : Option ℕ) (ms : Option Trees) → p ≡ place rs (node o (trees_of ts)) → p ≡ None → length ts ≡ arity o → ms ≡ mades_for rs (trees_of ts)
     → option_map (node o) ms ≡ made_for rs (node o (trees_of ts))
 built_from rs o ts p ms e n l is = let long = eq-eqb (length (list_of (trees_of ts))) (arity o) (ap length (list_of-trees_of ts) ∙ l) in rw (← e, n, long, ← is)
-
-pub one_of : (xs : List Term) (i : ℕ) (x : Term) → i < length xs → x ≡ get_or xs i x → tree_size (tree_of x) ≤ trees_size (trees_of (map tree_of xs))
-one_of [] i x h e = absurd (omega arith)
-one_of (y ∷ ys) zero x h e = let s = ap (λ z. tree_size (tree_of z)) e in omega arith
-one_of (y ∷ ys) (suc i) x h e = omega (arith, one_of ys i x (omega arith) e)
-
-pub split_at : (xs : List Term) (i : ℕ) (x : Term) → i < length xs → x ≡ get_or xs i x → map tree_of (drop i xs) ≡ tree_of x ∷ map tree_of (drop (i + 1) xs)
-split_at xs i x h e = ap (map tree_of) (drop_more xs i x h) ∙ ap (λ y. tree_of y ∷ map tree_of (drop (i + 1) xs)) (sym e)
 
 -- compositions one by one
 after-last : (ms : List Tree) (m : Tree) (us : Trees) → after ms (more m us) ≡ after (ms ++ m ∷ []) us
@@ -111,12 +96,6 @@ mades_on rs xs i x ms m all h is e before =
     ∙ ap (λ o. option_map (after ms) (both_more o (mades_for rs (trees_of (map tree_of (drop (i + 1) xs)))))) (sym e)
     ∙ after_more ms m (mades_for rs (trees_of (map tree_of (drop (i + 1) xs))))
 
-pub mades_none : (rs : List (Option Tree)) (xs : List Term) (i : ℕ) (x : Term) (ms : List Tree) (all : Option Trees) → i < length xs → x ≡ get_or xs i x → None ≡ made_for rs (tree_of x)
-    → all ≡ option_map (after ms) (mades_for rs (trees_of (map tree_of (drop i xs)))) → None ≡ all
-mades_none rs xs i x ms all h is e before =
-    sym (before ∙ ap (λ l. option_map (after ms) (mades_for rs (trees_of l))) (split_at xs i x h is)
-    ∙ ap (λ o. option_map (after ms) (both_more o (mades_for rs (trees_of (map tree_of (drop (i + 1) xs)))))) (sym e))
-
 pub mades_all : (rs : List (Option Tree)) (xs : List Term) (i : ℕ) (ms : List Tree) (all : Option Trees) → length xs ≤ i
     → all ≡ option_map (after ms) (mades_for rs (trees_of (map tree_of (drop i xs)))) → Some (trees_of ms) ≡ all
 mades_all rs xs i ms all h before =
@@ -135,7 +114,7 @@ module _ (es : List Entry) (ds : List Bool) (i : ℕ) (b : Bool) (t : Term) (p :
   pub pass_other : (x : Entry) → b ≡ false → x ≡ get_or es i x → (x.term ≡ t → ⊥) → p ≡ option_map (λ n. i + 1 + n) (place (drop (i + 1) (rows es)) (tree_of t))
   pass_other x e own other =
       let r = row_here es ds i b is h in
-      let differ = differs (tree_eqb (tree_of x.term) (tree_of t)) (tree_of x.term) (tree_of t) refl (λ s. other (one_term x.term t s)) in
+      let differ = tree_differs (tree_eqb (tree_of x.term) (tree_of t)) (tree_of x.term) (tree_of t) refl (λ s. other (one_term x.term t s)) in
       find_on (rows es) r.0 (tree_of t) i p r.2 (rw (r.4 x own (sym r.3 ∙ sym at ∙ e)) differ) so_far
 
 pub place_none : (t : Term) (o : Op) (ts : List Tree) (rs : List (Option Tree)) → t ≡ Node o ts → None ≡ place rs (tree_of t) → None ≡ place rs (node o (trees_of ts))

@@ -7,9 +7,11 @@ use Rattle.std.proofs.Math.Dec.{ltb}
 use Rattle.std.proofs.Math.Seq.{take-append_seam}
 use Rattle.std.proofs.lemmas.Bool.{le-ltb, lt-ltb}
 use Rattle.std.proofs.lemmas.List.{length-map, append-nil, take_all, drop_more}
+use Rattle.anb_lemmas.proofs.Each.{each_in_both}
+use Rattle.anb_lemmas.proofs.Lists.{got_within}
 use Rattle.anb_term.specs.declared.term.Op.{Op}
 use Rattle.anb_term.specs.declared.term.Term.{Term}
-use Rattle.anb_term.specs.Tree.{Tree, leaf, node, Trees, none, more, trees_of, list_of, tree_size, trees_size, IsFormed, AreFormed, nodes}
+use Rattle.anb_term.specs.Tree.{Tree, node, Trees, none, more, trees_of, list_of, tree_size, trees_size, IsFormed, AreFormed, nodes}
 use Rattle.anb_term.specs.View.{term_of, tree_of}
 use Rattle.anb_term.specs.TreeSame.{tree_of-term_of, list_of-trees_of}
 use Rattle.anb_term.specs.Operator.{keys, undoable, arity}
@@ -19,7 +21,7 @@ use Rattle.anb_close.specs.declared.entry.Entry.{Entry}
 use Rattle.anb_close.specs.declared.entry.Origin.TheVariants.{Label, Part}
 use Rattle.anb_close.specs.Entries.{rows, terms_of, labels_of, is_label, is_double, OriginFits, Follow, part_entries, IsOpened, IsPartOf, IsPart, weight, load, IsGrown, CanOpen, keys_for, Opens, unopened, Extends, cut_first, cut, GoesBack, Keeps, HasOpened, HasAdded}
 use Rattle.anb_term.specs.declared.term.Term.TheVariants.{Node}
-use Rattle.anb_term.proofs.Lists.{map-append, all_append, slice_get-at, map-take, set-at, set-other, set-same, slice_get-append, slice_get-last, slice_get-within, take-front}
+use Rattle.anb_term.proofs.Lists.{map-append, slice_get-at, map-take, set-at, set-other, set-same, slice_get-append, slice_get-last, take-front, size_some, formed_items}
 use Rattle.anb_close.proofs.Finding.{rows_append, rows_length}
 use Rattle.anb_close.proofs.Openable.{own_node}
 
@@ -83,10 +85,6 @@ pub formed_at : (has : Op → Bool) (xs : List Tree) (i : ℕ) (t : Tree) → Ar
 formed_at has [] i t a e = cc
 formed_at has (x ∷ xs) zero t a e = let s : x ≡ t = cc in subst (IsFormed has) s a.0
 formed_at has (x ∷ xs) (suc i) t a e = formed_at has xs i t a.1 e
-
-pub formed_list : (has : Op → Bool) (us : Trees) → AreFormed has us → AreFormed has (trees_of (list_of us))
-formed_list has none a = tt
-formed_list has (more u us) a = (a.0, formed_list has us a.1)
 
 pub formed_drop : (has : Op → Bool) (n : ℕ) (xs : List Tree) → AreFormed has (trees_of xs) → AreFormed has (trees_of (drop n xs))
 formed_drop has zero xs a = a
@@ -185,10 +183,6 @@ nodes_drop zero xs = omega arith
 nodes_drop (suc n) [] = omega arith
 nodes_drop (suc n) (x ∷ xs) = omega (arith, nodes_drop n xs)
 
-size_some : (t : Tree) → 1 ≤ tree_size t
-size_some (leaf n) = omega arith
-size_some (node o ts) = omega arith
-
 weight_some : (f : ℕ) (t : Tree) → 1 ≤ weight f t
 weight_some zero t = size_some t
 weight_some (suc f) t = omega arith
@@ -237,7 +231,7 @@ grown_open es fs es' fs' i ks g o x =
     let formed = formed_at (λ p. true) (terms_of es) i (node o.op o.operands) g.formed own in
     let terms : terms_of (es ++ parts) ≡ terms_of es ++ ps = terms_append es parts ∙ ap (λ l. terms_of es ++ l) (parts_terms o.op ks i 0 ps) in
     let h : length fs ≡ length (terms_of es) = g.long ∙ sym (length-map es (λ (y : Entry). tree_of y.term)) in
-    let pos : 0 < length es = omega (arith, slice_get-within fs i 0 o.able.closed, g.long) in
+    let pos : 0 < length es = omega (arith, got_within fs i 0 o.able.closed, g.long) in
     let new : IsOpened (es ++ parts) i (length es) = record {
       op = o.op;
       operands = o.operands;
@@ -254,7 +248,7 @@ grown_open es fs es' fs' i ks g o x =
     subst (λ l. IsGrown l (set fs' i (length es))) (sym x.entries) (subst (λ l. IsGrown (es ++ parts) (set l i (length es))) (sym x.firsts) (record {
       long = omega (arith, length-set (fs ++ unopened parts) i (length es), length-append fs (unopened parts), length-append es parts, length-map {A = Entry} {B = ℕ} parts (λ y. 0), g.long);
       follow = follow_append [] es parts g.follow (parts_follow o.op ks i o.operands o.able.can es 0 ps own o.made (λ k t e. let z : 0 + k ≡ k = omega arith in rw z e));
-      formed = subst (λ l. AreFormed (λ p. true) (trees_of l)) (sym terms) (formed_append (λ p. true) (terms_of es) ps g.formed (formed_drop (λ p. true) (keys o.op) (list_of o.operands) (formed_list (λ p. true) o.operands formed.2)));
+      formed = subst (λ l. AreFormed (λ p. true) (trees_of l)) (sym terms) (formed_append (λ p. true) (terms_of es) ps g.formed (formed_drop (λ p. true) (keys o.op) (list_of o.operands) (formed_items (λ p. true) o.operands formed.2)));
       opened = λ k f at pos. ⊎_elim
           (λ (a, b). subst (IsOpened (es ++ parts) k) (sym b) (subst (λ n. IsOpened (es ++ parts) n (length es)) (sym a) new))
           (λ a. ⊎_elim (λ b. opened_later es parts k f (g.opened k f b pos)) (λ z. absurd (omega arith)) (unopened_at fs parts k f a))
@@ -277,7 +271,7 @@ grown_open es fs es' fs' i ks g o x =
             op_is = w1;
             keys_are = w3;
             counts = omega arith;
-            within = omega (arith, slice_get-within parts b x a, length-map parts (λ (y : Entry). tree_of y.term), ap length (parts_terms o.op ks i 0 ps));
+            within = omega (arith, got_within parts b x a, length-map parts (λ (y : Entry). tree_of y.term), ap length (parts_terms o.op ks i 0 ps));
           } in
           subst (IsPartOf (es ++ parts) (set (fs ++ unopened parts) i (length es)) k p j qs) w4 mine)
           (in_block es parts x k at);
@@ -345,14 +339,6 @@ cut_set b (suc n) [] i f e h = cc
 cut_set b (suc n) (g ∷ fs) zero f e h = let z : g ≡ 0 = cc in ap (λ x. x ∷ map (cut_first b) (take n fs)) (cut_past b f h ∙ sym (cut_zero b) ∙ ap (cut_first b) (sym z))
 cut_set b (suc n) (g ∷ fs) (suc i) f e h = ap (λ l. cut_first b g ∷ l) (cut_set b n fs i f e h)
 
-pub back_set : (es : List Entry) (fs : List ℕ) (i f : ℕ) → slice_get fs i ≡ Some 0 → length es ≤ f → (es0 : List Entry) (fs0 : List ℕ) → length es0 ≤ f → GoesBack es0 fs0 es fs → GoesBack es0 fs0 es (set fs i f)
-back_set es fs i f e h es0 fs0 le b = record {
-  entries = b.entries;
-  firsts = cut_set (length es0) (length es0) fs i f e le ∙ b.firsts;
-  within = b.within;
-  long = omega (arith, length-set fs i f, b.long);
-}
-
 pub keeps_opened : (es : List Entry) (fs : List ℕ) (es' : List Entry) (fs' : List ℕ) (later : List Entry) (i : ℕ) → Extends es fs es' fs' later → slice_get fs i ≡ Some 0 → Keeps es fs es' (set fs' i (length es))
 keeps_opened es fs es' fs' later i x e es0 fs0 b =
     let c = back_extends es fs es' fs' later x es0 fs0 b in
@@ -412,7 +398,7 @@ room_by es fs i ks x p ts s g o h own is same =
     (omega (arith, room_for es fs i o.op o.operands g o.able), sym l ∙ f.1 ∙ sym (ap arity n.0))
 
 pub opens_within : (es : List Entry) (fs : List ℕ) (i : ℕ) (ks : List Tree) → IsGrown es fs → Opens es fs i ks → i < length es
-opens_within es fs i ks g o = omega (arith, slice_get-within fs i 0 o.able.closed, g.long)
+opens_within es fs i ks g o = omega (arith, got_within fs i 0 o.able.closed, g.long)
 
 pub extended_firsts : (es : List Entry) (fs : List ℕ) (es' : List Entry) (fs' : List ℕ) (later : List Entry) → Extends es fs es' fs' later → length fs ≤ length fs'
 extended_firsts es fs es' fs' later x = omega (arith, ap length x.firsts, length-append fs (unopened later))
@@ -433,7 +419,7 @@ nodes_grown es es' n t parts is are =
 pub more_parts : (es es' es'' : List Entry) (n : ℕ) (t : Term) (parts : List Entry) → es' ≡ es ++ record { origin = Label n; term = t } ∷ parts → AllByRecursion IsPart parts → (o : HasOpened es' es'')
     → AllByRecursion IsPart (parts ++ o.parts) × (es'' ≡ es ++ record { origin = Label n; term = t } ∷ (parts ++ o.parts))
 more_parts es es' es'' n t parts is are o =
-    (all_append IsPart parts o.parts are o.are, o.is ∙ ap (λ l. l ++ o.parts) is ∙ append_assoc es (record { origin = Label n; term = t } ∷ parts) o.parts)
+    (each_in_both IsPart parts o.parts are o.are, o.is ∙ ap (λ l. l ++ o.parts) is ∙ append_assoc es (record { origin = Label n; term = t } ∷ parts) o.parts)
 
 pub fewer_left : (es es' : List Entry) (fs' : List ℕ) → IsGrown es' fs' → (o : HasOpened es es') → nodes (labels_of es') - length es' < nodes (labels_of es) - length es
 fewer_left es es' fs' g o =

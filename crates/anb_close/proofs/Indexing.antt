@@ -7,16 +7,19 @@ use Rattle.std.proofs.lemmas.Bool.{le-ltb, lt-ltb}
 use Rattle.std.proofs.Math.Seq.{take-append_seam}
 use Rattle.std.proofs.lemmas.List.{length-map, append-nil, drop_more, length-replicate}
 use Rattle.std.proofs.lemmas.Option.{slice_get-get_or}
+use Rattle.anb_lemmas.proofs.Numbers.{below_or_last}
+use Rattle.anb_lemmas.proofs.Options.{mapped_from}
+use Rattle.anb_lemmas.proofs.Lists.{got_within, map_same, lists_same}
 use Rattle.anb_term.specs.declared.term.Op.{Op}
 use Rattle.anb_term.specs.Tree.{Tree, leaf, node, Trees, none, more, trees_of, list_of}
 use Rattle.anb_term.specs.TreeSame.{list_of-trees_of}
 use Rattle.anb_term.specs.Operator.{arity}
-use Rattle.anb_term.proofs.Lists.{slice_get-append, slice_get-at, slice_get-map, slice_get-there, slice_get-within, set-other, set-same}
+use Rattle.anb_term.proofs.Lists.{slice_get-append, slice_get-at, slice_get-map, slice_get-there, set-other, set-same, tree_differs}
 use Rattle.anb_intern.specs.declared.node.NodeId.{NodeId}
 use Rattle.anb_intern.specs.declared.node.Node.{Node}
 use Rattle.anb_intern.specs.declared.node.Node.TheVariants.{Atom, Apply}
 use Rattle.anb_intern.specs.Nodes.{operands_at, tree_at, AreUnder, IsOver, AreDistinct}
-use Rattle.anb_intern.proofs.Nodes.{operands_stay}
+use Rattle.anb_intern.proofs.Nodes.{operands_stay, under_take, under_more, operands_long, operands_take}
 use Rattle.anb_intern.proofs.Putting.{operands_last, under_last}
 use Rattle.anb_close.specs.Rows.{is_at, place, both_more, or_built, made_for, mades_for, row_unless, rows_of}
 use Rattle.anb_close.specs.Entries.{is_double}
@@ -24,8 +27,7 @@ use Rattle.anb_close.specs.Standings.{standing, standing_of, standings_of, place
 use Rattle.anb_close.specs.Spreading.{HavePlaces}
 use Rattle.anb_close.specs.declared.index.Standing.{Standing}
 use Rattle.anb_close.specs.declared.index.Standing.TheVariants.{Nowhere, Built, At}
-use Rattle.anb_close.proofs.Rows.{mapped, optional, place_at, row_term, made_leaf, place_more, place_last, unplaced, length_rows, rows_more}
-use Rattle.anb_close.proofs.Finding.{differs}
+use Rattle.anb_close.proofs.Rows.{optional, place_at, row_term, made_leaf, place_more, place_last, unplaced, length_rows, rows_more, none_step}
 use Rattle.anb_close.proofs.Growing.{prefix}
 
 -- what a standing says
@@ -62,7 +64,7 @@ standings_long rs ts ss is = ap length is ∙ length-map ts (standing_of rs)
 pub find_stands : (ts : List Tree) (ids : List NodeId) (ss : List Standing) (n : ℕ) (t : Tree) (s : Standing) → IsIndexed ts ids ss → slice_get ts n ≡ Some t → s ≡ get_or ss n s → place_in s ≡ place (rows_of (operands_at ts ids)) t
 find_stands ts ids ss n t s ix at own =
     let rs = rows_of (operands_at ts ids) in
-    let h : n < length ss = omega (arith, slice_get-within ts n t at, standings_long rs ts ss ix.right) in
+    let h : n < length ss = omega (arith, got_within ts n t at, standings_long rs ts ss ix.right) in
     ap place_in (stands_at rs ts ss n t s ix.right at h own) ∙ place_standing (place rs t) (is_some (made_for rs t))
 
 -- an entry's term has a number
@@ -100,21 +102,6 @@ all_made rs ts ss n h right (j ∷ ids) u =
 pub right_all : (rs : List (Option Tree)) (ts : List Tree) (ss : List Standing) → ss ≡ standings_of rs ts → (k : ℕ) (t : Tree) → slice_get ts k ≡ Some t → slice_get ss k ≡ Some (standing_of rs t)
 right_all rs ts ss is k t at = ap (λ l. slice_get l k) is ∙ slice_get-map (standing_of rs) ts k t at
 
--- the first operands of an entry's term
-pub operands_take : (ts : List Tree) (n : ℕ) (ids : List NodeId) → operands_at ts (take n ids) ≡ take n (operands_at ts ids)
-operands_take ts zero ids = refl
-operands_take ts (suc n) [] = refl
-operands_take ts (suc n) (i ∷ ids) = ap (λ l. unwrap_or (slice_get ts i.0) (leaf 0) ∷ l) (operands_take ts n ids)
-
-pub under_take : (m n : ℕ) (ids : List NodeId) → AreUnder m ids → AreUnder m (take n ids)
-under_take m zero ids u = tt
-under_take m (suc n) [] u = tt
-under_take m (suc n) (i ∷ ids) u = (u.0, under_take m n ids u.1)
-
-pub under_more : (m n : ℕ) (ids : List NodeId) → m ≤ n → AreUnder m ids → AreUnder n ids
-under_more m n [] h u = tt
-under_more m n (i ∷ ids) h u = (omega (arith, h, u.0), under_more m n ids h u.1)
-
 pub number_under : (m : ℕ) (ids : List NodeId) (i : ℕ) (id : NodeId) → AreUnder m ids → i < length ids → id ≡ get_or ids i id → id.0 < m
 number_under m [] i id u h e = absurd (omega arith)
 number_under m (j ∷ ids) zero id u h e = let s : id.0 ≡ j.0 = ap (λ (x : NodeId). x.0) e in omega (arith, s, u.0)
@@ -124,10 +111,6 @@ pub number_is : (ts : List Tree) (ids : List NodeId) (i : ℕ) (id : NodeId) (t 
 number_is ts [] i id t h e at = absurd (omega arith)
 number_is ts (j ∷ ids) zero id t h e at = let s : id ≡ j = e in ap Some (ap (λ (x : NodeId). unwrap_or (slice_get ts x.0) (leaf 0)) (sym s) ∙ ap (λ o. unwrap_or o (leaf 0)) at)
 number_is ts (j ∷ ids) (suc i) id t h e at = number_is ts ids i id t (omega arith) e at
-
-pub operands_long : (ts : List Tree) (ids : List NodeId) → length (operands_at ts ids) ≡ length ids
-operands_long ts [] = refl
-operands_long ts (i ∷ ids) = ap suc (operands_long ts ids)
 
 pub front_composes : (rs : List (Option Tree)) (ts : List Tree) (ss : List Standing) (ids : List NodeId) (n : ℕ) (us : Trees) → ss ≡ standings_of rs ts → AreUnder (length ts) ids → us ≡ trees_of (operands_at ts ids)
     → all_stand ss (take n ids) ≡ is_some (mades_for rs (trees_of (take n (list_of us))))
@@ -142,27 +125,6 @@ set_either (y ∷ xs) zero zero v x e = inl (refl, let s : x ≡ v = cc in s)
 set_either (y ∷ xs) zero (suc k) v x e = inr ((λ z. absurd (omega arith)), e)
 set_either (y ∷ xs) (suc i) zero v x e = inr ((λ z. absurd (omega arith)), e)
 set_either (y ∷ xs) (suc i) (suc k) v x e = ⊎_elim (λ (a, b). inl (ap suc a, b)) (λ (a, b). inr ((λ z. a (omega arith)), b)) (set_either xs i k v x e)
-
-pub below_or : (k n : ℕ) → k < n + 1 → (k < n) ⊎ (k ≡ n)
-below_or zero zero h = inr refl
-below_or zero (suc n) h = inl (omega arith)
-below_or (suc k) zero h = absurd (omega arith)
-below_or (suc k) (suc n) h = ⊎_elim (λ a. inl (omega (arith, a))) (λ b. inr (ap suc b)) (below_or k n (omega arith))
-
--- lists with the same items are the same
-each_same : {A : Type 0} (xs ys : List A) → length xs ≡ length ys → ((k : ℕ) (x : A) → slice_get xs k ≡ Some x → slice_get ys k ≡ Some x) → xs ≡ ys
-each_same [] [] n h = refl
-each_same [] (y ∷ ys) n h = absurd (omega arith)
-each_same (x ∷ xs) [] n h = absurd (omega arith)
-each_same (x ∷ xs) (y ∷ ys) n h =
-    let s : y ≡ x = (let a = h 0 x refl in cc) in
-    let m : length xs ≡ length ys = omega arith in
-    cc (s, each_same xs ys m (λ k. h (suc k)))
-
-none_step : (b : Bool) (p : Option ℕ) → cond b (Some 0) (option_map suc p) ≡ None → (b ≡ false) × (p ≡ None)
-none_step true p e = cc
-none_step false None e = (refl, refl)
-none_step false (Some i) e = cc
 
 -- a node composes without an entry exactly where it is ready
 pub built_found : (o : Op) (b : Bool) (ms : Option Trees) → is_some (or_built None o b ms) ≡ b && is_some ms
@@ -190,10 +152,6 @@ ready_made rs ts ss n h right (Apply o ids) over free =
     ∙ sym (built_found o (length (list_of us) == arity o) (mades_for rs us))
     ∙ ap (λ p. is_some (or_built p o (length (list_of us) == arity o) (mades_for rs us))) (sym free)
 
-pub over_more : (m n : ℕ) (k : Node) → m ≤ n → IsOver m k → IsOver n k
-over_more m n (Atom i) h u = tt
-over_more m n (Apply o ids) h u = under_more m n ids.items h u
-
 -- one number more
 pub stand_step : (ss : List Standing) (ids : List NodeId) (i : ℕ) (d : NodeId) (e : Standing) → i < length ids → (get_or ids i d).0 < length ss → all_stand ss (drop i ids) ≡ is_found (get_or ss (get_or ids i d).0 e) && all_stand ss (drop (i + 1) ids)
 stand_step ss ids i d e h k =
@@ -217,7 +175,7 @@ module _ (ts : List Tree) (ids : List NodeId) (ss : List Standing) (ix : IsIndex
   pub operands_under : (p : Op) (js : Vec NodeId Global) → k ≡ Apply p js → IsOver id.0 k → AreUnder (length ss) js.items
   operands_under p js is over =
       let u : AreUnder id.0 js.items = subst (IsOver id.0) is over in
-      under_more id.0 (length ss) js.items (omega (arith, slice_get-within ts id.0 (tree_at ts k) at, standings_long (rows_of (operands_at ts ids)) ts ss ix.right)) u
+      under_more id.0 (length ss) js.items (omega (arith, got_within ts id.0 (tree_at ts k) at, standings_long (rows_of (operands_at ts ids)) ts ss ix.right)) u
 
   pub front_under : (p : Op) (js : Vec NodeId Global) (n : ℕ) → k ≡ Apply p js → IsOver id.0 k → AreUnder (length ss) (take n js.items)
   front_under p js n is over = under_take (length ss) n js.items (operands_under p js is over)
@@ -228,7 +186,7 @@ module _ (ts : List Tree) (ids : List NodeId) (ss : List Standing) (ix : IsIndex
   within_pool : (p : Op) (js : Vec NodeId Global) → k ≡ Apply p js → IsOver id.0 k → AreUnder (length ts) js.items
   within_pool p js is over =
       let u : AreUnder id.0 js.items = subst (IsOver id.0) is over in
-      under_more id.0 (length ts) js.items (omega (arith, slice_get-within ts id.0 (tree_at ts k) at)) u
+      under_more id.0 (length ts) js.items (omega (arith, got_within ts id.0 (tree_at ts k) at)) u
 
   pub front_is : (p : Op) (js : Vec NodeId Global) (n : ℕ) → k ≡ Apply p js → IsOver id.0 k → (o : Op) (us : Trees) → slice_get (operands_at ts ids) i ≡ Some (node o us)
       → all_stand ss (take n js.items) ≡ is_some (mades_for (rows_of (operands_at ts ids)) (trees_of (take n (list_of us))))
@@ -252,10 +210,6 @@ place_skip : (rs : List (Option Tree)) (r : Option Tree) (t : Tree) → is_at r 
 place_skip [] r t f = rw f
 place_skip (x ∷ rs) r t f = ap (λ p. cond (is_at x t) (Some 0) (option_map suc p)) (place_skip rs r t f)
 
-map_same : {A B : Type 0} (f g : A → B) (xs : List A) → ((x : A) → f x ≡ g x) → map f xs ≡ map g xs
-map_same f g [] h = refl
-map_same f g (x ∷ xs) h = cc (h x, map_same f g xs h)
-
 any : (us : List Tree) → AllByRecursion (λ t. Unit {0}) us
 any [] = tt
 any (u ∷ us) = (tt, any us)
@@ -274,13 +228,13 @@ unmade (Some m) t e = cc
 
 module _ (ts : List Tree) (ids : List NodeId) (ss : List Standing) (ix : IsIndexed ts ids ss) (id : NodeId) (t : Tree) (at : slice_get ts id.0 ≡ Some t) where
   pub under_next : AreUnder (length ts) (ids ++ id ∷ [])
-  under_next = under_last (length ts) (length ts) ids id (omega arith) (slice_get-within ts id.0 t at) ix.under
+  under_next = under_last (length ts) (length ts) ids id (omega arith) (got_within ts id.0 t at) ix.under
 
   -- whether it is a double
   pub stands_found : (s : Standing) → s ≡ get_or ss id.0 s → is_found s ≡ is_found (standing_of (rows_of (operands_at ts ids)) t)
   stands_found s own =
       let rs = rows_of (operands_at ts ids) in
-      ap is_found (stands_at rs ts ss id.0 t s ix.right at (omega (arith, slice_get-within ts id.0 t at, standings_long rs ts ss ix.right)) own)
+      ap is_found (stands_at rs ts ss id.0 t s ix.right at (omega (arith, got_within ts id.0 t at, standings_long rs ts ss ix.right)) own)
 
   pub double_is : (s : Standing) (b : Bool) → s ≡ get_or ss id.0 s → is_found s ≡ b → b ≡ is_double (row_unless (made_for (rows_of (operands_at ts ids)) t) t)
   double_is s b own e = sym e ∙ stands_found s own ∙ found_double (rows_of (operands_at ts ids)) t
@@ -303,7 +257,7 @@ module _ (ts : List Tree) (ids : List NodeId) (ss : List Standing) (ix : IsIndex
   -- a further entry that is none
   module _ (distinct : AreDistinct ts) (s : Standing) (own : s ≡ get_or ss id.0 s) (new : is_found s ≡ false) where
     other : (k : ℕ) (u : Tree) → (id.0 ≡ k → ⊥) → slice_get ts k ≡ Some u → is_at (Some t) u ≡ false
-    other k u h here = differs (is_at (Some t) u) t u refl (λ s. h (distinct id.0 k u (at ∙ ap Some s) here))
+    other k u h here = tree_differs (is_at (Some t) u) t u refl (λ s. h (distinct id.0 k u (at ∙ ap Some s) here))
 
     -- it stands last
     placed : (rs : List (Option Tree)) (k : ℕ) (u : Tree) (s : Standing) → k ≡ id.0 → slice_get ts k ≡ Some u → s ≡ At (length ids) → made_for rs t ≡ None → length rs ≡ length ids → place_in s ≡ place (rs ++ Some t ∷ []) u
@@ -366,7 +320,7 @@ settles_more ts later ids ss n ix distinct long =
         long = long;
         places = λ k u s here stands. ⊎_elim
             (λ old.
-            let within = slice_get-within ss k s old in
+            let within = got_within ss k s old in
             let a = right_all rs ts ss ix.right k u (front_get ts later k u (omega arith) here) in
             let b : s ≡ standing_of rs u = cc in
             ap place_in b ∙ place_standing (place rs u) (is_some (made_for rs u)))
@@ -402,7 +356,7 @@ module _ (rs : List (Option Tree)) (ts : List Tree) (ss : List Standing) (n : �
 
   next_right : (ss' : List Standing) (k : ℕ) (t : Tree) → ((k : ℕ) (t : Tree) → k < n → slice_get ts k ≡ Some t → slice_get ss' k ≡ Some (standing_of rs t)) → ((u : Tree) → slice_get ts n ≡ Some u → slice_get ss' n ≡ Some (standing_of rs u))
       → k < n + 1 → slice_get ts k ≡ Some t → slice_get ss' k ≡ Some (standing_of rs t)
-  next_right ss' k t old new l at = ⊎_elim (λ a. old k t a at) (λ b. subst (λ m. slice_get ss' m ≡ Some (standing_of rs t)) (sym b) (new t (subst (λ m. slice_get ts m ≡ Some t) b at))) (below_or k n l)
+  next_right ss' k t old new l at = ⊎_elim (λ a. old k t a at) (λ b. subst (λ m. slice_get ss' m ≡ Some (standing_of rs t)) (sym b) (new t (subst (λ m. slice_get ts m ≡ Some t) b at))) (below_or_last k n l)
 
   pub settle_entry : is_some (place_in s) ≡ true → IsSettling rs ts ss (n + 1)
   settle_entry e = record {
@@ -431,15 +385,11 @@ module _ (rs : List (Option Tree)) (ts : List Tree) (ss : List Standing) (n : �
   }
 
 pub all_settled : (rs : List (Option Tree)) (ts : List Tree) (ss : List Standing) (n : ℕ) → IsSettling rs ts ss n → length ts ≤ n → ss ≡ standings_of rs ts
-all_settled rs ts ss n so_far h = each_same ss (standings_of rs ts) (so_far.long ∙ sym (length-map ts (standing_of rs))) (λ k s at.
-    let there = slice_get-there ts k (omega (arith, so_far.long, slice_get-within ss k s at)) in
-    let a = so_far.right k there.0 (omega (arith, h, so_far.long, slice_get-within ss k s at)) there.1 in
+all_settled rs ts ss n so_far h = lists_same ss (standings_of rs ts) (so_far.long ∙ sym (length-map ts (standing_of rs))) (λ k s at.
+    let there = slice_get-there ts k (omega (arith, so_far.long, got_within ss k s at)) in
+    let a = so_far.right k there.0 (omega (arith, h, so_far.long, got_within ss k s at)) there.1 in
     let b : s ≡ standing_of rs there.0 = cc in
     slice_get-map (standing_of rs) ts k there.0 there.1 ∙ ap Some (sym b))
-
--- fewer entries
-operands_front : (ts : List Tree) (at : ℕ) (ids : List NodeId) → rows_of (operands_at ts (take at ids)) ≡ rows_of (take at (operands_at ts ids))
-operands_front ts at ids = ap rows_of (operands_take ts at ids)
 
 cleared_place : (b : ℕ) (p q : Option ℕ) (s : Standing) → place_in s ≡ q → ((i : ℕ) → p ≡ Some i → (q ≡ Some i) × (i < b)) → (p ≡ None → (i : ℕ) → q ≡ Some i → b ≤ i) → place_in (cleared b s) ≡ p
 cleared_place b None q Nowhere e h g = refl
@@ -454,7 +404,7 @@ place_back [] xs t unless i e = omega arith
 place_back (r ∷ rs) xs t unless i e =
     let h = none_step (is_at r t) (place rs t) unless in
     let s : option_map suc (place (rs ++ xs) t) ≡ Some i = sym (ap (λ b. cond b (Some 0) (option_map suc (place (rs ++ xs) t))) h.0) ∙ e in
-    let m = mapped suc (place (rs ++ xs) t) i s in
+    let m = mapped_from suc (place (rs ++ xs) t) i s in
     omega (arith, place_back rs xs t h.1 m.0 m.1, m.2)
 
 place_front : (rs xs : List (Option Tree)) (t : Tree) (i : ℕ) → place rs t ≡ Some i → place (rs ++ xs) t ≡ Some i
@@ -466,11 +416,11 @@ pub places_back : (rs xs : List (Option Tree)) (ts : List Tree) (ss : List Stand
 places_back rs xs ts ss b long places = (
   length-map ss (cleared b) ∙ places.0,
   λ k t s here stands.
-      let own = slice_get-there ss k (omega (arith, places.0, slice_get-within ts k t here)) in
+      let own = slice_get-there ss k (omega (arith, places.0, got_within ts k t here)) in
       let a = slice_get-map (cleared b) ss k own.0 own.1 in
       let is : s ≡ cleared b own.0 = cc in
       ap place_in is ∙ cleared_place b (place rs t) (place (rs ++ xs) t) own.0 (places.1 k t own.0 here own.1)
-      (λ i e. (place_front rs xs t i e, omega (arith, long, slice_get-within rs i (Some t) (place_at rs t i e))))
+      (λ i e. (place_front rs xs t i e, omega (arith, long, got_within rs i (Some t) (place_at rs t i e))))
       (λ unless i e. omega (arith, long, place_back rs xs t unless i e)),
 )
 

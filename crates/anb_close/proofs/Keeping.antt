@@ -6,13 +6,14 @@ use Rattle.std.proofs.Math.Dec.{ltb}
 use Rattle.std.proofs.Math.ListN.{set}
 use Rattle.std.proofs.Math.Seq.{take-append_seam}
 use Rattle.std.proofs.lemmas.Bool.{ltb-false}
+use Rattle.anb_lemmas.proofs.Lists.{got_within}
 use Rattle.anb_term.specs.declared.term.Term.{Term}
 use Rattle.anb_close.specs.declared.entry.Entry.{Entry}
 use Rattle.anb_close.specs.declared.entry.Origin.TheVariants.{Label}
 use Rattle.anb_close.specs.Entries.{rows, labels_of, is_label, is_double, IsPart, IsRest, IsKept, GoesBack, HasGrown, HasAdded, cut_first, cut, IsLastLabel}
 use Rattle.anb_term.specs.Tree.{nodes}
 use Rattle.anb_close.proofs.Growing.{cut_past, cut_zero, nodes_less}
-use Rattle.anb_term.proofs.Lists.{slice_get-within, take-take}
+use Rattle.anb_term.proofs.Lists.{take-take}
 
 set_suc : {A : Type 0} (g : A → A) (xs : List A) (i : ℕ) (v d : A) → i < length xs → v ≡ g (get_or (map g (take i xs) ++ drop i xs) i d) → set (map g (take i xs) ++ drop i xs) i v ≡ map g (take (suc i) xs) ++ drop (suc i) xs
 set_suc g [] i v d h e = absurd (omega arith)
@@ -59,7 +60,7 @@ kept_next es es' ds ds' fs fs' t kept few back grown is = record {
   before = λ b e at l.
       ⊎_elim
       (λ old.
-      let h = slice_get-within es b e old in
+      let h = got_within es b e old in
       let le : b ≤ length es = omega arith in
       rest_as (take b es) (take b es') (cut b fs) (cut b fs')
       (ap (take b) (sym back.entries) ∙ take-take es' b (length es) le)
@@ -88,11 +89,6 @@ kept_back es es' ds ds' fs fs' at kept last is_es is_fs is_ds = record {
       rest_as (take b es) (take b es') (cut b fs) (cut b fs') (sym (ap (take b) is_es ∙ take-take es b at h.1)) (sym (ap (cut b) is_fs ∙ cut_again b at fs h.1)) (kept.before b e h.0 l);
 }
 
-pub kept_same : (es es' : List Entry) (ds ds' : List Bool) (fs fs' : List ℕ) → IsKept es ds fs → es' ≡ es → fs' ≡ fs → ds' ≡ map is_double (rows es') → IsKept es' ds' fs'
-kept_same es es' ds ds' fs fs' kept is_es is_fs is_ds =
-    let d : ds' ≡ ds = is_ds ∙ ap (λ l. map is_double (rows l)) is_es ∙ sym kept.doubles in
-    subst (λ l. IsKept l ds' fs') (sym is_es) (subst (λ l. IsKept es l fs') (sym d) (subst (IsKept es ds) (sym is_fs) kept))
-
 drop_has : (P : Entry → Type 0) (xs ys : List Entry) (y : Entry) (at : ℕ) → at < length xs → AllByRecursion P (drop (suc at) (xs ++ y ∷ ys)) → P y
 drop_has P [] ys y at h a = absurd (omega arith)
 drop_has P (x ∷ []) ys y zero h a = a.0
@@ -107,7 +103,7 @@ last_is es es' t at added last =
     (λ old.
     let n : at + 1 ≡ suc at = omega arith in
     let a = rw (n, added.is) at last.parts in
-    absurd (let no : ⊥ = (let z = drop_has IsPart es added.parts y at (slice_get-within es at last.entry old) a in cc) in no))
+    absurd (let no : ⊥ = (let z = drop_has IsPart es added.parts y at (got_within es at last.entry old) a in cc) in no))
     (λ h. ⊎_elim (λ z. z) (λ (k, p). absurd (part_at added.parts k last.entry added.are p last.label)) h)
     (parted es added.parts y at last.entry (rw added.is at last.here))
 

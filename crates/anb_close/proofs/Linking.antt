@@ -3,6 +3,7 @@ use Rattle.std.proofs.Common.{◌≡◌, ℕ, zero, suc, ◌+◌, ◌<◌, ◌�
 use Rattle.std.specs.Prelude.{slice_get, unwrap_or}
 use Rattle.std.specs.List.{AllByRecursion}
 use Rattle.std.proofs.Math.ListN.{set}
+use Rattle.anb_lemmas.proofs.Numbers.{below_or_last}
 use Rattle.anb_term.specs.declared.term.Op.{Op}
 use Rattle.anb_term.specs.Tree.{Tree, leaf, node, Trees, trees_of, list_of}
 use Rattle.anb_term.specs.TreeSame.{list_of-trees_of}
@@ -11,10 +12,10 @@ use Rattle.anb_intern.specs.declared.node.NodeId.{NodeId}
 use Rattle.anb_intern.specs.declared.node.Node.{Node}
 use Rattle.anb_intern.specs.declared.node.Node.TheVariants.{Atom, Apply}
 use Rattle.anb_intern.specs.Nodes.{operands_at, tree_at, AreUnder, IsOver, AreDistinct, AreBefore, Below}
-use Rattle.anb_intern.proofs.Nodes.{operands_stay}
+use Rattle.anb_intern.proofs.Nodes.{operands_stay, under_more}
 use Rattle.anb_close.specs.Listed.{IsListed}
 use Rattle.anb_close.specs.Parents.{list_at, ListsStay, IsLinked, IsNode, AreLinked}
-use Rattle.anb_close.proofs.Indexing.{below_or, under_more, front_get}
+use Rattle.anb_close.proofs.Indexing.{front_get}
 
 pub listed_more : (ks later : List ℕ) (n : ℕ) → IsListed ks n → IsListed (ks ++ later) n
 listed_more ks later n (i, e) = (i, slice_get-append ks later i n e)
@@ -73,7 +74,7 @@ pub under_next : (ps ps' : List (Vec ℕ Global)) (ids : List NodeId) (n i : ℕ
 under_next ps ps' ids n i d h so_far stay new j id l at = ⊎_elim
     (λ a. stay id.0 n (so_far j id a at))
     (λ b. subst (λ (x : NodeId). IsListed (list_at ps' x.0) n) (got ids i d id h (subst (λ m. slice_get ids m ≡ Some id) b at)) new)
-    (below_or j i l)
+    (below_or_last j i l)
   where
     got : (ids : List NodeId) (i : ℕ) (d id : NodeId) → i < length ids → slice_get ids i ≡ Some id → get_or ids i d ≡ id
     got [] i d id h e = cc
@@ -103,7 +104,7 @@ link_next ts ps ps' n k distinct h at over stay linked before m o ids l (here, u
     let here' : slice_get ts n ≡ Some (node o (trees_of (operands_at ts ids))) = subst (λ x. slice_get ts x ≡ Some (node o (trees_of (operands_at ts ids)))) b here in
     let under' : AreUnder n ids = subst (λ x. AreUnder x ids) b under in
     subst (λ x. IsListed (list_at ps' id.0) x) (sym b) (of_node k at over linked here' under'))
-    (below_or m n l)
+    (below_or_last m n l)
   where
     of_node : (k : Node) → slice_get ts n ≡ Some (tree_at ts k) → IsOver n k → IsLinked ps' k n → slice_get ts n ≡ Some (node o (trees_of (operands_at ts ids))) → AreUnder n ids → IsListed (list_at ps' id.0) n
     of_node (Atom x) at over linked here under = let s : leaf x ≡ node o (trees_of (operands_at ts ids)) = cc in cc

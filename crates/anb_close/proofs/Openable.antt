@@ -8,7 +8,7 @@ use Rattle.anb_term.specs.Tree.{Tree, node, Trees, trees_of, list_of}
 use Rattle.anb_term.specs.TreeSame.{list_of-trees_of}
 use Rattle.anb_term.specs.Operator.{keys, undoable}
 use Rattle.anb_term.specs.View.{tree_of}
-use Rattle.anb_term.proofs.Lists.{map-take, slice_get-map, slice_get-at, slice_get-within}
+use Rattle.anb_term.proofs.Lists.{map-take, slice_get-map, slice_get-at}
 use Rattle.anb_close.specs.Rows.{mades_for, rows_of}
 use Rattle.anb_close.proofs.Rows.{row_term}
 use Rattle.anb_close.specs.declared.entry.Entry.{Entry}
@@ -87,7 +87,3 @@ index_says es ix i x p ts n b is h own is_node is_keys says =
 pub not_some : {A : Type 0} (o : Option A) (b : Bool) → b ≡ is_some o → b ≡ false → o ≡ None
 not_some None b e f = refl
 not_some (Some x) b e f = cc
-
--- from a place past the entries nothing is left to open
-pub none_beyond : (es : List Entry) (fs : List ℕ) (from n : ℕ) → ((k : ℕ) → from ≤ k → k < n → NoKeys es fs k) → length fs ≤ n → (k : ℕ) → from ≤ k → NoKeys es fs k
-none_beyond es fs from n all h k l o us can = all k l (omega (arith, h, slice_get-within fs k 0 can.closed)) o us can

@@ -2,6 +2,7 @@
 use Rattle.std.proofs.Common.{◌≡◌, ℕ, zero, suc, ◌+◌, ◌<◌, List, [], ◌∷◌, ◌++◌, length, take, drop, Some, refl, sym, ap, ◌∙◌, arith, append_assoc, length-append, length-drop}
 use Rattle.std.specs.Prelude.{slice_get, unwrap_or}
 use Rattle.std.proofs.lemmas.List.{length-map, append-nil}
+use Rattle.anb_lemmas.proofs.Lists.{got_within}
 use Rattle.anb_term.specs.declared.term.Op.{Op}
 use Rattle.anb_term.specs.Tree.{Tree, trees_of, list_of}
 use Rattle.anb_term.specs.Value.{RecipeTree, label}
@@ -14,7 +15,7 @@ use Rattle.anb_close.specs.declared.entry.Origin.TheVariants.{Label, Part}
 use Rattle.anb_close.specs.Entries.{rows, terms_of, labels_of, OriginFits, Follow, part_entries, IsOpened, IsKnown}
 use Rattle.anb_close.specs.Recipes.{recipe_for, recipes_from, recipes}
 use Rattle.anb_close.proofs.Finding.{rows_length}
-use Rattle.anb_term.proofs.Lists.{slice_get-within, slice_get-append}
+use Rattle.anb_term.proofs.Lists.{slice_get-append}
 
 recipes_more : (rcs : List RecipeTree) (es : List Entry) → (xs : List RecipeTree) × (recipes_from rcs es ≡ rcs ++ xs)
 recipes_more rcs [] = ([], sym (append-nil rcs))
@@ -44,7 +45,7 @@ recipe_more : (before : List Entry) (rcs later : List RecipeTree) (n : ℕ) (x :
 recipe_more before rcs later n (Label k) t long fits = refl
 recipe_more before rcs later n (Part o j ks i) t long fits =
     let a = mades_recipes_more (rows before) rcs later (long ∙ sym (rows_length before)) (trees_of (take (keys o) (list_of fits.0))) (trees_of ks) fits.3 in
-    let b = front_at rcs later i (omega (arith, slice_get-within (terms_of before) i _ fits.1, length-map before (λ (e : Entry). tree_of e.term))) in
+    let b = front_at rcs later i (omega (arith, got_within (terms_of before) i _ fits.1, length-map before (λ (e : Entry). tree_of e.term))) in
     cc
 
 seam_at : (xs ys : List RecipeTree) (y : RecipeTree) (n : ℕ) → n ≡ length xs → unwrap_or (slice_get ((xs ++ y ∷ []) ++ ys) n) (label 0) ≡ y

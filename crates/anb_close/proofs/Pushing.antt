@@ -1,7 +1,6 @@
 -- Entries that are added.
-use Rattle.std.proofs.Common.{◌≡◌, ℕ, zero, suc, ◌+◌, ◌-◌, ◌<◌, ◌≤◌, List, [], ◌∷◌, ◌++◌, length, map, take, drop, get_or, sym, ap, ◌∙◌, arith, append_assoc, length-append}
-use Rattle.std.proofs.Math.Seq.{take-append_seam}
-use Rattle.std.proofs.lemmas.List.{drop_more, length-map, append-nil}
+use Rattle.std.proofs.Common.{◌≡◌, ℕ, zero, suc, ◌+◌, ◌-◌, ◌<◌, ◌≤◌, List, [], ◌∷◌, ◌++◌, length, map, drop, get_or, sym, ap, ◌∙◌, arith, append_assoc, length-append}
+use Rattle.std.proofs.lemmas.List.{drop_more, length-map}
 use Rattle.anb_term.specs.declared.term.Op.{Op}
 use Rattle.anb_term.specs.declared.term.Term.{Term}
 use Rattle.anb_term.specs.Tree.{Tree}
@@ -15,15 +14,6 @@ use Rattle.anb_term.proofs.Lists.{map-append}
 -- the index of one entry more
 pub indexed_more : (es es' : List Entry) (e : Entry) (ts ts' : List Tree) → ts ≡ terms_of es → ts' ≡ ts ++ tree_of e.term ∷ [] → es' ≡ es ++ e ∷ [] → ts' ≡ terms_of es'
 indexed_more es es' e ts ts' is more_t more_e = more_t ∙ ap (λ l. l ++ tree_of e.term ∷ []) is ∙ sym (ap terms_of more_e ∙ map-append (λ (x : Entry). tree_of x.term) es (e ∷ []))
-
--- and of none, after all
-pub indexed_back : (es es' : List Entry) (ts ts' ts'' : List Tree) (t : Tree) (n : ℕ) → ts ≡ terms_of es → ts' ≡ ts ++ t ∷ [] → ts'' ≡ take n ts' → n ≡ length es → es' ≡ es ++ [] → ts'' ≡ terms_of es'
-indexed_back es es' ts ts' ts'' t n is more_t back long same =
-    let m : n ≡ length ts = omega (arith, long, ap length is, length-map es (λ (x : Entry). tree_of x.term)) in
-    back ∙ ap (λ l. take n l) more_t ∙ ap (λ k. take k (ts ++ t ∷ [])) m ∙ take-append_seam ts (t ∷ []) ∙ is ∙ ap terms_of (sym (append-nil es)) ∙ ap terms_of (sym same)
-
-pub extends_none : (es : List Entry) (fs : List ℕ) → Extends es fs es fs []
-extends_none es fs = record { entries = sym (append-nil es); firsts = sym (append-nil fs) }
 
 pub extends_more : (es : List Entry) (fs : List ℕ) (es' : List Entry) (fs' : List ℕ) (es'' : List Entry) (fs'' : List ℕ) (more last : List Entry) → Extends es fs es' fs' more → Extends es' fs' es'' fs'' last → Extends es fs es'' fs'' (more ++ last)
 extends_more es fs es' fs' es'' fs'' more last a b = record {

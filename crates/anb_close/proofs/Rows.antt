@@ -3,6 +3,8 @@ use Rattle.std.proofs.Common.{◌≡◌, ℕ, zero, suc, ◌+◌, ◌<◌, ◌�
 use Rattle.std.specs.Prelude.{slice_get, ◌==◌, unwrap_or}
 use Rattle.std.proofs.lemmas.Bool.{eqb-true, eq-eqb}
 use Rattle.std.proofs.lemmas.List.{length-map, append-nil}
+use Rattle.anb_lemmas.proofs.Options.{mapped_from}
+use Rattle.anb_lemmas.proofs.Lists.{got_within}
 use Rattle.anb_term.specs.declared.term.Op.{Op}
 use Rattle.anb_term.specs.Tree.{Tree, leaf, node, Trees, none, more, list_of, tree_size, trees_size, IsFormed, AreFormed}
 use Rattle.anb_term.specs.TreeSame.{tree_same, tree_itself}
@@ -10,12 +12,8 @@ use Rattle.anb_term.specs.Value.{Meaning, RecipeTree, label, build, value, value
 use Rattle.anb_term.specs.Operator.{arity}
 use Rattle.anb_term.specs.Composes.{Among, Composes, ComposeAll}
 use Rattle.anb_close.specs.Rows.{is_at, place, both_more, or_built, made_for, mades_for, row_unless, rows_from, rows_of, seen, made_recipe, mades_recipes}
-use Rattle.anb_term.proofs.Lists.{slice_get-append, slice_get-last, slice_get-within}
+use Rattle.anb_term.proofs.Lists.{slice_get-append, slice_get-last, size_some}
 use Rattle.anb_close.specs.Entries.{EachSmall}
-
-pub mapped : {A B : Type 0} (f : A → B) (o : Option A) (y : B) → option_map f o ≡ Some y → (x : A) × (o ≡ Some x) × (f x ≡ y)
-mapped f None y e = cc
-mapped f (Some x) y e = (x, refl, cc)
 
 pub optional : {A : Type 0} (o : Option A) → ((x : A) × (o ≡ Some x)) ⊎ (o ≡ None)
 optional None = inr refl
@@ -31,12 +29,12 @@ both_are a b x xs e f = rw (e, f)
 
 pub built_some : (o : Op) (b : Bool) (ms : Option Trees) (m : Tree) → or_built None o b ms ≡ Some m → (b ≡ true) × (ks : Trees) × (ms ≡ Some ks) × (node o ks ≡ m)
 built_some o false ms m e = cc
-built_some o true ms m e = let h = mapped (node o) ms m e in (refl, h.0, h.1, h.2)
+built_some o true ms m e = let h = mapped_from (node o) ms m e in (refl, h.0, h.1, h.2)
 
 pub built_is : (o : Op) (p : Option ℕ) (b : Bool) (a : Option Trees) (ms : Trees) → p ≡ None → b ≡ true → a ≡ Some ms → or_built p o b a ≡ Some (node o ms)
 built_is o p b a ms e f g = rw (e, f, g)
 
-is_at_same : (r : Option Tree) (t : Tree) → is_at r t ≡ true → r ≡ Some t
+pub is_at_same : (r : Option Tree) (t : Tree) → is_at r t ≡ true → r ≡ Some t
 is_at_same None t e = cc
 is_at_same (Some u) t e = ap Some (tree_same u t e)
 
@@ -47,7 +45,7 @@ at_itself t = tree_itself t
 at_step : (b : Bool) (r : Option Tree) (rs : List (Option Tree)) (t : Tree) (i : ℕ) → is_at r t ≡ b → ((j : ℕ) → place rs t ≡ Some j → slice_get rs j ≡ Some (Some t))
     → cond b (Some 0) (option_map suc (place rs t)) ≡ Some i → slice_get (r ∷ rs) i ≡ Some (Some t)
 at_step true r rs t i is before e = let z : 0 ≡ i = cc in subst (λ n. slice_get (r ∷ rs) n ≡ Some (Some t)) z (ap Some (is_at_same r t is))
-at_step false r rs t i is before e = let h = mapped suc (place rs t) i e in subst (λ n. slice_get (r ∷ rs) n ≡ Some (Some t)) h.2 (before h.0 h.1)
+at_step false r rs t i is before e = let h = mapped_from suc (place rs t) i e in subst (λ n. slice_get (r ∷ rs) n ≡ Some (Some t)) h.2 (before h.0 h.1)
 
 pub place_at : (rs : List (Option Tree)) (t : Tree) (i : ℕ) → place rs t ≡ Some i → slice_get rs i ≡ Some (Some t)
 place_at [] t i e = cc
@@ -85,7 +83,7 @@ among_place rs t a = let h = row_among rs t a in stands rs t h.0 h.1
 module _ (rs : List (Option Tree)) where
   mutual
     pub made_composes : (t m : Tree) → made_for rs t ≡ Some m → Composes (seen rs) t
-    made_composes (leaf n) m e = let h = mapped leaf (place rs (leaf n)) m e in place_among rs (leaf n) h.0 h.1
+    made_composes (leaf n) m e = let h = mapped_from leaf (place rs (leaf n)) m e in place_among rs (leaf n) h.0 h.1
     made_composes (node o ts) m e =
         ⊎_elim (λ (i, p). inl (place_among rs (node o ts) i p))
         (λ p. let h = built_some o (length (list_of ts) == arity o) (mades_for rs ts) m (rw p at e) in inr (eqb-true _ _ h.0, mades_compose ts h.1 h.2))
@@ -112,13 +110,13 @@ module _ (rs : List (Option Tree)) where
 -- a further row that did not compose changes no composition
 append_step : (b : Bool) (r : Option Tree) (p : Option ℕ) (q : Option ℕ) (i : ℕ) → (((j : ℕ) → p ≡ Some j → q ≡ Some j)) → cond b (Some 0) (option_map suc p) ≡ Some i → cond b (Some 0) (option_map suc q) ≡ Some i
 append_step true r p q i h e = e
-append_step false r p q i h e = let m = mapped suc p i e in ap (option_map suc) (h m.0 m.1) ∙ ap Some m.2
+append_step false r p q i h e = let m = mapped_from suc p i e in ap (option_map suc) (h m.0 m.1) ∙ ap Some m.2
 
 pub place_more : (rs : List (Option Tree)) (r : Option Tree) (t : Tree) (i : ℕ) → place rs t ≡ Some i → place (rs ++ r ∷ []) t ≡ Some i
 place_more [] r t i e = cc
 place_more (x ∷ rs) r t i e = append_step (is_at x t) x (place rs t) (place (rs ++ r ∷ []) t) i (place_more rs r t) e
 
-none_step : (b : Bool) (p : Option ℕ) → cond b (Some 0) (option_map suc p) ≡ None → (b ≡ false) × (p ≡ None)
+pub none_step : (b : Bool) (p : Option ℕ) → cond b (Some 0) (option_map suc p) ≡ None → (b ≡ false) × (p ≡ None)
 none_step true p e = cc
 none_step false None e = (refl, refl)
 none_step false (Some i) e = cc
@@ -138,7 +136,7 @@ not_at false rs r t m is new e = is
 module _ (rs : List (Option Tree)) (r : Option Tree) (new : (u : Tree) → r ≡ Some u → made_for rs u ≡ None) where
   mutual
     pub made_stays : (t m : Tree) → made_for rs t ≡ Some m → made_for (rs ++ r ∷ []) t ≡ Some m
-    made_stays (leaf n) m e = let h = mapped leaf (place rs (leaf n)) m e in ap (option_map leaf) (place_more rs r (leaf n) h.0 h.1) ∙ ap Some h.2
+    made_stays (leaf n) m e = let h = mapped_from leaf (place rs (leaf n)) m e in ap (option_map leaf) (place_more rs r (leaf n) h.0 h.1) ∙ ap Some h.2
     made_stays (node o ts) m e =
         ⊎_elim (λ (i, p). ap (λ q. or_built q o (length (list_of ts) == arity o) (mades_for (rs ++ r ∷ []) ts)) (place_more rs r (node o ts) i p) ∙ rw p at e)
         (λ p.
@@ -239,7 +237,7 @@ module _ {A : Type 0} (m : Meaning A) (vs : List A) (rs : List (Option Tree)) (r
 
   mutual
     pub made_worth : (t mk : Tree) → IsFormed m.has t → made_for rs t ≡ Some mk → value m vs (made_recipe rcs mk) ≡ Some (of t)
-    made_worth (leaf n) mk f e = let h = mapped leaf (place rs (leaf n)) mk e in subst (λ x. value m vs (made_recipe rcs x) ≡ Some (of (leaf n))) h.2 (at (leaf n) h.0 h.1)
+    made_worth (leaf n) mk f e = let h = mapped_from leaf (place rs (leaf n)) mk e in subst (λ x. value m vs (made_recipe rcs x) ≡ Some (of (leaf n))) h.2 (at (leaf n) h.0 h.1)
     made_worth (node o ts) mk f e =
         ⊎_elim (λ (i, p). let s : leaf i ≡ mk = (let q = rw p at e in cc) in subst (λ x. value m vs (made_recipe rcs x) ≡ Some (of (node o ts))) s (at (node o ts) i p))
         (λ p.
@@ -253,15 +251,10 @@ module _ {A : Type 0} (m : Meaning A) (vs : List A) (rs : List (Option Tree)) (r
         let h = both_some (made_for rs t) (mades_for rs ts) ms e in
         subst (λ x. values m vs (mades_recipes rcs x) ≡ Some (of t ∷ map of (list_of ts))) h.4 (joined _ _ (of t) (map of (list_of ts)) (made_worth t h.0 f.0 h.2) (mades_worth ts h.1 f.1 h.3))
 
--- a chosen composition has at most as many nodes as its term
-size_some : (t : Tree) → 1 ≤ tree_size t
-size_some (leaf n) = omega arith
-size_some (node o ts) = omega arith
-
 module _ (rs : List (Option Tree)) where
   mutual
     pub made_small : (t m : Tree) → made_for rs t ≡ Some m → tree_size m ≤ tree_size t
-    made_small (leaf n) m e = let h = mapped leaf (place rs (leaf n)) m e in subst (λ x. tree_size x ≤ 1) h.2 (omega arith)
+    made_small (leaf n) m e = let h = mapped_from leaf (place rs (leaf n)) m e in subst (λ x. tree_size x ≤ 1) h.2 (omega arith)
     made_small (node o ts) m e =
         ⊎_elim (λ (i, p). let s : leaf i ≡ m = (let q = rw p at e in cc) in subst (λ x. tree_size x ≤ tree_size (node o ts)) s (size_some (node o ts)))
         (λ p. let h = built_some o (length (list_of ts) == arity o) (mades_for rs ts) m (rw p at e) in subst (λ x. tree_size x ≤ tree_size (node o ts)) h.3 (omega (arith, mades_small ts h.1 h.2)))
@@ -281,7 +274,7 @@ mades_each rs (more t ts) ms e =
 -- a composition names places alone, so its recipe needs the first recipes alone
 module _ (rs : List (Option Tree)) (rcs later : List RecipeTree) (long : length rcs ≡ length rs) where
   leaf_more : (t : Tree) (i : ℕ) → place rs t ≡ Some i → made_recipe (rcs ++ later) (leaf i) ≡ made_recipe rcs (leaf i)
-  leaf_more t i p = front_at rcs later i (omega (arith, slice_get-within rs i (Some t) (place_at rs t i p)))
+  leaf_more t i p = front_at rcs later i (omega (arith, got_within rs i (Some t) (place_at rs t i p)))
     where
       front_at : (xs ys : List RecipeTree) (i : ℕ) → i < length xs → unwrap_or (slice_get (xs ++ ys) i) (label 0) ≡ unwrap_or (slice_get xs i) (label 0)
       front_at [] ys i h = absurd (omega arith)
@@ -290,7 +283,7 @@ module _ (rs : List (Option Tree)) (rcs later : List RecipeTree) (long : length 
 
   mutual
     pub made_recipe_more : (t m : Tree) → made_for rs t ≡ Some m → made_recipe (rcs ++ later) m ≡ made_recipe rcs m
-    made_recipe_more (leaf n) m e = let h = mapped leaf (place rs (leaf n)) m e in subst (λ x. made_recipe (rcs ++ later) x ≡ made_recipe rcs x) h.2 (leaf_more (leaf n) h.0 h.1)
+    made_recipe_more (leaf n) m e = let h = mapped_from leaf (place rs (leaf n)) m e in subst (λ x. made_recipe (rcs ++ later) x ≡ made_recipe rcs x) h.2 (leaf_more (leaf n) h.0 h.1)
     made_recipe_more (node o ts) m e =
         ⊎_elim (λ (i, p). let s : leaf i ≡ m = (let q = rw p at e in cc) in subst (λ x. made_recipe (rcs ++ later) x ≡ made_recipe rcs x) s (leaf_more (node o ts) i p))
         (λ p.

@@ -4,6 +4,7 @@ use Rattle.std.specs.Prelude.{slice_get, unwrap_or}
 use Rattle.std.specs.List.{AllByRecursion}
 use Rattle.std.proofs.lemmas.Bool.{eq-eqb}
 use Rattle.std.proofs.lemmas.List.{length-map, append-nil}
+use Rattle.anb_lemmas.proofs.Lists.{got_within}
 use Rattle.anb_term.specs.declared.term.Op.{Op}
 use Rattle.anb_term.specs.Tree.{Tree, leaf, node, Trees, trees_of, list_of, IsFormed, AreFormed}
 use Rattle.anb_term.specs.TreeSame.{op_itself, trees_itself, list_of-trees_of, trees_of-list_of}
@@ -20,16 +21,11 @@ use Rattle.anb_close.specs.declared.entry.Origin.{Origin}
 use Rattle.anb_close.specs.declared.entry.Origin.TheVariants.{Label, Part}
 use Rattle.anb_close.specs.Entries.{rows, terms_of, labels_of, is_label, OriginFits, Follow, IsKnown}
 use Rattle.anb_close.specs.Recipes.{recipe_for, recipes_from, recipes}
-use Rattle.anb_close.proofs.Growing.{labels_append, terms_append, formed_at, formed_list, formed_drop, formed_append, formed_front}
-use Rattle.anb_term.proofs.Lists.{slice_get-within, slice_get-last}
+use Rattle.anb_close.proofs.Growing.{labels_append, terms_append, formed_at, formed_drop, formed_append, formed_front}
+use Rattle.anb_term.proofs.Lists.{slice_get-last, formed_items, formed_take}
 use Rattle.anb_close.proofs.Closing.{entries_compose}
 use Rattle.anb_term.specs.View.{tree_of}
 use Rattle.anb_term.specs.Agree.{HasRecipe}
-
-pub formed_take : (has : Op → Bool) (n : ℕ) (xs : List Tree) → AreFormed has (trees_of xs) → AreFormed has (trees_of (take n xs))
-formed_take has zero xs a = tt
-formed_take has (suc n) [] a = a
-formed_take has (suc n) (x ∷ xs) a = (a.0, formed_take has n xs a.1)
 
 module _ (has : Op → Bool) where
   -- the entries before have recipes that give their terms
@@ -62,7 +58,7 @@ module _ (has : Op → Bool) where
     mades_give ts ms f e = mades_worth (terms_over has) labels (rows es) rcs (λ t. t) stands_for (λ o ts p. itself_built o ts) ts ms f e ∙ ap Some (map_itself (list_of ts))
 
     formed_keys : (i : ℕ) (o : Op) (us : Trees) → AreFormed has (trees_of (terms_of es)) → slice_get (terms_of es) i ≡ Some (node o us) → AreFormed has (trees_of (take (keys o) (list_of us)))
-    formed_keys i o us f at = formed_take has (keys o) (list_of us) (formed_list has us (formed_at has (terms_of es) i (node o us) f at).2)
+    formed_keys i o us f at = formed_take has (keys o) (list_of us) (formed_items has us (formed_at has (terms_of es) i (node o us) f at).2)
 
     part_value : (o : Op) (j : ℕ) (rs : RecipeTrees) (r : RecipeTree) (kv : List Tree) (v : Tree) → values (terms_over has) labels rs ≡ Some kv → value (terms_over has) labels r ≡ Some v → value (terms_over has) labels (part o j rs r) ≡ part_if (terms_over has) o j kv v
     part_value o j rs r kv v e f = rw (e, f)
@@ -74,7 +70,7 @@ module _ (has : Op → Bool) where
         let us = fits.0 in
         let kv = take (keys o) (list_of us) in
         let e = mades_give (trees_of kv) (trees_of ks) (formed_keys i o us f fits.1) fits.3 ∙ ap Some (list_of-trees_of kv) in
-        let long : length kv ≡ keys o = length-take-le (keys o) (list_of us) (omega (arith, slice_get-within (drop (keys o) (list_of us)) j t fits.4, length-drop (keys o) (list_of us))) in
+        let long : length kv ≡ keys o = length-take-le (keys o) (list_of us) (omega (arith, got_within (drop (keys o) (list_of us)) j t fits.4, length-drop (keys o) (list_of us))) in
         part_value o j (mades_recipes rcs (trees_of ks)) (unwrap_or (slice_get rcs i) (label 0)) kv (node o us) e (sound.gives i (node o us) fits.1) ∙ part_given o j us kv t (formed_at has (terms_of es) i (node o us) f fits.1).0 fits.2 (formed_at has (terms_of es) i (node o us) f fits.1).1 refl long fits.4
 
   at_seam : {A : Type 0} (xs ys : List A) (y : A) → slice_get (xs ++ y ∷ ys) (length xs) ≡ Some y
@@ -91,7 +87,7 @@ module _ (has : Op → Bool) where
     long = omega (arith, length-append rcs (r ∷ []), length-append es (e ∷ []), s.long);
     gives = λ i t at.
         ⊎_elim
-        (λ h. let within : i < length rcs = omega (arith, slice_get-within (terms_of es) i t h, length-map es (λ (x : Entry). tree_of x.term), s.long) in rw (still_at rcs r i within) (s.gives i t h))
+        (λ h. let within : i < length rcs = omega (arith, got_within (terms_of es) i t h, length-map es (λ (x : Entry). tree_of x.term), s.long) in rw (still_at rcs r i within) (s.gives i t h))
         (λ (a, b).
         let n : i ≡ length rcs = omega (arith, a, length-map es (λ (x : Entry). tree_of x.term), s.long) in
         let here : slice_get (rcs ++ r ∷ []) i ≡ Some r = ap (slice_get (rcs ++ r ∷ [])) n ∙ at_seam rcs [] r in
@@ -139,7 +135,7 @@ formed_origin : (has : Op → Bool) (o : Origin) (before later : List Entry) (e 
 formed_origin has (Label n) before later e f fits ls = (ls.0, ls.1)
 formed_origin has (Part o j ks i) before later e f fits ls =
     let us = fits.0 in
-    (formed_at has (drop (keys o) (list_of us)) j (tree_of e.term) (formed_drop has (keys o) (list_of us) (formed_list has us (formed_at has (terms_of before) i (node o us) f fits.1).2)) fits.4, ls)
+    (formed_at has (drop (keys o) (list_of us)) j (tree_of e.term) (formed_drop has (keys o) (list_of us) (formed_items has us (formed_at has (terms_of before) i (node o us) f fits.1).2)) fits.4, ls)
 
 pub formed_all : (has : Op → Bool) (before later : List Entry) → AreFormed has (trees_of (terms_of before)) → Follow before later → AreFormed has (trees_of (labels_of later)) → AreFormed has (trees_of (terms_of (before ++ later)))
 formed_all has before [] f fl ls = subst (λ l. AreFormed has (trees_of (terms_of l))) (sym (append-nil before)) f

@@ -4,15 +4,18 @@ use Rattle.std.specs.Prelude.{slice_get, unwrap_or, ◌==◌}
 use Rattle.std.proofs.Math.ListN.{set, length-set}
 use Rattle.std.proofs.lemmas.Bool.{eq-eqb, eqb-true}
 use Rattle.std.proofs.lemmas.List.{append-nil}
+use Rattle.anb_lemmas.proofs.Numbers.{below_or_last}
+use Rattle.anb_lemmas.proofs.Lists.{got_within}
 use Rattle.anb_term.specs.declared.term.Op.{Op}
-use Rattle.anb_term.specs.Tree.{Tree, leaf, node, Trees, none, more, trees_of, list_of}
-use Rattle.anb_term.specs.TreeSame.{list_of-trees_of}
+use Rattle.anb_term.specs.Tree.{Tree, leaf, node, Trees, trees_of, list_of}
+use Rattle.anb_term.specs.TreeSame.{list_of-trees_of, trees_of-list_of}
 use Rattle.anb_term.specs.Operator.{arity}
-use Rattle.anb_term.proofs.Lists.{slice_get-last, slice_get-there, slice_get-within, set-same}
+use Rattle.anb_term.proofs.Lists.{slice_get-last, slice_get-there, set-same}
 use Rattle.anb_intern.specs.declared.node.NodeId.{NodeId}
 use Rattle.anb_intern.specs.declared.node.Node.{Node}
 use Rattle.anb_intern.specs.declared.node.Node.TheVariants.{Atom, Apply}
 use Rattle.anb_intern.specs.Nodes.{operands_at, tree_at, AreUnder, IsOver, AreDistinct, AreBefore}
+use Rattle.anb_intern.proofs.Nodes.{under_take, under_more, operands_long, operands_take}
 use Rattle.anb_close.specs.Rows.{place, or_built, made_for, mades_for, row_unless, rows_from, rows_of}
 use Rattle.anb_close.specs.Listed.{IsListed, AreTouched}
 use Rattle.anb_close.specs.Parents.{list_at, IsNode, AreLinked}
@@ -21,7 +24,7 @@ use Rattle.anb_close.specs.Spreading.{stands, HavePlaces, IsSpreading, IsDone, I
 use Rattle.anb_close.specs.declared.index.Standing.{Standing}
 use Rattle.anb_close.specs.declared.index.Standing.TheVariants.{Nowhere, Built, At}
 use Rattle.anb_close.proofs.Rows.{optional, place_own, row_term, made_leaf, made_later, mades_later, length_rows, rows_more, built_is}
-use Rattle.anb_close.proofs.Indexing.{both_found, built_found, all_made, right_all, found_made, numbered, below_or, set_either, under_more, under_take, operands_take, operands_long, all_settled}
+use Rattle.anb_close.proofs.Indexing.{both_found, built_found, all_made, right_all, found_made, numbered, set_either, all_settled}
 use Rattle.anb_close.proofs.Linking.{listed_more, listed_last, listed_behind, same_ids, node_at}
 
 and_both : (a b : Bool) → a && b ≡ true → (a ≡ true) × (b ≡ true)
@@ -36,10 +39,6 @@ taken zero xs i x e = cc
 taken (suc n) [] i x e = cc
 taken (suc n) (y ∷ ys) zero x e = e
 taken (suc n) (y ∷ ys) (suc i) x e = taken n ys i x e
-
-trees_back : (us : Trees) → trees_of (list_of us) ≡ us
-trees_back none = refl
-trees_back (more u us) = ap (more u) (trees_back us)
 
 -- one write
 stands_set : (ss : List Standing) (n k : ℕ) (v : Standing) → stands (set ss n v) k ≡ true → (k ≡ n) ⊎ (stands ss k ≡ true)
@@ -65,11 +64,6 @@ all_or ss n v (i ∷ ids) e =
     (λ a. inr (0, i, refl, a))
     (λ a. ⊎_elim (λ c. inl (ap (λ x. x && all_stand ss ids) a ∙ c)) (λ (j, id, at, is). inr (suc j, id, at, is)) (all_or ss n v ids b.1))
     (stands_set ss n i.0 v b.0)
-
-each_stands : (ss : List Standing) (ids : List NodeId) (j : ℕ) (id : NodeId) → all_stand ss ids ≡ true → slice_get ids j ≡ Some id → stands ss id.0 ≡ true
-each_stands ss [] j id e at = cc
-each_stands ss (i ∷ ids) zero id e at = let b = and_both (stands ss i.0) (all_stand ss ids) e in let s : i ≡ id = cc in ap (λ (x : NodeId). stands ss x.0) (sym s) ∙ b.0
-each_stands ss (i ∷ ids) (suc j) id e at = each_stands ss ids j id (and_both (stands ss i.0) (all_stand ss ids) e).1 at
 
 -- what composes
 some_is : {A : Type 0} (o : Option A) → is_some o ≡ true → (x : A) × (o ≡ Some x)
@@ -127,7 +121,7 @@ module _ (rs : List (Option Tree)) (ts : List Tree) (old ss : List Standing) (to
   -- a number comes to be built
   pub spread_mark : (n : ℕ) → IsNew ts ss n → (Q : ℕ → ℕ → Type 0) → ((m w : ℕ) → P w m → Q w m ⊎ (m ≡ n)) → ((m : ℕ) → Q n m) → IsSpreading rs ts old (set ss n Built) told Q
   spread_mark n (nowhere, o, ids, at, long, ready) Q on new =
-      let h = slice_get-within ss n Nowhere nowhere in
+      let h = got_within ss n Nowhere nowhere in
       let here : stands (set ss n Built) n ≡ true = stands_here (set ss n Built) n Built (set-same ss n Built Nowhere nowhere) in
       record {
         places = places_set rs ts ss n nowhere so_far.places;
@@ -214,7 +208,7 @@ visit_fewer ts ss ss' told told' work work' n (inr (is_ss, is_work, is_told, new
 -- what a visit finds
 module _ (ts : List Tree) (ss : List Standing) (work told : List ℕ) (n : ℕ) where
   pub visit_past : length ss ≡ length ts → length ss ≤ n → HasVisited ts n ss work told ss work told
-  visit_past long h = inl ([], refl, refl, sym (append-nil told), ((λ o ids at l all. absurd (omega (arith, long, h, slice_get-within ts n _ at.0))), (λ i e. absurd (omega (arith, h, slice_get-within ss n (At i) e)))))
+  visit_past long h = inl ([], refl, refl, sym (append-nil told), ((λ o ids at l all. absurd (omega (arith, long, h, got_within ts n _ at.0))), (λ i e. absurd (omega (arith, h, got_within ss n (At i) e)))))
 
   pub visit_entry : (i : ℕ) (told' : List ℕ) → slice_get ss n ≡ Some (At i) → told' ≡ told ++ i ∷ [] → HasVisited ts n ss work told ss work told'
   visit_entry i told' at is = inl (i ∷ [], refl, refl, is, ((λ o ids own l all. stands_here ss n (At i) at), (λ j e. let s : i ≡ j = cc in (0, ap Some s))))
@@ -263,7 +257,7 @@ taken_up rs ts old ss before work work' ns ps x is list long linked so_far = spr
     (λ n o ids j id at here (k, due). inl (⊎_elim
     (λ a. inl (k, a))
     (λ (l, same).
-    let q = linked n o ids (slice_get-within ts n _ at.0) at j id here in
+    let q = linked n o ids (got_within ts n _ at.0) at j id here in
     let r : IsListed ns n = subst (λ l. IsListed l n) (sym list) (subst (λ w. IsListed (list_at ps w) n) (sym same) q) in
     inr (sym same, (r.0, omega arith, r.1)))
     (slice_get-last work' x id.0 k (subst (λ l. slice_get l k ≡ Some id.0) is due))))
@@ -271,11 +265,11 @@ taken_up rs ts old ss before work work' ns ps x is list long linked so_far = spr
 -- and all that it is spread to was looked at
 pub put_down : (rs : List (Option Tree)) (ts : List Tree) (old ss : List Standing) (before work ns : List ℕ) (x : ℕ) → IsSpreading rs ts old ss before (IsLeft work x ns (length ns)) → IsSpreading rs ts old ss before (λ w n. IsListed work w)
 put_down rs ts old ss before work ns x so_far = spread_on rs ts old ss before (IsLeft work x ns (length ns)) so_far before (λ w n. IsListed work w) (λ i m. m)
-    (λ n o ids j id at here due. inl (⊎_elim (λ a. a) (λ (same, (i, h, there)). absurd (omega (arith, h, slice_get-within ns i n there))) due))
+    (λ n o ids j id at here due. inl (⊎_elim (λ a. a) (λ (same, (i, h, there)). absurd (omega (arith, h, got_within ns i n there))) due))
 
 pub all_done : (rs : List (Option Tree)) (ts : List Tree) (old ss : List Standing) (before work : List ℕ) → work ≡ [] → IsSpreading rs ts old ss before (λ w n. IsListed work w) → IsSpreading rs ts old ss before (λ w n. ⊥)
 all_done rs ts old ss before work is so_far = spread_on rs ts old ss before (λ w n. IsListed work w) so_far before (λ w n. ⊥) (λ i m. m)
-    (λ n o ids j id at here (k, due). absurd (let h = slice_get-within work k id.0 due in let z = ap length is in omega arith))
+    (λ n o ids j id at here (k, due). absurd (let h = got_within work k id.0 due in let z = ap length is in omega arith))
 
 pub one_due : (rs : List (Option Tree)) (ts : List Tree) (old ss : List Standing) (before work : List ℕ) (x : ℕ) → work ≡ x ∷ [] → IsSpreading rs ts old ss before (λ w n. w ≡ x) → IsSpreading rs ts old ss before (λ w n. IsListed work w)
 one_due rs ts old ss before work x is so_far = spread_on rs ts old ss before (λ w n. w ≡ x) so_far before (λ w n. IsListed work w) (λ i m. m)
@@ -315,7 +309,7 @@ module _ (ts : List Tree) (ids : List NodeId) (ss : List Standing) (ix : IsIndex
             (stands_set ss id.0 k (At b) e);
         complete = λ n o js own long all. ⊎_elim
             (λ before.
-            let some = sym (all_stand_is js (under_more n (length ts) js (omega (arith, slice_get-within ts n _ own.0)) own.1)) ∙ before in
+            let some = sym (all_stand_is js (under_more n (length ts) js (omega (arith, got_within ts n _ own.0)) own.1)) ∙ before in
             inl (stands_still ss id.0 n (At b) refl (made_stands n _ own.0 (made_node rs o (operands_at ts js) (operands_long ts js ∙ long) some))))
             (λ found. inr found)
             (all_or ss id.0 (At b) js all);
@@ -345,7 +339,7 @@ module _ (rs : List (Option Tree)) (ts : List Tree) (old ss : List Standing) (to
       let m = node_at ts n o us before at in
       let b = and_both (length (list_of us) == arity o) (is_some (mades_for rs us)) (sym (built_found o (length (list_of us) == arity o) (mades_for rs us)) ∙ ap (λ p. is_some (or_built p o (length (list_of us) == arity o) (mades_for rs us))) (sym free) ∙ some) in
       let long : length m.0 ≡ arity o = sym (operands_long ts m.0) ∙ ap length m.2 ∙ eqb-true (length (list_of us)) (arity o) b.0 in
-      let all : all_stand ss m.0 ≡ true = all_made rs ts ss n (omega (arith, h)) right m.0 m.1.1 ∙ ap (λ l. is_some (mades_for rs (trees_of l))) m.2 ∙ ap (λ l. is_some (mades_for rs l)) (trees_back us) ∙ b.1 in
+      let all : all_stand ss m.0 ≡ true = all_made rs ts ss n (omega (arith, h)) right m.0 m.1.1 ∙ ap (λ l. is_some (mades_for rs (trees_of l))) m.2 ∙ ap (λ l. is_some (mades_for rs l)) (trees_of-list_of us) ∙ b.1 in
       ⊎_elim (λ a. a) (λ (j, id, here, due). absurd due) (over.complete n o m.0 m.1 long all)
 
   right_at : (n : ℕ) (t : Tree) → n < length ts → slice_get ts n ≡ Some t → ((k : ℕ) (u : Tree) → k < n → slice_get ts k ≡ Some u → slice_get ss k ≡ Some (standing_of rs u)) → slice_get ss n ≡ Some (standing_of rs t)
@@ -370,7 +364,7 @@ module _ (rs : List (Option Tree)) (ts : List Tree) (old ss : List Standing) (to
         right = λ k t l at. ⊎_elim
             (λ a. i.right k t a at)
             (λ b. subst (λ m. slice_get ss m ≡ Some (standing_of rs t)) (sym b) (right_at n t (omega (arith, h)) (subst (λ m. slice_get ts m ≡ Some t) b at) i.right))
-            (below_or k n (omega (arith, l)));
+            (below_or_last k n (omega (arith, l)));
       }
 
   pub ends : ss ≡ standings_of rs ts

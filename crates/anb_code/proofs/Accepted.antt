@@ -1,5 +1,5 @@
 -- A code without faults spells a verified one.
-use Rattle.std.proofs.Common.{◌≡◌, ◌≢◌, ◌<◌, ◌≤◌, ◌+◌, ◌^◌, ◌&&◌, ◌||◌, ◌==◌, not, ℕ, nat_lt, Bool, true, false, List, [], ◌∷◌, ◌++◌, length, map, replicate, slice_index, refl, sym, ap, ◌∙◌, arith, All}
+use Rattle.std.proofs.Common.{◌≡◌, ◌≢◌, ◌<◌, ◌≤◌, ◌+◌, ◌^◌, ◌&&◌, ◌||◌, ◌==◌, not, ℕ, nat_lt, Bool, true, false, List, [], ◌∷◌, ◌++◌, length, map, replicate, refl, sym, ap, ◌∙◌, arith, All}
 use Rattle.std.specs.List.{list_any, find, AllByRecursion}
 use Rattle.std.specs.Str.{bytes_eq}
 use Rattle.std.proofs.lemmas.Bool.{not-false, eqb-false, ltb-false, or_parts, true≢false}
@@ -7,6 +7,8 @@ use Rattle.std.proofs.lemmas.List.{length-append, length-map, length-replicate, 
 use Rattle.std.proofs.lemmas.List.Elements.{All-from_recursion, recursion_from_All}
 use Rattle.std.proofs.lemmas.List.Sums.{sum_by-cons}
 use Rattle.std.proofs.lemmas.Slice.Eq.{bytes_eq-Decides}
+use Rattle.anb_lemmas.proofs.Items.{one_item, two_items, three_items}
+use Rattle.anb_lemmas.proofs.Lists.{both_empty}
 use Rattle.anb_base.specs.declared.TheConstants.{ARRIVAL, WIDE}
 use Rattle.anb_format.specs.Formats.{FormatValue, IsSound, field_count}
 use Rattle.anb_code.specs.declared.instr.Instr.{Instr}
@@ -30,11 +32,6 @@ begins xs ys x b = (b.0 ++ ys, rw b.1 refl)
 
 pub begins_after : {A : Type 0} (xs ys : List A) (x : A) → xs ≡ [] → BeginsWith ys x → BeginsWith (xs ++ ys) x
 begins_after xs ys x none b = (b.0, rw none b.1)
-
--- lists together empty are empty each
-pub both_empty : {A : Type 0} (xs ys : List A) → xs ++ ys ≡ [] → (xs ≡ []) × (ys ≡ [])
-both_empty [] ys e = (refl, e)
-both_empty (x ∷ xs) ys e = cc
 
 pub holds_not : {A : Type 0} (b : Bool) (x : A) → where_true b x ≡ [] → b ≡ false
 holds_not true x e = cc
@@ -129,24 +126,6 @@ other_takes formats text (x ∷ xs) a b =
     let p = or_parts (not (is_take x.what)) (list_any (λ (earlier : RawInstrValue). not (is_take earlier.what)) xs) a in
     let q = or_parts (is_take x.what && bytes_eq x.name text) (list_any (λ (earlier : RawInstrValue). is_take earlier.what && bytes_eq earlier.name text) xs) b in
     (other_take formats text x.name x.args x.what p.0 q.0, other_takes formats text xs p.1 q.1)
-
-one_item : (xs : List ℕ) → length xs ≡ 1 → slice_index xs 0 ∷ [] ≡ xs
-one_item [] e = absurd (omega (arith, e))
-one_item (x ∷ []) e = refl
-one_item (x ∷ y ∷ ys) e = absurd (omega (arith, e))
-
-two_items : (xs : List ℕ) → length xs ≡ 2 → slice_index xs 0 ∷ slice_index xs 1 ∷ [] ≡ xs
-two_items [] e = absurd (omega (arith, e))
-two_items (x ∷ []) e = absurd (omega (arith, e))
-two_items (x ∷ y ∷ []) e = refl
-two_items (x ∷ y ∷ z ∷ zs) e = absurd (omega (arith, e))
-
-three_items : (xs : List ℕ) → length xs ≡ 3 → slice_index xs 0 ∷ slice_index xs 1 ∷ slice_index xs 2 ∷ [] ≡ xs
-three_items [] e = absurd (omega (arith, e))
-three_items (x ∷ []) e = absurd (omega (arith, e))
-three_items (x ∷ y ∷ []) e = absurd (omega (arith, e))
-three_items (x ∷ y ∷ z ∷ []) e = refl
-three_items (x ∷ y ∷ z ∷ w ∷ ws) e = absurd (omega (arith, e))
 
 no_item : (xs : List ℕ) → length xs ≡ 0 → [] ≡ xs
 no_item [] e = refl
@@ -268,3 +247,7 @@ verified_code raw no_format_fault no_instr_fault sound counts few_instrs few_reg
 pub few_formats : (formats : List FormatValue) → faults_from format_faults [] formats ≡ [] → All (λ (format : FormatValue). IsSound format.pieces) formats → length formats ≤ 64
 few_formats formats none sound =
     let few = (formats_accepted [] formats (omega arith) (recursion_from_All (λ (format : FormatValue). IsSound format.pieces) formats sound) none).1 in omega (arith, few)
+
+pub fields_after : (before formats : List FormatValue) → EachAfter IsFormatAfter before formats → AllByRecursion (λ (format : FormatValue). field_count format.pieces ≤ 32) formats
+fields_after before [] each = tt
+fields_after before (f ∷ formats) each = (each.0.fields, fields_after (before ++ f ∷ []) formats each.1)

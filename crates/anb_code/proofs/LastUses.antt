@@ -1,14 +1,13 @@
 -- How long a register is still to be read, with one more instruction.
-use Rattle.std.proofs.Common.{◌≡◌, ◌<◌, ◌≤◌, ◌+◌, ◌==◌, ◌||◌, ℕ, zero, suc, nat_lt, Bool, true, false, cond, if◌then◌else◌, List, [], ◌∷◌, ◌++◌, length, take, drop, set, replicate, slice_index, get_or, Some, refl, sym, ap, subst, ◌∙◌, arith, All, inl, inr, length-append}
+use Rattle.std.proofs.Common.{◌≡◌, ◌<◌, ◌≤◌, ◌+◌, ◌||◌, ℕ, zero, suc, nat_lt, Bool, true, false, cond, List, [], ◌∷◌, ◌++◌, length, take, drop, replicate, slice_index, get_or, refl, sym, ap, subst, ◌∙◌, arith, All, inl, inr, length-append}
 use Rattle.std.proofs.Math.Bool.{or-true}
-use Rattle.std.specs.Prelude.{slice_get}
-use Rattle.std.specs.List.{list_any, AllByRecursion}
 use Rattle.std.proofs.Math.ListN.{drop_of_length-le}
 use Rattle.std.proofs.lemmas.Bool.{cases_lt}
 use Rattle.std.proofs.lemmas.Bool.Decides.{nat_tests}
 use Rattle.std.proofs.lemmas.List.{drop-append-le, take_more, length-replicate}
 use Rattle.std.proofs.lemmas.List.Folds.{list_any-append}
 use Rattle.std.proofs.lemmas.List.Sums.{sum_by_push}
+use Rattle.anb_lemmas.proofs.Bools.{or_false}
 use Rattle.anb_format.specs.Formats.{FormatValue}
 use Rattle.anb_code.specs.declared.instr.Instr.{Instr}
 use Rattle.anb_code.specs.Registers.{count_written, operands}
@@ -26,10 +25,6 @@ zeros_behind [] k r = zeros_none k r
 zeros_behind (x ∷ xs) k zero = refl
 zeros_behind (x ∷ xs) k (suc r) = zeros_behind xs k r
 
-or-false : (b : Bool) → (b || false) ≡ b
-or-false true = refl
-or-false false = refl
-
 -- ---- one more instruction
 
 -- what is read after n, where one more instruction follows
@@ -38,7 +33,7 @@ module _ (before : List Instr) (x : Instr) (r n : ℕ) where
   early h =
       ap (λ l. is_read l r) (drop-append-le n before (x ∷ []) h)
       ∙ list_any-append (λ (instr : Instr). is_among (operands instr) r) (drop n before) (x ∷ [])
-      ∙ ap (λ b. is_read (drop n before) r || b) (or-false (is_among (operands x) r))
+      ∙ ap (λ b. is_read (drop n before) r || b) (or_false (is_among (operands x) r))
 
   late : length before < n → is_read (drop n (before ++ x ∷ [])) r ≡ false
   late h = ap (λ l. is_read l r) (drop_of_length-le (before ++ x ∷ []) (omega (arith, h, length-append before (x ∷ []))))
@@ -56,7 +51,7 @@ module _ (before : List Instr) (x : Instr) (r n : ℕ) where
   ]
   last_more false old new e h s = ap (nat_lt n) s ∙ h ∙ elim (cases_lt (length before) n) [
     | inl over ↦ late_before over ∙ sym (late over)
-    | inr within ↦ sym (early within ∙ ap (λ b. is_read (drop n before) r || b) e ∙ or-false (is_read (drop n before) r))
+    | inr within ↦ sym (early within ∙ ap (λ b. is_read (drop n before) r || b) e ∙ or_false (is_read (drop n before) r))
   ]
 
 pub uses_more : (formats : List FormatValue) (before : List Instr) (x : Instr) (uses marked : List ℕ) (at : ℕ) → at ≡ length before + 1

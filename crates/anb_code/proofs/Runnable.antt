@@ -5,7 +5,7 @@ use Rattle.std.specs.Option.{option_map_or}
 use Rattle.std.proofs.lemmas.List.{length-append}
 use Rattle.std.proofs.lemmas.List.Elements.{All-from_recursion, recursion_from_All}
 use Rattle.std.proofs.lemmas.List.Sums.{sum_by_push}
-use Rattle.anb_format.specs.Formats.{FormatValue, IsSound, field_count}
+use Rattle.anb_format.specs.Formats.{FormatValue, IsSound, field_count, pieces_at}
 use Rattle.anb_term.specs.declared.term.Op.{Op}
 use Rattle.anb_term.specs.declared.term.Op.TheVariants as op
 use Rattle.anb_plays.specs.Codes.{Act}
@@ -14,7 +14,7 @@ use Rattle.anb_code.specs.declared.instr.Instr.{Instr}
 use Rattle.anb_code.specs.declared.instr.Instr.TheVariants.{Take, Fresh, Recv, Hash, Mac, Seal, Unseal, Wrap, Unwrap, Build, Parse, Equal, Send}
 use Rattle.anb_code.specs.CodeValue.{CodeValue}
 use Rattle.anb_code.specs.Meaning.{IsOperator, act_of, acts_of}
-use Rattle.anb_code.specs.Registers.{count_written, operands, pieces_at}
+use Rattle.anb_code.specs.Registers.{count_written, operands}
 use Rattle.anb_code.specs.Taking.{take_texts}
 use Rattle.anb_code.specs.Verified.{EachAfter, IsFormatAfter, IsInstrAfter, IsVerifiedCode, count_registers}
 use Rattle.anb_code.proofs.Taking.{no_takes, other_last}

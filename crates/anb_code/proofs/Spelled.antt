@@ -3,19 +3,21 @@ use Rattle.std.proofs.Common.{◌≡◌, ◌≢◌, ◌<◌, ◌≤◌, ◌+◌,
 use Rattle.std.specs.List.{list_any, find, range_with_len, AllByRecursion}
 use Rattle.std.specs.Option.{option_map_or}
 use Rattle.std.specs.Str.{bytes_eq}
-use Rattle.std.proofs.lemmas.Bool.{false_from_ne_true, le-ltb, lt-leb, ne_eqb, eq-eqb, not_from_true}
+use Rattle.std.proofs.lemmas.Bool.{le-ltb, lt-leb, ne_eqb, eq-eqb, not_from_true}
 use Rattle.std.proofs.lemmas.List.{length-append}
 use Rattle.std.proofs.lemmas.List.Elements.{All-from_recursion, recursion_from_All}
 use Rattle.std.proofs.lemmas.List.FromFn.{length-range_with_len}
 use Rattle.std.proofs.lemmas.List.Sums.{sum_by_push, sum_by-cons}
 use Rattle.std.proofs.lemmas.Slice.Eq.{bytes_eq-Decides}
-use Rattle.anb_format.specs.Formats.{FormatValue, field_count}
+use Rattle.anb_lemmas.proofs.Items.{bytes_differ}
+use Rattle.anb_lemmas.proofs.Each.{each_in_parts, each_and_last}
+use Rattle.anb_format.specs.Formats.{FormatValue, field_count, pieces_at}
 use Rattle.anb_code.specs.declared.instr.Instr.{Instr}
 use Rattle.anb_code.specs.declared.instr.Instr.TheVariants.{Take, Fresh, Recv, Hash, Mac, Seal, Unseal, Wrap, Unwrap, Build, Parse, Equal, Send}
 use Rattle.anb_code.specs.CodeValue.{CodeValue}
 use Rattle.anb_code.specs.RawValue.{RawInstrValue}
 use Rattle.anb_code.specs.Laws.{Spells}
-use Rattle.anb_code.specs.Registers.{count_written, operands, pieces_at, register_widths, widths_after, written_widths}
+use Rattle.anb_code.specs.Registers.{count_written, operands, register_widths, widths_after, written_widths}
 use Rattle.anb_code.specs.Spelling.{instr_of, is_named, name_at, place_of, raw_instr, raw_instrs, raw_of, what_of}
 use Rattle.anb_code.specs.Table.{HasCounts, is_take, faults_from, format_faults, instr_faults, has_its_format, is_late, is_taken, reads_unwritten, writes_next, writes_wide, written}
 use Rattle.anb_code.specs.Verified.{EachAfter, HasItsFormat, IsFormatAfter, IsInstrAfter, IsOtherTake, IsTakeAfter, IsVerifiedCode, count_registers}
@@ -26,12 +28,9 @@ use Rattle.anb_code.proofs.Steps.{register_widths-push}
 
 -- ---- formats
 
-other_name : (one other : List ℕ) → one ≢ other → bytes_eq one other ≡ false
-other_name one other differ = false_from_ne_true (bytes_eq one other) (λ e. differ ((bytes_eq-Decides one other).0 e))
-
 not_twice : (name : List ℕ) (before : List FormatValue) → AllByRecursion (λ (earlier : FormatValue). earlier.name ≢ name) before → list_any (is_named name) before ≡ false
 not_twice name [] all = refl
-not_twice name (x ∷ xs) all = rw (other_name x.name name all.0, not_twice name xs all.1) refl
+not_twice name (x ∷ xs) all = rw (bytes_differ x.name name all.0, not_twice name xs all.1) refl
 
 format_accepted : (before : List FormatValue) (format : FormatValue) → IsFormatAfter before format → format_faults before format ≡ []
 format_accepted before format is =
@@ -50,14 +49,6 @@ few_formats before (format ∷ formats) each few =
     let here = each.0.few in
     let rest = few_formats (before ++ format ∷ []) formats each.1 (omega (arith, long, here)) in omega (arith, rest, long)
 
-all_parts : {A : Type 0} (P : A → Type 0) (xs ys : List A) → AllByRecursion P (xs ++ ys) → AllByRecursion P xs × AllByRecursion P ys
-all_parts P [] ys all = (tt, all)
-all_parts P (x ∷ xs) ys all = let rest = all_parts P xs ys all.1 in ((all.0, rest.0), rest.1)
-
-all_push : {A : Type 0} (P : A → Type 0) (xs : List A) (x : A) → AllByRecursion P xs → P x → AllByRecursion P (xs ++ x ∷ [])
-all_push P [] x all p = (p, tt)
-all_push P (y ∷ ys) x all p = (all.0, all_push P ys x all.1 p)
-
 -- a format's name differs from those before it
 new_at : (before formats : List FormatValue) (f : ℕ) (format : FormatValue) → EachAfter IsFormatAfter before formats → slice_get formats f ≡ Some format
     → AllByRecursion (λ (earlier : FormatValue). earlier.name ≢ format.name) before
@@ -65,7 +56,7 @@ new_at before [] f format each e = cc
 new_at before (x ∷ xs) zero format each e =
     let same : x ≡ format = cc in subst (λ (y : FormatValue). AllByRecursion (λ (earlier : FormatValue). earlier.name ≢ y.name) before) same each.0.new
 new_at before (x ∷ xs) (suc f) format each e =
-    (all_parts (λ (earlier : FormatValue). earlier.name ≢ format.name) before (x ∷ []) (new_at (before ++ x ∷ []) xs f format each.1 e)).0
+    (each_in_parts (λ (earlier : FormatValue). earlier.name ≢ format.name) before (x ∷ []) (new_at (before ++ x ∷ []) xs f format each.1 e)).0
 
 -- so it is found by its name, at its place
 found_at : (before formats : List FormatValue) (f : ℕ) (format : FormatValue) → EachAfter IsFormatAfter before formats → slice_get formats f ≡ Some format
@@ -77,8 +68,8 @@ found_at before (x ∷ xs) zero format each e =
     (rw here (ap Some same), rw here refl)
 found_at before (x ∷ xs) (suc f) format each e =
     let new = new_at (before ++ x ∷ []) xs f format each.1 e in
-    let differs = (all_parts (λ (earlier : FormatValue). earlier.name ≢ format.name) before (x ∷ []) new).1.0 in
-    let other : is_named format.name x ≡ false = other_name x.name format.name differs in
+    let differs = (each_in_parts (λ (earlier : FormatValue). earlier.name ≢ format.name) before (x ∷ []) new).1.0 in
+    let other : is_named format.name x ≡ false = bytes_differ x.name format.name differs in
     let rest = found_at (before ++ x ∷ []) xs f format each.1 e in
     (rw other rest.0, rw other (omega (arith, rest.1)))
 
@@ -92,7 +83,7 @@ not_late formats n text (_ ∷ before) all = absurd all.0
 not_taken : (formats : List FormatValue) (n : ℕ) (text : List ℕ) (before : List Instr) → AllByRecursion (IsOtherTake text) before
     → list_any (λ (earlier : RawInstrValue). is_take earlier.what && bytes_eq earlier.name text) (raw_instrs formats n before) ≡ false
 not_taken formats n text [] all = refl
-not_taken formats n text (Take other ∷ before) all = rw (other_name other text all.0, not_taken formats (n + 1) text before all.1) refl
+not_taken formats n text (Take other ∷ before) all = rw (bytes_differ other text all.0, not_taken formats (n + 1) text before all.1) refl
 not_taken formats n text (_ ∷ before) all = absurd all.0
 
 none_above : (wide : ℕ) (widths : List ℕ) → AllByRecursion (λ w. w ≤ wide) widths → list_any (nat_lt wide) widths ≡ false
@@ -185,12 +176,12 @@ module _ (formats : List FormatValue) (each_format : EachAfter IsFormatAfter [] 
     narrow_before : (ws : List ℕ) (instrs : List Instr) → AllByRecursion (λ w. w ≤ wide) (widths_after arrival formats ws instrs) → AllByRecursion (λ w. w ≤ wide) ws
     narrow_before ws [] all = all
     narrow_before ws (i ∷ instrs) all =
-        (all_parts (λ w. w ≤ wide) ws (written_widths arrival formats ws i) (narrow_before (ws ++ written_widths arrival formats ws i) instrs all)).0
+        (each_in_parts (λ w. w ≤ wide) ws (written_widths arrival formats ws i) (narrow_before (ws ++ written_widths arrival formats ws i) instrs all)).0
 
     narrow_here : (ws : List ℕ) (i : Instr) (instrs : List Instr) → AllByRecursion (λ w. w ≤ wide) (widths_after arrival formats ws (i ∷ instrs)) → list_any (nat_lt wide) (written_widths arrival formats ws i) ≡ false
     narrow_here ws i instrs all =
         none_above wide (written_widths arrival formats ws i)
-        (all_parts (λ w. w ≤ wide) ws (written_widths arrival formats ws i) (narrow_before (ws ++ written_widths arrival formats ws i) instrs all)).1
+        (each_in_parts (λ w. w ≤ wide) ws (written_widths arrival formats ws i) (narrow_before (ws ++ written_widths arrival formats ws i) instrs all)).1
 
     instr_accepted : (before : List Instr) (i : Instr) (instrs : List Instr) → IsInstrAfter formats before i → AllByRecursion (HasItsFormat formats) before
         → AllByRecursion (λ w. w ≤ wide) (widths_after arrival formats (widths before) (i ∷ instrs))
@@ -221,7 +212,7 @@ module _ (formats : List FormatValue) (each_format : EachAfter IsFormatAfter [] 
         raw_push 0 before i ∙ ap (λ n. raw_instrs formats 0 before ++ raw_instr formats n i ∷ []) (zero-add (count before)) in
         let counted : count (before ++ i ∷ []) ≡ count before + count_written formats i = sum_by_push (count_written formats) before i in
         let wider : AllByRecursion (λ w. w ≤ wide) (widths_after arrival formats (widths (before ++ i ∷ [])) instrs) = rw (register_widths-push arrival formats before i) narrow in
-        let next = instrs_accepted (before ++ i ∷ []) instrs each.1 (all_push (HasItsFormat formats) before i has each.0.format) wider in
+        let next = instrs_accepted (before ++ i ∷ []) instrs each.1 (each_and_last (HasItsFormat formats) before i has each.0.format) wider in
         let rest = rw (more, counted) at next in
         rw (here, rest) refl
 

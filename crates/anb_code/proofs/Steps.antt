@@ -1,5 +1,5 @@
 -- From what is known of the instructions before to what is known with one more.
-use Rattle.std.proofs.Common.{◌≡◌, ◌<◌, ◌≤◌, ◌+◌, ℕ, zero, suc, nat_lt, nat_le, true, false, List, [], ◌∷◌, ◌++◌, length, map, replicate, take, get_or, slice_index, refl, sym, ap, ◌∙◌, arith, All, append_assoc, lit≤, inl, inr}
+use Rattle.std.proofs.Common.{◌≡◌, ◌<◌, ◌≤◌, ◌+◌, ℕ, zero, suc, nat_lt, nat_le, true, false, List, [], ◌∷◌, ◌++◌, length, map, replicate, take, get_or, slice_index, refl, sym, ap, ◌∙◌, arith, append_assoc, lit≤, inl, inr}
 use Rattle.std.specs.List.{list_any, range_with_len, AllByRecursion}
 use Rattle.std.specs.Str.{bytes_eq}
 use Rattle.std.proofs.lemmas.Bool.{cases_lt, true≢false}
@@ -143,10 +143,6 @@ written_within (x ∷ xs) zero instr h is = rw is (simp length-append (omega ari
 written_within (x ∷ xs) (suc i) instr h is =
     let rest = written_within xs i instr (omega arith) is in
     simp length-append (omega (arith, rest))
-
--- what holds of each of the first instructions, and how many registers they write, with one more
-pub all_more : {A : Type 0} (P : A → Type 0) (xs : List A) (i : ℕ) (x : A) → i < length xs → x ≡ get_or xs i x → P x → All P (take i xs) → All P (take (i + 1) xs)
-all_more P xs i x h is p all = rw (take_more xs i x h, ← is) (All-append P (take i xs) (x ∷ []) all (All-from_recursion P (x ∷ []) (p, tt)))
 
 pub written_more : (code : List RawInstrValue) (i : ℕ) (instr : RawInstrValue) → i < length code → instr ≡ get_or code i instr → length (written (take (i + 1) code)) ≡ length (written (take i code)) + length instr.to
 written_more code i instr h is = rw (take_more code i instr h, ← is) (ap length (written-push (take i code) instr) ∙ length-append (written (take i code)) instr.to)

@@ -1,16 +1,13 @@
 -- The texts of the takes, with one more instruction.
-use Rattle.std.proofs.Common.{◌≡◌, ◌&&◌, ◌||◌, not, Bool, true, false, cond, ℕ, List, [], ◌∷◌, ◌++◌, Option, Some, None, refl, sym, ap, ◌∙◌}
+use Rattle.std.proofs.Common.{◌≡◌, ◌&&◌, ◌||◌, not, Bool, true, false, cond, ℕ, List, [], ◌∷◌, ◌++◌, Option, Some, sym, ap, ◌∙◌}
 use Rattle.std.proofs.Math.Bool.{or-true}
 use Rattle.std.specs.Option.{is_some}
 use Rattle.std.specs.List.{list_any}
 use Rattle.std.specs.Str.{bytes_eq}
 use Rattle.std.proofs.lemmas.List.Folds.{list_any-append}
+use Rattle.anb_lemmas.proofs.Bools.{or_false}
 use Rattle.anb_code.specs.RawValue.{RawInstrValue}
 use Rattle.anb_code.specs.Table.{is_take, is_taken}
-
-or_false : (b : Bool) → (b || false) ≡ b
-or_false true = refl
-or_false false = refl
 
 abbrev takes_text : List ℕ → RawInstrValue → Bool
 takes_text text earlier = is_take earlier.what && bytes_eq earlier.name text

@@ -2,20 +2,21 @@
 use Rattle.std.proofs.Common.{◌≡◌, ◌≤◌, ◌+◌, ◌*◌, not, ℕ, zero, suc, nat_lt, false, List, [], ◌∷◌, ◌++◌, length, map, replicate, slice_index, refl, arith}
 use Rattle.std.specs.List.{AllZip, list_any}
 use Rattle.std.proofs.lemmas.Bool.{or_parts, ltb-false, le-ltb}
-use Rattle.anb_format.specs.Formats.{FormatValue}
-use Rattle.anb_format.specs.Widths.{field_width, pieces_width}
-use Rattle.anb_format.specs.declared.pieces.FieldKind.{FieldKind}
+use Rattle.anb_lemmas.proofs.Lists.{both_empty}
+use Rattle.anb_format.specs.Formats.{FormatValue, pieces_at}
+use Rattle.anb_format.specs.Widths.{pieces_width}
 use Rattle.anb_format.specs.declared.pieces.FieldKind.TheVariants as kind
 use Rattle.anb_format.specs.declared.pieces.Piece.{Piece}
 use Rattle.anb_format.specs.declared.pieces.Piece.TheVariants.{Lit, Field}
+use Rattle.anb_format.proofs.Narrow.{field_within}
 use Rattle.anb_code.specs.declared.instr.Instr.{Instr}
 use Rattle.anb_code.specs.declared.instr.Instr.TheVariants.{Seal, Unseal, Wrap, Unwrap, Build, Parse}
 use Rattle.anb_code.specs.declared.refusal.CodeNo.TheVariants.{Late, TakeTwice, BadFormat, Unwritten, Order, Wide}
 use Rattle.anb_code.specs.RawValue.{RawInstrValue, RawValue}
-use Rattle.anb_code.specs.Registers.{count_written, pieces_at, register_widths, widths_after, width_of, written_widths}
+use Rattle.anb_code.specs.Registers.{count_written, register_widths, widths_after, width_of, written_widths}
 use Rattle.anb_code.specs.Spelling.{instr_of}
 use Rattle.anb_code.specs.Table.{IsAccepted, where_true, faults_from, format_faults, instr_faults, has_its_format, is_late, is_taken, reads_unwritten, writes_next, writes_wide}
-use Rattle.anb_code.proofs.Accepted.{both_empty, holds_not}
+use Rattle.anb_code.proofs.Accepted.{holds_not}
 
 -- each width is at most four times the other list's
 abbrev Within : List ℕ → List ℕ → Type 0
@@ -41,12 +42,6 @@ within_at (x ∷ a) (y ∷ b) (suc r) h = within_at a b r h.1
 within-map : (a b : List ℕ) (registers : List ℕ) → Within a b → Within (map (slice_index a) registers) (map (slice_index b) registers)
 within-map a b [] h = tt
 within-map a b (r ∷ registers) h = (within_at a b r h, within-map a b registers h)
-
-field_within : (k : FieldKind) (w v : ℕ) → v ≤ 4 * w → field_width k v ≤ 4 * field_width k w
-field_within kind.Len w v h = omega arith
-field_within kind.Net w v h = omega arith
-field_within kind.Hex w v h = omega arith
-field_within kind.Rest w v h = h
 
 pieces_within : (pieces : List Piece) (small big : List ℕ) → Within small big → pieces_width pieces big ≤ 4 * pieces_width pieces small
 pieces_within [] small big h = omega arith

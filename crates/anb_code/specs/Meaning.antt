@@ -2,12 +2,11 @@
 use Rattle.std.specs.Prelude.{◌≡◌, List, [], ◌∷◌, length, map, Some, slice_get}
 use Rattle.anb_term.specs.declared.term.Op.{Op}
 use Rattle.anb_term.specs.declared.term.Op.TheVariants as op
-use Rattle.anb_format.specs.Formats.{FormatValue, IsSound, field_count}
+use Rattle.anb_format.specs.Formats.{FormatValue, IsSound, field_count, pieces_at}
 use Rattle.anb_plays.specs.Codes.{Act, takes, draws, receives, sends, works, make, undo, equal}
 use Rattle.anb_code.specs.declared.instr.Instr.{Instr}
 use Rattle.anb_code.specs.declared.instr.Instr.TheVariants.{Take, Fresh, Recv, Hash, Mac, Seal, Unseal, Wrap, Unwrap, Build, Parse, Equal, Send}
 use Rattle.anb_code.specs.CodeValue.{CodeValue}
-use Rattle.anb_code.specs.Registers.{pieces_at}
 
 abbrev pub act_of : List FormatValue → Instr → Act
 act_of formats (Take text) = takes

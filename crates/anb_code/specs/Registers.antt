@@ -1,7 +1,7 @@
 -- Which registers an instruction reads and writes, and how wide these are.
 use Rattle.std.specs.Prelude.{ℕ, ◌+◌, List, [], ◌∷◌, ◌++◌, map, replicate, slice_get, slice_index}
 use Rattle.std.specs.Option.{option_map_or}
-use Rattle.anb_format.specs.Formats.{FormatValue, field_count}
+use Rattle.anb_format.specs.Formats.{FormatValue, field_count, pieces_at}
 use Rattle.anb_format.specs.Widths.{format_width}
 use Rattle.anb_format.specs.declared.pieces.Piece.{Piece}
 use Rattle.anb_code.specs.declared.instr.Instr.{Instr}
@@ -21,9 +21,6 @@ operands (Build f rs) = rs
 operands (Parse f r) = r ∷ []
 operands (Equal a b) = a ∷ b ∷ []
 operands (Send r) = r ∷ []
-
-abbrev pub pieces_at : List FormatValue → ℕ → List Piece
-pieces_at formats f = option_map_or (λ (format : FormatValue). format.pieces) (slice_get formats f) []
 
 -- how many registers it writes
 abbrev pub count_written : List FormatValue → Instr → ℕ

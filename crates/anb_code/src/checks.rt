@@ -2,10 +2,10 @@
 ghost use Rattle.std.specs.Prelude.{◌≡◌, ◌≢◌, ◌<◌, ◌≤◌, ◌+◌, ◌^◌, ◌==◌, ◌&&◌, ◌||◌, ◌↔◌, not, nat_lt, ℕ, List, [], ◌∷◌, ◌++◌, length, map, replicate, slice_get, slice_index, vec_len, find, option_copied, Some, All, Any, SomeIff, nat_le, IfOk, IfErr, OnOk, IsTrue};
 ghost use Rattle.std.specs.List.{list_any, range_with_len};
 ghost use Rattle.std.specs.Str.{bytes_eq};
-ghost use Rattle.anb_format.specs.Formats.{IsSound, field_count};
+ghost use Rattle.anb_format.specs.Formats.{IsSound, field_count, pieces_at};
 ghost use Rattle.anb_format.specs.Widths.{format_width};
 ghost use Rattle.anb_code.specs.RawValue.{RawInstrValue};
-ghost use Rattle.anb_code.specs.Registers.{count_written, pieces_at, register_widths, width_of, written_widths};
+ghost use Rattle.anb_code.specs.Registers.{count_written, register_widths, width_of, written_widths};
 ghost use Rattle.anb_code.specs.Spelling.{instr_of, is_named, place_of};
 ghost use Rattle.anb_code.specs.Table.{BeginsWith, HasCounts, faults_from, format_faults, has_fields, has_its_format, instr_faults, is_late, is_take, is_taken, reads_unwritten, shape_faults, written};
 ghost use Rattle.anb_code.specs.Checking.{Knows, KnowsTakes};

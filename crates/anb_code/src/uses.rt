@@ -1,8 +1,8 @@
 //! How long a register is still to be read.
 ghost use Rattle.std.specs.Prelude.{◌≡◌, ◌<◌, ◌+◌, ◌^◌, ◌++◌, [], length, replicate};
 ghost use Rattle.std.specs.Prelude.{All, IfOk, OnOk};
-ghost use Rattle.anb_format.specs.Formats.{field_count};
-ghost use Rattle.anb_code.specs.Registers.{count_written as count_of, operands, pieces_at};
+ghost use Rattle.anb_format.specs.Formats.{field_count, pieces_at};
+ghost use Rattle.anb_code.specs.Registers.{count_written as count_of, operands};
 ghost use Rattle.anb_code.specs.Uses.{AreLastUses, AreMarked};
 ghost use Rattle.anb_code.specs.Verified.{EachAfter, IsInstrAfter};
 

@@ -4,6 +4,7 @@ use Rattle.anb_base.specs.Bytes.{IsBytes}
 use Rattle.anb_base.specs.Moves.{Put}
 use Rattle.anb_base.specs.Wires.{WireState}
 use Rattle.anb_base.specs.declared.TheConstants.{ARRIVAL}
+use Rattle.anb_base.proofs.Moving.{put_nothing}
 use Rattle.anb_frame.specs.Cuts.{Tail, Cut, CutLeft}
 use Rattle.anb_plays.specs.Plays.{Played}
 use Rattle.anb_session.specs.Sessions.{IsPrompt}
@@ -18,7 +19,7 @@ use Rattle.anb_command.specs.Steps.{Answer, refused, given, HasOneAnswer, IsFail
 use Rattle.anb_command.proofs.Chains.{told_map}
 use Rattle.anb_command.proofs.Ones.{RefusesQuietly, same_given, same_refusal, not_both}
 use Rattle.anb_command.proofs.Runs.{comes}
-use Rattle.anb_command.proofs.Written.{put_nothing, faulty}
+use Rattle.anb_command.proofs.Written.{faulty}
 
 -- where nothing is run
 module _ {A : Type 0} (IsRunOf : A → List (List ℕ) → Played (List ℕ) → Type 0) (Prepares : Answer A → Type 0) (one : HasOneAnswer Prepares) (quiet : RefusesQuietly Prepares) (Reads : List ℕ → Type 0) where

@@ -1,22 +1,14 @@
 -- The bytes of an input's frames.
-use Rattle.std.proofs.Common.{◌≡◌, ℕ, suc, zero, ◌≤◌, List, [], ◌∷◌, ◌++◌, length, All, Option, Some, None, ap, sym, ◌∙◌, subst, arith, append_assoc}
+use Rattle.std.proofs.Common.{◌≡◌, ℕ, ◌≤◌, List, [], ◌∷◌, ◌++◌, length, All, Option, Some, None, ap, sym, ◌∙◌, subst, append_assoc}
 use Rattle.std.specs.List.{AllByRecursion}
 use Rattle.std.proofs.lemmas.List.Elements.{All-append}
 use Rattle.std.proofs.lemmas.Grind.{flat_map-append}
 use Rattle.anb_base.specs.Bytes.{IsBytes}
 use Rattle.anb_base.specs.Moves.{Took}
 use Rattle.anb_base.specs.declared.TheConstants.{ARRIVAL}
+use Rattle.anb_base.proofs.Strings.{bytes_left, bytes_right}
 use Rattle.anb_frame.specs.Frames.{frame, frames, length_bytes}
 use Rattle.anb_frame.specs.Cuts.{Tail, Cut}
-
-pub bytes_left : (xs ys : List ℕ) → IsBytes (xs ++ ys) → IsBytes xs
-bytes_left [] ys bytes i = omega arith
-bytes_left (x ∷ xs) ys bytes zero = bytes 0
-bytes_left (x ∷ xs) ys bytes (suc i) = bytes_left xs ys (λ j. bytes (suc j)) i
-
-pub bytes_right : (xs ys : List ℕ) → IsBytes (xs ++ ys) → IsBytes ys
-bytes_right [] ys bytes = bytes
-bytes_right (x ∷ xs) ys bytes = bytes_right xs ys (λ i. bytes (suc i))
 
 pub bytes_in_frames : (bs : List (List ℕ)) → IsBytes (frames bs) → AllByRecursion IsBytes bs
 bytes_in_frames [] bytes = tt

@@ -7,6 +7,7 @@ use Rattle.anb_base.specs.Wires.{WireState}
 use Rattle.anb_base.specs.declared.place.Place.{Place}
 use Rattle.anb_frame.specs.Cuts.{CutLeft}
 use Rattle.anb_base.specs.declared.TheConstants.{ARRIVAL}
+use Rattle.anb_base.proofs.Moving.{put_nothing}
 use Rattle.anb_plays.specs.Plays.{Played}
 use Rattle.anb_command.specs.declared.status.Status.{Status}
 use Rattle.anb_command.specs.declared.status.Status.TheVariants.{Done, Usage, FileFault, Unreached, ReadFault, WriteFault, ChildFault, NoMemory}
@@ -16,7 +17,6 @@ use Rattle.anb_command.specs.Prepared.{RunsOn, RunsTo}
 use Rattle.anb_command.specs.Reaches.{Reaches}
 use Rattle.anb_command.specs.Statuses.{Phase, before_reach, at_reach, after_reach, at_any_time, phase_of}
 use Rattle.anb_command.specs.Touches.{Touches}
-use Rattle.anb_command.proofs.Written.{put_nothing}
 
 -- what holds of all that two wires tell holds of their states
 pub by_parts : (P : WireState → WireState → Type 0) (old new old_parts new_parts : WireState) → old ≡ old_parts → new ≡ new_parts → P old_parts new_parts → P old new

@@ -1,7 +1,6 @@
 -- Small facts on what functions give and refuse.
-use Rattle.std.proofs.Common.{◌≡◌, ℕ, ◌<◌, ◌⊎◌, List, length, Option, Some, None, Result, Ok, Err, IfOk, ap, sym, ◌∙◌, subst, inl, inr}
-use Rattle.std.specs.Prelude.{IfErr, slice_get, slice_index_or}
-use Rattle.std.proofs.lemmas.Option.{slice_get-get_or}
+use Rattle.std.proofs.Common.{◌≡◌, ℕ, ◌⊎◌, List, Option, Some, None, Result, Ok, Err, IfOk, sym, subst, inl, inr}
+use Rattle.std.specs.Prelude.{IfErr}
 use Rattle.anb_command.specs.declared.status.Status.{Status}
 use Rattle.anb_command.specs.declared.status.Status.TheVariants.{NoMemory}
 use Rattle.anb_command.specs.Fetches.{Files, IfTold}
@@ -11,10 +10,6 @@ pub if_ok_items : {V E : Type 0} (r : Result V E) (f : V → List (List ℕ)) (x
 if_ok_items (Ok v) f xs P is p = subst P (sym is) p
 if_ok_items (Err e) f xs P is p = tt
 
-pub if_ok_map : {V E : Type 0} (r : Result V E) (P Q : V → Type 0) → ((v : V) → P v → Q v) → IfOk r P → IfOk r Q
-if_ok_map (Ok v) P Q f p = f v p
-if_ok_map (Err e) P Q f p = tt
-
 pub if_err_map : {V E : Type 0} (r : Result V E) (P Q : E → Type 0) → ((e : E) → P e → Q e) → IfErr r P → IfErr r Q
 if_err_map (Ok v) P Q f p = tt
 if_err_map (Err e) P Q f p = f e p
@@ -23,9 +18,6 @@ if_err_map (Err e) P Q f p = f e p
 pub fails_by : (r s : Status) (Q : Type 0) → IsFailure s (λ _. ⊥) ((s ≡ s) × Q) → (r ≡ s) ⊎ (r ≡ NoMemory) → IsFailure r (λ _. ⊥) ((r ≡ s) × Q)
 fails_by r s Q fails (inl is) = subst (λ (t : Status). IsFailure t (λ _. ⊥) ((t ≡ s) × Q)) (sym is) fails
 fails_by r s Q fails (inr is) = subst (λ (t : Status). IsFailure t (λ _. ⊥) ((t ≡ s) × Q)) (sym is) tt
-
-pub item_at : {X : Type 0} (xs : List X) (i : ℕ) (x : X) → i < length xs → x ≡ slice_index_or xs i x → slice_get xs i ≡ Some x
-item_at xs i x within is = slice_get-get_or xs i x within ∙ ap Some (sym is)
 
 -- two facts about told files give a third
 pub told_both : {P Q R : Files → Type 0} (told : Option Files) → ((files : Files) → P files → Q files → R files) → IfTold told P → IfTold told Q → IfTold told R

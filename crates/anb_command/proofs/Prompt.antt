@@ -2,15 +2,16 @@
 use Rattle.std.proofs.Common.{◌≡◌, ℕ, ◌+◌, List, [], ◌∷◌, ◌++◌, length, replicate, Option, Some, None, refl, ap, sym, ◌∙◌, subst}
 use Rattle.std.specs.Prelude.{IfSome, ◌≤◌}
 use Rattle.std.proofs.lemmas.List.Elements.{All-nil}
+use Rattle.anb_plays.specs.Plays.{Run}
 use Rattle.anb_base.specs.Moves.{Put, Took}
 use Rattle.anb_base.specs.Wires.{WireState}
 use Rattle.anb_base.specs.declared.TheConstants.{ARRIVAL}
 use Rattle.anb_base.specs.declared.place.Place.{Place}
+use Rattle.anb_base.proofs.Moving.{put_nothing, took_nothing}
 use Rattle.anb_frame.specs.Cuts.{End}
 use Rattle.anb_frame.specs.Frames.{frame, frames}
-use Rattle.anb_session.specs.Sessions.{IsPrompt, Run, due, due_at}
+use Rattle.anb_session.specs.Sessions.{IsPrompt, due, due_at}
 use Rattle.anb_command.specs.OverWire.{HasReached}
-use Rattle.anb_command.proofs.Written.{put_nothing}
 
 -- what is due is told by the messages alone
 module _ (R Q : Run) (same : (arrivals : List (List ℕ)) → (R arrivals).sent ≡ (Q arrivals).sent) where
@@ -62,11 +63,6 @@ prompt_after R place S T U reached p = by p where
     in_time = subst (λ (w : Option (List ℕ)). IfSome w (λ text. Put S.taken_at U.taken_at (due_at R (length text) [] q.whole (length q.rest)))) written
         (subst (λ (t : Option (List ℕ)). IfSome T.written (λ text. Put t U.taken_at (due_at R (length text) [] q.whole (length q.rest)))) taken q.in_time);
   }
-
--- where nothing is taken
-took_nothing : (l : Option (List ℕ)) → Took l l []
-took_nothing None = refl
-took_nothing (Some x) = refl
 
 pub prompt_nowhere : (R : Run) (S T : WireState) → T.left ≡ S.left → T.taken_at ≡ S.taken_at → IsPrompt R S T
 prompt_nowhere R S T left taken = record {

@@ -4,6 +4,7 @@ use Rattle.std.proofs.lemmas.List.{append_cancel_left, append_cancel_right}
 use Rattle.anb_base.specs.Bytes.{IsBytes}
 use Rattle.anb_base.specs.Moves.{Put, PutPrefix}
 use Rattle.anb_base.specs.declared.TheConstants.{ARRIVAL}
+use Rattle.anb_base.proofs.Moving.{put_nothing}
 use Rattle.anb_frame.specs.Frames.{frames, length_bytes}
 use Rattle.anb_frame.specs.Cuts.{Tail, End, Short, Long, Cut}
 use Rattle.anb_plays.specs.Plays as plays
@@ -21,7 +22,7 @@ use Rattle.anb_command.specs.Statuses.{is_fault}
 use Rattle.anb_command.specs.Steps.{Answer, refused, given, HasOneAnswer}
 use Rattle.anb_command.proofs.Cutting.{bytes_in_cut, bytes_taken}
 use Rattle.anb_command.proofs.Ones.{same_given, not_both}
-use Rattle.anb_command.proofs.Written.{put_nothing, faulty}
+use Rattle.anb_command.proofs.Written.{faulty}
 
 -- a play over a wire ends with the status of its end
 status_of_end : (e : plays.End) (tail : Tail) → status_of (end_at e tail) ≡ status_at e tail
@@ -103,7 +104,7 @@ end_kept s plays.done tail other is = is
 end_kept s (plays.stopped e at) tail other is = absurd (other (record { event = e; at = at }) is)
 end_kept s (plays.waiting e) tail other is = is
 
-reads_untold : (e : plays.End) (arrivals unused : List (List ℕ)) (tail : Tail) (left now : Option (List ℕ)) → Reads e arrivals unused tail left now → Reads (no_place e) arrivals unused tail left now
+pub reads_untold : (e : plays.End) (arrivals unused : List (List ℕ)) (tail : Tail) (left now : Option (List ℕ)) → Reads e arrivals unused tail left now → Reads (no_place e) arrivals unused tail left now
 reads_untold plays.done arrivals unused tail left now reads = reads
 reads_untold (plays.stopped e at) arrivals unused tail left now reads = reads
 reads_untold (plays.waiting e) arrivals unused tail left now reads = reads

@@ -15,6 +15,7 @@ use Rattle.anb_resolve.specs.Plays.{event_of, events_of}
 use Rattle.anb_resolve.specs.Protocols.{ActionValue, ProtocolValue}
 use Rattle.anb_resolve.specs.Texts.{known_by}
 use Rattle.anb_compile.specs.Unsent.{IsUnsent, IsFirstUnsentOfAll, label_of, labels_of}
+use Rattle.anb_compile.proofs.Protocols.{knows_labels}
 
 -- ---- who sends an action
 
@@ -181,10 +182,6 @@ module _ (has : Op → Bool) where
   rest_can_send frame (to_receive i t ∷ before) n message after none can =
       subst (λ f. HasRecipe has f message) (append_assoc frame (t ∷ []) (labels_of before)) (rest_can_send (frame ++ t ∷ []) before n message after none can)
 
-labels_of_knows : (ts : List Tree) → labels_of (map to_know ts) ≡ ts
-labels_of_knows [] = refl
-labels_of_knows (t ∷ ts) = ap (λ l. t ∷ l) (labels_of_knows ts)
-
 none_known : (es : List PlanEvent) → NoneKnown es → known (map event_of es) ≡ []
 none_known [] none = refl
 none_known (to_know t ∷ es) none = absurd none
@@ -209,4 +206,4 @@ none_unsent p role n sendable unsent =
     let rest : CanSend has ts (map event_of (b.between ++ (to_send n unsent.message ∷ unsent.after))) = subst (λ es. CanSend has ts (map event_of es)) b.back (knows_can_send has ts ts (rest_of p role) can) in
     let recipe : HasRecipe has (ts ++ labels_of b.between) unsent.message = rest_can_send has ts b.between n unsent.message unsent.after (subst NoneKnown b.back none) rest in
     unsent.no_recipe (subst (λ f. HasRecipe has f unsent.message)
-    (sym (ap labels_of b.front ∙ flat_map-append label_of (map to_know ts) b.between ∙ ap (λ l. l ++ labels_of b.between) (labels_of_knows ts))) recipe)
+    (sym (ap labels_of b.front ∙ flat_map-append label_of (map to_know ts) b.between ∙ ap (λ l. l ++ labels_of b.between) (knows_labels ts))) recipe)

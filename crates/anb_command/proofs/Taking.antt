@@ -3,6 +3,7 @@ use Rattle.std.proofs.Common.{append-nil, append_assoc, ◌≡◌, ◌≢◌, �
 use Rattle.std.specs.Prelude.{AllPairs}
 use Rattle.std.specs.List.{AllByRecursion}
 use Rattle.std.proofs.lemmas.List.Elements.{filter_map-append}
+use Rattle.anb_lemmas.proofs.Lists.{take_suc_got}
 use Rattle.anb_base.specs.declared.TheConstants.{ARRIVAL, WIDE}
 use Rattle.anb_code.specs.CodeValue.{CodeValue}
 use Rattle.anb_code.specs.Taking.{take_texts, taken_text}
@@ -10,7 +11,6 @@ use Rattle.anb_code.specs.Verified.{EachAfter, IsInstrAfter, IsOtherTake, IsVeri
 use Rattle.anb_code.specs.declared.instr.Instr.{Instr}
 use Rattle.anb_code.specs.declared.instr.Instr.TheVariants.{Take}
 use Rattle.anb_format.specs.Formats.{FormatValue}
-use Rattle.anb_plays.proofs.Registers.{take_next}
 use Rattle.anb_resolve.proofs.Distinct.{AllApart, pairs}
 use Rattle.anb_values.specs.declared.fitted.Fitted.{Fitted}
 use Rattle.anb_command.specs.declared.status.Status.{Status}
@@ -27,7 +27,7 @@ use Rattle.anb_command.proofs.Chains.{told_map}
 pub next_take : (texts : List (List ℕ)) (i : ℕ) (text : List ℕ) (names now : List (List ℕ)) → names ≡ take i texts → Some text ≡ slice_get texts i → now ≡ names ++ text ∷ [] → now ≡ take (i + 1) texts
 next_take texts i text names now before there is =
     let e : suc i ≡ i + 1 = omega arith in
-    is ∙ ap (λ (xs : List (List ℕ)). xs ++ text ∷ []) before ∙ sym (take_next texts i text (sym there)) ∙ ap (λ n. take n texts) e
+    is ∙ ap (λ (xs : List (List ℕ)). xs ++ text ∷ []) before ∙ sym (take_suc_got texts i text (sym there)) ∙ ap (λ n. take n texts) e
 
 -- a take's text differs from those of the takes before it
 apart : (text : List ℕ) (before : List Instr) → AllByRecursion (IsOtherTake text) before → AllByRecursion (λ (other : List ℕ). other ≢ text) (take_texts before)

@@ -8,8 +8,8 @@ use Rattle.anb_base.specs.declared.TheConstants.{ARRIVAL}
 use Rattle.anb_frame.specs.Frames.{frames, length_bytes}
 use Rattle.anb_frame.specs.Cuts.{Tail, End, Short, Long, Cut}
 use Rattle.anb_plays.specs.Plays as plays
-use Rattle.anb_plays.specs.Plays.{Played}
-use Rattle.anb_session.specs.Sessions.{IsPrompt, Run}
+use Rattle.anb_plays.specs.Plays.{Played, Run}
+use Rattle.anb_session.specs.Sessions.{IsPrompt}
 use Rattle.anb_command.specs.declared.status.Status.{Status}
 use Rattle.anb_command.specs.declared.status.Status.TheVariants.{Done, FileFault, Unreached, Stopped, Waiting, Truncated, TooLarge, ReadFault, WriteFault, NoMemory}
 use Rattle.anb_command.specs.Fetches.{Files, IfTold}

@@ -3,15 +3,11 @@ use Rattle.std.specs.Prelude.{◌≡◌, ℕ, List, slice_get, Option, Some, Non
 use Rattle.std.specs.List.{position_from}
 use Rattle.std.specs.Str.{bytes_eq}
 use Rattle.anb_resolve.specs.Plays.{IsSendable}
-use Rattle.anb_resolve.specs.Protocols.{ProtocolValue}
+use Rattle.anb_resolve.specs.Protocols.{ProtocolValue, role_named}
 use Rattle.anb_compile.specs.Unsent.{IsFirstUnsentOfAll}
 use Rattle.anb_command.specs.declared.status.Status.TheVariants.{NoRole, CannotSend}
 use Rattle.anb_command.specs.Files.{ProtocolInFile}
 use Rattle.anb_command.specs.Steps.{Answer, refused, given, InTurn, AnswersWith}
-
--- the number of the role with a name
-abbrev pub role_named : ProtocolValue → List ℕ → Option ℕ
-role_named p name = position_from (λ other. bytes_eq other name) 0 p.roles
 
 abbrev pub RoleIs : ProtocolValue → List ℕ → Answer ℕ → Type 0
 RoleIs p name (refused status) = (status ≡ NoRole name) × (role_named p name ≡ None)

@@ -3,6 +3,7 @@ use Rattle.std.proofs.Common.{◌≡◌, ℕ, zero, suc, ◌+◌, ◌-◌, ◌<�
 use Rattle.std.specs.Prelude.{slice_get}
 use Rattle.std.specs.List.{range_with_len}
 use Rattle.std.proofs.lemmas.List.{append-nil}
+use Rattle.anb_lemmas.proofs.Lists.{get_either}
 use Rattle.anb_format.specs.Formats.{FormatValue}
 use Rattle.anb_term.specs.declared.term.Op.{Op}
 use Rattle.anb_term.specs.Operator.{arity, keys}
@@ -10,8 +11,7 @@ use Rattle.anb_term.specs.Tree.{trees_of}
 use Rattle.anb_term.specs.Value.{Meaning, RecipeTree, RecipeTrees, part}
 use Rattle.anb_term.specs.FreeAlgebra.{terms_over}
 use Rattle.anb_term.specs.Demand.{Demand, opens, equals, all_hold, holds}
-use Rattle.anb_term.proofs.Lists.{slice_get-append, map-append}
-use Rattle.anb_term.proofs.Steps.{both}
+use Rattle.anb_term.proofs.Lists.{slice_get-append, map-append, hold_split}
 use Rattle.anb_algebra.specs.ByteMeaning.{has_operator}
 use Rattle.anb_close.specs.Rows.{made_recipe, mades_recipes}
 use Rattle.anb_close.specs.MadeView.{made_tree}
@@ -22,17 +22,14 @@ use Rattle.anb_basis.specs.declared.check.Check.TheVariants.{Open, Equal}
 use Rattle.anb_plays.specs.Codes.{works, undo, equal, at_register, at_registers, parts, writes, demands}
 use Rattle.anb_plays.specs.Fits.{Place, after_work, start}
 use Rattle.anb_plays.specs.Reaches.{Reaches}
+use Rattle.anb_plays.proofs.Registers.{length-parts}
 use Rattle.anb_code.specs.declared.instr.Instr.{Instr}
 use Rattle.anb_code.specs.declared.instr.Instr.TheVariants as instr
 use Rattle.anb_code.specs.Meaning.{act_of}
 use Rattle.anb_compile.specs.declared.writer.Writer.{Writer}
 use Rattle.anb_compile.specs.Writing.{meaning_in, Tracks, HaveBuilt, Stands, further, Composes, ComposesEach, entry_at, demand_in, IsCheckOf, AreChecksOf, Asks, count_opened, count_all_opened}
-use Rattle.anb_compile.proofs.Lists.{either_part, later_part, number_at}
+use Rattle.anb_compile.proofs.Lists.{later_part, number_at}
 use Rattle.anb_compile.proofs.Writing.{acts_put, tracks_more, read, hold_read, built_more, built_same, reach_work}
-
-pub length-parts : (n : ℕ) (o : Op) (ks : RecipeTrees) (r : RecipeTree) → length (parts n o ks r) ≡ n
-length-parts zero o ks r = refl
-length-parts (suc n) o ks r = omega (arith, length-append (parts n o ks r) (part o n ks r ∷ []), length-parts n o ks r)
 
 pub part_here : (n : ℕ) (o : Op) (ks : RecipeTrees) (r : RecipeTree) (j : ℕ) → j < n → slice_get (parts n o ks r) j ≡ Some (part o j ks r)
 part_here zero o ks r j h = absurd (omega arith)
@@ -50,7 +47,7 @@ one_holds m vs d e s h = ap (λ x. all_hold m vs (x ∷ [])) s ∙ h
 module _ (regs entries : List RecipeTree) (places : List ℕ) (o : Op) (ks : RecipeTrees) (r : RecipeTree) (count next : ℕ) where
   pub tracks_opened : Tracks regs entries places → next ≡ length regs → ((j : ℕ) → j < count → slice_get entries (length places + j) ≡ Some (part o j ks r))
       → Tracks (regs ++ parts count o ks r) entries (places ++ range_with_len next count)
-  tracks_opened tracks long are n k e = elim (either_part places (range_with_len next count) n k e) [
+  tracks_opened tracks long are n k e = elim (get_either places (range_with_len next count) n k e) [
     | inl h ↦ tracks_more regs (parts count o ks r) entries places tracks n k h
     | inr h ↦
         let at = number_at next count h.0 k h.2 in
@@ -145,13 +142,6 @@ checks_front has entries k (y ∷ xs) x h =
     let P : ℕ → Type 0 = λ n. IsCheckOf has entries n x in
     let e : (k + count_opened y) + count_all_opened xs ≡ k + (count_opened y + count_all_opened xs) = omega arith in
     ((h.0, a.0), subst P e a.1)
-
-pub hold_split : {A : Type 0} (m : Meaning A) (vs : List A) (ds es : List Demand) → all_hold m vs (ds ++ es) ≡ true → (all_hold m vs ds ≡ true) × (all_hold m vs es ≡ true)
-hold_split m vs [] es h = (refl, h)
-hold_split m vs (d ∷ ds) es h =
-    let b = both (holds m vs d) (all_hold m vs (ds ++ es)) h in
-    let c = hold_split m vs ds es b.1 in
-    (rw (b.0, c.0) refl, c.1)
 
 pub checks_at : (has : Op → Bool) (entries : List RecipeTree) (k : ℕ) (xs : List Check) (i : ℕ) (x : Check) → AreChecksOf has entries k xs → slice_get xs i ≡ Some x → IsCheckOf has entries (k + count_all_opened (take i xs)) x
 checks_at has entries k [] i x h e = cc

@@ -4,18 +4,19 @@ use Rattle.std.specs.Prelude.{slice_get, count_by, if◌then◌else◌}
 use Rattle.std.specs.List.{AllByRecursion}
 use Rattle.std.proofs.lemmas.List.{append-nil}
 use Rattle.std.proofs.Math.Seq.{drop-append_seam}
+use Rattle.std.proofs.lemmas.Bool.{and_parts}
+use Rattle.anb_lemmas.proofs.Lists.{get_last}
 use Rattle.anb_format.specs.Formats.{FormatValue}
 use Rattle.anb_term.specs.declared.term.Op.{Op}
 use Rattle.anb_term.specs.declared.term.Term.{Term}
 use Rattle.anb_term.specs.View.{tree_of}
 use Rattle.anb_base.specs.declared.TheConstants.{ARRIVAL}
-use Rattle.anb_term.specs.Tree.{Tree, leaf, node, Trees, trees_of, tree_size, nodes, IsFormed, AreFormed}
+use Rattle.anb_term.specs.Tree.{Tree, Trees, trees_of, tree_size, nodes, IsFormed, AreFormed}
 use Rattle.anb_term.specs.Value.{Meaning, RecipeTree, label, value}
 use Rattle.anb_term.specs.FreeAlgebra.{terms_over}
 use Rattle.anb_term.specs.Agree.{HasRecipe}
 use Rattle.anb_term.specs.Demand.{Demand, all_hold, holds, Suffices}
-use Rattle.anb_term.proofs.Lists.{slice_get-append, slice_get-last, map-append, all_drop}
-use Rattle.anb_term.proofs.Steps.{both}
+use Rattle.anb_term.proofs.Lists.{slice_get-append, slice_get-last, map-append, all_drop, size_some}
 use Rattle.anb_term.proofs.Demands.{all_hold_more}
 use Rattle.anb_algebra.specs.ByteMeaning.{has_operator}
 use Rattle.anb_algebra.specs.ByteLawful.{bytes_are_lawful}
@@ -52,11 +53,10 @@ use Rattle.anb_compile.proofs.Sharing.{sharing_on, none_put, mades_kept, operand
 use Rattle.anb_compile.specs.Writing.{Context, meaning_in, Tracks, Stands, IsOver, further, Composes, demand_in, AreChecksOf, Asks, count_all_opened}
 use Rattle.anb_compile.specs.Verifying.{widths_in, IsVerifiable, IsWithin, GrowsBy, IsNarrow, IsLonger, Lays, IsNarrowCheck, LaysChecks, room_for}
 use Rattle.anb_compile.specs.Emitting.{others, known_in, KnowsLead, IsPlan, CanSendAll, Done, HasDone, Labelled, WasKnown}
-use Rattle.anb_compile.proofs.Lists.{last_part}
 use Rattle.anb_compile.proofs.Writing.{acts_put, tracks_more, tracks_longer, built_more, built_same, read}
 use Rattle.anb_compile.proofs.Opened.{label_checks, demands_stay, recipe_here}
 use Rattle.anb_compile.proofs.Laying.{IsLabelling, verifiable_known, verifiable_heard, verifiable_sent, longer_on}
-use Rattle.anb_compile.proofs.Small.{size_some, terms_have, sizes_within, narrow_within, check_narrow, check_room, all_checks, all_chosen}
+use Rattle.anb_compile.proofs.Small.{terms_have, sizes_within, narrow_within, check_narrow, check_room, all_checks, all_chosen}
 use Rattle.anb_compile.proofs.Events.{labels_have, labels_first, labels_append, known_append, others_append, known_events, leads_behind, leads_before, formed_labels}
 
 -- ---- demands
@@ -72,7 +72,7 @@ demands_same es (c ∷ cs) = cc (demand_same es c, demands_same es cs)
 hold_behind : {A : Type 0} (m : Meaning A) (vs : List A) (f : Check → Demand) (n : ℕ) (cs : List Check) → all_hold m vs (map f cs) ≡ true → all_hold m vs (map f (drop n cs)) ≡ true
 hold_behind m vs f zero cs h = h
 hold_behind m vs f (suc n) [] h = h
-hold_behind m vs f (suc n) (c ∷ cs) h = hold_behind m vs f n cs (both (holds m vs (f c)) (all_hold m vs (map f cs)) h).1
+hold_behind m vs f (suc n) (c ∷ cs) h = hold_behind m vs f n cs (and_parts (holds m vs (f c)) (all_hold m vs (map f cs)) h).1
 
 -- ---- entries
 
@@ -103,7 +103,7 @@ label_recipe has es es' t known formed added =
 -- ---- what was sent
 
 -- a list with one more item, cut somewhere
-cut_last : (xs front back : List PlanEvent) (e x : PlanEvent) → xs ++ e ∷ [] ≡ front ++ (x ∷ back) → ((xs ≡ front) × (e ≡ x)) ⊎ ((rest : List PlanEvent) × (xs ≡ front ++ (x ∷ rest)))
+pub cut_last : (xs front back : List PlanEvent) (e x : PlanEvent) → xs ++ e ∷ [] ≡ front ++ (x ∷ back) → ((xs ≡ front) × (e ≡ x)) ⊎ ((rest : List PlanEvent) × (xs ≡ front ++ (x ∷ rest)))
 cut_last [] [] back e x h = inl (refl, cc)
 cut_last [] (y ∷ []) back e x h = cc
 cut_last [] (y ∷ z ∷ front) back e x h = cc
@@ -391,7 +391,7 @@ module _ (c : Context) (before after : List PlanEvent) (e : PlanEvent) (plan : I
         built = built_more s.regs (label (length s.frame) ∷ []) w.built (built_same s.regs x.writer.built w.built built st.built);
       } in
       let here : slice_get later.regs x.writer.next ≡ Some (label (length (labels_of before))) =
-      (let P : ℕ → Type 0 = λ q. slice_get later.regs q ≡ Some (label (length s.frame)) in subst P (sym st.next) (last_part s.regs (label (length s.frame))) ∙ ap (λ q. Some (label (length q))) frame_is) in
+      (let P : ℕ → Type 0 = λ q. slice_get later.regs q ≡ Some (label (length s.frame)) in subst P (sym st.next) (get_last s.regs (label (length s.frame))) ∙ ap (λ q. Some (label (length q))) frame_is) in
       let frame : later.frame ≡ labels_of (before ++ e ∷ []) ++ known_in after =
       ap (λ q. q ++ tree_of t ∷ []) frame_is ∙ ap (λ q. labels_of before ++ q) (sym (append-nil (label_of e) ∙ is)) ∙ sym (labels_append before (e ∷ []))
       ∙ sym (append-nil (labels_of (before ++ e ∷ []))) ∙ ap (λ q. labels_of (before ++ e ∷ []) ++ q) (sym nothing) in

@@ -7,12 +7,14 @@ use Rattle.std.proofs.lemmas.List.{append-nil, length-replicate}
 use Rattle.std.proofs.Math.Seq.{get_or-append_seam}
 use Rattle.std.proofs.lemmas.List.Elements.{All-from_recursion}
 use Rattle.std.proofs.lemmas.List.Sums.{sum_by-cons}
+use Rattle.anb_lemmas.proofs.Each.{each_in_both}
+use Rattle.anb_lemmas.proofs.Lists.{get_either, got_within}
 use Rattle.anb_base.specs.declared.TheConstants.{ARRIVAL, WIDE}
 use Rattle.anb_format.specs.Formats.{FormatValue}
 use Rattle.anb_term.specs.declared.term.Op.{Op}
 use Rattle.anb_term.specs.Operator.{arity, keys}
 use Rattle.anb_term.specs.Tree.{Tree, leaf, node, trees_of, tree_size, trees_size}
-use Rattle.anb_term.proofs.Lists.{slice_get-append, slice_get-within, slice_get-last, map-append, all_append}
+use Rattle.anb_term.proofs.Lists.{slice_get-append, slice_get-last, map-append}
 use Rattle.anb_algebra.specs.ByteMeaning.{has_operator}
 use Rattle.anb_close.specs.MadeView.{made_tree}
 use Rattle.anb_close.specs.declared.entry.Opening.{Opening}
@@ -34,7 +36,7 @@ use Rattle.anb_compile.specs.Sharing.{key, register_at, Keeps}
 use Rattle.anb_compile.specs.Once.{IsMade, Builds}
 use Rattle.anb_compile.specs.Writing.{IsOver, AreChecksOf, count_all_opened}
 use Rattle.anb_compile.specs.Verifying.{widths_in, AreBuiltWide, IsVerifiable, IsUndoing, GrowsBy, IsNarrow, AreNarrow, IsLonger, Lays, HoldWidths, LaysEach, IsNarrowCheck, LaysChecks}
-use Rattle.anb_compile.proofs.Lists.{either_part, later_part, number_at}
+use Rattle.anb_compile.proofs.Lists.{later_part, number_at}
 use Rattle.anb_compile.proofs.Keys.{key_same}
 use Rattle.anb_compile.proofs.Writing.{over_front}
 use Rattle.anb_compile.proofs.Asking.{checks_front}
@@ -109,7 +111,7 @@ module _ (formats : List FormatValue) (old new : Writer) (x : Instr) (code : new
       record {
         instrs = subst P (sym code) (each_more (IsInstrAfter formats) [] old.code.items x v.instrs here);
         next = omega (arith, next, v.next, ap length widths_put, length-append ws more, length-replicate (count_written formats x) (width_of ARRIVAL formats ws x));
-        narrow = subst Q (sym widths_put) (all_append (λ q. q ≤ WIDE) ws more v.narrow (all_same (count_written formats x) (width_of ARRIVAL formats ws x) narrow));
+        narrow = subst Q (sym widths_put) (each_in_both (λ q. q ≤ WIDE) ws more v.narrow (all_same (count_written formats x) (width_of ARRIVAL formats ws x) narrow));
         placed = placed;
         built = built;
       }
@@ -148,7 +150,7 @@ hold_within : (all rs ws : List ℕ) → HoldWidths all rs ws → AllByRecursion
 hold_within all [] [] h = tt
 hold_within all [] (w ∷ ws) h = absurd h
 hold_within all (r ∷ rs) [] h = absurd h
-hold_within all (r ∷ rs) (w ∷ ws) h = (slice_get-within all r w h.0, hold_within all rs ws h.1)
+hold_within all (r ∷ rs) (w ∷ ws) h = (got_within all r w h.0, hold_within all rs ws h.1)
 
 narrow_front : (formats : List FormatValue) (ms : List Tree) (m : Tree) → AreNarrow formats (ms ++ m ∷ []) → AreNarrow formats ms × IsNarrow formats m
 narrow_front formats [] m e = (refl, (and_parts (fits_width ARRIVAL formats WIDE m) true e).0)
@@ -263,7 +265,7 @@ builds_grow mid new o ns r (inr m) = record { instrs = omega (arith, ap length m
 -- the registers of parts are as wide as the undone one, an entry's
 parts_placed : (ws : List ℕ) (places : List ℕ) (count next : ℕ) → next ≡ length ws → ((n k : ℕ) → slice_get places n ≡ Some k → slice_get (ws ++ replicate count ARRIVAL) k ≡ Some ARRIVAL)
     → (n k : ℕ) → slice_get (places ++ range_with_len next count) n ≡ Some k → slice_get (ws ++ replicate count ARRIVAL) k ≡ Some ARRIVAL
-parts_placed ws places count next is before n k e = elim (either_part places (range_with_len next count) n k e) [
+parts_placed ws places count next is before n k e = elim (get_either places (range_with_len next count) n k e) [
   | inl h ↦ before n k h
   | inr h ↦
       let at = number_at next count h.0 k h.2 in
@@ -290,7 +292,7 @@ open_lays old mid put new x ns of count i each same entry code next places undoi
     let grown : widths_in formats new ≡ ws ++ replicate count ARRIVAL = widths_put formats mid new i all ∙ ap (λ l. ws ++ l) wrote in
     let vs = widths ARRIVAL formats (trees_of x.keys) in
     let R : List ℕ → Type 0 = λ l. AllByRecursion (λ q. q < length ws) l in
-    let reads = subst R (sym undoing.reads) (all_append (λ q. q < length ws) ns (of ∷ []) (hold_within ws ns vs a.hold) (slice_get-within ws of ARRIVAL held, tt)) in
+    let reads = subst R (sym undoing.reads) (each_in_both (λ q. q < length ws) ns (of ∷ []) (hold_within ws ns vs a.hold) (got_within ws of ARRIVAL held, tt)) in
     let all_places : new.places.items ≡ mid.places.items ++ range_with_len mid.next count = places' ∙ ap (λ q. q.items ++ range_with_len put.next count) places ∙ ap (λ n. mid.places.items ++ range_with_len n count) next in
     let P : List ℕ → Type 0 = λ l. (n k : ℕ) → slice_get (mid.places.items ++ range_with_len mid.next count) n ≡ Some k → slice_get l k ≡ Some ARRIVAL in
     let Q : List ℕ → Type 0 = λ l. (n k : ℕ) → slice_get l n ≡ Some k → slice_get (widths_in formats new) k ≡ Some ARRIVAL in
@@ -310,7 +312,7 @@ equal_lays old mid new n e r made one same entry code next places built formats 
     let x = instr.Equal e r in
     let low : ARRIVAL ≤ WIDE = lit≤ tt in
     let items = ap (λ q. q.items) places in
-    let put_v = verifiable_put formats mid new x code tt tt (slice_get-within ws e ARRIVAL (m.placed n e entry), (slice_get-within ws r _ a.holds, tt)) low (omega (arith, next))
+    let put_v = verifiable_put formats mid new x code tt tt (got_within ws e ARRIVAL (m.placed n e entry), (got_within ws r _ a.holds, tt)) low (omega (arith, next))
     (λ i k at. still_placed formats mid new x code k (m.placed i k (let P : List ℕ → Type 0 = λ l. slice_get l i ≡ Some k in subst P items at))) (still_built formats mid new x code built m.built) m in
     longer_on formats old mid new a.longer (longer_put formats mid new x code put_v)
 
@@ -419,7 +421,7 @@ verifiable_sent formats old new r w code next places built held v =
     let x = instr.Send r in
     let low : ARRIVAL ≤ WIDE = lit≤ tt in
     let items = ap (λ q. q.items) places in
-    longer_put formats old new x code (verifiable_put formats old new x code tt tt (slice_get-within (widths_in formats old) r w held, tt) low (omega (arith, next))
+    longer_put formats old new x code (verifiable_put formats old new x code tt tt (got_within (widths_in formats old) r w held, tt) low (omega (arith, next))
     (λ i k at. still_placed formats old new x code k (v.placed i k (let P : List ℕ → Type 0 = λ l. slice_get l i ≡ Some k in subst P items at))) (still_built formats old new x code built v.built) v)
 
 -- the takes of different texts, before anything else

@@ -1,5 +1,5 @@
 -- Items at places.
-use Rattle.std.proofs.Common.{◌≡◌, ℕ, zero, suc, ◌+◌, ◌<◌, List, [], ◌∷◌, ◌++◌, length, map, take, get_or, Some, refl, sym, ap, ◌∙◌, arith, ◌⊎◌, inl, inr}
+use Rattle.std.proofs.Common.{◌≡◌, ℕ, zero, suc, ◌+◌, ◌<◌, List, [], ◌∷◌, ◌++◌, length, map, take, get_or, Some, refl, sym, ap, ◌∙◌, arith}
 use Rattle.std.specs.Prelude.{slice_get}
 use Rattle.std.specs.List.{range_with_len}
 
@@ -7,17 +7,6 @@ pub map_taken : {A B : Type 0} (f : A → B) (xs : List A) (i : ℕ) (x : A) →
 map_taken f [] i x h e = absurd (omega arith)
 map_taken f (y ∷ ys) zero x h e = let n : 0 + 1 ≡ suc 0 = refl in ap (λ z. f z ∷ []) (sym e)
 map_taken f (y ∷ ys) (suc i) x h e = let n : suc i + 1 ≡ suc (i + 1) = omega arith in rw n (ap (λ l. f y ∷ l) (map_taken f ys i x (omega arith) e))
-
-pub taken : {A : Type 0} (xs : List A) (i : ℕ) (x : A) → i < length xs → x ≡ get_or xs i x → take (i + 1) xs ≡ take i xs ++ x ∷ []
-taken [] i x h e = absurd (omega arith)
-taken (y ∷ ys) zero x h e = ap (λ z. z ∷ []) (sym e)
-taken (y ∷ ys) (suc i) x h e = let n : suc i + 1 ≡ suc (i + 1) = omega arith in rw n (ap (λ l. y ∷ l) (taken ys i x (omega arith) e))
-
--- what stands in a list that goes on stands in one of both
-pub either_part : {A : Type 0} (xs ys : List A) (n : ℕ) (x : A) → slice_get (xs ++ ys) n ≡ Some x → (slice_get xs n ≡ Some x) ⊎ ((j : ℕ) × (n ≡ length xs + j) × (slice_get ys j ≡ Some x))
-either_part [] ys n x e = inr (n, omega arith, e)
-either_part (y ∷ xs) ys zero x e = inl e
-either_part (y ∷ xs) ys (suc n) x e = elim (either_part xs ys n x e) [ inl h ↦ inl h | inr h ↦ inr (h.0, (let a = h.1 in omega arith), h.2) ]
 
 pub later_part : {A : Type 0} (xs ys : List A) (j : ℕ) (x : A) → slice_get ys j ≡ Some x → slice_get (xs ++ ys) (length xs + j) ≡ Some x
 later_part [] ys j x e = let n : 0 + j ≡ j = omega arith in rw n e
@@ -27,10 +16,6 @@ pub number_at : (a n i k : ℕ) → slice_get (range_with_len a n) i ≡ Some k 
 number_at a zero i k e = cc
 number_at a (suc n) zero k e = let h : a ≡ k = cc in (omega arith, omega arith)
 number_at a (suc n) (suc i) k e = let h = number_at (a + 1) n i k e in (let b = h.0 in omega arith, let b = h.1 in omega arith)
-
-pub last_part : {A : Type 0} (xs : List A) (x : A) → slice_get (xs ++ x ∷ []) (length xs) ≡ Some x
-last_part [] x = refl
-last_part (y ∷ xs) x = last_part xs x
 
 -- one number more
 pub one_further : (a n : ℕ) → range_with_len a (n + 1) ≡ range_with_len a n ++ (a + n) ∷ []

@@ -3,19 +3,19 @@ use Rattle.std.proofs.Common.{◌≡◌, ℕ, suc, ◌≤◌, List, [], ◌∷�
 use Rattle.std.specs.Prelude.{◌==◌}
 use Rattle.std.specs.List.{AllByRecursion}
 use Rattle.std.proofs.lemmas.Bool.{leb-true, le-leb, and_parts, and_from}
+use Rattle.anb_lemmas.proofs.Options.{mapped_from}
 use Rattle.anb_format.specs.declared.pieces.FieldKind.{FieldKind}
 use Rattle.anb_format.specs.declared.pieces.FieldKind.TheVariants.{Len, Net, Hex, Rest}
 use Rattle.anb_format.specs.declared.pieces.Piece.{Piece}
 use Rattle.anb_format.specs.declared.pieces.Piece.TheVariants.{Lit, Field}
-use Rattle.anb_format.specs.Formats.{FormatValue}
+use Rattle.anb_format.specs.Formats.{FormatValue, pieces_at}
 use Rattle.anb_format.specs.Widths.{field_width, pieces_width}
-use Rattle.anb_algebra.specs.ByteMeaning.{pieces_at}
 use Rattle.anb_term.specs.declared.term.Op.{Op}
 use Rattle.anb_term.specs.declared.term.Op.TheVariants.{Hash, Mac, Seal, Wrap, Format}
 use Rattle.anb_term.specs.Operator.{arity}
 use Rattle.anb_term.specs.Tree.{Tree, leaf, node, Trees, none, more, list_of, IsFormed, AreFormed}
 use Rattle.anb_close.specs.Rows.{place, made_for, mades_for}
-use Rattle.anb_close.proofs.Rows.{mapped, optional, both_some, built_some}
+use Rattle.anb_close.proofs.Rows.{optional, both_some, built_some}
 use Rattle.anb_resolve.specs.Widths.{sealed_width, op_width, width, widths, fits_width, fit_width}
 
 -- each is at most the one beside it
@@ -100,7 +100,7 @@ module _ (least most : ℕ) (formats : List FormatValue) (has : Op → Bool) whe
     mutual
       pub made_narrow : (t m : Tree) → made_for rs t ≡ Some m → IsFormed has t → fits_width least formats most t ≡ true → (width least formats m ≤ width least formats t) × (fits_width least formats most m ≡ true)
       made_narrow (leaf n) m e f fits =
-          let h = mapped leaf (place rs (leaf n)) m e in
+          let h = mapped_from leaf (place rs (leaf n)) m e in
           let P : Tree → Type 0 = λ x. (width least formats x ≤ least) × (fits_width least formats most x ≡ true) in
           let same : least ≤ least = omega arith in
           subst P h.2 (same, fits)

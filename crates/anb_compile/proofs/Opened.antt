@@ -4,6 +4,8 @@ use Rattle.std.specs.Prelude.{slice_get, unwrap_or}
 use Rattle.std.specs.List.{AllByRecursion}
 use Rattle.std.proofs.lemmas.List.{length-map, length-take-le, drop_all}
 use Rattle.std.proofs.Math.Seq.{drop-append_seam}
+use Rattle.anb_lemmas.proofs.Options.{mapped_from}
+use Rattle.anb_lemmas.proofs.Lists.{got_within}
 use Rattle.anb_term.specs.declared.term.Op.{Op}
 use Rattle.anb_term.specs.Operator.{arity, keys}
 use Rattle.anb_term.specs.Tree.{Tree, leaf, node, Trees, none, more, trees_of, list_of, IsFormed, AreFormed}
@@ -12,7 +14,7 @@ use Rattle.anb_term.specs.declared.term.Term.{Term}
 use Rattle.anb_term.specs.View.{term_of}
 use Rattle.anb_term.specs.Demand.{opens, equals}
 use Rattle.anb_term.specs.Value.{RecipeTree, label, part, build}
-use Rattle.anb_term.proofs.Lists.{slice_get-within, slice_get-there}
+use Rattle.anb_term.proofs.Lists.{slice_get-there, formed_items, formed_take}
 use Rattle.anb_close.specs.Rows.{place, made_for, mades_for, made_recipe, mades_recipes}
 use Rattle.anb_close.specs.declared.entry.Entry.{Entry}
 use Rattle.anb_close.specs.declared.entry.Opening.{Opening}
@@ -21,7 +23,7 @@ use Rattle.anb_close.specs.declared.entry.Origin.TheVariants.{Label, Part}
 use Rattle.anb_close.specs.MadeView.{made_tree}
 use Rattle.anb_close.specs.Entries.{rows, terms_of, is_label, labels_of, part_entries, openings_from, IsOpened, IsPartOf, IsKnown, IsPart, HasAdded}
 use Rattle.anb_close.specs.Recipes.{recipe_for, recipes}
-use Rattle.anb_close.proofs.Rows.{mapped, optional, both_some, built_some, place_at, mades_length, row_term}
+use Rattle.anb_close.proofs.Rows.{optional, both_some, built_some, place_at, mades_length, row_term}
 use Rattle.anb_close.proofs.Finding.{rows_length}
 use Rattle.anb_close.proofs.Growing.{formed_at}
 use Rattle.anb_close.proofs.Closing.{opened_row}
@@ -37,12 +39,12 @@ use Rattle.anb_compile.proofs.Lists.{later_part}
 mutual
   pub made_over : (has : Op → Bool) (rs : List (Option Tree)) (t m : Tree) → made_for rs t ≡ Some m → IsFormed has t → IsOver has (length rs) m
   made_over has rs (leaf n) m e f =
-      let h = mapped leaf (place rs (leaf n)) m e in
-      subst (IsOver has (length rs)) h.2 (slice_get-within rs h.0 _ (place_at rs (leaf n) h.0 h.1))
+      let h = mapped_from leaf (place rs (leaf n)) m e in
+      subst (IsOver has (length rs)) h.2 (got_within rs h.0 _ (place_at rs (leaf n) h.0 h.1))
   made_over has rs (node o ts) m e f = elim (optional (place rs (node o ts))) [
     | inl h ↦
         let s : leaf h.0 ≡ m = (let q = rw (h.1) at e in cc) in
-        subst (IsOver has (length rs)) s (slice_get-within rs h.0 _ (place_at rs (node o ts) h.0 h.1))
+        subst (IsOver has (length rs)) s (got_within rs h.0 _ (place_at rs (node o ts) h.0 h.1))
     | inr p ↦
         let h = built_some o (length (list_of ts) == arity o) (mades_for rs ts) m (rw p at e) in
         subst (IsOver has (length rs)) h.3 (f.0, mades_length rs ts h.1 h.2 ∙ f.1, mades_over has rs ts h.1 h.2 f.2)
@@ -78,16 +80,6 @@ mutual
   pub mades_stay : (has : Op → Bool) (k : ℕ) (rs later : List RecipeTree) (ms : Trees) → k ≤ length rs → AreOver has k ms → mades_recipes (rs ++ later) ms ≡ mades_recipes rs ms
   mades_stay has k rs later none h o = refl
   mades_stay has k rs later (more m ms) h o = cc (made_stays has k rs later m h o.0, mades_stay has k rs later ms h o.1)
-
--- a list of formed terms, in front
-pub formed_front : (has : Op → Bool) (n : ℕ) (ts : List Tree) → AreFormed has (trees_of ts) → AreFormed has (trees_of (take n ts))
-formed_front has zero ts f = tt
-formed_front has (suc n) [] f = tt
-formed_front has (suc n) (t ∷ ts) f = (f.0, formed_front has n ts f.1)
-
-pub formed_items : (has : Op → Bool) (ts : Trees) → AreFormed has ts → AreFormed has (trees_of (list_of ts))
-formed_items has none f = tt
-formed_items has (more t ts) f = (f.0, formed_items has ts f.1)
 
 -- ---- entries
 
@@ -134,7 +126,7 @@ module _ (has : Op → Bool) (es : List Entry) (known : IsKnown es) (formed : Ar
 
   pub recipe_here : (p : ℕ) (e : Entry) → slice_get es p ≡ Some e → slice_get (recipes es) p ≡ Some (recipe_for (recipes es) e.origin)
   recipe_here p e at =
-      let within = slice_get-within es p e at in
+      let within = got_within es p e at in
       let there = slice_get-there (recipes es) p (omega (arith, within, length-recipes)) in
       some_is (slice_get (recipes es) p) (label 0) (recipe_for (recipes es) e.origin) there.0 there.1 (recipe_at es known p e at)
 
@@ -155,13 +147,13 @@ module _ (has : Op → Bool) (es : List Entry) (known : IsKnown es) (formed : Ar
       let us = o.operands in
       let formed_us = opened_formed i f o in
       let P : ℕ → Type 0 = λ n. AreOver has n (trees_of o.keys_made) in
-      let over = mades_over has (rows o.front) (trees_of (take (keys o.op) (list_of us))) (trees_of o.keys_made) o.made (formed_front has (keys o.op) (list_of us) (formed_items has us formed_us.2)) in
+      let over = mades_over has (rows o.front) (trees_of (take (keys o.op) (list_of us))) (trees_of o.keys_made) o.made (formed_take has (keys o.op) (list_of us) (formed_items has us formed_us.2)) in
       let front : length (rows o.front) ≡ f = rows_length o.front ∙ o.at in
       let k = o.some_part in
       let many : length o.keys_made ≡ keys o.op =
       sym (ap length (list_of-trees_of o.keys_made)) ∙ mades_length (rows o.front) (trees_of (take (keys o.op) (list_of us))) (trees_of o.keys_made) o.made
       ∙ ap length (list_of-trees_of (take (keys o.op) (list_of us))) ∙ length-take-le (keys o.op) (list_of us) (omega (arith, k)) in
-      let own = slice_get-within (rows o.front) i _ o.own in (
+      let own = got_within (rows o.front) i _ o.own in (
         formed_us.0,
         o.can,
         subst P front over,
@@ -277,7 +269,7 @@ module _ (has : Op → Bool) (es : List Entry) (known : IsKnown es) (formed : Ar
           let next : (f + c) + 1 ≡ f + length ps = omega arith in
           let B : ℕ → Type 0 = λ n. Begins es n in
           let on = subst B next (begins_after (f + c) y x last (λ q d m at. parts q d (omega (arith, m, k.1)) at)) in
-          let within : f + length ps ≤ length es = (let w = slice_get-within es (f + c) y x in omega arith) in
+          let within : f + length ps ≤ length es = (let w = got_within es (f + c) y x in omega arith) in
           let go = checks_from fuel (f + length ps) (omega (arith, h, k.1, some)) within on (λ q y m at. parts q y (omega (arith, m, k.1)) at) in
           subst From k.1 (from_opening b.2 f o go)
     ]
@@ -296,14 +288,14 @@ module _ (has : Op → Bool) (es : List Entry) (known : IsKnown es) (formed : Ar
         let n : length (terms_of es) ≡ length es = length-map es _ in
         let f = formed_at has (terms_of es) i a.0 formed a.2 in
         let P : ℕ → Type 0 = λ k. IsOver has k c in
-        (omega (arith, slice_get-within (terms_of es) i a.0 a.2, n), subst P (rows_length es) (made_over has (rows es) a.0 c a.3 f))
+        (omega (arith, got_within (terms_of es) i a.0 a.2, n), subst P (rows_length es) (made_over has (rows es) a.0 c a.3 f))
     | inr a ↦
         let own = row_term (terms_of es) i (node a.0 a.1) a.3 in
         let f = formed_at has (terms_of es) i (node a.0 a.1) formed own in
         let n : length (terms_of es) ≡ length es = length-map es _ in
         let P : ℕ → Type 0 = λ k. AreOver has k a.2 in
         let over : IsOver has (length es) (node a.0 a.2) = (f.0, mades_length (rows es) a.1 a.2 a.5 ∙ f.1, subst P (rows_length es) (mades_over has (rows es) a.1 a.2 a.5 f.2)) in
-        (omega (arith, slice_get-within (terms_of es) i (node a.0 a.1) own, n), subst (IsOver has (length es)) a.6 over)
+        (omega (arith, got_within (terms_of es) i (node a.0 a.1) own, n), subst (IsOver has (length es)) a.6 over)
   ]
 
   equals_are : (cs : List Check) → AllByRecursion IsEqual cs → ((k : ℕ) (c : Check) → slice_get cs k ≡ Some c → Fits es c) → AreChecksOf has (recipes es) (length es) cs × (count_all_opened cs ≡ 0)
@@ -370,7 +362,7 @@ module _ (has : Op → Bool) (es : List Entry) (known : IsKnown es) (formed : Ar
   check_over (Open x) fit =
       let p = known.parted x.first fit.0 x.op 0 x.keys x.of fit.1 fit.2 in
       let c = opened_check x.of p.first p.opened in
-      let within : p.first ≤ length es = (let w = slice_get-within es x.first fit.0 fit.1 in let n = p.counts in omega arith) in
+      let within : p.first ≤ length es = (let w = got_within es x.first fit.0 fit.1 in let n = p.counts in omega arith) in
       let K : List Tree → Type 0 = λ l. AreOver has (length es) (trees_of l) in
       (subst K p.keys_are (overs_wider has p.first (length es) within (trees_of p.opened.keys_made) c.2), omega (arith, c.4, within))
   check_over (Equal i w) fit = compared_over i (made_tree w) fit

@@ -1,13 +1,14 @@
 -- The run of a code that fits is the role's play.
-use Rattle.std.proofs.Common.{◌≡◌, ℕ, ◌*◌, List, [], ◌∷◌, length, sym, ap, ◌∙◌, subst, IsTrue}
+use Rattle.std.proofs.Common.{◌≡◌, ℕ, ◌*◌, List, length, sym, ap, ◌∙◌, subst, IsTrue}
 use Rattle.std.specs.List.{AllByRecursion, All}
 use Rattle.std.proofs.lemmas.List.Elements.{All-from_recursion}
-use Rattle.anb_base.specs.Bytes.{IsBytes, is_bytes, is_bytes-IsBytes}
+use Rattle.anb_base.specs.Bytes.{IsBytes, is_bytes}
 use Rattle.anb_base.specs.declared.content.Suite.{Suite}
 use Rattle.anb_format.specs.Formats.{FormatValue}
 use Rattle.anb_seal.specs.Streams.{draw_of}
 use Rattle.anb_seal.proofs.ByteLemmas.{bytes-stream}
 use Rattle.anb_algebra.specs.ByteMeaning.{byte_meaning}
+use Rattle.anb_algebra.proofs.Picks.{tests}
 use Rattle.anb_plays.specs.Plans.{known}
 use Rattle.anb_plays.specs.Plays.{Played}
 use Rattle.anb_plays.specs.Runs.{run, without_place}
@@ -21,13 +22,9 @@ use Rattle.anb_compile.specs.Laws.{FittingCodesPlay}
 use Rattle.anb_compile.proofs.Events.{known_events}
 use Rattle.anb_compile.proofs.Protocols.{known_of_plan}
 
-are_values : (bs : List (List ℕ)) → AllByRecursion IsBytes bs → AllByRecursion (λ b. IsTrue (is_bytes b)) bs
-are_values [] all = tt
-are_values (b ∷ bs) all = (is_bytes-IsBytes b all.0, are_values bs all.1)
-
 pub fitting_codes : (p : ProtocolValue) → RunsAsPlayed (meaning_of p) → MadeIsNew → FittingCodesPlay p
 fitting_codes p law new role code init seed session arrivals fits long bytes strings =
-    let values : (bs : List (List ℕ)) → AllByRecursion IsBytes bs → All (λ b. IsTrue (is_bytes b)) bs = λ bs all. All-from_recursion (λ b. IsTrue (is_bytes b)) bs (are_values bs all) in
+    let values : (bs : List (List ℕ)) → AllByRecursion IsBytes bs → All (λ b. IsTrue (is_bytes b)) bs = λ bs all. All-from_recursion (λ b. IsTrue (is_bytes b)) bs (tests bs all) in
     let count : length init ≡ length (known (events_of p role)) = long ∙ sym (ap length (known_events (plan_of p role) ∙ known_of_plan p role)) in
     let go = law (draw_of seed session) (acts_of code) (events_of p role) init arrivals fits.fits (new p role) (λ i. bytes-stream _ session (8 * i) 8) (values init bytes) (values arrivals strings) count in
     let P : List FormatValue → Type 0 = λ f. (let r = without_place (run (byte_meaning f p.suite) (draw_of seed session) (acts_of code) init arrivals) in

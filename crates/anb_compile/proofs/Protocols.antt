@@ -4,11 +4,11 @@ use Rattle.std.specs.Prelude.{slice_get, filter, nat_eq, if◌then◌else◌}
 use Rattle.std.specs.Option.{option_map_or}
 use Rattle.std.specs.List.{AllByRecursion, flat_map, list_any}
 use Rattle.std.proofs.lemmas.List.{append-nil, length-map}
+use Rattle.anb_lemmas.proofs.Each.{each_in_both, each_in_front, each_as, each_of_map}
 use Rattle.anb_term.specs.Tree.{Tree, leaf, node, Trees, none, more, tree_size, trees_size, nodes, IsFormed}
 use Rattle.anb_term.specs.Agree.{HasRecipe}
-use Rattle.anb_term.proofs.Lists.{all_append}
 use Rattle.anb_close.proofs.Growing.{nodes_append}
-use Rattle.anb_close.proofs.Closing.{all_front, all_back}
+use Rattle.anb_close.proofs.Closing.{all_back}
 use Rattle.anb_algebra.specs.ByteMeaning.{has_operator}
 use Rattle.anb_plays.specs.Plans.{known, CanSend, Sendable}
 use Rattle.anb_resolve.specs.Choices.{each_after}
@@ -46,8 +46,8 @@ each_has P p role fresh before [] all = tt
 each_has P p role fresh before (a ∷ actions) all =
     let n = length before + 1 in
     let own = own_cases (AllByRecursion P) role n (made p before a.message) a
-    (all_append P (map (λ x. to_make (leaf x)) (made p before a.message)) (to_send n a.message ∷ []) (all_fresh (made p before a.message)) ((all.0 n).0, tt)) ((all.0 n).1, tt) tt in
-    all_append P (events_at p role before a) (each_after (events_at p role) (before ++ a ∷ []) actions) own (each_has P p role fresh (before ++ a ∷ []) actions all.1)
+    (each_in_both P (map (λ x. to_make (leaf x)) (made p before a.message)) (to_send n a.message ∷ []) (all_fresh (made p before a.message)) ((all.0 n).0, tt)) ((all.0 n).1, tt) tt in
+    each_in_both P (events_at p role before a) (each_after (events_at p role) (before ++ a ∷ []) actions) own (each_has P p role fresh (before ++ a ∷ []) actions all.1)
   where
     all_fresh : (names : List ℕ) → AllByRecursion P (map (λ x. to_make (leaf x)) names)
     all_fresh [] = tt
@@ -55,23 +55,15 @@ each_has P p role fresh before (a ∷ actions) all =
 
 -- ---- what a role knows
 
-all_known : (P : Tree → Type 0) (knows : List (List Tree)) (role : ℕ) → AllByRecursion P (flat_map (λ (ts : List Tree). ts) knows) → AllByRecursion P (option_map_or (λ (ts : List Tree). ts) (slice_get knows role) [])
+pub all_known : (P : Tree → Type 0) (knows : List (List Tree)) (role : ℕ) → AllByRecursion P (flat_map (λ (ts : List Tree). ts) knows) → AllByRecursion P (option_map_or (λ (ts : List Tree). ts) (slice_get knows role) [])
 all_known P [] role all = tt
-all_known P (ts ∷ knows) zero all = all_front P ts (flat_map (λ (us : List Tree). us) knows) all
+all_known P (ts ∷ knows) zero all = each_in_front P ts (flat_map (λ (us : List Tree). us) knows) all
 all_known P (ts ∷ knows) (suc role) all = all_known P knows role (all_back P ts (flat_map (λ (us : List Tree). us) knows) all)
 
 nodes_known : (knows : List (List Tree)) (role : ℕ) → nodes (option_map_or (λ (ts : List Tree). ts) (slice_get knows role) []) ≤ nodes (flat_map (λ (ts : List Tree). ts) knows)
 nodes_known [] role = omega arith
 nodes_known (ts ∷ knows) zero = omega (arith, nodes_append ts (flat_map (λ (us : List Tree). us) knows))
 nodes_known (ts ∷ knows) (suc role) = omega (arith, nodes_known knows role, nodes_append ts (flat_map (λ (us : List Tree). us) knows))
-
-map_all : {A B : Type 0} (P : B → Type 0) (f : A → B) (xs : List A) → AllByRecursion (λ x. P (f x)) xs → AllByRecursion P (map f xs)
-map_all P f [] all = tt
-map_all P f (x ∷ xs) all = (all.0, map_all P f xs all.1)
-
-all_map : {A : Type 0} (P Q : A → Type 0) (xs : List A) → ((x : A) → P x → Q x) → AllByRecursion P xs → AllByRecursion Q xs
-all_map P Q [] f all = tt
-all_map P Q (x ∷ xs) f all = (f x all.0, all_map P Q xs f all.1)
 
 -- ---- names that are made are few
 
@@ -124,7 +116,7 @@ each_nodes p role before (a ∷ actions) =
 
 -- ---- plans
 
-knows_labels : (ts : List Tree) → labels_of (map to_know ts) ≡ ts
+pub knows_labels : (ts : List Tree) → labels_of (map to_know ts) ≡ ts
 knows_labels [] = refl
 knows_labels (t ∷ ts) = ap (λ l. t ∷ l) (knows_labels ts)
 
@@ -160,9 +152,9 @@ unfolding plan_of
 all_terms P atoms p role all =
     let Q : PlanEvent → Type 0 = λ e. P (term_in e) in
     let ks = known_by p role in
-    let ms = all_map P (λ t. (i : ℕ) → Q (to_send i t) × Q (to_receive i t)) (messages p.actions) (λ t h i. (h, h)) (all_back P (known_terms p) (messages p.actions) all) in
-    let kn = all_known P p.knows role (all_front P (known_terms p) (messages p.actions) all) in
-    all_append Q (map to_know ks) (each_after (events_at p role) [] p.actions) (map_all Q to_know ks kn) (each_has Q p role atoms [] p.actions ms)
+    let ms = each_as P (λ t. (i : ℕ) → Q (to_send i t) × Q (to_receive i t)) (messages p.actions) (λ t h i. (h, h)) (all_back P (known_terms p) (messages p.actions) all) in
+    let kn = all_known P p.knows role (each_in_front P (known_terms p) (messages p.actions) all) in
+    each_in_both Q (map to_know ks) (each_after (events_at p role) [] p.actions) (each_of_map Q to_know ks kn) (each_has Q p role atoms [] p.actions ms)
 
 -- each event but the sends has a label
 fresh_events : (names : List ℕ) (i : ℕ) (t : Tree) → length (map (λ x. to_make (leaf x)) names ++ to_send i t ∷ []) ≤ length (labels_of (map (λ x. to_make (leaf x)) names ++ to_send i t ∷ [])) + 1

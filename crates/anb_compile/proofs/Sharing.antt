@@ -1,5 +1,5 @@
 -- Each term is built once.
-use Rattle.std.proofs.Common.{◌≡◌, ℕ, ◌+◌, ◌≤◌, List, [], ◌∷◌, ◌++◌, length, map, Bool, true, false, cond, Option, Some, None, refl, sym, ap, ◌∙◌, subst, arith, ◌⊎◌, inl, inr, ◌||◌}
+use Rattle.std.proofs.Common.{◌≡◌, ℕ, ◌+◌, ◌≤◌, List, [], ◌∷◌, ◌++◌, length, map, Bool, true, false, cond, Option, Some, None, refl, sym, ap, ◌∙◌, subst, arith, inl, inr}
 use Rattle.std.specs.Prelude.{slice_get, count_by, option_and_then}
 use Rattle.std.specs.List.{AllByRecursion, IsDistinct}
 use Rattle.std.specs.Set.{is_member, unique_keys, distinct_count}
@@ -8,13 +8,14 @@ use Rattle.std.proofs.lemmas.Bool.{or_left, or_right, or_cases}
 use Rattle.std.proofs.lemmas.List.Folds.{list_any-append}
 use Rattle.std.proofs.lemmas.List.Sums.{sum_by-append, sum_by-cons}
 use Rattle.std.proofs.lemmas.Map.Made.{length-le_from_is_member}
+use Rattle.anb_lemmas.proofs.Options.{mapped_from}
 use Rattle.anb_term.specs.declared.term.Op.{Op}
 use Rattle.anb_term.specs.Tree.{Tree, leaf, node, Trees, none, more, trees_of, list_of, tree_eqb}
 use Rattle.anb_term.specs.TreeSame.{tree_same, tree_itself}
 use Rattle.anb_close.specs.Rows.{place, made_for, mades_for}
 use Rattle.anb_close.specs.declared.entry.Entry.{Entry}
 use Rattle.anb_close.specs.Entries.{rows, terms_of}
-use Rattle.anb_close.proofs.Rows.{mapped, optional, both_some, built_some, mades_later}
+use Rattle.anb_close.proofs.Rows.{optional, both_some, built_some, mades_later}
 use Rattle.anb_close.proofs.Finding.{rows_append}
 use Rattle.anb_basis.specs.declared.check.Check.{Check}
 use Rattle.anb_code.specs.declared.instr.Instr.{Instr}
@@ -145,9 +146,6 @@ chosen_front : (ts : List Tree) (rs : List (Option Tree)) (ms : List Tree) (m : 
 chosen_front ts rs [] m h = (tt, h.0)
 chosen_front ts rs (x ∷ ms) m h = let a = chosen_front ts rs ms m h.1 in ((h.0, a.0), a.1)
 
-pub none_share : (w : Writer) → SharesEach w w [] []
-none_share w ts rs chosen s = record { sharing = s; here = refl }
-
 pub more_share : (old mid new : Writer) (ms : List Tree) (ns : List ℕ) (m : Tree) (r : ℕ) → SharesEach old mid ms ns → Shares mid new m r → new.places ≡ mid.places → BuiltStays mid new
     → SharesEach old new (ms ++ m ∷ []) (ns ++ r ∷ [])
 more_share old mid new ms ns m r each one same stays ts rs chosen s =
@@ -246,7 +244,7 @@ more_share_checks old mid new xs x all one ts rs chosen s = let c = chosen_check
 
 mutual
   pub made_chosen : (ts : List Tree) (rs : List (Option Tree)) (t m : Tree) → made_for rs t ≡ Some m → AllAmong ts t → IsChosen ts rs m
-  made_chosen ts rs (leaf n) m e h = let a = mapped leaf (place rs (leaf n)) m e in subst (IsChosen ts rs) a.2 tt
+  made_chosen ts rs (leaf n) m e h = let a = mapped_from leaf (place rs (leaf n)) m e in subst (IsChosen ts rs) a.2 tt
   made_chosen ts rs (node o us) m e h = elim (optional (place rs (node o us))) [
     | inl a ↦ (let s : leaf a.0 ≡ m = (let q = rw (a.1) at e in cc) in subst (IsChosen ts rs) s tt)
     | inr p ↦

@@ -4,14 +4,15 @@ use Rattle.std.specs.Prelude.{slice_get}
 use Rattle.std.specs.List.{AllByRecursion}
 use Rattle.std.proofs.lemmas.Bool.{and_parts}
 use Rattle.std.proofs.lemmas.List.{append-nil}
+use Rattle.anb_lemmas.proofs.Each.{each_in_both, each_got}
 use Rattle.anb_base.specs.declared.TheConstants.{ARRIVAL, WIDE}
 use Rattle.anb_format.specs.Formats.{FormatValue}
 use Rattle.anb_term.specs.declared.term.Op.{Op}
 use Rattle.anb_term.specs.Operator.{arity, keys}
-use Rattle.anb_term.specs.Tree.{Tree, leaf, node, Trees, none, more, trees_of, list_of, tree_size, trees_size, AreFormed}
+use Rattle.anb_term.specs.Tree.{Tree, node, Trees, none, more, trees_of, list_of, tree_size, trees_size, AreFormed}
 use Rattle.anb_term.specs.TreeSame.{trees_of-list_of}
 use Rattle.anb_term.specs.View.{tree_of}
-use Rattle.anb_term.proofs.Lists.{all_at, all_drop, all_append}
+use Rattle.anb_term.proofs.Lists.{all_drop, size_some, formed_items, formed_take}
 use Rattle.anb_close.specs.MadeView.{made_tree}
 use Rattle.anb_close.specs.declared.entry.Entry.{Entry}
 use Rattle.anb_close.specs.declared.entry.Origin.{Origin}
@@ -28,7 +29,7 @@ use Rattle.anb_compile.specs.Verifying.{IsNarrow, AreNarrow, IsNarrowCheck, room
 use Rattle.anb_compile.specs.Once.{IsChosen, AreChosen, IsChosenCheck, AllAmong}
 use Rattle.anb_compile.proofs.Sharing.{made_chosen, mades_chosen, mades_kept, built_chosen, operands_among, all_among}
 use Rattle.anb_compile.proofs.Narrow.{made_narrow, mades_narrow, built_narrow}
-use Rattle.anb_compile.proofs.Opened.{formed_front, formed_items, opened_formed, count_parts}
+use Rattle.anb_compile.proofs.Opened.{opened_formed, count_parts}
 
 -- ---- what holds of a term and of its operands
 
@@ -38,14 +39,14 @@ module _ (P : Tree → Type 0) (within : (o : Op) (us : Trees) → P (node o us)
   origin_has (Label m) before n t ls all fits h = (h.0, h.1)
   origin_has (Part o j ks i) before n t ls all fits h =
       let us = fits.0 in
-      (all_at P (drop (keys o) (list_of us)) j t (all_drop P (keys o) (list_of us) (within o us (all_at P (terms_of before) i (node o us) all fits.1))) fits.4, h)
+      (each_got P (drop (keys o) (list_of us)) j t (all_drop P (keys o) (list_of us) (within o us (each_got P (terms_of before) i (node o us) all fits.1))) fits.4, h)
 
   entries_have : (before later : List Entry) → AllByRecursion P (terms_of before) → Follow before later → AllByRecursion P (labels_of later) → AllByRecursion P (terms_of (before ++ later))
   entries_have before [] all follow labels = subst (λ l. AllByRecursion P (terms_of l)) (sym (append-nil before)) all
   entries_have before (e ∷ later) all follow labels =
       let h = origin_has e.origin before (length (labels_of before)) (tree_of e.term) (labels_of later) all follow.0 labels in
       let Q : List Tree → Type 0 = λ l. AllByRecursion P l in
-      let next = subst Q (sym (terms_append before (e ∷ []))) (all_append P (terms_of before) (tree_of e.term ∷ []) all (h.0, tt)) in
+      let next = subst Q (sym (terms_append before (e ∷ []))) (each_in_both P (terms_of before) (tree_of e.term ∷ []) all (h.0, tt)) in
       let R : List Entry → Type 0 = λ l. AllByRecursion P (terms_of l) in
       subst R (append_assoc before (e ∷ []) later) (entries_have (before ++ e ∷ []) later next follow.1 h.1)
 
@@ -53,10 +54,6 @@ module _ (P : Tree → Type 0) (within : (o : Op) (us : Trees) → P (node o us)
   terms_have es known labels = entries_have [] es tt known.follow labels
 
 -- ---- sizes
-
-pub size_some : (t : Tree) → 1 ≤ tree_size t
-size_some (leaf n) = omega arith
-size_some (node o ts) = omega arith
 
 each_size : (n : ℕ) (us : Trees) → trees_size us ≤ n → AllByRecursion (λ t. tree_size t ≤ n) (list_of us)
 each_size n none h = tt
@@ -105,18 +102,18 @@ module _ (formats : List FormatValue) (has : Op → Bool) (es : List Entry) (kno
       let o = p.opened in
       let us = o.operands in
       let front = take (keys o.op) (list_of us) in
-      let f = formed_front has (keys o.op) (list_of us) (formed_items has us (opened_formed has es known formed x.of p.first o).2) in
-      let n = narrow_within formats o.op us (all_at (IsNarrow formats) (terms_of es) x.of (node o.op us) narrow (own_term x.of p.first o)) in
+      let f = formed_take has (keys o.op) (list_of us) (formed_items has us (opened_formed has es known formed x.of p.first o).2) in
+      let n = narrow_within formats o.op us (each_got (IsNarrow formats) (terms_of es) x.of (node o.op us) narrow (own_term x.of p.first o)) in
       let go = mades_narrow ARRIVAL WIDE formats has (rows o.front) (trees_of front) (trees_of o.keys_made) o.made f (all_narrow formats front (front_of (IsNarrow formats) (keys o.op) (list_of us) n)) in
       subst (AreNarrow formats) p.keys_are go.1
   check_narrow (Equal i w) fit = elim fit [
     | inl a ↦
         let f = formed_at has (terms_of es) i a.0 formed a.2 in
-        (made_narrow ARRIVAL WIDE formats has (rows es) a.0 (made_tree w) a.3 f (all_at (IsNarrow formats) (terms_of es) i a.0 narrow a.2)).1
+        (made_narrow ARRIVAL WIDE formats has (rows es) a.0 (made_tree w) a.3 f (each_got (IsNarrow formats) (terms_of es) i a.0 narrow a.2)).1
     | inr a ↦
         let t = node a.0 a.1 in
         let own = row_term (terms_of es) i t a.3 in
-        subst (IsNarrow formats) a.6 (built_narrow ARRIVAL WIDE formats has (rows es) a.0 a.1 a.2 a.5 (formed_at has (terms_of es) i t formed own) (all_at (IsNarrow formats) (terms_of es) i t narrow own))
+        subst (IsNarrow formats) a.6 (built_narrow ARRIVAL WIDE formats has (rows es) a.0 a.1 a.2 a.5 (formed_at has (terms_of es) i t formed own) (each_got (IsNarrow formats) (terms_of es) i t narrow own))
   ]
 
   pub check_room : (c : Check) → Fits es c → room_for c ≤ 1025
@@ -126,16 +123,16 @@ module _ (formats : List FormatValue) (has : Op → Bool) (es : List Entry) (kno
       let us = o.operands in
       let count = count_parts has es known formed x.of p.first o in
       let op : arity o.op - keys o.op ≡ arity x.op - keys x.op = ap (λ q. arity q - keys q) p.op_is in
-      let size = all_at (λ t. tree_size t ≤ 1024) (terms_of es) x.of (node o.op us) small (own_term x.of p.first o) in
+      let size = each_got (λ t. tree_size t ≤ 1024) (terms_of es) x.of (node o.op us) small (own_term x.of p.first o) in
       let keys_small = mades_small (rows o.front) (trees_of (take (keys o.op) (list_of us))) (trees_of o.keys_made) o.made in
       let keys_are : trees_size (trees_of o.keys_made) ≡ trees_size (trees_of x.keys) = ap (λ l. trees_size (trees_of l)) p.keys_are in
       let all : trees_size (trees_of (list_of us)) ≡ trees_size us = ap trees_size (trees_of-list_of us) in
       omega (arith, count, op, size, keys_small, keys_are, all, many_sizes (drop (keys o.op) (list_of us)), parted_sizes (keys o.op) (list_of us))
   check_room (Equal i w) fit = elim fit [
-    | inl a ↦ omega (arith, all_at (λ t. tree_size t ≤ 1024) (terms_of es) i a.0 small a.2, made_small (rows es) a.0 (made_tree w) a.3)
+    | inl a ↦ omega (arith, each_got (λ t. tree_size t ≤ 1024) (terms_of es) i a.0 small a.2, made_small (rows es) a.0 (made_tree w) a.3)
     | inr a ↦
         let t = node a.0 a.1 in
-        omega (arith, all_at (λ q. tree_size q ≤ 1024) (terms_of es) i t small (row_term (terms_of es) i t a.3), mades_small (rows es) a.1 a.2 a.5, ap tree_size a.6)
+        omega (arith, each_got (λ q. tree_size q ≤ 1024) (terms_of es) i t small (row_term (terms_of es) i t a.3), mades_small (rows es) a.1 a.2 a.5, ap tree_size a.6)
   ]
 
   -- of each that is given
@@ -152,15 +149,15 @@ module _ (ts : List Tree) (es : List Entry) (known : IsKnown es) (among : AllByR
       let us = o.operands in
       let front = take (keys o.op) (list_of us) in
       let own = row_term (terms_of es) x.of (node o.op us) (opened_row es x.of p.first o) in
-      let each = front_of (AllAmong ts) (keys o.op) (list_of us) (operands_among ts o.op us (all_at (AllAmong ts) (terms_of es) x.of (node o.op us) among own)) in
+      let each = front_of (AllAmong ts) (keys o.op) (list_of us) (operands_among ts o.op us (each_got (AllAmong ts) (terms_of es) x.of (node o.op us) among own)) in
       let made = mades_kept o.front _ es o.lies (trees_of front) (trees_of o.keys_made) o.made in
       let Q : List Tree → Type 0 = λ l. AreChosen ts (rows es) (trees_of l) in
       subst Q p.keys_are (mades_chosen ts (rows es) (trees_of front) (trees_of o.keys_made) made (all_among ts front each))
   check_chosen (Equal i w) fit = elim fit [
-    | inl a ↦ made_chosen ts (rows es) a.0 (made_tree w) a.3 (all_at (AllAmong ts) (terms_of es) i a.0 among a.2)
+    | inl a ↦ made_chosen ts (rows es) a.0 (made_tree w) a.3 (each_got (AllAmong ts) (terms_of es) i a.0 among a.2)
     | inr a ↦
         let t = node a.0 a.1 in
-        let here = all_at (AllAmong ts) (terms_of es) i t among (row_term (terms_of es) i t a.3) in
+        let here = each_got (AllAmong ts) (terms_of es) i t among (row_term (terms_of es) i t a.3) in
         subst (IsChosen ts (rows es)) a.6 (built_chosen ts (rows es) a.0 a.1 a.2 a.5 here)
   ]
 

@@ -5,9 +5,11 @@ use Rattle.std.specs.List.{AllByRecursion, cons_option}
 use Rattle.std.proofs.lemmas.Bool.{eq-eqb}
 use Rattle.std.proofs.lemmas.List.{append-nil, length-map, length-drop}
 use Rattle.std.proofs.lemmas.List.Sums.{sum_by-cons}
+use Rattle.std.proofs.lemmas.Option.{cond_some}
+use Rattle.anb_lemmas.proofs.Lists.{get_last, drop_got}
 use Rattle.anb_base.specs.declared.content.Suite.{Suite}
 use Rattle.anb_format.specs.Formats.{FormatValue, field_count}
-use Rattle.anb_format.proofs.Facts.{is_sound-IsSound}
+use Rattle.anb_format.proofs.BuiltLemmas.{passes_sound}
 use Rattle.anb_term.specs.declared.term.Op.{Op}
 use Rattle.anb_term.specs.declared.term.Op.TheVariants.{Hash, Mac, Seal, Wrap, Format}
 use Rattle.anb_term.specs.declared.term.Term.{Term}
@@ -20,7 +22,7 @@ use Rattle.anb_term.specs.FreeAlgebra.{terms_over, parts_of, term_meaning}
 use Rattle.anb_term.specs.Demand.{alike}
 use Rattle.anb_term.specs.FreeLawful.{free_lawful}
 use Rattle.anb_term.proofs.Lists.{slice_get-map, slice_get-there, map-append}
-use Rattle.anb_term.proofs.Steps.{consed, chosen}
+use Rattle.anb_term.proofs.Steps.{consed}
 use Rattle.anb_term.proofs.Frames.{values_more}
 use Rattle.anb_algebra.specs.ByteMeaning.{has_operator, byte_meaning}
 use Rattle.anb_plays.specs.Plans.{Event, know, fresh, send, recv, known}
@@ -28,6 +30,7 @@ use Rattle.anb_plays.specs.Codes.{Act, takes, draws, receives, sends, works, Wor
 use Rattle.anb_plays.specs.Exec.{worked, IsReady, IsVerified, NoTakes, HasTakes, count_written}
 use Rattle.anb_plays.specs.Fits.{Place, Along, AnySend, AnyBorder, IsSound, start, after_take, after_label, after_work}
 use Rattle.anb_plays.proofs.Registers.{values_join, work}
+use Rattle.anb_plays.proofs.Growing.{goes_on, no_next}
 use Rattle.anb_resolve.specs.Plans.{PlanEvent, to_know, to_make, to_send, to_receive, term_in}
 use Rattle.anb_resolve.specs.declared.plans.Event as code
 use Rattle.anb_resolve.specs.Plays.{event_of}
@@ -36,36 +39,9 @@ use Rattle.anb_compile.specs.Registers.{is_take, recipes_after, later_labels}
 use Rattle.anb_code.specs.declared.instr.Instr.{Instr}
 use Rattle.anb_code.specs.CodeValue.{CodeValue}
 use Rattle.anb_code.specs.Meaning.{IsOperator}
-use Rattle.anb_code.specs.Verified.{EachAfter, HasItsFormat, IsFormatAfter, IsInstrAfter, IsVerifiedCode}
+use Rattle.anb_code.specs.Verified.{EachAfter, HasItsFormat, IsInstrAfter, IsVerifiedCode}
+use Rattle.anb_code.proofs.Accepted.{fields_after}
 use Rattle.anb_compile.specs.Valued.{Walked, HasWalked, Writes}
-use Rattle.anb_compile.proofs.Lists.{last_part}
-
--- acts without a take, over so many registers
-goes_on : (has : Op → Bool) (acts : List Act) (k : ℕ) → IsVerified has acts k → NoTakes has acts → HasTakes has acts k k
-goes_on has (takes ∷ acts) k v none = absurd none
-goes_on has [] k v none = (refl, v, none)
-goes_on has (draws ∷ acts) k v none = (refl, v, none)
-goes_on has (receives ∷ acts) k v none = (refl, v, none)
-goes_on has (sends r ∷ acts) k v none = (refl, v, none)
-goes_on has (works w ∷ acts) k v none = (refl, v, none)
-
-no_next : {X : Type 0} (has : Op → Bool) (acts later : List Act) → NoTakes has acts → acts ≡ takes ∷ later → X
-no_next has (takes ∷ acts) later none e = absurd none
-no_next has [] later none e = cc
-no_next has (draws ∷ acts) later none e = cc
-no_next has (receives ∷ acts) later none e = cc
-no_next has (sends r ∷ acts) later none e = cc
-no_next has (works w ∷ acts) later none e = cc
-
--- an item at the front of what is left
-next_item : {A : Type 0} (xs : List A) (n : ℕ) (x : A) (ys : List A) → drop n xs ≡ x ∷ ys → (slice_get xs n ≡ Some x) × (drop (n + 1) xs ≡ ys)
-next_item [] zero x ys e = cc
-next_item [] (suc n) x ys e = cc
-next_item (z ∷ xs) zero x ys e = (let s : z ≡ x = cc in ap Some s, cc)
-next_item (z ∷ xs) (suc n) x ys e =
-    let i = next_item xs n x ys e in
-    let m : suc n + 1 ≡ suc (n + 1) = omega arith in
-    (i.0, ap (λ k. drop k (z ∷ xs)) m ∙ i.1)
 
 values_long : (has : Op → Bool) (frame : List Tree) (regs : List RecipeTree) (ts : List Tree) → values (terms_over has) frame (recipe_trees regs) ≡ Some ts → length ts ≡ length regs
 values_long has frame [] ts e = let s : [] ≡ ts = cc in sym (ap length s)
@@ -121,7 +97,7 @@ module _ (formats : List FormatValue) (suite : Suite) (plan : List Event) (all :
   walked_take acts (to_know t) es ts w =
       let s = w.place in
       let long = values_long has s.frame s.regs ts w.have in
-      let next = next_item s.frame (length ts) t (known es) (w.takes_next acts refl) in
+      let next = drop_got s.frame (length ts) t (known es) (w.takes_next acts refl) in
       let at : slice_get s.frame (length s.regs) ≡ Some t = ap (slice_get s.frame) (sym long) ∙ next.0 in
       let one : values (terms_over has) s.frame (recipe_trees (label (length s.regs) ∷ [])) ≡ Some (t ∷ []) = rw at refl in
       let n : length (ts ++ t ∷ []) ≡ length ts + 1 = length-append ts (t ∷ []) in
@@ -148,7 +124,7 @@ module _ (formats : List FormatValue) (suite : Suite) (plan : List Event) (all :
       let s = w.place in
       let frame = s.frame ++ t ∷ [] in
       let n : length (ts ++ t ∷ []) ≡ length ts + 1 = length-append ts (t ∷ []) in
-      let one : values (terms_over has) frame (recipe_trees (label (length s.frame) ∷ [])) ≡ Some (t ∷ []) = rw (last_part s.frame t) refl in
+      let one : values (terms_over has) frame (recipe_trees (label (length s.frame) ∷ [])) ≡ Some (t ∷ []) = rw (get_last s.frame t) refl in
       let v : IsVerified has acts (length (ts ++ t ∷ [])) = subst (IsVerified has acts) (sym n) verified in
       record {
         place = after_label s t;
@@ -262,7 +238,7 @@ module _ (formats : List FormatValue) where
       ap (λ l. option_map (map term_of) (parts_of o l (tree_of v))) (sym (picked-mapped old ks)) ∙ ap (option_map (map term_of)) parts
 
   pub equal_written : (a b : ℕ) (old : List Term) (ws : List Tree) → Writes formats (equal a b) old ws → ws ≡ []
-  equal_written a b old ws is = sym (chosen (alike (terms_over (has_operator formats)) (slice_get (map tree_of old) a) (slice_get (map tree_of old) b)) [] ws is).1
+  equal_written a b old ws is = sym (cond_some (alike (terms_over (has_operator formats)) (slice_get (map tree_of old) a) (slice_get (map tree_of old) b)) [] ws is).1
 
 -- ---- events that are left
 
@@ -300,7 +276,7 @@ is_operator formats Hash is = refl
 is_operator formats Mac is = refl
 is_operator formats Seal is = refl
 is_operator formats Wrap is = refl
-is_operator formats (Format i n) is = rw (is.1, is_sound-IsSound is.0.pieces is.2, eq-eqb (field_count is.0.pieces) n is.3) refl
+is_operator formats (Format i n) is = rw (is.1, passes_sound is.0.pieces is.2, eq-eqb (field_count is.0.pieces) n is.3) refl
 
 -- ---- one instruction
 
@@ -371,10 +347,6 @@ module _ (formats : List FormatValue) (events : List code.Event) (n : ℕ) (term
       walked_send formats suite plan all later r (plan_event e.0) (map event_of (map plan_event (drop (n + 1) events))) (map tree_of terms) (subst P left w)
 
 -- ---- what is known of a verified code
-
-fields_after : (before formats : List FormatValue) → EachAfter IsFormatAfter before formats → AllByRecursion (λ (format : FormatValue). field_count format.pieces ≤ 32) formats
-fields_after before [] each = tt
-fields_after before (f ∷ formats) each = (each.0.fields, fields_after (before ++ f ∷ []) formats each.1)
 
 pub few_fields : (arrival wide : ℕ) (code : CodeValue) → IsVerifiedCode arrival wide code → AllByRecursion (λ (format : FormatValue). field_count format.pieces ≤ 32) code.formats
 few_fields arrival wide code verified = fields_after [] code.formats verified.formats

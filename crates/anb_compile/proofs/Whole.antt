@@ -109,11 +109,6 @@ begun_done c plan x texts is long begun =
 
 -- ---- one event after another
 
-pub event_here : {A B : Type 0} (f : A → B) (xs : List A) (i : ℕ) (x : A) → i < length xs → x ≡ get_or xs i x → map f (drop i xs) ≡ f x ∷ map f (drop (i + 1) xs)
-event_here f [] i x h e = absurd (omega arith)
-event_here f (y ∷ ys) zero x h e = ap (λ z. f z ∷ map f ys) (sym e)
-event_here f (y ∷ ys) (suc i) x h e = let n : suc i + 1 ≡ suc (i + 1) = omega arith in rw n (event_here f ys i x (omega arith) e)
-
 pub events_parted : {A B : Type 0} (f : A → B) (xs : List A) (i : ℕ) (x : A) → i < length xs → x ≡ get_or xs i x → map f xs ≡ map f (take i xs) ++ (f x ∷ map f (drop (i + 1) xs))
 events_parted f [] i x h e = absurd (omega arith)
 events_parted f (y ∷ ys) zero x h e = ap (λ z. f z ∷ map f ys) (sym e)

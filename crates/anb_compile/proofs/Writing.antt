@@ -3,6 +3,7 @@ use Rattle.std.proofs.Common.{◌≡◌, ℕ, zero, suc, ◌+◌, ◌≤◌, Lis
 use Rattle.std.specs.Prelude.{slice_get}
 use Rattle.std.proofs.lemmas.List.{append-nil}
 use Rattle.std.proofs.lemmas.List.Elements.{filter_map-append}
+use Rattle.anb_lemmas.proofs.Lists.{get_last}
 use Rattle.anb_format.specs.Formats.{FormatValue}
 use Rattle.anb_term.specs.declared.term.Op.{Op}
 use Rattle.anb_term.specs.Tree.{Tree, leaf, node, trees_of, tree_size, trees_size}
@@ -24,7 +25,6 @@ use Rattle.anb_compile.specs.declared.built.Built.{Built}
 use Rattle.anb_compile.specs.Sharing.{key, register_at, Keeps}
 use Rattle.anb_compile.specs.Once.{IsMade, Builds}
 use Rattle.anb_compile.specs.Writing.{Context, meaning_in, Tracks, HaveBuilt, Stands, IsOver, AreOver, further, Composes, HoldEach, ComposesEach}
-use Rattle.anb_compile.proofs.Lists.{last_part}
 use Rattle.anb_compile.proofs.Keys.{key_same}
 
 pub acts_put : (formats : List FormatValue) (is is' : List Instr) (x : Instr) (a : Act) → is' ≡ is ++ x ∷ [] → act_of formats x ≡ a → map (act_of formats) is' ≡ map (act_of formats) is ++ a ∷ []
@@ -186,7 +186,7 @@ made_composes old mid new o ms ns r each x c events entries s over stands =
     let one = made ∷ [] in
     let mades = mades_recipes entries (trees_of ms) in
     let recipe : at_registers regs ns ≡ mades = hold_read regs ns mades a.hold in
-    let here : slice_get (regs ++ one) (length regs) ≡ Some made = last_part regs made in
+    let here : slice_get (regs ++ one) (length regs) ≡ Some made = get_last regs made in
     let at : r ≡ length regs = x.is ∙ a.stands.next in
     let N : ℕ → Type 0 = λ n. slice_get (regs ++ one) n ≡ Some made in
     let holds : slice_get (regs ++ one) r ≡ Some (build o mades) = subst N (sym at) here ∙ ap (λ q. Some (build o q)) recipe in

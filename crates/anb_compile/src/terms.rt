@@ -2,7 +2,7 @@
 ghost use Rattle.std.specs.Prelude.{◌≡◌, ◌+◌, ◌<◌, ◌≤◌, ◌++◌, ◌∷◌, [], ℕ, List, length, map, drop, slice_get, IfOk, OnOk, Some, All};
 ghost use Rattle.std.specs.List.{AllByRecursion};
 ghost use Rattle.anb_base.specs.declared.content.Suite.{Suite};
-ghost use Rattle.anb_format.specs.Formats.{FormatValue, field_count};
+ghost use Rattle.anb_format.specs.Formats.{FormatValue, field_count, pieces_at};
 ghost use Rattle.anb_term.specs.declared.term.Op.TheVariants as op;
 ghost use Rattle.anb_term.specs.Operator.{arity, keys as keys_of};
 ghost use Rattle.anb_term.specs.Tree.{Tree};
@@ -14,7 +14,6 @@ ghost use Rattle.anb_plays.specs.Plans as plays;
 ghost use Rattle.anb_plays.specs.Codes.{Act, make, undo};
 ghost use Rattle.anb_plays.specs.Fits.{Follows, Along, AnySend, AnyBorder, IsSound, start};
 ghost use Rattle.anb_code.specs.Meaning.{act_of, acts_of};
-ghost use Rattle.anb_code.specs.Registers.{pieces_at};
 ghost use Rattle.anb_code.specs.Verified.{HasItsFormat};
 ghost use Rattle.anb_resolve.specs.declared.plans.Event as code;
 ghost use Rattle.anb_resolve.specs.Plays.{event_of};

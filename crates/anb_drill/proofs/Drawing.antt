@@ -4,6 +4,7 @@ use Rattle.std.specs.Prelude.{slice_get, ◌==◌, ◌||◌}
 use Rattle.std.specs.List.{range_with_len}
 use Rattle.std.proofs.lemmas.Bool.{eqb-true}
 use Rattle.std.proofs.lemmas.Bool.Decides.{nat_tests}
+use Rattle.std.proofs.lemmas.List.{map-append}
 use Rattle.anb_seal.proofs.Words.{length-stream_bytes}
 use Rattle.anb_term.specs.Tree.{Tree, leaf}
 use Rattle.anb_term.proofs.Lists.{slice_get-append}
@@ -15,12 +16,12 @@ use Rattle.anb_resolve.specs.Protocols.{ActionValue, ProtocolValue}
 use Rattle.anb_resolve.specs.Texts.{known_by}
 use Rattle.anb_resolve.specs.Plans.{to_make, to_send, to_receive, events_at, made}
 use Rattle.anb_resolve.specs.Plays.{event_of, events_of}
-use Rattle.anb_resolve.proofs.PlanLaws.{map-append}
+use Rattle.anb_resolve.proofs.PlanLaws.{events_are}
 use Rattle.anb_honest.specs.Honest.{AreHonest}
 use Rattle.anb_honest.specs.Joint.{cast}
 use Rattle.anb_drill.proofs.Numbered.{all_actions, all_made, exchanged, first_action, last_action}
 use Rattle.anb_drill.proofs.Sending.{has}
-use Rattle.anb_drill.proofs.Walking.{before_exchange, behind, drilled, first_made, key_made, number_made, plan_is, ways}
+use Rattle.anb_drill.proofs.Walking.{before_exchange, behind, drilled, first_made, key_made, number_made, ways}
 use Rattle.anb_drill.proofs.WellFormed.{protocol_roles_are}
 
 -- an atom is made at some place
@@ -67,7 +68,7 @@ module _ (p : ProtocolValue) (r : ℕ) where
       subst (λ (b : Bool). MakesIt (map event_of (cond b (map (λ y. to_make (leaf y)) (made p before a.message) ++ to_send (length before + 1) a.message ∷ []) (cond (a.to == r) (to_receive (length before + 1) a.message ∷ []) []))) x) (sym own)
       (named_made (made p before a.message) (length before + 1) a.message x makes) in
       let all = at_action [] before rest a x here in
-      subst (λ (es : List Event). MakesIt es x) (sym (plan_is p r))
+      subst (λ (es : List Event). MakesIt es x) (sym (events_are p r))
       (in_back (map know (known_by p r)) (map event_of (each_after (events_at p r) [] p.actions)) x (subst (λ (acts : List ActionValue). MakesIt (map event_of (each_after (events_at p r) [] acts)) x) (sym is) all))
     where
       itself : (k : ℕ) → (k == k) ≡ true

@@ -8,6 +8,7 @@ use Rattle.std.proofs.lemmas.Bool.Decides.{nat_tests}
 use Rattle.std.proofs.lemmas.List.{length-map}
 use Rattle.std.proofs.lemmas.List.FromFn.{length-map-range_with_len}
 use Rattle.std.proofs.lemmas.List.Sums.{sum_by-append, sum_by-cons}
+use Rattle.std.proofs.lemmas.Grind.{flat_map-append}
 use Rattle.sha2.proofs.Facts256.{length-sha256}
 use Rattle.anb_base.specs.declared.TheConstants.{ARRIVAL}
 use Rattle.anb_base.specs.declared.content.Sent.{Sent}
@@ -58,14 +59,10 @@ turned_range n from zero = refl
 turned_range n from (suc count) =
     ap (λ l. l ++ flat_map action_turns (map exchange (range_with_len (from + 1) count))) (exchange_turned n from) ∙ ap (λ l. sides (exchanged n from) ++ l) (turned_range n (from + 1) count)
 
-flat-append : {X Y : Type 0} (f : X → List Y) (xs ys : List X) → flat_map f (xs ++ ys) ≡ flat_map f xs ++ flat_map f ys
-flat-append f [] ys = refl
-flat-append f (x ∷ xs) ys = ap (λ l. f x ++ l) (flat-append f xs ys) ∙ sym (append_assoc (f x) (flat_map f xs) (flat_map f ys))
-
 pub turns_are : (n : ℕ) → n ≤ 200 → turns_of (drill_narration n) ≡ flat_map sides (drilled n).actions
 unfolding drill_narration
 turns_are n most =
-    ap (λ l. 0 ∷ 1 ∷ l) (flat-append action_turns (map exchange (range_with_len 1 n)) (closing ∷ []) ∙ ap (λ l. l ++ 0 ∷ 1 ∷ []) (turned_range n 1 n) ∙ sym (flat-append sides (map (exchanged n) (range_with_len 1 n)) (last_action n ∷ [])))
+    ap (λ l. 0 ∷ 1 ∷ l) (flat_map-append action_turns (map exchange (range_with_len 1 n)) (closing ∷ []) ∙ ap (λ l. l ++ 0 ∷ 1 ∷ []) (turned_range n 1 n) ∙ sym (flat_map-append sides (map (exchanged n) (range_with_len 1 n)) (last_action n ∷ [])))
     ∙ ap (flat_map sides) (sym (all_made n most))
 
 between : (n : ℕ) (from count : ℕ) → AllByRecursion IsBetween (map (exchanged n) (range_with_len from count))

@@ -1,15 +1,15 @@
 -- Lists of which each item passes a check.
 use Rattle.std.proofs.Common.{◌≡◌, ℕ, zero, suc, ◌+◌, ◌<◌, ◌≤◌, List, [], ◌∷◌, ◌++◌, length, map, Bool, true, false, cond, Option, Some, None, refl, ap, ◌∙◌, arith}
-use Rattle.std.specs.Prelude.{◌≢◌, ◌||◌}
+use Rattle.std.specs.Prelude.{◌≢◌}
 use Rattle.std.specs.Option.{option_or}
 use Rattle.std.specs.List.{AllByRecursion, flat_map, position_from, range_with_len}
 use Rattle.std.specs.Str.{bytes_eq}
-use Rattle.std.proofs.lemmas.Slice.Eq.{bytes_eq-Decides}
+use Rattle.anb_index.specs.Places.{among}
 use Rattle.anb_lemmas.proofs.Each.{each_in_both}
+use Rattle.anb_lemmas.proofs.Items.{bytes_differ}
 use Rattle.anb_resolve.specs.declared.refusals.ResolveNo.TheVariants.{Twice}
 use Rattle.anb_resolve.specs.Choices.{refuse_if, first, first_after}
 use Rattle.anb_resolve.specs.Checks.{twice_among}
-use Rattle.anb_resolve.specs.Names.{among}
 use Rattle.anb_resolve.proofs.Afters.{any-append}
 use Rattle.anb_resolve.proofs.Distinct.{AllApart}
 
@@ -31,22 +31,9 @@ pub none_first_after : {X R : Type 0} (f : List X → X → Option R) (before xs
 none_first_after f before [] all = refl
 none_first_after f before (x ∷ xs) all = ap (λ o. option_or o (first_after f (before ++ x ∷ []) xs)) (all.0 before) ∙ none_first_after f (before ++ x ∷ []) xs all.1
 
-pub differs : (x y : List ℕ) → x ≢ y → bytes_eq x y ≡ false
-differs x y other = by (bytes_eq x y) refl where
-  by : (b : Bool) → bytes_eq x y ≡ b → b ≡ false
-  by true e = absurd (other ((bytes_eq-Decides x y).0 e))
-  by false e = refl
-
-pub itself : (x : List ℕ) → bytes_eq x x ≡ true
-itself x = (bytes_eq-Decides x x).1 refl
-
-pub or_right : (a b : Bool) → b ≡ true → (a || b) ≡ true
-or_right true b e = refl
-or_right false b e = e
-
 -- names that all differ are declared once
 more_other : (before : List (List ℕ)) (x y : List ℕ) → among before y ≡ false → x ≢ y → among (before ++ x ∷ []) y ≡ false
-more_other before x y e other = any-append (λ z. bytes_eq z y) before (x ∷ []) ∙ rw (e, differs x y other) refl
+more_other before x y e other = any-append (λ z. bytes_eq z y) before (x ∷ []) ∙ rw (e, bytes_differ x y other) refl
 
 still_other : (before : List (List ℕ)) (x : List ℕ) (ys : List (List ℕ)) → AllByRecursion (λ y. among before y ≡ false) ys → AllByRecursion (λ y. x ≢ y) ys → AllByRecursion (λ y. among (before ++ x ∷ []) y ≡ false) ys
 still_other before x [] all other = tt

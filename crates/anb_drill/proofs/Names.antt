@@ -1,18 +1,21 @@
 -- The names of a drill: they all differ, and each that is used is declared and used as it should be.
-use Rattle.std.proofs.Common.{◌≡◌, ℕ, zero, suc, ◌+◌, ◌-◌, ◌<◌, ◌≤◌, List, [], ◌∷◌, ◌++◌, length, map, Bool, true, false, refl, sym, ap, ◌∙◌, arith, codes}
+use Rattle.std.proofs.Common.{◌≡◌, ℕ, zero, suc, ◌+◌, ◌-◌, ◌<◌, ◌≤◌, List, [], ◌∷◌, ◌++◌, length, map, true, false, refl, sym, ap, ◌∙◌, arith, codes}
 use Rattle.std.specs.Prelude.{◌≢◌, ◌||◌, decimal}
 use Rattle.std.specs.List.{AllByRecursion, flat_map, range_with_len}
 use Rattle.std.specs.Str.{bytes_eq}
 use Rattle.std.proofs.lemmas.Fmt.{decimal_injective, length-decimal-le}
+use Rattle.std.proofs.lemmas.Bool.{or_right, or_left}
+use Rattle.anb_index.specs.Places.{among}
 use Rattle.anb_lemmas.proofs.Each.{each_in_both}
+use Rattle.anb_lemmas.proofs.Items.{bytes_eq-same}
 use Rattle.anb_syntax.specs.Grammar.{ActionItem}
 use Rattle.anb_gen.specs.Drill.{closing, drill_actions, drill_know, drill_narration, exchange, number_name, role_names}
 use Rattle.anb_gen.proofs.Each.{either_way}
 use Rattle.anb_resolve.specs.Checks.{is_miscounted, is_missorted}
-use Rattle.anb_resolve.specs.Names.{Use, as_atom, as_format, as_role, used_name, action_uses, among, atoms, declared_names, know_uses, uses}
+use Rattle.anb_resolve.specs.Names.{Use, as_atom, as_format, as_role, used_name, action_uses, atoms, declared_names, know_uses, uses}
 use Rattle.anb_resolve.proofs.Afters.{any-append}
 use Rattle.anb_resolve.proofs.Distinct.{AllApart}
-use Rattle.anb_drill.proofs.Lists.{itself, or_right, over_flat, over_from}
+use Rattle.anb_drill.proofs.Lists.{over_flat, over_from}
 
 -- ---- the names differ
 
@@ -96,15 +99,11 @@ pub record IsRight (n : ℕ) (u : Use) : Type 0 where
 behind_numbers : (n : ℕ) (x : List ℕ) → among last_names x ≡ true → among (numbers 0 (n + 1) ++ last_names) x ≡ true
 behind_numbers n x e = any-append (λ y. bytes_eq y x) (numbers 0 (n + 1)) last_names ∙ or_right (among (numbers 0 (n + 1)) x) (among last_names x) e
 
-or_left : (a b : Bool) → a ≡ true → (a || b) ≡ true
-or_left true b e = refl
-or_left false b e = cc
-
 among_numbers : (from count j : ℕ) → j < count → among (numbers from count) (number_name (from + j)) ≡ true
 among_numbers from zero j below = absurd (omega (arith, below))
 among_numbers from (suc count) zero below =
     let e : from + 0 ≡ from = omega arith in
-    or_left (bytes_eq (number_name from) (number_name (from + 0))) (among (numbers (from + 1) count) (number_name (from + 0))) (ap (λ i. bytes_eq (number_name from) (number_name i)) e ∙ itself (number_name from))
+    or_left (bytes_eq (number_name from) (number_name (from + 0))) (among (numbers (from + 1) count) (number_name (from + 0))) (ap (λ i. bytes_eq (number_name from) (number_name i)) e ∙ bytes_eq-same (number_name from))
 among_numbers from (suc count) (suc j) below =
     let e : from + suc j ≡ from + 1 + j = omega arith in
     or_right (bytes_eq (number_name from) (number_name (from + suc j))) (among (numbers (from + 1) count) (number_name (from + suc j)))

@@ -4,6 +4,7 @@ use Rattle.std.specs.Prelude.{◌==◌, unwrap_or}
 use Rattle.std.specs.List.{position_from, range_with_len}
 use Rattle.std.specs.Str.{bytes_eq}
 use Rattle.std.proofs.lemmas.List.{map-append}
+use Rattle.anb_lemmas.proofs.Items.{bytes_eq-same, bytes_differ}
 use Rattle.anb_term.specs.declared.term.Op.{Op}
 use Rattle.anb_term.specs.declared.term.Op.TheVariants.{Hash, Seal, Format}
 use Rattle.anb_term.specs.Tree.{Tree, leaf, node, none, more}
@@ -12,7 +13,7 @@ use Rattle.anb_gen.specs.Drill.{back, closing, drill_narration, exchange, exchan
 use Rattle.anb_resolve.specs.declared.parts.Atom.{Atom}
 use Rattle.anb_resolve.specs.Names.{atoms}
 use Rattle.anb_resolve.specs.Protocols.{ActionValue, atom_number, format_op, formats_of, protocol_of, resolved}
-use Rattle.anb_drill.proofs.Lists.{differs, here, itself, not_here}
+use Rattle.anb_drill.proofs.Lists.{here, not_here}
 use Rattle.anb_drill.proofs.Names.{numbers, numbers_differ}
 use Rattle.anb_drill.proofs.WellFormed.{actions_are, has_name, k_is, made_action, many, no_number, number_atoms}
 
@@ -24,11 +25,11 @@ at_number from zero j k ys less most = absurd (omega (arith, less))
 at_number from (suc count) zero k ys less most =
     let e : from ≡ from + 0 = omega arith in
     let z : k ≡ k + 0 = omega arith in
-    here (has_name (number_name (from + 0))) k (mark (number_name from)) (map mark (numbers (from + 1) count) ++ ys) (ap (λ i. bytes_eq (number_name from) (number_name i)) (sym e) ∙ itself (number_name from)) ∙ ap Some z
+    here (has_name (number_name (from + 0))) k (mark (number_name from)) (map mark (numbers (from + 1) count) ++ ys) (ap (λ i. bytes_eq (number_name from) (number_name i)) (sym e) ∙ bytes_eq-same (number_name from)) ∙ ap Some z
 at_number from (suc count) (suc j) k ys less most =
     let e : from + suc j ≡ from + 1 + j = omega arith in
     let z : k + 1 + j ≡ k + suc j = omega arith in
-    let other : bytes_eq (number_name from) (number_name (from + suc j)) ≡ false = differs (number_name from) (number_name (from + suc j)) (numbers_differ from (from + suc j) (omega arith) (omega (arith, less, most))) in
+    let other : bytes_eq (number_name from) (number_name (from + suc j)) ≡ false = bytes_differ (number_name from) (number_name (from + suc j)) (numbers_differ from (from + suc j) (omega arith) (omega (arith, less, most))) in
     ap (λ b. cond b (Some k) (position_from (has_name (number_name (from + suc j))) (k + 1) (map mark (numbers (from + 1) count) ++ ys))) other
     ∙ ap (λ i. position_from (has_name (number_name i)) (k + 1) (map mark (numbers (from + 1) count) ++ ys)) e
     ∙ at_number (from + 1) count j (k + 1) ys (omega (arith, less)) (omega (arith, most)) ∙ ap Some z

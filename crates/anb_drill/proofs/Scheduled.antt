@@ -7,7 +7,7 @@ use Rattle.std.proofs.lemmas.List.Sums.{sum_by_push}
 use Rattle.anb_resolve.specs.Choices.{each_after}
 use Rattle.anb_resolve.specs.Protocols.{ActionValue, ProtocolValue}
 use Rattle.anb_resolve.specs.Schedules.{Turn, append_if, if_ready, next_of, part_in, parts_of, taken, taken_after, turn_of, was_sent}
-use Rattle.anb_resolve.proofs.Afters.{any-append}
+use Rattle.anb_resolve.proofs.Afters.{any-append, each_after_last}
 
 -- between roles 0 and 1
 abbrev pub IsBetween : ActionValue → Type 0
@@ -28,12 +28,6 @@ done_by acts = each_after both [] acts
 -- the roles
 abbrev pub IsRole : ℕ → Type 0
 IsRole r = (r ≡ 0) ⊎ (r ≡ 1)
-
-each_after-append : {X Y : Type 0} (f : List X → X → List Y) (before xs : List X) (x : X) → each_after f before (xs ++ x ∷ []) ≡ each_after f before xs ++ f (before ++ xs) x
-each_after-append f before [] x = append-nil (f before x) ∙ ap (λ l. f l x) (sym (append-nil before))
-each_after-append f before (y ∷ xs) x =
-    ap (λ l. f before y ++ l) (each_after-append f (before ++ y ∷ []) xs x ∙ ap (λ l. each_after f (before ++ y ∷ []) xs ++ f l x) (append_assoc before (y ∷ []) xs))
-    ∙ sym (append_assoc (f before y) (each_after f (before ++ y ∷ []) xs) (f (before ++ y ∷ xs) x))
 
 -- ---- the parts of a role
 
@@ -75,7 +69,7 @@ one_each r a (inr is) (inr way) = rw (is, way.0, way.1) refl
 
 -- the turns of these actions, each of which has two
 two_more : (before : List ActionValue) (a : ActionValue) → done_by (before ++ a ∷ []) ≡ (done_by before ++ turn_at a.from (length before + 1) true ∷ []) ++ turn_at a.to (length before + 1) false ∷ []
-two_more before a = each_after-append both [] before a ∙ sym (append_assoc (done_by before) (turn_at a.from (length before + 1) true ∷ []) (turn_at a.to (length before + 1) false ∷ []))
+two_more before a = each_after_last both [] before a ∙ sym (append_assoc (done_by before) (turn_at a.from (length before + 1) true ∷ []) (turn_at a.to (length before + 1) false ∷ []))
 
 count_all : (r : ℕ) (before acts : List ActionValue) → IsRole r → AllByRecursion IsBetween acts → count_by (is_own r) (done_by before) ≡ length before → count_by (is_own r) (done_by (before ++ acts)) ≡ length (before ++ acts)
 count_all r before [] role all is = ap (λ l. count_by (is_own r) (done_by l)) (append-nil before) ∙ is ∙ ap length (sym (append-nil before))

@@ -2,7 +2,7 @@
 use Rattle.std.proofs.Common.{◌≡◌, ℕ, ◌+◌, ◌-◌, List, [], ◌∷◌, ◌++◌, length, map, Bool, true, false, cond, Option, Some, None, refl, sym, ap, ◌∙◌, subst, arith, append_assoc, append-nil, codes}
 use Rattle.std.specs.Prelude.{filter, nat_eq, slice_get, option_and_then, ◌==◌, ◌&&◌, ◌||◌}
 use Rattle.std.specs.List.{list_any}
-use Rattle.std.proofs.lemmas.Bool.{eqb-true}
+use Rattle.std.proofs.lemmas.Bool.{eqb-true, or_right}
 use Rattle.std.proofs.lemmas.Bool.Decides.{nat_tests}
 use Rattle.anb_format.specs.Formats.{FormatValue}
 use Rattle.anb_term.specs.declared.term.Op.{Op}
@@ -22,7 +22,6 @@ use Rattle.anb_resolve.specs.Texts.{atoms_in}
 use Rattle.anb_resolve.specs.Plans.{to_make, to_send, is_made, made}
 use Rattle.anb_resolve.specs.Plays.{event_of}
 use Rattle.anb_resolve.proofs.Afters.{any-append}
-use Rattle.anb_drill.proofs.Lists.{or_right}
 use Rattle.anb_drill.proofs.Numbered.{pair, sealed}
 
 -- ---- recipes over the operators of a drill

@@ -3,9 +3,10 @@ use Rattle.std.proofs.Common.{◌≡◌, ◌⊎◌, ℕ, zero, suc, ◌+◌, ◌
 use Rattle.std.specs.Prelude.{slice_get, ◌==◌, ◌&&◌, ◌||◌}
 use Rattle.std.specs.Option.{option_map_or}
 use Rattle.std.specs.List.{flat_map, range_with_len}
-use Rattle.std.proofs.lemmas.Bool.{eqb-true, eqb-false}
+use Rattle.std.proofs.lemmas.Bool.{eqb-true, eqb-false, or_right}
 use Rattle.std.proofs.lemmas.List.FromFn.{map-range_with_len_more}
 use Rattle.std.proofs.lemmas.Bool.Decides.{nat_tests}
+use Rattle.std.proofs.lemmas.List.{map-append}
 use Rattle.anb_format.specs.Formats.{FormatValue}
 use Rattle.anb_term.specs.declared.term.Op.{Op}
 use Rattle.anb_term.specs.Agree.{HasRecipe}
@@ -21,8 +22,7 @@ use Rattle.anb_resolve.specs.Protocols.{ActionValue, ProtocolValue, protocol_of}
 use Rattle.anb_resolve.specs.Texts.{atoms_in, atoms_in_each, known_by, known_terms}
 use Rattle.anb_resolve.specs.Plans.{PlanEvent, to_know, to_make, to_send, to_receive, events_at, is_made, made, messages, names_number_or_key, occurs, plan_of}
 use Rattle.anb_resolve.specs.Plays.{event_of, events_of, IsSendable}
-use Rattle.anb_resolve.proofs.PlanLaws.{map-append}
-use Rattle.anb_drill.proofs.Lists.{or_right}
+use Rattle.anb_resolve.proofs.PlanLaws.{events_are}
 use Rattle.anb_drill.proofs.Names.{numbers}
 use Rattle.anb_drill.proofs.Numbered.{all_actions, all_made, exchanged, first_action, last_action, last_atoms, mark, pair, sealed}
 use Rattle.anb_drill.proofs.Sending.{exchange_has, has, is_among_made, last_has, made_has, number_had, pair_formats, seal_has, sends_first, still}
@@ -302,9 +302,8 @@ events_known : (ts : List Tree) (es : List PlanEvent) → map event_of (map to_k
 events_known [] es = refl
 events_known (t ∷ ts) es = ap (λ l. know t ∷ l) (events_known ts es)
 
-pub plan_is : (p : ProtocolValue) (r : ℕ) → events_of p r ≡ map know (known_by p r) ++ map event_of (each_after (events_at p r) [] p.actions)
 unfolding plan_of
-plan_is p r = events_known (known_by p r) (each_after (events_at p r) [] p.actions)
+events_are p r = events_known (known_by p r) (each_after (events_at p r) [] p.actions)
 
 known_is : (n r : ℕ) → (r ≡ 0) ⊎ (r ≡ 1) → known_by (drilled n) r ≡ known_to_both n
 known_is n r (inl e) = ap (known_by (drilled n)) e ∙ ap (λ (k : List (List Tree)). option_map_or (λ (ts : List Tree). ts) (slice_get k 0) []) (knows_are n)
@@ -314,7 +313,7 @@ pub can_send_plan : (n : ℕ) → n ≤ 200 → (r : ℕ) → (r ≡ 0) ⊎ (r �
 can_send_plan n most r role =
     let rest = rest_of n r [] (all_actions n) in
     let is : events_of (drilled n) r ≡ map know (known_to_both n) ++ rest =
-    plan_is (drilled n) r ∙ ap (λ (ts : List Tree). map know ts ++ map event_of (each_after (events_at (drilled n) r) [] (drilled n).actions)) (known_is n r role)
+    events_are (drilled n) r ∙ ap (λ (ts : List Tree). map know ts ++ map event_of (each_after (events_at (drilled n) r) [] (drilled n).actions)) (known_is n r role)
     ∙ ap (λ (acts : List ActionValue). map know (known_to_both n) ++ rest_of n r [] acts) (all_made n most) in
     subst (λ (plan : List Event). Sendable (has_operator pair_formats) plan) (sym is)
     (subst (λ (frame : List Tree). CanSend (has_operator pair_formats) frame (map know (known_to_both n) ++ rest)) (sym (known_front (known_to_both n) rest))

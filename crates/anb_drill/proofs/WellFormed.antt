@@ -8,9 +8,11 @@ use Rattle.std.proofs.lemmas.Bool.Decides.{nat_tests}
 use Rattle.std.proofs.lemmas.List.{length-map}
 use Rattle.std.proofs.lemmas.List.FromFn.{length-map-range_with_len}
 use Rattle.std.proofs.lemmas.List.Sums.{sum_by-append, sum_by-cons}
+use Rattle.anb_index.specs.Places.{among}
 use Rattle.anb_base.specs.declared.TheConstants.{ARRIVAL, WIDE}
 use Rattle.anb_format.specs.Formats.{FormatValue}
-use Rattle.anb_lemmas.proofs.Each.{each_in_both}
+use Rattle.anb_lemmas.proofs.Each.{each_in_both, each_by, each_of_map}
+use Rattle.anb_lemmas.proofs.Items.{bytes_differ}
 use Rattle.anb_term.specs.Tree as term
 use Rattle.anb_syntax.specs.Grammar.{ActionItem, KnowItem, Tree, list_of}
 use Rattle.anb_syntax.specs.declared.narration.Sort.TheVariants.{Number}
@@ -25,14 +27,13 @@ use Rattle.anb_resolve.specs.declared.refusals.ResolveNo.{ResolveNo}
 use Rattle.anb_resolve.specs.declared.refusals.ResolveNo.TheVariants.{KnowledgeTwice, Limit, SelfSend, Unknown, Wide, WrongCount, WrongSort}
 use Rattle.anb_resolve.specs.Choices.{each_after, first, refuse_if, first_after}
 use Rattle.anb_resolve.specs.Checks.{IsWellFormed, above, action_limit, all_limit, declared_twice, fault, field_limit, first_fault, format_checks, format_limit, is_miscounted, is_missorted, known_again, known_twice, limit_checks, line_twice, name_checks, name_limit, protocol_checks, role_limit, self_send, term_limit, tree_nodes, unknown, wide_knowledge, wide_message, wrong_count, wrong_sort}
-use Rattle.anb_resolve.specs.Names.{action_roles, all_names, among, atoms, declared_names, first_new, roles, terms, used_name, uses}
+use Rattle.anb_resolve.specs.Names.{action_roles, all_names, atoms, declared_names, first_new, roles, terms, used_name, uses}
 use Rattle.anb_resolve.specs.Protocols.{ActionValue, ProtocolValue, action_of, atom_number, formats_of, line_of, protocol_of, resolved_all}
 use Rattle.anb_resolve.specs.Texts.{term_text}
 use Rattle.anb_resolve.specs.Widths.{all_fit_width, fits_width}
 use Rattle.anb_resolve.proofs.Afters.{any-append}
 use Rattle.anb_resolve.proofs.Distinct.{AllApart}
-use Rattle.anb_resolve.proofs.Faultless.{all_map, all-map}
-use Rattle.anb_drill.proofs.Lists.{differs, none_first, none_first_after, none_twice, not_here, over_flat, over_from}
+use Rattle.anb_drill.proofs.Lists.{none_first, none_first_after, none_twice, not_here, over_flat, over_from}
 use Rattle.anb_drill.proofs.Names.{IsRight, all_declared, declared_apart, declared_are, number_short, numbers, other_than_numbers, uses_right}
 
 -- ---- roles
@@ -41,7 +42,7 @@ none_new : (before xs : List (List ℕ)) → AllByRecursion (λ x. among before 
 none_new before [] all = refl
 none_new before (x ∷ xs) all =
     ap (λ b. cond b [] (x ∷ []) ++ each_after (first_new bytes_eq) (before ++ x ∷ []) xs) all.0
-    ∙ none_new (before ++ x ∷ []) xs (all_map (λ y. among before y ≡ true) (λ y. among (before ++ x ∷ []) y ≡ true) (λ y e. any-append (λ z. bytes_eq z y) before (x ∷ []) ∙ ap (λ b. b || among (x ∷ []) y) e) xs all.1)
+    ∙ none_new (before ++ x ∷ []) xs (each_by (λ y. among before y ≡ true) (λ y. among (before ++ x ∷ []) y ≡ true) (λ y e. any-append (λ z. bytes_eq z y) before (x ∷ []) ∙ ap (λ b. b || among (x ∷ []) y) e) xs all.1)
 
 abbrev Known : ActionItem → Type 0
 Known a = AllByRecursion (λ x. among role_names x ≡ true) (action_roles a)
@@ -66,8 +67,8 @@ has_name x a = bytes_eq a.name x
 
 pub no_number : (x : ℕ) (rest : List ℕ) (from count : ℕ) → (x ≡ 78 → ⊥) → AllByRecursion (λ (a : Atom). has_name (x ∷ rest) a ≡ false) (map (λ y. record { name = y; sort = Number }) (numbers from count))
 no_number x rest from count other =
-    all-map (λ (a : Atom). has_name (x ∷ rest) a ≡ false) (λ y. record { name = y; sort = Number }) (numbers from count)
-    (over_from (λ y. bytes_eq y (x ∷ rest) ≡ false) number_name from count (λ i _ _. differs (number_name i) (x ∷ rest) (λ e. other_than_numbers x rest i other (sym e))))
+    each_of_map (λ (a : Atom). has_name (x ∷ rest) a ≡ false) (λ y. record { name = y; sort = Number }) (numbers from count)
+    (over_from (λ y. bytes_eq y (x ∷ rest) ≡ false) number_name from count (λ i _ _. bytes_differ (number_name i) (x ∷ rest) (λ e. other_than_numbers x rest i other (sym e))))
 
 pub many : (n : ℕ) → length (number_atoms n) ≡ n + 1
 many n = length-map (numbers 0 (n + 1)) (λ x. record { name = x; sort = Number }) ∙ length-map-range_with_len number_name 0 (n + 1)
@@ -105,7 +106,7 @@ short_names n most =
     none_first (λ (x : List ℕ). above 64 kind.Name (length x)) (all_names (drill_narration n)) (
       titled n,
       each_in_both Short (declared_names (drill_narration n)) (map used_name (uses (drill_narration n))) (subst (λ (l : List (List ℕ)). AllByRecursion Short l) (sym (declared_are n)) (declared_short n most))
-          (all-map Short used_name (uses (drill_narration n)) (all_map (IsRight n) (λ u. Short (used_name u)) (λ u r. within 64 kind.Name (length (used_name u)) r.short) (uses (drill_narration n)) (uses_right n most))),
+          (each_of_map Short used_name (uses (drill_narration n)) (each_by (IsRight n) (λ u. Short (used_name u)) (λ u r. within 64 kind.Name (length (used_name u)) r.short) (uses (drill_narration n)) (uses_right n most))),
     )
 
 few_roles : (n : ℕ) → role_limit (drill_narration n) ≡ None
@@ -158,8 +159,8 @@ small_terms n =
               refl,
               (
                 refl,
-                all-map (λ t. above 1024 kind.TermNodes (tree_nodes t) ≡ None) message (drill_actions n)
-                    (all_map Light (λ a. above 1024 kind.TermNodes (tree_nodes a.message) ≡ None) (λ a light. within 1024 kind.TermNodes (tree_nodes a.message) (omega (arith, light))) (drill_actions n) (all_light n)),
+                each_of_map (λ t. above 1024 kind.TermNodes (tree_nodes t) ≡ None) message (drill_actions n)
+                    (each_by Light (λ a. above 1024 kind.TermNodes (tree_nodes a.message) ≡ None) (λ a light. within 1024 kind.TermNodes (tree_nodes a.message) (omega (arith, light))) (drill_actions n) (all_light n)),
               ),
             ),
           ),
@@ -193,19 +194,19 @@ in_names n most = none_first (λ check. check (drill_narration n)) name_checks (
   all_known_names : unknown (drill_narration n) ≡ None
   all_known_names =
       none_first (λ u. refuse_if (not (among (declared_names (drill_narration n)) (used_name u))) (Unknown (used_name u))) (uses (drill_narration n))
-      (all_map (IsRight n) (λ u. refuse_if (not (among (declared_names (drill_narration n)) (used_name u))) (Unknown (used_name u)) ≡ None)
+      (each_by (IsRight n) (λ u. refuse_if (not (among (declared_names (drill_narration n)) (used_name u))) (Unknown (used_name u)) ≡ None)
       (λ u r. ap (λ b. refuse_if (not b) (Unknown (used_name u))) (ap (λ (l : List (List ℕ)). among l (used_name u)) (declared_are n) ∙ r.declared)) (uses (drill_narration n)) (uses_right n most))
 
   all_sorted : wrong_sort (drill_narration n) ≡ None
   all_sorted =
       none_first (λ u. refuse_if (is_missorted (atoms (drill_narration n)) (drill_narration n).formats u) (WrongSort (used_name u))) (uses (drill_narration n))
-      (all_map (IsRight n) (λ u. refuse_if (is_missorted (atoms (drill_narration n)) (drill_narration n).formats u) (WrongSort (used_name u)) ≡ None)
+      (each_by (IsRight n) (λ u. refuse_if (is_missorted (atoms (drill_narration n)) (drill_narration n).formats u) (WrongSort (used_name u)) ≡ None)
       (λ u r. ap (λ b. refuse_if b (WrongSort (used_name u))) r.sorted) (uses (drill_narration n)) (uses_right n most))
 
   all_counted : wrong_count (drill_narration n) ≡ None
   all_counted =
       none_first (λ u. refuse_if (is_miscounted (drill_narration n).formats u) (WrongCount (used_name u))) (uses (drill_narration n))
-      (all_map (IsRight n) (λ u. refuse_if (is_miscounted (drill_narration n).formats u) (WrongCount (used_name u)) ≡ None)
+      (each_by (IsRight n) (λ u. refuse_if (is_miscounted (drill_narration n).formats u) (WrongCount (used_name u)) ≡ None)
       (λ u r. ap (λ b. refuse_if b (WrongCount (used_name u))) r.counted) (uses (drill_narration n)) (uses_right n most))
 
 pub in_formats : (n : ℕ) → first_fault format_checks (drill_narration n) ≡ None
@@ -234,8 +235,8 @@ none_to_itself : (n : ℕ) → self_send (protocol_of (drill_narration n)) ≡ N
 none_to_itself n =
     ap (first_after (λ before (a : ActionValue). refuse_if (a.from == a.to) (SelfSend (length before + 1))) []) (actions_are n)
     ∙ none_first_after (λ before (a : ActionValue). refuse_if (a.from == a.to) (SelfSend (length before + 1))) [] (map (made_action n) (drill_actions n))
-    (all-map (λ (a : ActionValue). (others : List ActionValue) → refuse_if (a.from == a.to) (SelfSend (length others + 1)) ≡ None) (made_action n) (drill_actions n)
-    (all_map (GoesToAnother n) (λ a. (others : List ActionValue) → refuse_if ((made_action n a).from == (made_action n a).to) (SelfSend (length others + 1)) ≡ None)
+    (each_of_map (λ (a : ActionValue). (others : List ActionValue) → refuse_if (a.from == a.to) (SelfSend (length others + 1)) ≡ None) (made_action n) (drill_actions n)
+    (each_by (GoesToAnother n) (λ a. (others : List ActionValue) → refuse_if ((made_action n a).from == (made_action n a).to) (SelfSend (length others + 1)) ≡ None)
     (λ a e others. ap (λ b. refuse_if b (SelfSend (length others + 1))) e) (drill_actions n) (go_to_another n)))
 
 abbrev Fits : ℕ → ActionItem → Type 0
@@ -254,8 +255,8 @@ none_wide n =
     let f : List ActionValue → ActionValue → Option ResolveNo = λ before a. refuse_if (not (fits_width ARRIVAL (protocol_of (drill_narration n)).formats WIDE a.message)) (Wide (Action (length before + 1))) in
     ap (first_after f []) (actions_are n)
     ∙ none_first_after f [] (map (made_action n) (drill_actions n))
-    (all-map (λ (a : ActionValue). (others : List ActionValue) → f others a ≡ None) (made_action n) (drill_actions n)
-    (all_map (Fits n) (λ a. (others : List ActionValue) → f others (made_action n a) ≡ None)
+    (each_of_map (λ (a : ActionValue). (others : List ActionValue) → f others a ≡ None) (made_action n) (drill_actions n)
+    (each_by (Fits n) (λ a. (others : List ActionValue) → f others (made_action n a) ≡ None)
     (λ a e others. ap (λ b. refuse_if (not b) (Wide (Action (length others + 1)))) (ap (λ (formats : List FormatValue). fits_width ARRIVAL formats WIDE (made_action n a).message) (formats_are n) ∙ e)) (drill_actions n) (all_fit n)))
 
 abbrev pub known_to_both : ℕ → List term.Tree

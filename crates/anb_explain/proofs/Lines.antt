@@ -7,6 +7,7 @@ use Rattle.std.proofs.lemmas.List.{append-nil, drop-drop}
 use Rattle.std.proofs.lemmas.List.FromFn.{length-range_with_len}
 use Rattle.std.proofs.lemmas.List.Folds.{flat_map-map}
 use Rattle.std.proofs.lemmas.List.Sums.{sum_by-append, sum_by-cons}
+use Rattle.anb_lemmas.proofs.Lists.{drop_got, take_got, drop_at_got}
 use Rattle.anb_format.specs.Formats.{FormatValue}
 use Rattle.anb_term.specs.declared.term.Term.{Term}
 use Rattle.anb_term.specs.Tree.{Tree}
@@ -22,7 +23,6 @@ use Rattle.anb_code.specs.Spelling.{raw_instr, raw_instrs}
 use Rattle.anb_code.specs.Verified.{count_registers}
 use Rattle.anb_text.specs.Lines.{instr_line}
 use Rattle.anb_explain.specs.Explained.{line, note, instr_texts}
-use Rattle.anb_explain.proofs.Loops.{drop_item, item_drop, take_item}
 
 abbrev pub behind : List ℕ → List ℕ
 behind text = 32 ∷ text
@@ -84,16 +84,16 @@ module _ (p : ProtocolValue) (formats : List FormatValue) (ts : List Term) (inst
   raw = raw_instr formats next x
 
   here : (slice_get raws i ≡ Some raw) × (drop (i + 1) raws ≡ raw_instrs formats (next + count_written formats x) rest)
-  here = item_drop raws (raw_instrs formats (next + count_written formats x) rest) i raw (w.spelled ∙ ap (raw_instrs formats next) (drop_item instrs i x at))
+  here = drop_got raws (raw_instrs formats (next + count_written formats x) rest) i raw (w.spelled ∙ ap (raw_instrs formats next) (drop_at_got instrs i x at))
 
   width : k ≡ length raw.to
   width = many ∙ sym (length-range_with_len next (count_written formats x))
 
   pub one_more : Explaining formats ts instrs raws (i + 1) (next + k)
   one_more =
-      let counts : next + (count_written formats x + count_registers formats rest) ≡ length ts = ap (λ n. next + n) (sym (ap (count_registers formats) (drop_item instrs i x at) ∙ sum_by-cons (count_written formats) x rest)) ∙ w.counted in
+      let counts : next + (count_written formats x + count_registers formats rest) ≡ length ts = ap (λ n. next + n) (sym (ap (count_registers formats) (drop_at_got instrs i x at) ∙ sum_by-cons (count_written formats) x rest)) ∙ w.counted in
       record {
-        before = ap (λ n. n + k) w.before ∙ omega (arith, many, ap (count_registers formats) (take_item instrs i x at), sum_by-append (count_written formats) (take i instrs) (x ∷ []), sum_by-cons (count_written formats) x []);
+        before = ap (λ n. n + k) w.before ∙ omega (arith, many, ap (count_registers formats) (take_got instrs i x at), sum_by-append (count_written formats) (take i instrs) (x ∷ []), sum_by-cons (count_written formats) x []);
         spelled = here.1 ∙ ap (λ n. raw_instrs formats (next + n) rest) (sym many);
         counted = omega (arith, counts, many);
       }
@@ -111,6 +111,6 @@ module _ (p : ProtocolValue) (formats : List FormatValue) (ts : List Term) (inst
       let moved : map tree_of (take k (drop next ts)) ≡ take (length raw.to) left_trees = map-take tree_of k (drop next ts) ∙ ap (take k) (map-drop tree_of next ts) ∙ ap (λ n. take n left_trees) width in
       let said_so : line (instr_line raw ++ note (map (term_text p) (take (length raw.to) left_trees))) ≡ shown = ap (λ l. line (instr_line raw ++ note (map (term_text p) l))) (sym moved) in
       let behind_it : drop (length raw.to) left_trees ≡ drop (next + k) trees = some_terms next (count_written formats x) trees ∙ ap (λ n. drop (next + n) trees) (sym many) in
-      ap (λ l. instr_texts p l left_trees) (drop_item raws i raw here.0)
+      ap (λ l. instr_texts p l left_trees) (drop_at_got raws i raw here.0)
       ∙ ap (λ l. l ++ instr_texts p (drop (i + 1) raws) (drop (length raw.to) left_trees)) said_so
       ∙ ap (λ l. shown ++ instr_texts p (drop (i + 1) raws) l) behind_it

@@ -1,23 +1,26 @@
 -- The terms of a code's registers: how many there are, and that they are terms of the protocol.
-use Rattle.std.proofs.Common.{◌≡◌, ℕ, zero, suc, ◌+◌, ◌-◌, List, [], ◌∷◌, ◌++◌, length, map, take, drop, Some, refl, sym, ap, ◌∙◌, subst, arith, length-append}
+use Rattle.std.proofs.Common.{◌≡◌, ℕ, ◌+◌, ◌-◌, List, [], ◌∷◌, ◌++◌, length, map, take, drop, Some, sym, ap, ◌∙◌, subst, arith, length-append}
 use Rattle.std.specs.Prelude.{count_by, ◌&&◌, ◌==◌}
 use Rattle.std.specs.List.{AllByRecursion}
 use Rattle.std.proofs.lemmas.List.{append-nil}
 use Rattle.std.proofs.lemmas.List.Sums.{sum_by-cons}
-use Rattle.anb_format.specs.Formats.{FormatValue, field_count}
+use Rattle.std.proofs.lemmas.Option.{cond_some}
+use Rattle.anb_lemmas.proofs.Each.{each_in_both, each_got}
+use Rattle.anb_format.specs.Formats.{FormatValue, field_count, pieces_at}
 use Rattle.anb_term.specs.declared.term.Op.{Op}
 use Rattle.anb_term.specs.declared.term.Op.TheVariants.{Seal, Wrap, Format}
 use Rattle.anb_term.specs.Operator.{arity, keys, undoable, op_eqb}
 use Rattle.anb_term.specs.Tree.{Tree, leaf, node, Trees, none, more, trees_of, list_of, trees_eqb}
 use Rattle.anb_term.specs.TreeSame.{list_of-trees_of}
-use Rattle.anb_term.specs.Value.{Meaning, RecipeTree, label, build, part, RecipeTrees, no_recipes, more_recipes, recipe_trees, value, values}
+use Rattle.anb_term.specs.Value.{RecipeTree, label, build, part, RecipeTrees, no_recipes, more_recipes, value, values}
 use Rattle.anb_term.specs.FreeAlgebra.{terms_over, parts_of}
-use Rattle.anb_term.proofs.Lists.{all_at, all_append, all_drop}
-use Rattle.anb_term.proofs.Steps.{consed, chosen}
+use Rattle.anb_term.proofs.Lists.{all_drop}
+use Rattle.anb_term.proofs.Steps.{consed}
 use Rattle.anb_term.proofs.Values.{builds_by_own, part_parts}
 use Rattle.anb_algebra.specs.ByteMeaning.{has_operator}
 use Rattle.anb_plays.specs.Plans.{known}
 use Rattle.anb_plays.specs.Codes.{at_register, parts}
+use Rattle.anb_plays.proofs.Registers.{length-parts}
 use Rattle.anb_resolve.specs.Protocols.{ProtocolValue}
 use Rattle.anb_resolve.specs.Texts.{IsTermOf, AreTermsOf}
 use Rattle.anb_resolve.specs.Plans.{PlanEvent, to_know, to_make, to_send, to_receive, term_in}
@@ -26,15 +29,11 @@ use Rattle.anb_code.specs.declared.instr.Instr.{Instr}
 use Rattle.anb_code.specs.declared.instr.Instr.TheVariants.{Take, Fresh, Recv, Hash, Mac, Build, Parse, Equal, Send}
 use Rattle.anb_code.specs.declared.instr.Instr.TheVariants as instr
 use Rattle.anb_code.specs.Meaning.{act_of}
-use Rattle.anb_code.specs.Registers.{count_written, pieces_at}
+use Rattle.anb_code.specs.Registers.{count_written}
 use Rattle.anb_code.specs.Verified.{count_registers}
 use Rattle.anb_compile.specs.Registers.{is_take, recipes_after, register_recipes, later_labels, all_labels}
 
 -- ---- how many registers there are
-
-parts_count : (n : ℕ) (o : Op) (ks : RecipeTrees) (r : RecipeTree) → length (parts n o ks r) ≡ n
-parts_count zero o ks r = refl
-parts_count (suc n) o ks r = omega (arith, length-append (parts n o ks r) (part o n ks r ∷ []), parts_count n o ks r)
 
 -- as many as the instructions write
 module _ (formats : List FormatValue) where
@@ -46,7 +45,7 @@ module _ (formats : List FormatValue) where
     one_more r n = omega (arith, rest (regs ++ r ∷ []) n, length-append regs (r ∷ []))
 
     some_more : (m : ℕ) (o : Op) (ks : RecipeTrees) (r : RecipeTree) (n : ℕ) → length (recipes_after (map (act_of formats) xs) (regs ++ parts m o ks r) n) ≡ length regs + (m + count_registers formats xs)
-    some_more m o ks r n = omega (arith, rest (regs ++ parts m o ks r) n, length-append regs (parts m o ks r), parts_count m o ks r)
+    some_more m o ks r n = omega (arith, rest (regs ++ parts m o ks r) n, length-append regs (parts m o ks r), length-parts m o ks r)
 
     written_more : (x : Instr) (n : ℕ) → length (recipes_after (map (act_of formats) (x ∷ xs)) regs n) ≡ length regs + (count_written formats x + count_registers formats xs)
     written_more (Take text) n = one_more _ n
@@ -73,10 +72,6 @@ module _ (formats : List FormatValue) where
   pub registers_count : (instrs : List Instr) → length (register_recipes (map (act_of formats) instrs)) ≡ count_registers formats instrs
   registers_count instrs = omega (arith, recipes_count instrs [] (count_by is_take (map (act_of formats) instrs)))
 
-pub values_count : {A : Type 0} (m : Meaning A) (frame : List A) (rs : List RecipeTree) (xs : List A) → values m frame (recipe_trees rs) ≡ Some xs → length xs ≡ length rs
-values_count m frame [] xs e = let s : [] ≡ xs = cc in ap length (sym s)
-values_count m frame (r ∷ rs) xs e = let c = consed (value m frame r) (values m frame (recipe_trees rs)) xs e in ap length c.4 ∙ ap suc (values_count m frame rs c.1 c.3)
-
 -- ---- what is made and undone of terms of a protocol is one
 
 module _ (p : ProtocolValue) where
@@ -91,19 +86,19 @@ module _ (p : ProtocolValue) where
   parts_are_terms : (o : Op) (ks : List Tree) (v : Tree) (ps : List Tree) → IsTermOf p v → parts_of o ks v ≡ Some ps → AllByRecursion (IsTermOf p) ps
   parts_are_terms o ks (leaf a) ps is e = cc
   parts_are_terms o ks (node q ts) ps is e =
-      let c = chosen (undoable o && op_eqb o q && (length (list_of ts) == arity o) && trees_eqb (trees_of ks) (trees_of (take (keys o) (list_of ts)))) (drop (keys o) (list_of ts)) ps e in
+      let c = cond_some (undoable o && op_eqb o q && (length (list_of ts) == arity o) && trees_eqb (trees_of ks) (trees_of (take (keys o) (list_of ts)))) (drop (keys o) (list_of ts)) ps e in
       subst (AllByRecursion (IsTermOf p)) c.1 (all_drop (IsTermOf p) (keys o) (list_of ts) (listed ts is.2))
 
   module _ (frame : List Tree) (are : AllByRecursion (IsTermOf p) frame) where
     mutual
       pub value_is_term : (r : RecipeTree) (t : Tree) → value (terms_over (has_operator p.formats)) frame r ≡ Some t → IsTermOf p t
-      value_is_term (label n) t e = all_at (IsTermOf p) frame n t are e
+      value_is_term (label n) t e = each_got (IsTermOf p) frame n t are e
       value_is_term (build o rs) t e =
           let b = builds_by_own (terms_over (has_operator p.formats)) frame o rs t e in
           subst (IsTermOf p) (sym b.4) (b.1, ap length (list_of-trees_of b.0) ∙ b.2, gathered b.0 (values_are_terms rs b.0 b.3))
       value_is_term (part o j ks r) t e =
           let b = part_parts (terms_over (has_operator p.formats)) frame o j ks r t e in
-          all_at (IsTermOf p) b.2 j t (parts_are_terms o b.0 b.1 b.2 (value_is_term r b.1 b.6) b.7) b.8
+          each_got (IsTermOf p) b.2 j t (parts_are_terms o b.0 b.1 b.2 (value_is_term r b.1 b.6) b.7) b.8
 
       pub values_are_terms : (rs : RecipeTrees) (ts : List Tree) → values (terms_over (has_operator p.formats)) frame rs ≡ Some ts → AllByRecursion (IsTermOf p) ts
       values_are_terms no_recipes ts e = let s : [] ≡ ts = cc in subst (AllByRecursion (IsTermOf p)) s tt
@@ -128,4 +123,4 @@ module _ (p : ProtocolValue) where
   later_are (to_receive i t ∷ es) are = (are.0, later_are es are.1)
 
   pub labels_are : (es : List PlanEvent) → AllByRecursion (λ e. IsTermOf p (term_in e)) es → AllByRecursion (IsTermOf p) (all_labels (map event_of es))
-  labels_are es are = all_append (IsTermOf p) (known (map event_of es)) (later_labels (map event_of es)) (known_are es are) (later_are es are)
+  labels_are es are = each_in_both (IsTermOf p) (known (map event_of es)) (later_labels (map event_of es)) (known_are es are) (later_are es are)

@@ -4,6 +4,7 @@ use Rattle.std.proofs.lemmas.Bool.{and_parts, cases_lt}
 use Rattle.std.proofs.lemmas.Bool.Decides.{nat_tests}
 use Rattle.std.specs.List.{AllByRecursion, list_all}
 use Rattle.anb_base.specs.Bytes.{IsBytes, IsBytes-pass, is_bytes, is_bytes-IsBytes}
+use Rattle.anb_base.proofs.Strings.{with_byte}
 use Rattle.hex.specs.Hex.{encode_lower, encode_with, lower_digits}
 use Rattle.anb_format.specs.declared.pieces.FieldKind.{FieldKind}
 use Rattle.anb_format.specs.declared.pieces.FieldKind.TheVariants.{Len, Net, Hex, Rest}
@@ -14,32 +15,28 @@ use Rattle.anb_format.specs.Formats.{IsBytesPiece, IsSound, ends_at_rest, format
 use Rattle.anb_format.proofs.Leb128.{leb128_large, leb128_small}
 use Rattle.anb_format.proofs.ReadingLemmas.{RestIsLast, rest_last}
 
-one_byte : (b : ℕ) (rest : List ℕ) → b < 256 → IsBytes rest → IsBytes (b ∷ rest)
-one_byte b rest small all zero = small
-one_byte b rest small all (suc i) = all i
-
 no_bytes : IsBytes []
 no_bytes i = omega arith
 
 pub IsBytes-append : (xs ys : List ℕ) → IsBytes xs → IsBytes ys → IsBytes (xs ++ ys)
 IsBytes-append [] ys p q = q
-IsBytes-append (x ∷ xs) ys p q = one_byte x (xs ++ ys) (p 0) (IsBytes-append xs ys (λ i. p (suc i)) q)
+IsBytes-append (x ∷ xs) ys p q = with_byte x (xs ++ ys) (p 0) (IsBytes-append xs ys (λ i. p (suc i)) q)
 
 leb128_below : (bound n : ℕ) → n < bound → IsBytes (leb128 n)
 leb128_below zero n below = absurd (omega arith)
 leb128_below (suc bound) n below = elim (cases_lt n 128) [
-  | inl small ↦ rw (leb128_small n small) (one_byte n [] (omega arith) no_bytes)
-  | inr large ↦ rw (leb128_large n large) (one_byte (128 + n % 128) (leb128 (n / 128)) (omega arith) (leb128_below bound (n / 128) (omega arith)))
+  | inl small ↦ rw (leb128_small n small) (with_byte n [] (omega arith) no_bytes)
+  | inr large ↦ rw (leb128_large n large) (with_byte (128 + n % 128) (leb128 (n / 128)) (omega arith) (leb128_below bound (n / 128) (omega arith)))
 ]
 
 digits_are_bytes : (more n : ℕ) → IsBytes (digits_within more n)
 unfolding digits_within
 digits_are_bytes zero n = no_bytes
 digits_are_bytes (suc more) n = elim (cases_lt n 10) [
-  | inl small ↦ let yes : nat_lt n 10 ≡ true = grind (arith, nat_tests) in rw yes (one_byte (48 + n) [] (omega arith) no_bytes)
+  | inl small ↦ let yes : nat_lt n 10 ≡ true = grind (arith, nat_tests) in rw yes (with_byte (48 + n) [] (omega arith) no_bytes)
   | inr large ↦
       let absent : nat_lt n 10 ≡ false = grind (arith, nat_tests) in
-      rw absent (IsBytes-append (digits_within more (n / 10)) ((48 + n % 10) ∷ []) (digits_are_bytes more (n / 10)) (one_byte (48 + n % 10) [] (omega arith) no_bytes))
+      rw absent (IsBytes-append (digits_within more (n / 10)) ((48 + n % 10) ∷ []) (digits_are_bytes more (n / 10)) (with_byte (48 + n % 10) [] (omega arith) no_bytes))
 ]
 
 hex_digits_are_bytes : (bytes : List ℕ) → IsBytes (encode_lower bytes)
@@ -47,16 +44,16 @@ unfolding encode_with
 hex_digits_are_bytes [] = no_bytes
 hex_digits_are_bytes (b ∷ bytes) =
     let table : IsBytes lower_digits = IsBytes-pass lower_digits refl in
-    one_byte (slice_index lower_digits (b / 16)) (slice_index lower_digits (b % 16) ∷ encode_lower bytes) (table (b / 16))
-    (one_byte (slice_index lower_digits (b % 16)) (encode_lower bytes) (table (b % 16)) (hex_digits_are_bytes bytes))
+    with_byte (slice_index lower_digits (b / 16)) (slice_index lower_digits (b % 16) ∷ encode_lower bytes) (table (b / 16))
+    (with_byte (slice_index lower_digits (b % 16)) (encode_lower bytes) (table (b % 16)) (hex_digits_are_bytes bytes))
 
 field_is_bytes : (kind : FieldKind) (b : List ℕ) → IsBytes b → IsBytes (field_bytes kind b)
 field_is_bytes Len b small = IsBytes-append (leb128 (length b)) b (leb128_below (suc (length b)) (length b) (omega arith)) small
 field_is_bytes Net b small =
     IsBytes-append (decimal_digits (length b) ++ 58 ∷ b) (44 ∷ [])
-    (IsBytes-append (decimal_digits (length b)) (58 ∷ b) (digits_are_bytes (suc (length b)) (length b)) (one_byte 58 b (omega arith) small))
-    (one_byte 44 [] (omega arith) no_bytes)
-field_is_bytes Hex b small = IsBytes-append (encode_lower b) (59 ∷ []) (hex_digits_are_bytes b) (one_byte 59 [] (omega arith) no_bytes)
+    (IsBytes-append (decimal_digits (length b)) (58 ∷ b) (digits_are_bytes (suc (length b)) (length b)) (with_byte 58 b (omega arith) small))
+    (with_byte 44 [] (omega arith) no_bytes)
+field_is_bytes Hex b small = IsBytes-append (encode_lower b) (59 ∷ []) (hex_digits_are_bytes b) (with_byte 59 [] (omega arith) no_bytes)
 field_is_bytes Rest b small = small
 
 pub built_is_bytes : (pieces : List Piece) (arguments : List (List ℕ)) → AllByRecursion IsBytesPiece pieces → AllByRecursion IsBytes arguments → IsBytes (format_bytes pieces arguments)
@@ -97,7 +94,7 @@ literals_test [] passes = tt
 literals_test (Lit text ∷ pieces) passes = let parts = and_parts (is_bytes text) (list_all is_bytes_piece pieces) passes in (IsBytes-pass text parts.0, literals_test pieces parts.1)
 literals_test (Field kind ∷ pieces) passes = (tt, literals_test pieces passes)
 
-passes_literals : (pieces : List Piece) → AllByRecursion IsBytesPiece pieces → list_all is_bytes_piece pieces ≡ true
+pub passes_literals : (pieces : List Piece) → AllByRecursion IsBytesPiece pieces → list_all is_bytes_piece pieces ≡ true
 passes_literals [] all = refl
 passes_literals (Lit text ∷ pieces) all = rw (is_bytes-IsBytes text all.0, passes_literals pieces all.1) refl
 passes_literals (Field kind ∷ pieces) all = passes_literals pieces all.1

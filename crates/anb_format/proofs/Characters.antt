@@ -31,7 +31,7 @@ hexadecimal (a ∷ h ∷ l ∷ rest) x y some first high low = record {
 }
 
 -- a character takes a byte at least
-takes_some : (character : Character) → 0 < length (spelling_of character)
+pub takes_some : (character : Character) → 0 < length (spelling_of character)
 takes_some (Plain b) = omega arith
 takes_some Quote = omega arith
 takes_some Backslash = omega arith
@@ -43,10 +43,6 @@ shorter text rest b h = omega (arith, takes_some h.character, length-append (spe
 all-append : (xs : List Character) (y : Character) → AllByRecursion IsAllowed xs → IsAllowed y → AllByRecursion IsAllowed (xs ++ y ∷ [])
 all-append [] y all one = (one, tt)
 all-append (x ∷ xs) y all one = (all.0, all-append xs y all.1 one)
-
--- no character so far
-pub no_characters : (text : List ℕ) → AreCharactersAt text [] text
-no_characters text = record { characters = []; allowed = tt; stands = refl; means = refl }
 
 -- one character more
 pub one_more : (text bytes rest after : List ℕ) (b : ℕ) → AreCharactersAt text bytes rest → IsCharacterAt rest b after → AreCharactersAt text (bytes ++ b ∷ []) after

@@ -1,23 +1,12 @@
 -- What a crate above uses of `parts_of`, `format_bytes` and `is_sound`, as lemmas.
-use Rattle.std.specs.Prelude.{◌≡◌, ℕ, List, length, Some, true, refl}
+use Rattle.std.specs.Prelude.{◌≡◌, ℕ, List, length, Some, refl}
 use Rattle.std.specs.List.{AllByRecursion}
 use Rattle.anb_base.specs.Bytes.{IsBytes}
-use Rattle.anb_format.specs.Formats.{IsParts, IsSound, field_count, format_bytes, is_sound}
+use Rattle.anb_format.specs.Formats.{IsSound, field_count, format_bytes, is_sound}
 use Rattle.anb_format.specs.Reading.{parts_of}
 use Rattle.anb_format.specs.declared.pieces.Piece.{Piece}
-use Rattle.anb_format.proofs.BuiltLemmas.{built_is_bytes, passes_sound, sound_test}
-use Rattle.anb_format.proofs.ReadingLemmas.{parts_of-builds, parts_of-built}
-
--- what passes the test is sound, and what is sound passes it
-pub IsSound-pass : (pieces : List Piece) → is_sound pieces ≡ true → IsSound pieces
-IsSound-pass pieces = sound_test pieces
-
-pub is_sound-IsSound : (pieces : List Piece) → IsSound pieces → is_sound pieces ≡ true
-is_sound-IsSound pieces = passes_sound pieces
-
--- what `parts_of` gives builds the bytes
-pub IsParts-parts_of : (pieces : List Piece) (bytes : List ℕ) (arguments : List (List ℕ)) → parts_of pieces bytes ≡ Some arguments → IsParts pieces bytes arguments
-IsParts-parts_of pieces bytes arguments = parts_of-builds pieces bytes arguments
+use Rattle.anb_format.proofs.BuiltLemmas.{built_is_bytes}
+use Rattle.anb_format.proofs.ReadingLemmas.{parts_of-built}
 
 -- what byte strings build has them as its parts
 pub parts_of-format_bytes : (pieces : List Piece) (arguments : List (List ℕ)) → IsSound pieces → length arguments ≡ field_count pieces → AllByRecursion IsBytes arguments

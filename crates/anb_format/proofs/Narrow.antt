@@ -1,5 +1,5 @@
 -- How long built bytes and their parts are.
-use Rattle.std.proofs.Common.{◌≡◌, ◌<◌, ◌≤◌, ◌+◌, ◌*◌, ◌/◌, ◌%◌, ◌^◌, ℕ, zero, suc, List, [], ◌∷◌, ◌++◌, length, max, refl, ap, subst, arith, inl, inr, add-one, length-append}
+use Rattle.std.proofs.Common.{◌≡◌, ◌<◌, ◌≤◌, ◌+◌, ◌*◌, ◌/◌, ◌^◌, ℕ, zero, suc, List, [], ◌∷◌, ◌++◌, length, refl, ap, subst, arith, inl, inr, add-one, length-append}
 use Rattle.std.proofs.Math.Nat.{pow-suc}
 use Rattle.std.specs.List.{AllByRecursion, AllZip}
 use Rattle.std.proofs.lemmas.Bool.{cases_lt}
@@ -13,6 +13,7 @@ use Rattle.anb_format.specs.declared.pieces.Piece.{Piece}
 use Rattle.anb_format.specs.declared.pieces.Piece.TheVariants.{Lit, Field}
 use Rattle.anb_format.proofs.Leb128.{leb128_small, leb128_large}
 use Rattle.anb_format.proofs.Decimals.{few_digits}
+use Rattle.anb_format.specs.declared.pieces.FieldKind.TheVariants as kind
 
 leb128_short : (k n : ℕ) → n < 128 ^ (k + 1) → length (leb128 n) ≤ k + 1
 leb128_short zero n h = rw (leb128_small n (omega (arith, h))) (omega arith)
@@ -26,7 +27,7 @@ leb128_short (suc k) n h = elim (cases_lt n 128) [
       rw (leb128_large n large) (omega (arith, leb128_short k (n / 128) bound))
 ]
 
-hex_long : (b : List ℕ) → length (encode_lower b) ≡ 2 * length b
+pub hex_long : (b : List ℕ) → length (encode_lower b) ≡ 2 * length b
 unfolding encode_with
 hex_long [] = refl
 hex_long (x ∷ b) = omega (arith, hex_long b)
@@ -70,3 +71,9 @@ parts_within n (Field k ∷ pieces) (b ∷ arguments) count h =
 
 pub parts_narrow : (pieces : List Piece) (bytes : List ℕ) (arguments : List (List ℕ)) → IsParts pieces bytes arguments → AllByRecursion (λ b. length b ≤ length bytes) arguments
 parts_narrow pieces bytes arguments is = parts_within (length bytes) pieces arguments is.count (omega (arith, ap length is.built))
+
+pub field_within : (k : FieldKind) (w v : ℕ) → v ≤ 4 * w → field_width k v ≤ 4 * field_width k w
+field_within kind.Len w v h = omega arith
+field_within kind.Net w v h = omega arith
+field_within kind.Hex w v h = omega arith
+field_within kind.Rest w v h = h

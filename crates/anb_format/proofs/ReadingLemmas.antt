@@ -121,7 +121,7 @@ pub all_of_it : (bytes b rest : List ℕ) → bytes ≡ b ++ rest → rest ≡ [
 all_of_it bytes b rest e last =
     (e ∙ ap (λ (t : List ℕ). b ++ t) last ∙ append-nil b, rw (drop_all (length bytes) bytes (omega arith), last) (take_all (length bytes - length bytes) [] (omega arith)))
 
-with_last : (pieces : List Piece) (piece : Piece) → AllByRecursion IsBytesPiece pieces → IsBytesPiece piece → AllByRecursion IsBytesPiece (pieces ++ piece ∷ [])
+pub with_last : (pieces : List Piece) (piece : Piece) → AllByRecursion IsBytesPiece pieces → IsBytesPiece piece → AllByRecursion IsBytesPiece (pieces ++ piece ∷ [])
 with_last [] piece all one = (one, tt)
 with_last (p ∷ pieces) piece all one = (all.0, with_last pieces piece all.1 one)
 

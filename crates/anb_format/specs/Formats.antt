@@ -1,6 +1,7 @@
 -- Formats: which lists of pieces are sound, what they build, and when two are apart.
 use Rattle.std.specs.Prelude.{◌≡◌, ◌≢◌, ℕ, ◌+◌, ◌<◌, List, [], ◌∷◌, ◌++◌, length, slice_get, Some, Bool, true, false, nat_lt, ◌&&◌}
 use Rattle.std.specs.List.{AllByRecursion, list_all}
+use Rattle.std.specs.Option.{option_map_or}
 use Rattle.anb_base.specs.Bytes.{IsBytes, is_bytes}
 use Rattle.anb_format.specs.Fields.{field_bytes}
 use Rattle.anb_format.specs.declared.pieces.FieldKind.TheVariants.{Len, Net, Hex, Rest}
@@ -11,6 +12,10 @@ use Rattle.anb_format.specs.declared.pieces.Piece.TheVariants.{Lit, Field}
 pub record FormatValue : Type 0 where
   pub name : List ℕ
   pub pieces : List Piece
+
+-- the pieces of the format at a place; none, where there is none
+abbrev pub pieces_at : List FormatValue → ℕ → List Piece
+pieces_at formats i = option_map_or (λ (format : FormatValue). format.pieces) (slice_get formats i) []
 
 -- how many arguments the pieces take
 abbrev pub field_count : List Piece → ℕ

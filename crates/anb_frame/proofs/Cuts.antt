@@ -1,17 +1,18 @@
 -- Each input has exactly one cut.
-use Rattle.std.proofs.Common.{◌≡◌, ◌+◌, ◌<◌, ◌≤◌, ◌^◌, inl, inr, ℕ, zero, suc, List, [], ◌∷◌, ◌++◌, length, take, drop, Option, Some, None, All, refl, sym, ap, ◌∙◌, arith, append_assoc, length-append, lit<}
+use Rattle.std.proofs.Common.{◌≡◌, ◌+◌, ◌<◌, ◌≤◌, ◌^◌, inl, inr, ℕ, zero, suc, List, [], ◌∷◌, ◌++◌, length, take, drop, Option, Some, None, All, refl, sym, ap, ◌∙◌, arith, append_assoc, length-append}
 use Rattle.std.specs.Int.{w32, from_be_bytes}
 use Rattle.std.proofs.lemmas.Bool.{cases_lt}
 use Rattle.std.proofs.lemmas.Nat.{be_bytes_4}
-use Rattle.std.proofs.lemmas.List.{take_at, drop_at, append-nil, take-append-drop, length-take-le, length-drop, nil_from_length, get_or-drop, get_or-take, get_or_past, length-take}
+use Rattle.std.proofs.lemmas.List.{take_at, drop_at, append-nil, take-append-drop, length-take-le, length-drop, nil_from_length}
 use Rattle.std.proofs.lemmas.List.Elements.{All-nil, All-cons, All-head, All-tail}
 use Rattle.anb_base.specs.Bytes.{IsBytes}
 use Rattle.anb_base.specs.Moves.{Took, AtEnd}
+use Rattle.anb_base.proofs.Strings.{take_bytes, drop_bytes}
 use Rattle.anb_frame.specs.Frames.{length_bytes, frame, frames, IsPart}
 use Rattle.anb_frame.specs.Cuts.{Tail, End, Short, Long, Ends, Cut, CutLeft}
 use Rattle.anb_frame.proofs.Lengths.{length-length_bytes, same_length_bytes}
 
-length_said : (n : ℕ) (xs : List ℕ) → length (length_bytes n ++ xs) ≡ 4 + length xs
+pub length_said : (n : ℕ) (xs : List ℕ) → length (length_bytes n ++ xs) ≡ 4 + length xs
 length_said n xs = omega (arith, length-append (length_bytes n) xs, length-length_bytes n)
 
 -- a whole frame of at most limit bytes, whatever follows it, is no tail
@@ -84,15 +85,6 @@ same_cut limit small x (b ∷ bs) cs tail other c d =
 some_length : (x : List ℕ) → IsBytes x → length x ≡ 4 → (from_be_bytes w32 x < 2 ^ 32) × (length_bytes (from_be_bytes w32 x) ≡ x)
 unfolding length_bytes
 some_length x bytes four = (omega (arith, bytes 0, bytes 1, bytes 2, bytes 3), be_bytes_4 x (from_be_bytes w32 x) four bytes refl)
-
-take_bytes : (n : ℕ) (x : List ℕ) → IsBytes x → IsBytes (take n x)
-take_bytes n x bytes i = elim (cases_lt i n) [
-  | inl h ↦ rw (get_or-take n x i 0 h) (bytes i)
-  | inr h ↦ rw (get_or_past (take n x) i 0 (omega (arith, length-take {A = ℕ}))) (lit< tt)
-]
-
-drop_bytes : (n : ℕ) (x : List ℕ) → IsBytes x → IsBytes (drop n x)
-drop_bytes n x bytes i = rw (get_or-drop n x i 0) (bytes (n + i))
 
 abbrev Found : ℕ → List ℕ → Type 0
 Found limit x = (bs : List (List ℕ)) × (tail : Tail) × Cut limit x bs tail

@@ -1,3 +1,3 @@
 pub mod Cuts
 pub mod Lengths
-mod Takings
+pub mod Takings

@@ -3,11 +3,12 @@ use Rattle.std.proofs.Common.{◌≡◌, ℕ, zero, suc, ◌+◌, ◌*◌, List,
 use Rattle.std.specs.Prelude.{slice_get, Option, Some, option_and_then}
 use Rattle.std.specs.List.{flat_map, range_with_len, AllByRecursion}
 use Rattle.std.proofs.lemmas.List.FromFn.{length-map-range_with_len}
+use Rattle.anb_lemmas.proofs.Each.{each_in_both}
 use Rattle.anb_syntax.specs.Grammar.{ActionItem}
 use Rattle.anb_gen.specs.Drill.{role_names, exchange, closing, drill_actions, drill_narration}
 use Rattle.anb_gen.specs.Turns.{role_number, action_turns}
 use Rattle.anb_gen.specs.Laws.{Alternates}
-use Rattle.anb_gen.proofs.Each.{in_both, either_way, over_range}
+use Rattle.anb_gen.proofs.Each.{either_way, over_range}
 
 -- how many actions
 pub how_many : (n : ℕ) → length (drill_actions n) ≡ n + 2
@@ -25,7 +26,7 @@ abbrev BetweenRoles : ActionItem → Type 0
 BetweenRoles a = HasNumber a.from × HasNumber a.to
 
 all_between : (n : ℕ) → AllByRecursion BetweenRoles (drill_actions n)
-all_between n = ((refl, refl), in_both BetweenRoles (map exchange (range_with_len 1 n)) (closing ∷ []) (over_range BetweenRoles exchange 1 n (λ i lt. either_way BetweenRoles i (refl, refl) (refl, refl))) ((refl, refl), tt))
+all_between n = ((refl, refl), each_in_both BetweenRoles (map exchange (range_with_len 1 n)) (closing ∷ []) (over_range BetweenRoles exchange 1 n (λ i lt. either_way BetweenRoles i (refl, refl) (refl, refl))) ((refl, refl), tt))
 
 -- the name of the role whose turn it is
 abbrev named : List ℕ → ℕ → Option (List ℕ)

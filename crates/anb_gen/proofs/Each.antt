@@ -1,5 +1,5 @@
 -- What holds of each item.
-use Rattle.std.proofs.Common.{ℕ, zero, suc, ◌+◌, ◌%◌, ◌<◌, List, [], ◌∷◌, ◌++◌, map, true, false, arith}
+use Rattle.std.proofs.Common.{ℕ, zero, suc, ◌+◌, ◌%◌, ◌<◌, map, true, false, arith}
 use Rattle.std.specs.Prelude.{if◌then◌else◌, ◌==◌}
 use Rattle.std.specs.List.{AllByRecursion, range_with_len}
 use Rattle.anb_syntax.specs.Grammar.{ActionItem}
@@ -9,11 +9,6 @@ use Rattle.anb_gen.specs.Drill.{forth, back, exchange_message, exchange}
 pub over_range : {X : Type 0} (P : X → Type 0) (f : ℕ → X) (a n : ℕ) → ((i : ℕ) → i < a + n → P (f i)) → AllByRecursion P (map f (range_with_len a n))
 over_range P f a zero h = tt
 over_range P f a (suc n) h = (h a (omega arith), over_range P f (a + 1) n (λ i lt. h i (omega arith)))
-
--- what holds of each element of two lists holds of each of both
-pub in_both : {X : Type 0} (P : X → Type 0) (xs ys : List X) → AllByRecursion P xs → AllByRecursion P ys → AllByRecursion P (xs ++ ys)
-in_both P [] ys p q = q
-in_both P (x ∷ xs) ys p q = (p.0, in_both P xs ys p.1 q)
 
 -- what holds of an exchange in both directions holds of it
 pub either_way : (P : ActionItem → Type 0) (i : ℕ) → P (forth (exchange_message i)) → P (back (exchange_message i)) → P (exchange i)

@@ -5,11 +5,13 @@ use Rattle.std.specs.List.{list_all, range_with_len}
 use Rattle.std.proofs.lemmas.Fmt.{decimal_by_steps}
 use Rattle.std.proofs.lemmas.List.Folds.{list_all-append}
 use Rattle.std.proofs.lemmas.Bool.Decides.{leb_tells}
+use Rattle.std.proofs.lemmas.Bool.{and_parts}
+use Rattle.anb_lemmas.proofs.Each.{each_in_both}
 use Rattle.anb_base.specs.Bytes.{IsBytes}
 use Rattle.anb_syntax.specs.Words.{is_name, is_name_byte}
 use Rattle.anb_syntax.specs.Grammar.{IsName, AreNames, IsTree, IsActionItem, IsSpellable, ActionItem, fits_tree}
 use Rattle.anb_gen.specs.Drill.{number_name, exchange_message, exchange, drill_narration}
-use Rattle.anb_gen.proofs.Each.{over_range, in_both, either_way}
+use Rattle.anb_gen.proofs.Each.{over_range, either_way}
 
 abbrev is_digit : ℕ → Bool
 is_digit b = nat_le 48 b && nat_le b 57
@@ -23,10 +25,6 @@ digits =
     (λ n h. rw (digit n h) refl)
     (λ n ds h e. list_all-append is_digit ds _ ∙ rw (e, digit (n % 10) (omega arith)) refl)
 
-both : (a b : Bool) → (a && b) ≡ true → (a ≡ true) × (b ≡ true)
-both true b e = (refl, e)
-both false b e = cc
-
 not_a_letter : (d : ℕ) → is_digit d ≡ true → (d == 117) ≡ false
 not_a_letter d e = grind (arith, leb_tells)
 
@@ -36,14 +34,14 @@ in_names d e = grind (arith, leb_tells)
 all_in_names : (ds : List ℕ) → list_all is_digit ds ≡ true → list_all is_name_byte ds ≡ true
 all_in_names [] e = refl
 all_in_names (d ∷ ds) e =
-    let p = both (is_digit d) (list_all is_digit ds) e in
+    let p = and_parts (is_digit d) (list_all is_digit ds) e in
     rw (in_names d p.0, all_in_names ds p.1) refl
 
 numbered : (ds : List ℕ) → list_all is_digit ds ≡ true → is_name (78 ∷ ds) ≡ true
 unfolding is_name
 numbered [] e = refl
 numbered (d ∷ ds) e =
-    let p = both (is_digit d) (list_all is_digit ds) e in
+    let p = and_parts (is_digit d) (list_all is_digit ds) e in
     rw (in_names d p.0, all_in_names ds p.1, not_a_letter d p.0) refl
 
 number : (i : ℕ) → i < 2 ^ 64 → IsName (number_name i)
@@ -78,7 +76,7 @@ spellable n h = record {
     types = ((refl, (refl, tt)), (numbers n h, ((refl, (refl, tt)), tt)));
     formats = ((refl, (head_is_bytes, (tt, (tt, tt)))), tt);
     knows = ((refl, (refl, (refl, (refl, tt)))), ((refl, (refl, (refl, (refl, tt)))), tt));
-    actions = ((refl, refl, (refl, number 0 (omega arith))), in_both IsActionItem (map exchange (range_with_len 1 n)) _ (over_range IsActionItem exchange 1 n (λ i lt. an_exchange i (omega arith))) ((refl, refl, refl), tt));
+    actions = ((refl, refl, (refl, number 0 (omega arith))), each_in_both IsActionItem (map exchange (range_with_len 1 n)) _ (over_range IsActionItem exchange 1 n (λ i lt. an_exchange i (omega arith))) ((refl, refl, refl), tt));
   };
   fit = list_all-append (λ (a : ActionItem). fits_tree 64 a.message) (map exchange (range_with_len 1 n)) _ ∙ rw (exchanges_fit (range_with_len 1 n)) refl;
 }

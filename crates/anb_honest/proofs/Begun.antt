@@ -1,18 +1,18 @@
 -- Roles before the first turn.
-use Rattle.std.proofs.Common.{◌≡◌, ℕ, zero, suc, ◌+◌, List, [], ◌∷◌, ◌++◌, length, map, drop, Option, Some, refl, sym, ap, ◌∙◌, subst, arith}
+use Rattle.std.proofs.Common.{◌≡◌, ℕ, ◌+◌, List, [], ◌∷◌, ◌++◌, length, map, drop, Option, Some, refl, sym, ap, ◌∙◌, subst, arith}
 use Rattle.std.specs.Prelude.{filter_map, flat_map, slice_get}
 use Rattle.std.specs.Prelude.{Vec}
 use Rattle.std.specs.Global.{Global}
 use Rattle.std.specs.Option.{option_map_or, option_or}
-use Rattle.std.specs.List.{AllByRecursion, range_with_len}
+use Rattle.std.specs.List.{range_with_len}
 use Rattle.std.proofs.lemmas.List.{length-map, map-append}
 use Rattle.anb_base.specs.declared.TheConstants.{ARRIVAL, WIDE}
 use Rattle.anb_term.specs.Tree.{Tree}
 use Rattle.anb_algebra.specs.ByteMeaning.{byte_meaning, has_operator}
 use Rattle.anb_algebra.specs.ByteLawful.{bytes_are_lawful}
-use Rattle.anb_lemmas.proofs.Each.{each_in_front, each_in_parts}
+use Rattle.anb_lemmas.proofs.Lists.{drop_got, map_same}
 use Rattle.anb_seal.specs.Streams.{draw_of}
-use Rattle.anb_plays.specs.Plays.{done, ends}
+use Rattle.anb_plays.specs.Plays.{done, ends, Run}
 use Rattle.anb_plays.specs.Exec.{exec, HasTakes}
 use Rattle.anb_plays.specs.Fits.{start}
 use Rattle.anb_plays.proofs.Exec.{exec_is_run, takes_ready}
@@ -35,7 +35,7 @@ use Rattle.anb_honest.specs.declared.player.Player.{Player}
 use Rattle.anb_honest.specs.Order.{FollowsRole}
 use Rattle.anb_honest.specs.Given.{items_of}
 use Rattle.anb_honest.specs.Joint.{Cast, init_of, given_bytes, long_end}
-use Rattle.anb_honest.specs.Acting.{Coming, KeepsOrder}
+use Rattle.anb_honest.specs.Acting.{KeepsOrder}
 use Rattle.anb_honest.specs.Inside.{IsPlayer, part_of, turn_value}
 use Rattle.anb_honest.proofs.Ordering.{order_same, keeps}
 use Rattle.anb_honest.proofs.Parts.{parts_are}
@@ -49,7 +49,7 @@ code_keeps p role code init seed session follows verified count =
     let plan = plan_of p role in
     let taking : HasTakes (has_operator code.formats) (acts_of code) 0 (length init) =
     subst (λ n. HasTakes (has_operator code.formats) (acts_of code) 0 n) (sym count) (has_takes ARRIVAL WIDE code verified) in
-    let f : Coming = λ arrivals. exec m (draw_of seed session) (acts_of code) init 0 0 0 arrivals in
+    let f : Run = λ arrivals. exec m (draw_of seed session) (acts_of code) init 0 0 0 arrivals in
     let k : KeepsOrder (filter_map (part_of role) plan) f =
     keeps m lawful (draw_of seed session) role (acts_of code) plan (start (events_of p role)) init follows.order (takes_ready (has_operator code.formats) (acts_of code) 0 (length init) taking) in
     order_same (parts_of p role) f (run_bytes code init seed session) (λ arrivals. exec_is_run m lawful (draw_of seed session) (acts_of code) init arrivals taking)
@@ -76,17 +76,11 @@ player_new c role code pl there follows verified none parts runs =
 
 -- ---- what roles know, plan by plan
 
-pub drop_gets : {A : Type 0} (all xs : List A) (k : ℕ) (x : A) → drop k all ≡ x ∷ xs → (slice_get all k ≡ Some x) × (drop (k + 1) all ≡ xs)
-drop_gets [] xs zero x e = absurd (cc)
-drop_gets [] xs (suc k) x e = absurd (cc)
-drop_gets (y ∷ ys) xs zero x e = (let g : y ≡ x = cc in ap Some g, (let h : ys ≡ xs = cc in h))
-drop_gets (y ∷ ys) xs (suc k) x e = let ih = drop_gets ys xs k x e in let n : suc k + 1 ≡ suc (k + 1) = omega arith in (ih.0, rw n ih.1)
-
 known_each : (all knows : List (List Tree)) (k : ℕ) → drop k all ≡ knows
     → flat_map (λ r. option_map_or (λ (ts : List Tree). ts) (slice_get all r) []) (range_with_len k (length knows)) ≡ flat_map (λ (ts : List Tree). ts) knows
 known_each all [] k e = refl
 known_each all (ts ∷ knows) k e =
-    let g = drop_gets all knows k ts e in
+    let g = drop_got all knows k ts e in
     ap (λ o. option_map_or (λ (us : List Tree). us) o [] ++ flat_map (λ r. option_map_or (λ (us : List Tree). us) (slice_get all r) []) (range_with_len (k + 1) (length knows))) g.0
     ∙ ap (λ l. ts ++ l) (known_each all knows (k + 1) g.1)
 
@@ -107,10 +101,6 @@ known_all p count =
     flat_mapped known_in (plan_of p) (range_with_len 0 (length p.roles)) ∙ flat_same (λ r. known_in (plan_of p r)) (known_by p) (range_with_len 0 (length p.roles)) (known_of_plan p)
     ∙ known_roles p count
 
-pub mapped_same : {A B : Type 0} (f g : A → B) (xs : List A) → ((x : A) → f x ≡ g x) → map f xs ≡ map g xs
-mapped_same f g [] e = refl
-mapped_same f g (x ∷ xs) e = ap (λ y. y ∷ map f xs) (e x) ∙ ap (λ l. g x ∷ l) (mapped_same f g xs e)
-
 pub mapped_twice : {A B D : Type 0} (f : B → D) (g : A → B) (xs : List A) → map f (map g xs) ≡ map (λ x. f (g x)) xs
 mapped_twice f g [] = refl
 mapped_twice f g (x ∷ xs) = ap (λ l. f (g x) ∷ l) (mapped_twice f g xs)
@@ -121,7 +111,7 @@ pub initial_all : (c : Cast)
     ≡ map (init_of c) (range_with_len 0 (length c.protocol.roles))
 initial_all c =
     mapped_twice (λ (plan : List PlanEvent). map (given_bytes c) (known_in plan)) (plan_of c.protocol) (range_with_len 0 (length c.protocol.roles))
-    ∙ mapped_same (λ r. map (given_bytes c) (known_in (plan_of c.protocol r))) (init_of c) (range_with_len 0 (length c.protocol.roles)) (λ r. ap (map (given_bytes c)) (known_of_plan c.protocol r))
+    ∙ map_same (λ r. map (given_bytes c) (known_in (plan_of c.protocol r))) (init_of c) (range_with_len 0 (length c.protocol.roles)) (λ r. ap (map (given_bytes c)) (known_of_plan c.protocol r))
 
 map_flat : {A B D : Type 0} (g : B → D) (f : A → List B) (xs : List A) → flat_map (λ x. map g (f x)) xs ≡ map g (flat_map f xs)
 map_flat g f [] = refl
@@ -141,10 +131,3 @@ first_is c all count is =
     sym (flat_mapped (λ (l : List (List ℕ)). l) items_of all) ∙ ap (flat_map (λ (l : List (List ℕ)). l)) is ∙ flat_mapped (λ (l : List (List ℕ)). l) (init_of c) (range_with_len 0 n)
     ∙ map_flat (given_bytes c) (known_by c.protocol) (range_with_len 0 n) ∙ ap (map (given_bytes c)) (known_roles c.protocol count) in
     ap (first (long_end 0)) lists ∙ first_mapped (long_end 0) (given_bytes c) (known_terms c.protocol)
-
--- what holds of all that roles know holds of what a role knows
-pub all_known : (P : Tree → Type 0) (knows : List (List Tree)) (role : ℕ) → AllByRecursion P (flat_map (λ (ts : List Tree). ts) knows)
-    → AllByRecursion P (option_map_or (λ (ts : List Tree). ts) (slice_get knows role) [])
-all_known P [] role all = tt
-all_known P (ts ∷ knows) zero all = each_in_front P ts (flat_map (λ (us : List Tree). us) knows) all
-all_known P (ts ∷ knows) (suc role) all = let parts = each_in_parts P ts (flat_map (λ (us : List Tree). us) knows) all in all_known P knows role parts.1

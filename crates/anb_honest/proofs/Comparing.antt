@@ -1,9 +1,9 @@
 -- Lists that are compared item by item.
-use Rattle.std.proofs.Common.{◌≡◌, ℕ, zero, suc, ◌+◌, ◌<◌, ◌≤◌, List, [], ◌∷◌, ◌++◌, length, map, take, get_or, Bool, true, false, Some, None, refl, sym, ap, ◌∙◌, arith, IsTrue}
+use Rattle.std.proofs.Common.{◌≡◌, ℕ, zero, suc, ◌+◌, ◌<◌, ◌≤◌, List, [], ◌∷◌, ◌++◌, length, map, take, get_or, Bool, false, Some, refl, sym, ap, ◌∙◌, arith, IsTrue}
 use Rattle.std.specs.Prelude.{filter_map, slice_get, drop, nat_eq, ◌↔◌, ◌≢◌}
 use Rattle.std.specs.List.{cons_option}
 use Rattle.std.proofs.lemmas.Bool.{eqb-true, eq-eqb}
-use Rattle.std.proofs.lemmas.List.{length-map, map-append}
+use Rattle.std.proofs.lemmas.List.{length-map, map-append, take-append-drop}
 use Rattle.std.proofs.lemmas.List.Elements.{filter_map-append}
 use Rattle.anb_format.specs.Formats.{FormatValue}
 use Rattle.anb_code.specs.declared.instr.Instr.{Instr}
@@ -11,7 +11,7 @@ use Rattle.anb_code.specs.Meaning.{act_of}
 use Rattle.anb_resolve.specs.declared.plans.Event as code
 use Rattle.anb_resolve.specs.Plays.{event_of}
 use Rattle.anb_resolve.specs.Views.{plan_event}
-use Rattle.std.proofs.lemmas.Option.{slice_get-map, slice_get_read, slice_get_past}
+use Rattle.std.proofs.lemmas.Option.{slice_get-map, slice_get_read, slice_get_past, same_Some, none-some}
 use Rattle.std.specs.Prelude.{option_map}
 use Rattle.anb_plays.specs.Fits.{start}
 use Rattle.anb_code.specs.CodeValue.{CodeValue}
@@ -22,9 +22,10 @@ use Rattle.anb_resolve.specs.Texts.{known_texts}
 use Rattle.anb_resolve.specs.Plans.{PlanEvent, plan_of}
 use Rattle.anb_resolve.specs.Plays.{events_of}
 use Rattle.anb_honest.specs.Order.{FollowsRole}
-use Rattle.anb_honest.proofs.Valuing.{dropped}
 use Rattle.std.proofs.lemmas.List.{take_all}
 use Rattle.anb_lemmas.proofs.Each.{take_next}
+use Rattle.anb_lemmas.proofs.Bools.{never_both}
+use Rattle.anb_lemmas.proofs.Lists.{take_got, drop_next}
 use Rattle.anb_plays.specs.Plans.{Event, know, fresh, send, recv}
 use Rattle.anb_plays.specs.Codes.{Act, takes, draws, receives, sends, works}
 use Rattle.anb_plays.specs.Fits.{Place, Along, AnySend, AnyWork, AnyBorder, after_take, after_label, after_work}
@@ -35,17 +36,6 @@ use Rattle.anb_honest.specs.Kinds.{kind_of, kinds_of, event_kind}
 pub both_next : {A : Type 0} (xs ys : List A) (i : ℕ) (x y : A) → i < length xs → i < length ys → x ≡ get_or xs i x → y ≡ get_or ys i y → x ≡ y
     → take i xs ≡ take i ys → take (i + 1) xs ≡ take (i + 1) ys
 both_next xs ys i x y hx hy ex ey same before = take_next xs i x hx ex ∙ ap (λ l. l ++ x ∷ []) before ∙ ap (λ z. take i ys ++ z ∷ []) same ∙ sym (take_next ys i y hy ey)
-
-read_same : {A : Type 0} (xs : List A) (i : ℕ) (x y : A) → i < length xs → x ≡ get_or xs i x → y ≡ get_or xs i y → x ≡ y
-read_same [] i x y h ex ey = absurd (omega arith)
-read_same (z ∷ zs) zero x y h ex ey = ex ∙ sym ey
-read_same (z ∷ zs) (suc i) x y h ex ey = read_same zs i x y (omega arith) ex ey
-
-pub items_same : {A : Type 0} (xs ys : List A) (i : ℕ) (x y : A) → i < length xs → x ≡ get_or xs i x → y ≡ get_or ys i y → xs ≡ ys → x ≡ y
-items_same xs ys i x y h ex ey e = read_same xs i x y h ex (ey ∙ ap (λ l. get_or l i y) (sym e))
-
-pub whole_same : {A : Type 0} (xs ys : List A) (n : ℕ) → length xs ≤ n → length ys ≤ n → take n xs ≡ take n ys → xs ≡ ys
-whole_same xs ys n hx hy e = sym (take_all n xs hx) ∙ e ∙ take_all n ys hy
 
 -- ---- the order of a plan, by kinds
 
@@ -119,11 +109,6 @@ length_front [] (suc n) h = absurd (omega arith)
 length_front (x ∷ xs) zero h = refl
 length_front (x ∷ xs) (suc n) h = ap suc (length_front xs n (omega arith))
 
-joined : {A : Type 0} (xs : List A) (i : ℕ) → take i xs ++ drop i xs ≡ xs
-joined xs zero = refl
-joined [] (suc i) = refl
-joined (x ∷ xs) (suc i) = ap (λ l. x ∷ l) (joined xs i)
-
 length_kinds : (events : List code.Event) → length (kinds_of events) ≡ length events
 length_kinds events = length-map (map event_of (map plan_event events)) event_kind ∙ length-map (map plan_event events) event_of ∙ length-map events plan_event
 
@@ -143,7 +128,7 @@ module _ (formats : List FormatValue) (instrs : List Instr) (events : List code.
     kinds_broken kind few before is other =
         let rest = map (act_of formats) (drop (i + 1) instrs) in
         let parts : filter_map kind_of (map (act_of formats) instrs) ≡ take next (kinds_of events) ++ (kind ∷ filter_map kind_of rest) =
-        ap (λ l. filter_map kind_of (map (act_of formats) l)) (sym (joined instrs i) ∙ ap (λ l. take i instrs ++ l) (dropped instrs i x within at))
+        ap (λ l. filter_map kind_of (map (act_of formats) l)) (sym (take-append-drop instrs i) ∙ ap (λ l. take i instrs ++ l) (drop_next instrs i x within at))
         ∙ ap (filter_map kind_of) (map-append (act_of formats) (take i instrs) (x ∷ drop (i + 1) instrs)) ∙ filter_map-append kind_of (map (act_of formats) (take i instrs)) (act_of formats x ∷ rest)
         ∙ ap (λ l. l ++ filter_map kind_of (act_of formats x ∷ rest)) before ∙ ap (λ o. take next (kinds_of events) ++ cons_option o (filter_map kind_of rest)) is in
         (λ e. cc, λ e. absurd (other (cut_front (kinds_of events) next kind (filter_map kind_of rest) (let n = length_kinds events in omega arith) (sym parts ∙ e))))
@@ -164,35 +149,20 @@ kind_at events next x within at =
     slice_get-map event_kind (map event_of (map plan_event events)) next
     ∙ ap (option_map event_kind) (slice_get-map event_of (map plan_event events) next ∙ ap (option_map event_of) (slice_get-map plan_event events next ∙ ap (option_map plan_event) (slice_get_read events (length events) next x refl within at)))
 
-some_differ : {A : Type 0} (x y : A) → Some x ≡ Some y → x ≡ y
-some_differ x y e = cc
-
-none_some : {A : Type 0} (x : A) → None ≡ Some x → ⊥
-none_some x e = cc
-
-true_false : (b : Bool) → b ≡ true → b ≡ false → ⊥
-true_false true e f = cc
-true_false false e f = cc
-
 pub no_kind : (events : List code.Event) (next : ℕ) (kind : Kind) → length events ≤ next → slice_get (kinds_of events) next ≡ Some kind → ⊥
-no_kind events next kind past e = none_some kind (sym (slice_get_past (kinds_of events) next (let n = length_kinds events in omega arith)) ∙ e)
+no_kind events next kind past e = none-some kind (sym (slice_get_past (kinds_of events) next (let n = length_kinds events in omega arith)) ∙ e)
 
 pub other_kind : (events : List code.Event) (next : ℕ) (x : code.Event) (own kind : Kind) (same : Bool) → next < length events → x ≡ get_or events next x → own ≡ event_kind (event_of (plan_event x))
     → (IsTrue same ↔ (own ≡ kind)) → same ≡ false → slice_get (kinds_of events) next ≡ Some kind → ⊥
 other_kind events next x own kind same within at is tells differ e =
-    let g : event_kind (event_of (plan_event x)) ≡ kind = some_differ (event_kind (event_of (plan_event x))) kind (sym (kind_at events next x within at) ∙ e) in
-    true_false same (tells.1 (is ∙ g)) differ
-
-take_more : {A : Type 0} (xs : List A) (n : ℕ) (x : A) → slice_get xs n ≡ Some x → take (n + 1) xs ≡ take n xs ++ x ∷ []
-take_more [] n x h = cc
-take_more (y ∷ ys) zero x h = let e : y ≡ x = cc in ap (λ z. z ∷ []) e
-take_more (y ∷ ys) (suc n) x h = let m : suc n + 1 ≡ suc (n + 1) = omega arith in rw m (ap (λ l. y ∷ l) (take_more ys n x h))
+    let g : event_kind (event_of (plan_event x)) ≡ kind = same_Some (event_kind (event_of (plan_event x))) kind (sym (kind_at events next x within at) ∙ e) in
+    never_both same (tells.1 (is ∙ g)) differ
 
 pub kind_taken : (formats : List FormatValue) (instr : Instr) (events : List code.Event) (next : ℕ) (x : code.Event) (own kind : Kind) → next < length events → x ≡ get_or events next x
     → own ≡ event_kind (event_of (plan_event x)) → own ≡ kind → kind_of (act_of formats instr) ≡ Some kind
     → take (next + 1) (kinds_of events) ≡ take next (kinds_of events) ++ filter_map kind_of (act_of formats instr ∷ [])
 kind_taken formats instr events next x own kind within at is same act =
-    take_more (kinds_of events) next (event_kind (event_of (plan_event x))) (kind_at events next x within at)
+    take_got (kinds_of events) next (event_kind (event_of (plan_event x))) (kind_at events next x within at)
     ∙ ap (λ z. take next (kinds_of events) ++ z ∷ []) (sym is ∙ same) ∙ ap (λ o. take next (kinds_of events) ++ cons_option o []) (sym act)
 
 -- ---- what is followed
@@ -216,7 +186,7 @@ module _ (p : ProtocolValue) (role : ℕ) (c : CodeValue) (b : Bool) where
       )
 
   pub follows_not : b ≡ false → (take_texts c.instrs ≡ known_texts p role → ⊥) → (IsTrue b → FollowsRole p role c) × (FollowsRole p role c → IsTrue b)
-  follows_not differs other = (λ e. absurd (true_false b e differs), λ f. absurd (other f.texts))
+  follows_not differs other = (λ e. absurd (never_both b e differs), λ f. absurd (other f.texts))
 
 pub falls : (b : Bool) (P : Type 0) → b ≡ false → (P → IsTrue b) → P → ⊥
-falls b P differs tells x = true_false b (tells x) differs
+falls b P differs tells x = never_both b (tells x) differs

@@ -1,17 +1,16 @@
 -- The names that values are asked for differ.
-use Rattle.std.proofs.Common.{◌≡◌, ℕ, ◌<◌, List, [], ◌∷◌, ◌++◌, length, map, Bool, true, false, cond}
-use Rattle.std.specs.Prelude.{nat_eq, ◌==◌}
+use Rattle.std.proofs.Common.{ℕ, ◌<◌, List, [], ◌∷◌, ◌++◌, length, Bool, true, false, cond}
+use Rattle.std.specs.Prelude.{nat_eq}
 use Rattle.std.specs.List.{AllByRecursion, list_any}
+use Rattle.anb_lemmas.proofs.Each.{each_in_parts}
 use Rattle.anb_resolve.specs.declared.parts.Atom.{Atom}
 use Rattle.anb_resolve.specs.Choices.{each_after}
 use Rattle.anb_resolve.specs.Names.{first_new}
-use Rattle.anb_resolve.specs.Protocols.{ProtocolValue}
 use Rattle.anb_resolve.specs.Plans.{messages}
 use Rattle.anb_resolve.specs.Texts.{IsTermOf, atom_name, atoms_in_each, known_names, known_terms}
 use Rattle.anb_resolve.proofs.AtomLemmas.{atoms_below_each}
 use Rattle.anb_resolve.proofs.Differing.{names_of}
 use Rattle.anb_resolve.proofs.Distinct.{apart-map, one_place, pairs}
-use Rattle.anb_resolve.proofs.Faultless.{all_parts}
 use Rattle.anb_resolve.proofs.Holding.{facts}
 use Rattle.anb_honest.specs.Joint.{known_atoms}
 use Rattle.anb_honest.specs.Laws.{KnownNamesDiffer}
@@ -30,7 +29,7 @@ each_of_distinct P before (x ∷ xs) all = by (list_any (λ y. nat_eq y x) befor
 pub known_names_apart : KnownNamesDiffer
 known_names_apart = λ p is.
     let all = atoms_in_each (known_terms p) in
-    let below = atoms_below_each p (known_terms p) (all_parts (IsTermOf p) (known_terms p) (messages p.actions) (facts p is).terms).0 in
+    let below = atoms_below_each p (known_terms p) (each_in_parts (IsTermOf p) (known_terms p) (messages p.actions) (facts p is).terms).0 in
     pairs (known_names p)
     (apart-map (λ a. a < length p.atoms) (atom_name p) (λ a b h l e. one_place (λ (x : Atom). x.name) [] p.atoms a b h l (names_of p is).atoms_apart e) (known_atoms p)
     (each_of_distinct (λ a. a < length p.atoms) [] all below) (distinct_apart [] all).1)

@@ -5,6 +5,7 @@ use Rattle.std.specs.Option.{option_or}
 use Rattle.std.specs.List.{list_all, range_with_len, cons_option}
 use Rattle.std.proofs.lemmas.List.{take_all}
 use Rattle.std.proofs.lemmas.Bool.Decides.{nat_tests}
+use Rattle.anb_lemmas.proofs.Lists.{take_suc_got}
 use Rattle.anb_base.specs.declared.content.Sent.{Sent}
 use Rattle.anb_term.proofs.Lists.{slice_get-there}
 use Rattle.anb_resolve.specs.Choices.{first}
@@ -63,11 +64,6 @@ all_last f (y ∷ xs) x = by (f y) (all_last f xs x) where
   by true ih = ih
   by false ih = refl
 
-take_next : {A : Type 0} (xs : List A) (n : ℕ) (x : A) → slice_get xs n ≡ Some x → take (suc n) xs ≡ take n xs ++ x ∷ []
-take_next [] n x h = cc
-take_next (y ∷ ys) zero x h = let e : y ≡ x = cc in ap (λ z. z ∷ []) e
-take_next (y ∷ ys) (suc n) x h = ap (λ l. y ∷ l) (take_next ys n x h)
-
 complete_front : (c : Cast) (moves : List Move) (players : List Player) → ((j : ℕ) → IfSome (slice_get players j) (IsPlayer c moves j)) → (n : ℕ) → n ≤ length players
     → is_complete c (turns_of moves) n ≡ list_all is_done (take n players)
 complete_front c moves players all zero h = refl
@@ -76,7 +72,7 @@ complete_front c moves players all (suc n) h =
     let is : IsPlayer c moves n there.0 = subst (λ o. IfSome o (IsPlayer c moves n)) there.1 (all n) in
     ap (λ b. b && is_none (next_of c.protocol (turns_of moves) n)) (complete_front c moves players all n (omega arith))
     ∙ ap (λ b. list_all is_done (take n players) && b) (done_is c moves n there.0 is)
-    ∙ sym (all_last is_done (take n players) there.0) ∙ ap (list_all is_done) (sym (take_next players n there.0 there.1))
+    ∙ sym (all_last is_done (take n players) there.0) ∙ ap (list_all is_done) (sym (take_suc_got players n there.0 there.1))
 
 pub complete_is : (c : Cast) (moves : List Move) (players : List Player) → ((j : ℕ) → IfSome (slice_get players j) (IsPlayer c moves j)) → length players ≡ length c.protocol.roles
     → is_complete c (turns_of moves) (length c.protocol.roles) ≡ list_all is_done players

@@ -1,10 +1,10 @@
 -- Bytes of atoms that are honest: there always are some.
-use Rattle.std.proofs.Common.{◌≡◌, ℕ, zero, suc, ◌+◌, ◌<◌, List, [], ◌∷◌, ◌++◌, length, map, Bool, true, false, cond, Option, Some, None, refl, sym, ap, ◌∙◌, subst, arith, inl, inr, ◌⊎◌}
+use Rattle.std.proofs.Common.{◌≡◌, ℕ, zero, suc, ◌+◌, ◌<◌, List, [], ◌∷◌, ◌++◌, length, map, Bool, true, false, cond, Option, Some, None, refl, sym, ap, ◌∙◌, arith, inl, inr, ◌⊎◌}
 use Rattle.std.specs.Prelude.{filter, slice_get, unwrap_or, option_and_then, nat_eq, not, ◌==◌, ◌&&◌, ◌||◌, ◌≢◌}
 use Rattle.std.specs.Option.{option_map_or}
 use Rattle.std.specs.List.{AllByRecursion, list_any, position_from}
-use Rattle.std.proofs.lemmas.Bool.{eqb-true, eqb-false}
-use Rattle.std.proofs.lemmas.Bool.Decides.{nat_tests}
+use Rattle.std.proofs.lemmas.Bool.{eqb-true, eqb-false, or_parts}
+use Rattle.std.proofs.lemmas.List.{map-append}
 use Rattle.anb_base.specs.Bytes.{IsBytes, IsBytes-pass}
 use Rattle.anb_seal.specs.Streams.{draw_of}
 use Rattle.anb_seal.proofs.ByteLemmas.{bytes-draw_of}
@@ -12,7 +12,9 @@ use Rattle.anb_term.specs.Tree.{Tree, leaf, node}
 use Rattle.anb_term.proofs.Lists.{slice_get-there}
 use Rattle.anb_plays.specs.Plans.{Event, know, fresh, send, recv}
 use Rattle.anb_plays.specs.Honest.{made}
-use Rattle.anb_lemmas.proofs.Each.{each_in_both}
+use Rattle.anb_lemmas.proofs.Each.{each_in_both, each_got, each_by, each_of_map}
+use Rattle.anb_lemmas.proofs.Numbers.{nat_eq-same}
+use Rattle.anb_lemmas.proofs.Lists.{get_either, got_within}
 use Rattle.anb_resolve.specs.Choices.{each_after}
 use Rattle.anb_resolve.specs.Names.{first_new, distinct}
 use Rattle.anb_resolve.specs.Protocols.{ActionValue, ProtocolValue}
@@ -23,20 +25,10 @@ use Rattle.anb_resolve.specs.Plays.{event_of, events_of, honest_bytes}
 use Rattle.anb_resolve.proofs.Afters.{any-append}
 use Rattle.anb_resolve.proofs.AtomLemmas.{each-append}
 use Rattle.anb_resolve.proofs.Distinct.{AllApart, apart-map}
-use Rattle.anb_resolve.proofs.PlanLaws.{map-append}
 use Rattle.anb_honest.specs.Joint.{Cast, given, known_atoms}
 use Rattle.anb_honest.specs.Honest.{AreHonest}
-use Rattle.anb_honest.proofs.Scheduling.{at_place}
 
 -- ---- lists
-
-in_either : {A : Type 0} (xs ys : List A) (i : ℕ) (x : A) → slice_get (xs ++ ys) i ≡ Some x → (slice_get xs i ≡ Some x) ⊎ ((k : ℕ) × (i ≡ length xs + k) × (slice_get ys k ≡ Some x))
-in_either [] ys i x e = inr (i, omega arith, e)
-in_either (y ∷ xs) ys zero x e = inl e
-in_either {A} (y ∷ xs) ys (suc i) x e = by (in_either xs ys i x e) where
-  by : (slice_get xs i ≡ Some x) ⊎ ((k : ℕ) × (i ≡ length xs + k) × (slice_get ys k ≡ Some x)) → (slice_get xs i ≡ Some x) ⊎ ((k : ℕ) × (suc i ≡ suc (length xs) + k) × (slice_get ys k ≡ Some x))
-  by (inl here) = inl here
-  by (inr (k, is, there)) = inr (k, omega (arith, is), there)
 
 -- no thing stands at two places
 abbrev Once : {A : Type 0} → List A → Type 0
@@ -45,14 +37,9 @@ Once {A} xs = (i j : ℕ) (x : A) → slice_get xs i ≡ Some x → slice_get xs
 once : {A : Type 0} (xs : List A) → AllApart xs → Once xs
 once [] apart i j x e d = cc
 once (y ∷ xs) apart zero zero x e d = refl
-once (y ∷ xs) apart zero (suc j) x e d = let same : y ≡ x = cc in absurd (at_place (λ z. y ≢ z) xs j x apart.0 d same)
-once (y ∷ xs) apart (suc i) zero x e d = let same : y ≡ x = cc in absurd (at_place (λ z. y ≢ z) xs i x apart.0 e same)
+once (y ∷ xs) apart zero (suc j) x e d = let same : y ≡ x = cc in absurd (each_got (λ z. y ≢ z) xs j x apart.0 d same)
+once (y ∷ xs) apart (suc i) zero x e d = let same : y ≡ x = cc in absurd (each_got (λ z. y ≢ z) xs i x apart.0 e same)
 once (y ∷ xs) apart (suc i) (suc j) x e d = ap suc (once xs apart.1 i j x e d)
-
-within : {A : Type 0} (xs : List A) (i : ℕ) (x : A) → slice_get xs i ≡ Some x → i < length xs
-within [] i x e = cc
-within (y ∷ xs) zero x e = omega arith
-within (y ∷ xs) (suc i) x e = let less = within xs i x e in omega (arith, less)
 
 kept_each : {A : Type 0} (P : A → Type 0) (f : A → Bool) (xs : List A) → AllByRecursion P xs → AllByRecursion (λ x. P x × (f x ≡ true)) (filter f xs)
 kept_each P f [] all = tt
@@ -65,24 +52,12 @@ firsts : {A : Type 0} (P Q : A → Type 0) (xs : List A) → AllByRecursion (λ 
 firsts P Q [] all = tt
 firsts P Q (x ∷ xs) all = (all.0.0, firsts P Q xs all.1)
 
-each_by : {A : Type 0} (P Q : A → Type 0) → ((x : A) → P x → Q x) → (xs : List A) → AllByRecursion P xs → AllByRecursion Q xs
-each_by P Q f [] all = tt
-each_by P Q f (x ∷ xs) all = (f x all.0, each_by P Q f xs all.1)
-
-each_of_map : {A B : Type 0} (P : B → Type 0) (f : A → B) (xs : List A) → AllByRecursion (λ x. P (f x)) xs → AllByRecursion P (map f xs)
-each_of_map P f [] all = tt
-each_of_map P f (x ∷ xs) all = (all.0, each_of_map P f xs all.1)
-
 apart_kept : {A : Type 0} (f : A → Bool) (xs : List A) → AllApart xs → AllApart (filter f xs)
 apart_kept f [] apart = tt
 apart_kept {A} f (x ∷ xs) apart = by (f x) (apart_kept f xs apart.1) where
   by : (b : Bool) → AllApart (filter f xs) → AllApart (cond b (x ∷ filter f xs) (filter f xs))
   by true rest = (firsts (λ y. x ≢ y) (λ y. f y ≡ true) (filter f xs) (kept_each (λ y. x ≢ y) f xs apart.0), rest)
   by false rest = rest
-
-or_parts : (a b : Bool) → (a || b) ≡ false → (a ≡ false) × (b ≡ false)
-or_parts true b e = absurd (cc)
-or_parts false b e = (refl, e)
 
 -- ---- each number once
 
@@ -109,9 +84,6 @@ distinct_apart before (x ∷ xs) = by (has before x) refl (distinct_apart (befor
   by false e later =
       ((e, not_before later.0), (each_by (λ y. has (before ++ x ∷ []) y ≡ false) (λ y. x ≢ y) (λ y f. (has_behind before x y f).1) rest later.0, later.1))
 
-same_number : (x : ℕ) → (x == x) ≡ true
-same_number x = grind (arith, nat_tests)
-
 distinct_in : (before xs : List ℕ) → AllByRecursion (λ y. has xs y ≡ true) (each_after (first_new nat_eq) before xs)
 distinct_in before [] = tt
 distinct_in before (x ∷ xs) = by (has before x) (distinct_in (before ++ x ∷ []) xs) where
@@ -127,7 +99,7 @@ distinct_in before (x ∷ xs) = by (has before x) (distinct_in (before ++ x ∷ 
 
   by : (b : Bool) → AllByRecursion (λ y. has xs y ≡ true) rest → AllByRecursion (λ y. has (x ∷ xs) y ≡ true) (cond b [] (x ∷ []) ++ rest)
   by true later = all later
-  by false later = (ap (λ v. v || has xs x) (same_number x), all later)
+  by false later = (ap (λ v. v || has xs x) (nat_eq-same x), all later)
 
 -- ---- places
 
@@ -289,14 +261,14 @@ module _ (p : ProtocolValue) where
   made_once : (r s : ℕ) (before acts : List ActionValue) (i j : ℕ) (t : Tree) → slice_get (makings r before acts) i ≡ Some t → slice_get (makings s before acts) j ≡ Some t → (r ≡ s) × (i ≡ j)
   made_once r s before [] i j t e d = absurd (cc)
   made_once r s before (x ∷ acts) i j t e d =
-      by (in_either (mine r before x) (makings r (before ++ x ∷ []) acts) i t e) (in_either (mine s before x) (makings s (before ++ x ∷ []) acts) j t d)
+      by (get_either (mine r before x) (makings r (before ++ x ∷ []) acts) i t e) (get_either (mine s before x) (makings s (before ++ x ∷ []) acts) j t d)
       (λ k l. made_once r s (before ++ x ∷ []) acts k l t)
     where
       here : (role k : ℕ) → slice_get (mine role before x) k ≡ Some t → IsNewIn before x t
-      here role k e = at_place (IsNewIn before x) (mine role before x) k t (mine_new role before x) e
+      here role k e = each_got (IsNewIn before x) (mine role before x) k t (mine_new role before x) e
 
       later : (role k : ℕ) → slice_get (makings role (before ++ x ∷ []) acts) k ≡ Some t → IsNew (before ++ x ∷ []) t
-      later role k e = at_place (IsNew (before ++ x ∷ [])) (makings role (before ++ x ∷ []) acts) k t (all_new role (before ++ x ∷ []) acts) e
+      later role k e = each_got (IsNew (before ++ x ∷ [])) (makings role (before ++ x ∷ []) acts) k t (all_new role (before ++ x ∷ []) acts) e
 
       by : (slice_get (mine r before x) i ≡ Some t) ⊎ ((k : ℕ) × (i ≡ length (mine r before x) + k) × (slice_get (makings r (before ++ x ∷ []) acts) k ≡ Some t))
           → (slice_get (mine s before x) j ≡ Some t) ⊎ ((k : ℕ) × (j ≡ length (mine s before x) + k) × (slice_get (makings s (before ++ x ∷ []) acts) k ≡ Some t))
@@ -312,7 +284,7 @@ module _ (p : ProtocolValue) where
   new_at : (role i : ℕ) (t : Tree) → slice_get (made (events_of p role)) i ≡ Some t → IsNew [] t
   new_at role i t e =
       let e' : slice_get (makings role [] p.actions) i ≡ Some t = ap (λ l. slice_get l i) (sym (all_makings role)) ∙ e in
-      at_place (IsNew []) (makings role [] p.actions) i t (all_new role [] p.actions) e'
+      each_got (IsNew []) (makings role [] p.actions) i t (all_new role [] p.actions) e'
 
   one_maker : (r s i j : ℕ) (t : Tree) → slice_get (made (events_of p r)) i ≡ Some t → slice_get (made (events_of p s)) j ≡ Some t → (r ≡ s) × (i ≡ j)
   one_maker r s i j t e d =
@@ -347,7 +319,7 @@ module _ (p : ProtocolValue) (seed : List ℕ) where
       another : (b : Bool) → (r == n) ≡ b → r < n
       another true f =
           let same : r ≡ n = eqb-true r n f in
-          absurd (not_found (is_leaf a) 0 (made (events_of p n)) e i (leaf a) (ap (λ k. slice_get (made (events_of p k)) i) (sym same) ∙ at) (same_number a))
+          absurd (not_found (is_leaf a) 0 (made (events_of p n)) e i (leaf a) (ap (λ k. slice_get (made (events_of p k)) i) (sym same) ∙ at) (nat_eq-same a))
       another false f = let other = eqb-false r n f in grind (arith, other, less)
 
   drawn_bytes : (n a : ℕ) → IsBytes (drawn n a)
@@ -369,7 +341,7 @@ module _ (c : Cast) (count : length c.values ≡ length (known_atoms c.protocol)
   value_bytes (Some i) = by (slice_get c.values i) refl where
     by : (v : Option (List ℕ)) → slice_get c.values i ≡ v → IsBytes (unwrap_or v [])
     by None e = IsBytes-pass [] refl
-    by (Some v) e = at_place IsBytes c.values i v bytes e
+    by (Some v) e = each_got IsBytes c.values i v bytes e
 
   strings : (a : ℕ) → IsBytes (honest_atom c a)
   strings a = by (occurs (known_terms c.protocol) a) where
@@ -383,18 +355,18 @@ module _ (c : Cast) (count : length c.values ≡ length (known_atoms c.protocol)
     atoms_once = once (known_atoms c.protocol) (distinct_apart [] (atoms_in_each (known_terms c.protocol))).1
 
     by : (o : Option ℕ) → position_from (λ b. b == a) 0 (known_atoms c.protocol) ≡ o → slice_get c.values i ≡ Some (unwrap_or (option_and_then (slice_get c.values) o) [])
-    by None e = absurd (not_found (λ b. b == a) 0 (known_atoms c.protocol) e i a at (same_number a))
+    by None e = absurd (not_found (λ b. b == a) 0 (known_atoms c.protocol) e i a at (nat_eq-same a))
     by (Some j) e =
         let f = found (λ b. b == a) 0 (known_atoms c.protocol) j e in
         let place = atoms_once f.0 i a (f.3 ∙ ap Some (eqb-true f.1 a f.4)) at in
         let same : j ≡ i = omega (arith, f.2, place) in
-        let there = slice_get-there c.values i (let less = within (known_atoms c.protocol) i a at in omega (arith, less, count)) in
+        let there = slice_get-there c.values i (let less = got_within (known_atoms c.protocol) i a at in omega (arith, less, count)) in
         there.1 ∙ ap (λ o. Some (unwrap_or o [])) (sym there.1 ∙ ap (slice_get c.values) (sym same))
 
   known : (i a : ℕ) → slice_get (known_atoms c.protocol) i ≡ Some a → slice_get c.values i ≡ Some (honest_atom c a)
   known i a at =
       let stands : occurs (known_terms c.protocol) a ≡ true =
-      at_place (λ y. has (atoms_in_each (known_terms c.protocol)) y ≡ true) (known_atoms c.protocol) i a (distinct_in [] (atoms_in_each (known_terms c.protocol))) at in
+      each_got (λ y. has (atoms_in_each (known_terms c.protocol)) y ≡ true) (known_atoms c.protocol) i a (distinct_in [] (atoms_in_each (known_terms c.protocol))) at in
       given_at i a at ∙ ap (λ b. Some (cond b (given c a) (drawn c.protocol c.seed (length c.protocol.roles) a))) (sym stands)
 
   made_honest : (role i : ℕ) (t : Tree) → role < length c.protocol.roles → slice_get (made (events_of c.protocol role)) i ≡ Some t → draw_of c.seed role i ≡ honest_bytes c.protocol (honest_atom c) t

@@ -3,6 +3,7 @@ use Rattle.std.proofs.Common.{◌≡◌, ℕ, zero, suc, ◌+◌, ◌<◌, List,
 use Rattle.std.specs.Prelude.{flat_map, unwrap_or, All, Vec}
 use Rattle.std.specs.Global.{Global}
 use Rattle.std.specs.List.{range_with_len}
+use Rattle.anb_lemmas.proofs.Lists.{drop_next}
 use Rattle.anb_resolve.specs.Choices.{first}
 use Rattle.anb_resolve.specs.Schedules.{turn_of}
 use Rattle.anb_honest.specs.declared.stage.Stage.{Stage}
@@ -11,7 +12,6 @@ use Rattle.anb_honest.specs.Given.{items_of}
 use Rattle.anb_honest.specs.Joint.{Cast, Course, turns_of, init_of, long_end, turn_with, walk, outset, joint}
 use Rattle.anb_honest.specs.Inside.{GoesOn}
 use Rattle.anb_honest.proofs.Begun.{first_is}
-use Rattle.anb_honest.proofs.Valuing.{dropped}
 
 module _ (c : Cast) (all : List (Vec (List ℕ) Global)) (count : length c.protocol.knows ≡ length c.protocol.roles)
     (is : map items_of all ≡ map (init_of c) (range_with_len 0 (length c.protocol.roles))) (turns : List ℕ) (end : RehearseEnd) where
@@ -25,7 +25,7 @@ module _ (c : Cast) (all : List (Vec (List ℕ) Global)) (count : length c.proto
 
 module _ (c : Cast) (s : Course) (turns : List ℕ) (i role : ℕ) (within : i < length turns) (at : role ≡ get_or turns i role) (W : RehearseEnd) (walked : walk c s (drop i turns) ≡ W) where
   step : turn_with c s (turn_of c.protocol (turns_of s.moves) role) (λ next. walk c next (drop (i + 1) turns)) ≡ W
-  step = sym (ap (walk c s) (dropped turns i role within at)) ∙ walked
+  step = sym (ap (walk c s) (drop_next turns i role within at)) ∙ walked
 
   pub walk_on : (stage : Stage) → (g : GoesOn c s (turn_of c.protocol (turns_of s.moves) role) stage) → walk c g.next (drop (i + 1) turns) ≡ W
   walk_on stage g = sym (g.on (λ next. walk c next (drop (i + 1) turns))) ∙ step

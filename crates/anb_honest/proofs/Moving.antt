@@ -1,33 +1,13 @@
 -- What one move more changes.
-use Rattle.std.proofs.Common.{◌≡◌, ℕ, zero, suc, ◌+◌, ◌<◌, List, [], ◌∷◌, ◌++◌, length, Bool, true, false, cond, Option, Some, None, refl, sym, ap, ◌∙◌, arith}
-use Rattle.std.specs.Prelude.{filter, count_by, is_some, slice_get, slice_set, ◌==◌, ◌&&◌, ◌||◌, ◌≢◌}
+use Rattle.std.proofs.Common.{◌≡◌, ℕ, ◌+◌, List, [], ◌∷◌, ◌++◌, Bool, true, false, cond, Option, Some, None, refl, sym, ap, ◌∙◌}
+use Rattle.std.specs.Prelude.{filter, count_by, is_some, ◌==◌, ◌&&◌, ◌||◌}
 use Rattle.std.specs.Option.{option_or}
 use Rattle.std.proofs.lemmas.List.{append-nil, map-append}
 use Rattle.std.proofs.lemmas.List.Elements.{filter-append}
 use Rattle.std.proofs.lemmas.List.Sums.{sum_by_push}
+use Rattle.anb_lemmas.proofs.Options.{or_none}
 use Rattle.anb_resolve.specs.Schedules.{Turn, was_sent}
 use Rattle.anb_honest.specs.Joint.{Move, turns_of, bytes_of, is_report, is_receipt, gave, took, told, told_by}
-
-pub set_gets : {A : Type 0} (xs : List A) (i : ℕ) (v : A) → i < length xs → slice_get (slice_set xs i v) i ≡ Some v
-set_gets [] i v h = absurd (omega arith)
-set_gets (x ∷ xs) zero v h = refl
-set_gets (x ∷ xs) (suc i) v h = set_gets xs i v (omega arith)
-
-pub set_apart : {A : Type 0} (xs : List A) (i j : ℕ) (v : A) → j ≢ i → slice_get (slice_set xs i v) j ≡ slice_get xs j
-set_apart [] i j v h = refl
-set_apart (x ∷ xs) zero zero v h = absurd (h refl)
-set_apart (x ∷ xs) zero (suc j) v h = refl
-set_apart (x ∷ xs) (suc i) zero v h = refl
-set_apart (x ∷ xs) (suc i) (suc j) v h = set_apart xs i j v (λ e. h (ap suc e))
-
-pub set_long : {A : Type 0} (xs : List A) (i : ℕ) (v : A) → length (slice_set xs i v) ≡ length xs
-set_long [] i v = refl
-set_long (x ∷ xs) zero v = refl
-set_long (x ∷ xs) (suc i) v = ap suc (set_long xs i v)
-
-or_none : {A : Type 0} (o : Option A) → option_or o None ≡ o
-or_none None = refl
-or_none (Some x) = refl
 
 or_assoc : {A : Type 0} (a b d : Option A) → option_or (option_or a b) d ≡ option_or a (option_or b d)
 or_assoc None b d = refl
@@ -50,11 +30,8 @@ pub told_sent : (moves : List Move) (action : ℕ) → is_some (told moves actio
 told_sent [] action = refl
 told_sent (m ∷ moves) action = told_or_sent (m.turn.sends && (m.turn.action == action)) (told moves action) m.bytes (was_sent (turns_of moves) action) (told_sent moves action)
 
-turns_last : (moves : List Move) (m : Move) → turns_of (moves ++ m ∷ []) ≡ turns_of moves ++ m.turn ∷ []
-turns_last moves m = map-append (λ (x : Move). x.turn) moves (m ∷ [])
-
 pub turns_more : (moves : List Move) (m : Move) → turns_of (moves ++ m ∷ []) ≡ turns_of moves ++ m.turn ∷ []
-turns_more moves m = turns_last moves m
+turns_more moves m = turns_more moves m
 
 pub count_last : (p : Turn → Bool) (ts : List Turn) (t : Turn) → count_by p (ts ++ t ∷ []) ≡ count_by p ts + cond (p t) 1 0
 count_last p ts t = sum_by_push (λ x. cond (p x) 1 0) ts t

@@ -4,7 +4,7 @@ use Rattle.std.specs.Prelude.{filter_map, slice_get}
 use Rattle.anb_term.specs.Lawful.{Lawful}
 use Rattle.anb_term.specs.Value.{Meaning}
 use Rattle.anb_term.proofs.Lists.{slice_get-there}
-use Rattle.anb_plays.specs.Plays.{stopped, ends}
+use Rattle.anb_plays.specs.Plays.{stopped, ends, Run}
 use Rattle.anb_plays.specs.Codes.{Act, takes, draws, receives, sends, works}
 use Rattle.anb_plays.specs.Runs.{says_if}
 use Rattle.anb_plays.specs.Exec.{exec, worked, on_written, IsVerified, count_written}
@@ -13,22 +13,22 @@ use Rattle.anb_machine.proofs.Works.{written_count}
 use Rattle.anb_resolve.specs.Plans.{PlanEvent, to_know, to_make, to_send, to_receive}
 use Rattle.anb_resolve.specs.Plays.{event_of}
 use Rattle.anb_resolve.specs.Schedules.{Turn}
-use Rattle.anb_honest.specs.Acting.{Coming, StopsNow, ActsFirst, KeepsOrder}
+use Rattle.anb_honest.specs.Acting.{StopsNow, ActsFirst, KeepsOrder}
 use Rattle.anb_honest.specs.Inside.{part_of}
 
-acts_same : (b : Bool) (P : Coming → Type 0) (f g : Coming) → ((xs : List (List ℕ)) → f xs ≡ g xs)
-    → ((h k : Coming) → ((xs : List (List ℕ)) → h xs ≡ k xs) → P h → P k) → ActsFirst b f P → ActsFirst b g P
+acts_same : (b : Bool) (P : Run → Type 0) (f g : Run) → ((xs : List (List ℕ)) → f xs ≡ g xs)
+    → ((h k : Run) → ((xs : List (List ℕ)) → h xs ≡ k xs) → P h → P k) → ActsFirst b f P → ActsFirst b g P
 acts_same true P f g same ih a = (a.0, a.1, λ xs. sym (same xs) ∙ a.2 xs, a.3)
 acts_same false P f g same ih a =
     (a.0, sym (same []) ∙ a.1, λ x. ih (λ xs. f (x ∷ xs)) (λ xs. g (x ∷ xs)) (λ xs. same (x ∷ xs)) (a.2 x))
 
 -- the same order holds of what gives the same
-pub order_same : (ts : List Turn) (f g : Coming) → ((xs : List (List ℕ)) → f xs ≡ g xs) → KeepsOrder ts f → KeepsOrder ts g
+pub order_same : (ts : List Turn) (f g : Run) → ((xs : List (List ℕ)) → f xs ≡ g xs) → KeepsOrder ts f → KeepsOrder ts g
 order_same [] f g same k = tt
 order_same (t ∷ ts) f g same (inl s) = inl (s.0, λ xs. sym (same xs) ∙ s.1 xs)
 order_same (t ∷ ts) f g same (inr a) = inr (acts_same t.sends (KeepsOrder ts) f g same (order_same ts) a)
 
-stops_keep : (ts : List Turn) (f : Coming) → StopsNow f → KeepsOrder ts f
+stops_keep : (ts : List Turn) (f : Run) → StopsNow f → KeepsOrder ts f
 stops_keep [] f s = tt
 stops_keep (t ∷ ts) f s = inl s
 

@@ -1,26 +1,21 @@
 -- The places of atoms, by a table.
-use Rattle.std.proofs.Common.{◌≡◌, ℕ, zero, suc, ◌+◌, ◌-◌, ◌<◌, ◌≤◌, List, [], ◌∷◌, ◌++◌, length, take, get_or, Bool, true, false, cond, Option, Some, None, refl, sym, ap, ◌∙◌, subst, arith, append_assoc, length-append}
+use Rattle.std.proofs.Common.{◌≡◌, ℕ, zero, suc, ◌+◌, ◌-◌, ◌<◌, ◌≤◌, List, [], ◌∷◌, ◌++◌, length, take, get_or, Bool, true, false, cond, Option, Some, None, refl, sym, ap, ◌∙◌, subst, arith, length-append}
 use Rattle.std.specs.Prelude.{is_some, slice_get, nat_eq, option_and_then, unwrap_or, ◌==◌, ◌&&◌, ◌||◌}
 use Rattle.std.specs.Option.{option_or, option_map_or}
 use Rattle.std.specs.List.{list_any, position_from}
 use Rattle.std.proofs.lemmas.Bool.{eqb-true, eq-eqb}
 use Rattle.std.proofs.lemmas.Bool.Decides.{nat_tests}
 use Rattle.std.proofs.lemmas.List.{append-nil}
+use Rattle.anb_lemmas.proofs.Bools.{or_false}
 use Rattle.anb_resolve.specs.Choices.{each_after}
 use Rattle.anb_resolve.specs.Names.{distinct, first_new}
-use Rattle.anb_resolve.proofs.Afters.{any-append}
+use Rattle.anb_resolve.proofs.Afters.{any-append, each_after_last}
 use Rattle.anb_honest.specs.declared.given.Given.{Given}
 use Rattle.anb_honest.specs.Given.{IsTable, value_in, Gives}
 use Rattle.anb_honest.specs.Joint.{Cast, known_atoms, given}
 
-each_last : {X Y : Type 0} (f : List X → X → List Y) (before xs : List X) (x : X) → each_after f before (xs ++ x ∷ []) ≡ each_after f before xs ++ f (before ++ xs) x
-each_last f before [] x = append-nil (f before x) ∙ ap (λ l. f l x) (sym (append-nil before))
-each_last f before (y ∷ xs) x =
-    ap (λ l. f before y ++ l) (each_last f (before ++ y ∷ []) xs x) ∙ ap (λ l. f before y ++ (each_after f (before ++ y ∷ []) xs ++ f l x)) (append_assoc before (y ∷ []) xs)
-    ∙ sym (append_assoc (f before y) (each_after f (before ++ y ∷ []) xs) (f (before ++ y ∷ xs) x))
-
 pub distinct_last : (xs : List ℕ) (x : ℕ) → distinct nat_eq (xs ++ x ∷ []) ≡ distinct nat_eq xs ++ first_new nat_eq xs x
-distinct_last xs x = each_last (first_new nat_eq) [] xs x
+distinct_last xs x = each_after_last (first_new nat_eq) [] xs x
 
 -- an atom occurs among the distinct ones exactly where it occurs at all
 was_there : (a x : ℕ) (before : List ℕ) → list_any (λ y. y == x) before ≡ true → (x == a) ≡ true → list_any (λ y. y == a) before ≡ true
@@ -29,10 +24,6 @@ was_there a x before h e = let g : x ≡ a = eqb-true x a e in subst (λ n. list
 or_regroup : (p q r s : Bool) → (p || q) ≡ s → (p || (q || r)) ≡ (s || r)
 or_regroup true q r s e = ap (λ v. v || r) e
 or_regroup false q r s e = ap (λ v. v || r) e
-
-or_false : (b : Bool) → (b || false) ≡ b
-or_false true = refl
-or_false false = refl
 
 or_held : (b v r : Bool) → b ≡ true → (b || r) ≡ ((b || v) || r)
 or_held true v r e = refl
@@ -88,9 +79,6 @@ pub record IsPlaced (atoms table : List ℕ) (next : ℕ) : Type 0 where
   pub placed : IsTable (distinct nat_eq atoms) table
   pub count : next ≡ length (distinct nat_eq atoms)
   pub few : next ≤ length atoms
-
-pub none_placed : (table : List ℕ) → table ≡ [] → IsPlaced [] table 0
-none_placed table e = record { placed = λ a. ap (λ l. get_or l a 0) e; count = refl; few = omega arith }
 
 none_is : (o : Option ℕ) → option_map_or suc o 0 ≡ 0 → o ≡ None
 none_is None e = refl

@@ -4,11 +4,13 @@ use Rattle.std.specs.Prelude.{slice_get, unwrap_or, option_and_then, ◌==◌, �
 use Rattle.std.specs.List.{AllByRecursion, list_any, position_from}
 use Rattle.std.specs.Option.{option_or}
 use Rattle.std.proofs.lemmas.Bool.{eqb-true, eq-eqb}
+use Rattle.anb_compile.proofs.Protocols.{all_known}
 use Rattle.anb_base.specs.Bytes.{is_bytes-IsBytes}
 use Rattle.anb_term.specs.declared.term.Op.{Op}
 use Rattle.anb_term.specs.Tree.{Tree, leaf, node, Trees, none, more, trees_of, IsFormed, AreFormed}
 use Rattle.anb_term.specs.Value.{Meaning}
 use Rattle.anb_lemmas.proofs.Each.{each_in_both, each_in_parts}
+use Rattle.anb_lemmas.proofs.Bools.{or_true}
 use Rattle.anb_plays.specs.Plans.{Event, know, fresh, send, recv}
 use Rattle.anb_plays.specs.Plays.{End, stopped, waiting, done}
 use Rattle.anb_plays.specs.Honest.{honest, honest_all, honest_from, heard, LabelsAreFormed}
@@ -22,7 +24,6 @@ use Rattle.anb_resolve.specs.Plays.{event_of, events_of, honest_bytes, meaning_o
 use Rattle.anb_honest.specs.Joint.{Cast, known_atoms, given, given_bytes, halt_behind, long_end}
 use Rattle.anb_honest.specs.Honest.{AreHonest}
 use Rattle.anb_honest.proofs.Placing.{any_distinct}
-use Rattle.anb_honest.proofs.Begun.{all_known}
 
 -- ---- it never stops
 
@@ -57,10 +58,6 @@ module _ {A : Type 0} (m : Meaning A) (f g : ℕ → A) where
     honest_all_same (more t ts) all =
         let parts = each_in_parts (λ a. f a ≡ g a) (atoms_in t) (atoms_in_all ts) all in
         ap (λ x. x ∷ honest_all m f ts) (honest_same t parts.0) ∙ ap (λ l. honest m g t ∷ l) (honest_all_same ts parts.1)
-
-or_true : (b : Bool) → (b || true) ≡ true
-or_true true = refl
-or_true false = refl
 
 all_members : (P : ℕ → Type 0) (xs : List ℕ) → ((a : ℕ) → list_any (λ y. y == a) xs ≡ true → P a) → AllByRecursion P xs
 all_members P [] each = tt

@@ -5,6 +5,7 @@ use Rattle.std.specs.Option.{option_map_or, option_or}
 use Rattle.std.specs.List.{AllByRecursion, range_with_len, cons_option}
 use Rattle.std.proofs.lemmas.Bool.{eqb-true}
 use Rattle.std.proofs.lemmas.List.{append-nil, length-map, map-append}
+use Rattle.anb_lemmas.proofs.Bools.{last_of_and}
 use Rattle.anb_term.proofs.Lists.{slice_get-there}
 use Rattle.anb_algebra.specs.ByteMeaning.{has_operator}
 use Rattle.anb_seal.specs.Streams.{draw_of}
@@ -45,10 +46,6 @@ drop_first [] zero = refl
 drop_first [] (suc n) = refl
 drop_first (x ∷ xs) zero = refl
 drop_first (x ∷ xs) (suc n) = drop_first xs n
-
-and_last : (a b : Bool) → (a && b) ≡ true → b ≡ true
-and_last true b e = e
-and_last false b e = cc
 
 -- ---- one role's play
 
@@ -123,7 +120,7 @@ module _ (c : Cast) (atoms : ℕ → List ℕ) where
           → option_or (cond w (Some (honest_message c atoms action)) None) (cond b (Some (honest_message c atoms t.action)) None) ≡ cond (b || w) (Some (honest_message c atoms action)) None
       by true true e = refl
       by true false e = refl
-      by false true e = (let g : t.action ≡ action = eqb-true t.action action (and_last t.sends (t.action == action) e) in ap (λ a. Some (honest_message c atoms a)) g)
+      by false true e = (let g : t.action ≡ action = eqb-true t.action action (last_of_and t.sends (t.action == action) e) in ap (λ a. Some (honest_message c atoms a)) g)
       by false false e = refl
 
   same_reported : (f g : ℕ → Option (List ℕ)) (ks : List ℕ) → ((k : ℕ) → f k ≡ g k) → filter_map (reported c f) ks ≡ filter_map (reported c g) ks

@@ -3,12 +3,13 @@ use Rattle.std.proofs.Common.{◌≡◌, ℕ, zero, suc, ◌+◌, ◌-◌, ◌<�
 use Rattle.std.specs.Prelude.{filter, filter_map, count_by, slice_get, is_none, ◌==◌, ◌&&◌, ◌↔◌}
 use Rattle.std.specs.Option.{option_map_or}
 use Rattle.std.specs.List.{AllByRecursion}
-use Rattle.std.proofs.lemmas.Bool.{eqb-true}
+use Rattle.std.proofs.lemmas.Bool.{eqb-true, and_parts}
 use Rattle.std.proofs.lemmas.List.{append-nil}
 use Rattle.std.proofs.lemmas.List.Elements.{filter-append}
 use Rattle.anb_term.specs.Tree.{Tree, leaf}
 use Rattle.anb_term.specs.Value.{Meaning}
-use Rattle.anb_lemmas.proofs.Each.{each_in_both}
+use Rattle.anb_lemmas.proofs.Each.{each_in_both, each_got}
+use Rattle.anb_lemmas.proofs.Lists.{get_seam, take_got}
 use Rattle.anb_plays.specs.Honest.{honest, honest_from, heard}
 use Rattle.std.proofs.lemmas.Bool.Decides.{nat_tests}
 use Rattle.anb_resolve.specs.Choices.{each_after}
@@ -33,20 +34,10 @@ hears t = not t.sends
 abbrev pub tells : Turn → Bool
 tells t = t.sends
 
-take_at : {A : Type 0} (xs : List A) (n : ℕ) (x : A) → slice_get xs n ≡ Some x → take (n + 1) xs ≡ take n xs ++ x ∷ []
-take_at [] n x h = cc
-take_at (y ∷ ys) zero x h = let e : y ≡ x = cc in ap (λ z. z ∷ []) e
-take_at (y ∷ ys) (suc n) x h = let m : suc n + 1 ≡ suc (n + 1) = omega arith in rw m (ap (λ l. y ∷ l) (take_at ys n x h))
-
-pub at_place : {A : Type 0} (P : A → Type 0) (xs : List A) (n : ℕ) (x : A) → AllByRecursion P xs → slice_get xs n ≡ Some x → P x
-at_place P [] n x all h = cc
-at_place P (y ∷ ys) zero x all h = let e : y ≡ x = cc in subst P e all.0
-at_place P (y ∷ ys) (suc n) x all h = at_place P ys n x all.1 h
-
 -- the turn that is taken is a part of the role
 pub part_taken : (p : ProtocolValue) (ts : List Turn) (role : ℕ) (t : Turn) → turn_of p ts role ≡ Some t → IsPartOf role (length p.actions) t
 part_taken p ts role t e =
-    at_place (IsPartOf role (length p.actions)) (parts_of p role) (count_by (is_of role) ts) t (parts_of_role p role) (ready_next ts (next_of p ts role) t e)
+    each_got (IsPartOf role (length p.actions)) (parts_of p role) (count_by (is_of role) ts) t (parts_of_role p role) (ready_next ts (next_of p ts role) t e)
 
 -- the taken turns of each role are the first of its parts
 abbrev pub InOrder : ProtocolValue → List Turn → Type 0
@@ -66,7 +57,7 @@ more_in_order p ts role t order e q = by (t.role == q) refl where
       let g : role ≡ q = sym o.own ∙ eqb-true t.role q h in
       let at : slice_get (parts_of p q) (count_by (is_of q) ts) ≡ Some t = subst (λ r. slice_get (parts_of p r) (count_by (is_of r) ts) ≡ Some t) g (ready_next ts (next_of p ts role) t e) in
       filter-append (is_of q) ts (t ∷ []) ∙ ap (λ v. filter (is_of q) ts ++ cond v (t ∷ []) []) h ∙ ap (λ l. l ++ t ∷ []) (order q)
-      ∙ sym (take_at (parts_of p q) (count_by (is_of q) ts) t at)
+      ∙ sym (take_got (parts_of p q) (count_by (is_of q) ts) t at)
       ∙ ap (λ n. take n (parts_of p q)) (sym (count_last (is_of q) ts t ∙ ap (λ v. count_by (is_of q) ts + cond v 1 0) h))
   by false h =
       let n : count_by (is_of q) ts + 0 ≡ count_by (is_of q) ts = omega arith in
@@ -129,17 +120,13 @@ one_has p n names t true d e = each_in_both (HasTerm p) (map (λ x. to_make (lea
 one_has p n names t false true e = (e, tt)
 one_has p n names t false false e = tt
 
-get_behind : {A : Type 0} (before rest : List A) (x : A) → slice_get (before ++ x ∷ rest) (length before) ≡ Some x
-get_behind [] rest x = refl
-get_behind (y ∷ before) rest x = get_behind before rest x
-
 each_has : (p : ProtocolValue) (role : ℕ) (before acts : List ActionValue) → p.actions ≡ before ++ acts → AllByRecursion (HasTerm p) (each_after (events_at p role) before acts)
 each_has p role before [] e = tt
 each_has p role before (a ∷ acts) e =
     let n : length before + 1 - 1 ≡ length before = omega arith in
     let at : term_at p (length before + 1) ≡ a.message =
     ap (λ k. option_map_or (λ (x : ActionValue). x.message) (slice_get p.actions k) (leaf 0)) n
-    ∙ ap (λ o. option_map_or (λ (x : ActionValue). x.message) o (leaf 0)) (ap (λ l. slice_get l (length before)) e ∙ get_behind before acts a) in
+    ∙ ap (λ o. option_map_or (λ (x : ActionValue). x.message) o (leaf 0)) (ap (λ l. slice_get l (length before)) e ∙ get_seam before acts a) in
     each_in_both (HasTerm p) (events_at p role before a) (each_after (events_at p role) (before ++ a ∷ []) acts)
     (one_has p (length before + 1) (made p before a.message) a.message (a.from == role) (a.to == role) at)
     (each_has p role (before ++ a ∷ []) acts (e ∙ sym (append_assoc before (a ∷ []) acts)))
@@ -186,14 +173,10 @@ none_is : (o : Option Turn) → is_none o ≡ true → o ≡ None
 none_is None e = refl
 none_is (Some t) e = cc
 
-and_both : (a b : Bool) → (a && b) ≡ true → (a ≡ true) × (b ≡ true)
-and_both true b e = (refl, e)
-and_both false b e = absurd (cc)
-
 complete_each : (c : Cast) (ts : List Turn) (n : ℕ) → is_complete c ts n ≡ true → (role : ℕ) → role < n → next_of c.protocol ts role ≡ None
 complete_each c ts zero e role h = absurd (omega arith)
 complete_each c ts (suc n) e role h =
-    let parts = and_both (is_complete c ts n) (is_none (next_of c.protocol ts n)) e in
+    let parts = and_parts (is_complete c ts n) (is_none (next_of c.protocol ts n)) e in
     by (role == n) refl parts.1 (complete_each c ts n parts.0 role)
   where
     by : (b : Bool) → (role == n) ≡ b → is_none (next_of c.protocol ts n) ≡ true → (role < n → next_of c.protocol ts role ≡ None) → next_of c.protocol ts role ≡ None

@@ -24,8 +24,9 @@ use Rattle.anb_term.specs.Tree.{Tree, IsFormed}
 use Rattle.anb_plays.specs.Honest.{honest}
 use Rattle.anb_algebra.specs.ByteMeaning.{byte_meaning, has_operator}
 use Rattle.anb_compile.specs.Emitting.{known_in}
-use Rattle.anb_compile.proofs.Protocols.{known_of_plan}
+use Rattle.anb_compile.proofs.Protocols.{known_of_plan, all_known}
 use Rattle.anb_lemmas.proofs.Each.{each_in_front}
+use Rattle.anb_lemmas.proofs.Lists.{drop_next}
 use Rattle.anb_resolve.specs.declared.plans.Event.{Event}
 use Rattle.anb_resolve.specs.Laws.{HoldsOf}
 use Rattle.anb_resolve.specs.Protocols.{ProtocolValue}
@@ -33,8 +34,7 @@ use Rattle.anb_resolve.specs.Texts.{known_terms}
 use Rattle.anb_resolve.specs.Plans.{PlanEvent, to_know, to_make, to_send, to_receive, plan_of, messages}
 use Rattle.anb_resolve.specs.Views.{plan_event}
 use Rattle.anb_honest.specs.Joint.{given}
-use Rattle.anb_honest.proofs.Begun.{all_known, initial_all}
-use Rattle.anb_honest.proofs.Valuing.{dropped}
+use Rattle.anb_honest.proofs.Begun.{initial_all}
 
 pub ranged : {X : Type 0} (f : ℕ → X) (xs : List X) (n r : ℕ) (x : X) → xs ≡ map f (range_with_len 0 n) → r < n → x ≡ get_or xs r x → x ≡ f r
 ranged f xs n r x e h at = at ∙ ap (λ l. get_or l r x) e ∙ get_or-map-range_with_len f 0 n r r x h (omega arith)
@@ -126,18 +126,11 @@ none_long_at (x ∷ all) (suc r) v e h at =
 pub first_left : (all : List (Vec (List ℕ) Global)) (i : ℕ) (v : Vec (List ℕ) Global) (o : Option RehearseEnd) → i < length all → v ≡ get_or all i v → o ≡ first (long_end 0) v.items
     → first (long_end 0) (flat_map items_of (drop i all)) ≡ option_or o (first (long_end 0) (flat_map items_of (drop (i + 1) all)))
 first_left all i v o h at is =
-    ap (λ l. first (long_end 0) (flat_map items_of l)) (dropped all i v h at) ∙ first-append v.items (flat_map items_of (drop (i + 1) all))
+    ap (λ l. first (long_end 0) (flat_map items_of l)) (drop_next all i v h at) ∙ first-append v.items (flat_map items_of (drop (i + 1) all))
     ∙ ap (λ x. option_or x (first (long_end 0) (flat_map items_of (drop (i + 1) all)))) (sym is)
-
-pub first_left_of : (xs : List (List ℕ)) (i : ℕ) (x : List ℕ) → i < length xs → x ≡ get_or xs i x
-    → first (long_end 0) (drop i xs) ≡ option_or (long_end 0 x) (first (long_end 0) (drop (i + 1) xs))
-first_left_of xs i x h at = ap (first (long_end 0)) (dropped xs i x h at)
 
 pub long_ends : (b : List ℕ) → ARRIVAL < length b → long_end 0 b ≡ Some (LongMessage 0 (length b))
 long_ends b h = let e : nat_lt ARRIVAL (length b) ≡ true = grind (arith, nat_tests, h) in ap (λ v. cond v (Some (LongMessage 0 (length b))) None) e
-
-pub short_goes : (b : List ℕ) → length b ≤ ARRIVAL → long_end 0 b ≡ None
-short_goes b h = let e : nat_lt ARRIVAL (length b) ≡ false = grind (arith, nat_tests, h) in ap (λ v. cond v (Some (LongMessage 0 (length b))) None) e
 
 -- ---- what a plan knows
 

@@ -1,9 +1,9 @@
 -- What is known of a role at its turn.
-use Rattle.std.proofs.Common.{◌≡◌, ℕ, zero, suc, ◌+◌, ◌<◌, ◌≤◌, List, [], ◌∷◌, length, get_or, Bool, true, false, cond, Option, Some, None, refl, sym, ap, ◌∙◌, subst, inl, inr, arith}
+use Rattle.std.proofs.Common.{◌≡◌, ℕ, ◌+◌, ◌<◌, ◌≤◌, List, length, get_or, Bool, true, false, cond, Option, Some, None, refl, sym, ap, ◌∙◌, subst, inl, inr, arith}
 use Rattle.std.specs.Prelude.{slice_get, is_some, option_map, option_and_then, IfSome, IfOk, Result, Ok, Err, ◌||◌}
-use Rattle.std.specs.List.{AllByRecursion}
 use Rattle.anb_term.proofs.Lists.{slice_get-there}
 use Rattle.std.proofs.lemmas.Option.{get_or_from_slice_get, slice_get_read, slice_get-map}
+use Rattle.anb_lemmas.proofs.Each.{each_got}
 use Rattle.anb_machine.specs.Machines.{gives}
 use Rattle.anb_resolve.specs.Schedules.{Turn, parts_of, next_of, if_ready, turn_of, was_sent}
 use Rattle.anb_honest.specs.declared.player.Player.{Player}
@@ -20,14 +20,6 @@ use Rattle.anb_honest.proofs.Turning.{ready_next, ready_sent}
 pub ok_map : {T E : Type 0} {P Q : T → Type 0} (r : Result T E) → IfOk r P → ((x : T) → P x → Q x) → IfOk r Q
 ok_map (Ok x) p f = f x p
 ok_map (Err e) p f = tt
-
-at_place : {A : Type 0} (P : A → Type 0) (xs : List A) (n : ℕ) (x : A) → AllByRecursion P xs → slice_get xs n ≡ Some x → P x
-at_place P [] n x all h = cc
-at_place P (y ∷ ys) zero x all h = let e : y ≡ x = cc in subst P e all.0
-at_place P (y ∷ ys) (suc n) x all h = at_place P ys n x all.1 h
-
-some_same : {A : Type 0} (x y : A) → Some x ≡ Some y → x ≡ y
-some_same x y e = cc
 
 -- the role at a place of the table
 module _ (c : Cast) (s : Course) (stage : Stage) (st : Stands c s stage) (role : ℕ) (pl : Player) (within : role < length stage.players.items) (at : pl ≡ get_or stage.players.items role pl) where
@@ -48,7 +40,7 @@ module _ (c : Cast) (s : Course) (stage : Stage) (st : Stands c s stage) (role :
     part_is : IsPartOf role (length c.protocol.actions) (turn_value role part)
     part_is =
         let p = is_player in
-        at_place (IsPartOf role (length c.protocol.actions)) (parts_of c.protocol role) pl.done (turn_value role part) (parts_of_role c.protocol role)
+        each_got (IsPartOf role (length c.protocol.actions)) (parts_of c.protocol role) pl.done (turn_value role part) (parts_of_role c.protocol role)
         (ap (λ l. slice_get l pl.done) (sym p.parts) ∙ slice_get-map (turn_value role) pl.parts.items pl.done ∙ ap (option_map (turn_value role)) next)
 
     pub part_least : 1 ≤ part.action
@@ -91,7 +83,7 @@ module _ (c : Cast) (s : Course) (stage : Stage) (st : Stands c s stage) (role :
     due_part : IsPartOf role (length c.protocol.actions) (turn_at role action sends)
     due_part =
         let p = is_player in
-        at_place (IsPartOf role (length c.protocol.actions)) (parts_of c.protocol role) pl.done (turn_at role action sends) (parts_of_role c.protocol role)
+        each_got (IsPartOf role (length c.protocol.actions)) (parts_of c.protocol role) pl.done (turn_at role action sends) (parts_of_role c.protocol role)
         (ap (slice_get (parts_of c.protocol role)) p.done ∙ due_next)
 
     pub due_least : 1 ≤ action
@@ -130,10 +122,6 @@ message_there c s stage st role action k slot is at due =
 
 pub message_short : (c : Cast) (s : Course) (stage : Stage) → Stands c s stage → (k : ℕ) (slot : Option (List ℕ)) → slice_get stage.told.items k ≡ Some slot → IsShort slot
 message_short c s stage st k slot at = subst (λ o. IfSome o IsShort) at (st.short k)
-
--- a part that is due, as a turn
-pub at_send : (role : ℕ) (part : Part) (o : Option Turn) → part.sends ≡ true → Some (turn_value role part) ≡ o → o ≡ Some (turn_at role part.action true)
-at_send role part o e h = sym h ∙ ap (λ b. Some (turn_at role part.action b)) e
 
 pub at_receive : (role : ℕ) (part : Part) (o : Option Turn) → part.sends ≡ false → Some (turn_value role part) ≡ o → o ≡ Some (turn_at role part.action false)
 at_receive role part o e h = sym h ∙ ap (λ b. Some (turn_at role part.action b)) e

@@ -1,31 +1,28 @@
 -- Roles and joint runs on their way, after one move more.
-use Rattle.std.proofs.Common.{◌≡◌, ℕ, zero, suc, ◌+◌, ◌<◌, ◌≤◌, List, [], ◌∷◌, ◌++◌, length, map, drop, Bool, true, false, cond, Option, Some, None, refl, sym, ap, ◌∙◌, subst, inl, inr, ◌⊎◌, arith, append_assoc}
+use Rattle.std.proofs.Common.{◌≡◌, ℕ, ◌+◌, ◌<◌, ◌≤◌, List, [], ◌∷◌, ◌++◌, length, map, drop, Bool, true, false, cond, Option, Some, None, refl, sym, ap, ◌∙◌, subst, inl, inr, ◌⊎◌, arith, append_assoc}
 use Rattle.std.specs.Prelude.{count_by, IfSome, slice_get, slice_set, option_map, ◌==◌}
 use Rattle.std.proofs.Math.Seq.{drop-append_seam}
-use Rattle.std.proofs.lemmas.Bool.{eqb-true, eq-eqb}
+use Rattle.std.proofs.lemmas.Bool.{eqb-true, eq-eqb, both_ways}
 use Rattle.std.proofs.lemmas.List.{append-nil}
 use Rattle.std.proofs.lemmas.Option.{slice_get-map, slice_get_within}
 use Rattle.anb_base.specs.declared.TheConstants.{ARRIVAL}
-use Rattle.anb_plays.specs.Plays.{Played, stopped, waiting, ends, says}
+use Rattle.anb_plays.specs.Plays.{Played, stopped, waiting, ends, says, SendsFirst}
+use Rattle.anb_plays.proofs.Grows.{sends_saying, sends_on}
 use Rattle.anb_machine.specs.Machines.{gives}
 use Rattle.std.proofs.lemmas.Bool.Decides.{nat_tests}
+use Rattle.anb_lemmas.proofs.Lists.{drop_at_got, set_gets, set_apart}
 use Rattle.anb_resolve.specs.Schedules.{Turn, parts_of, next_of}
 use Rattle.anb_honest.specs.declared.player.Player.{Player}
 use Rattle.anb_honest.specs.Joint.{Cast, Move, turns_of, gave, took, told, run_over, run_of, unreported, halt_behind, stuck}
 use Rattle.anb_honest.specs.Acting.{StopsNow, KeepsOrder, ActsFirst, halt_of}
-use Rattle.anb_honest.specs.Inside.{GivesBehind, IsPlayer, IsShort, turn_at, turn_value}
-use Rattle.anb_honest.proofs.Moving.{set_gets, set_apart, told_last, turns_more, count_last, gave_more, gave_same, took_more, took_same}
+use Rattle.anb_honest.specs.Inside.{IsPlayer, IsShort, turn_at, turn_value}
+use Rattle.anb_honest.proofs.Moving.{told_last, turns_more, count_last, gave_more, gave_same, took_more, took_same}
 use Rattle.anb_honest.proofs.Ordering.{order_same}
-
-pub drop_at : {A : Type 0} (xs : List A) (n : ℕ) (x : A) → slice_get xs n ≡ Some x → drop n xs ≡ x ∷ drop (n + 1) xs
-drop_at [] n x h = cc
-drop_at (y ∷ ys) zero x h = let e : y ≡ x = cc in ap (λ z. z ∷ ys) e
-drop_at (y ∷ ys) (suc n) x h = let n' : suc n + 1 ≡ suc (n + 1) = omega arith in rw n' (drop_at ys n x h)
 
 -- ---- one role
 
 module _ (c : Cast) (moves : List Move) (role : ℕ) (pl : Player) (is : IsPlayer c moves role pl) where
-  now_gives : GivesBehind (run_of c moves role) (gave moves role) (gives pl.machine [])
+  now_gives : SendsFirst (run_of c moves role) (gave moves role) (gives pl.machine [])
   now_gives = ap (run_over c role) (sym (append-nil (took moves role))) ∙ is.comes []
 
   pub unreported_is : unreported c moves role ≡ (gives pl.machine []).sent
@@ -48,7 +45,7 @@ module _ (c : Cast) (moves : List Move) (role : ℕ) (pl : Player) (is : IsPlaye
       → StopsNow (gives pl.machine) ⊎ ActsFirst t.sends (gives pl.machine) (KeepsOrder (drop (pl.done + 1) (parts_of c.protocol role)))
   acts_next t next =
       let at : slice_get (parts_of c.protocol role) pl.done ≡ Some t = ap (slice_get (parts_of c.protocol role)) is.done ∙ next in
-      subst (λ l. KeepsOrder l (gives pl.machine)) (drop_at (parts_of c.protocol role) pl.done t at) is.order
+      subst (λ l. KeepsOrder l (gives pl.machine)) (drop_at_got (parts_of c.protocol role) pl.done t at) is.order
 
 mapped_some : {A B : Type 0} (f : A → B) (o : Option A) (y : B) → option_map f o ≡ Some y → (x : A) × (o ≡ Some x)
 mapped_some f None y e = cc
@@ -66,14 +63,6 @@ same_role role action sends b = eq-eqb role role refl
 
 says_later : (b d : List ℕ) (p q : Played (List ℕ)) → says b p ≡ says d q → p ≡ q
 says_later b d p q e = ap (λ (r : Played (List ℕ)). record r { sent = drop 1 r.sent }) e
-
-further : (p q r : Played (List ℕ)) (sent : List (List ℕ)) (b : List ℕ) → GivesBehind p sent q → q ≡ says b r → GivesBehind p (sent ++ b ∷ []) r
-further p q r sent b f e =
-    f ∙ ap (λ (x : Played (List ℕ)). record x { sent = sent ++ x.sent }) e
-    ∙ ap (λ (l : List (List ℕ)). record r { sent = l }) (sym (append_assoc sent (b ∷ []) r.sent))
-
-behind : (p q r : Played (List ℕ)) (sent : List (List ℕ)) → GivesBehind p sent q → q ≡ r → GivesBehind p sent r
-behind p q r sent f e = f ∙ ap (λ (x : Played (List ℕ)). record x { sent = sent ++ x.sent }) e
 
 module _ (c : Cast) (moves : List Move) (role action : ℕ) (b : List ℕ) (pl new : Player) (is : IsPlayer c moves role pl) where
   move : Bool → Move
@@ -98,9 +87,9 @@ module _ (c : Cast) (moves : List Move) (role action : ℕ) (b : List ℕ) (pl n
         done = count ∙ ap (λ n. n + 1) is.done ∙ sym (counted true);
         within = (let room = room_next c moves role pl is (turn_at role action true) next in let long = ap length parts in omega arith);
         comes = λ more.
-            subst (λ l. GivesBehind (run_over c role (l ++ more)) (gave (moves ++ move true ∷ []) role) (gives new.machine more)) (sym taken)
-            (subst (λ l. GivesBehind (run_over c role (took moves role ++ more)) l (gives new.machine more)) (sym given)
-            (further (run_over c role (took moves role ++ more)) (gives pl.machine more) (gives new.machine more) (gave moves role) b (is.comes more) (says_so more)));
+            subst (λ l. SendsFirst (run_over c role (l ++ more)) (gave (moves ++ move true ∷ []) role) (gives new.machine more)) (sym taken)
+            (subst (λ l. SendsFirst (run_over c role (took moves role ++ more)) l (gives new.machine more)) (sym given)
+            (sends_saying (run_over c role (took moves role ++ more)) (gives pl.machine more) (gives new.machine more) (gave moves role) b (is.comes more) (says_so more)));
         order = subst (λ n. KeepsOrder (drop n (parts_of c.protocol role)) (gives new.machine)) (sym count)
             (elim (acts_next c moves role pl is (turn_at role action true) next) [
               | inl s ↦ (let e : says b (gives new.machine []) ≡ ends (stopped s.0.event s.0.at) [] = sym (says_so []) ∙ s.1 [] in let f = ap (λ (q : Played (List ℕ)). q.sent) e in cc)
@@ -122,10 +111,10 @@ module _ (c : Cast) (moves : List Move) (role action : ℕ) (b : List ℕ) (pl n
         done = count ∙ ap (λ n. n + 1) is.done ∙ sym (counted false);
         within = (let room = room_next c moves role pl is (turn_at role action false) next in let long = ap length parts in omega arith);
         comes = λ more.
-            subst (λ l. GivesBehind (run_over c role (l ++ more)) (gave (moves ++ move false ∷ []) role) (gives new.machine more)) (sym taken)
-            (subst (λ l. GivesBehind (run_over c role ((took moves role ++ b ∷ []) ++ more)) l (gives new.machine more)) (sym given)
-            (subst (λ l. GivesBehind (run_over c role l) (gave moves role) (gives new.machine more)) (sym (append_assoc (took moves role) (b ∷ []) more))
-            (behind (run_over c role (took moves role ++ b ∷ more)) (gives pl.machine (b ∷ more)) (gives new.machine more) (gave moves role) (is.comes (b ∷ more)) (heard more))));
+            subst (λ l. SendsFirst (run_over c role (l ++ more)) (gave (moves ++ move false ∷ []) role) (gives new.machine more)) (sym taken)
+            (subst (λ l. SendsFirst (run_over c role ((took moves role ++ b ∷ []) ++ more)) l (gives new.machine more)) (sym given)
+            (subst (λ l. SendsFirst (run_over c role l) (gave moves role) (gives new.machine more)) (sym (append_assoc (took moves role) (b ∷ []) more))
+            (sends_on (run_over c role (took moves role ++ b ∷ more)) (gives pl.machine (b ∷ more)) (gives new.machine more) (gave moves role) (is.comes (b ∷ more)) (heard more))));
         order = subst (λ n. KeepsOrder (drop n (parts_of c.protocol role)) (gives new.machine)) (sym count)
             (elim (acts_next c moves role pl is (turn_at role action false) next) [
               | inl s ↦ (let q : ends (waiting e) [] ≡ ends (stopped s.0.event s.0.at) [] = sym waits ∙ s.1 [] in let f = ap (λ (x : Played (List ℕ)). x.end) q in cc)
@@ -146,16 +135,12 @@ other_player c moves m role pl other is =
       done = is.done ∙ sym count;
       within = is.within;
       comes = λ more.
-          subst (λ l. GivesBehind (run_over c role (l ++ more)) (gave (moves ++ m ∷ []) role) (gives pl.machine more)) (sym taken)
-          (subst (λ l. GivesBehind (run_over c role (took moves role ++ more)) l (gives pl.machine more)) (sym given) (is.comes more));
+          subst (λ l. SendsFirst (run_over c role (l ++ more)) (gave (moves ++ m ∷ []) role) (gives pl.machine more)) (sym taken)
+          (subst (λ l. SendsFirst (run_over c role (took moves role ++ more)) l (gives pl.machine more)) (sym given) (is.comes more));
       order = is.order;
     }
 
 -- ---- all roles
-
-apart : (b : Bool) → b ≡ false → b ≡ true → ⊥
-apart true h g = cc
-apart false h g = cc
 
 pub players_moved : (c : Cast) (moves : List Move) (m : Move) (players : List Player) (role : ℕ) (new : Player) → m.turn.role ≡ role → role < length players
     → ((q : ℕ) → IfSome (slice_get players q) (IsPlayer c moves q)) → IsPlayer c (moves ++ m ∷ []) role new
@@ -171,7 +156,7 @@ players_moved c moves m players role new own within all is q = by (role == q) re
       subst (λ j. IfSome (slice_get (slice_set players role new) j) (IsPlayer c (moves ++ m ∷ []) j)) g
       (subst (λ o. IfSome o (IsPlayer c (moves ++ m ∷ []) role)) (sym (set_gets players role new within)) is)
   by false e =
-      subst (λ o. IfSome o (IsPlayer c (moves ++ m ∷ []) q)) (sym (set_apart players role q new (λ g. apart (role == q) e (eq-eqb role q (sym g)))))
+      subst (λ o. IfSome o (IsPlayer c (moves ++ m ∷ []) q)) (sym (set_apart players role q new (λ g. both_ways (role == q) e (eq-eqb role q (sym g)))))
       (other (slice_get players q) (ap (λ n. n == q) own ∙ e) (all q))
 
 -- the table of messages, with one message more
@@ -199,7 +184,7 @@ slots_told moves role k b slots within all j = by (k == j) refl where
       subst (λ i. IfSome (slice_get (slice_set slots k (Some b)) i) (λ slot. slot ≡ told (moves ++ record { turn = turn_at role (k + 1) true; bytes = b } ∷ []) (i + 1))) g
       (subst (λ o. IfSome o (λ slot. slot ≡ told (moves ++ record { turn = turn_at role (k + 1) true; bytes = b } ∷ []) (k + 1))) (sym (set_gets slots k (Some b) within)) (sym there))
   by false e =
-      subst (λ o. IfSome o (λ slot. slot ≡ told (moves ++ record { turn = turn_at role (k + 1) true; bytes = b } ∷ []) (j + 1))) (sym (set_apart slots k j (Some b) (λ g. apart (k == j) e (eq-eqb k j (sym g)))))
+      subst (λ o. IfSome o (λ slot. slot ≡ told (moves ++ record { turn = turn_at role (k + 1) true; bytes = b } ∷ []) (j + 1))) (sym (set_apart slots k j (Some b) (λ g. both_ways (k == j) e (eq-eqb k j (sym g)))))
       (elsewhere (slice_get slots j) (differ e) (all j))
 
 pub slots_short : (k : ℕ) (b : List ℕ) (slots : List (Option (List ℕ))) → k < length slots → length b ≤ ARRIVAL
@@ -209,7 +194,7 @@ slots_short k b slots within short all j = by (k == j) refl where
   by true e =
       let g : k ≡ j = eqb-true k j e in
       subst (λ i. IfSome (slice_get (slice_set slots k (Some b)) i) IsShort) g (subst (λ o. IfSome o IsShort) (sym (set_gets slots k (Some b) within)) short)
-  by false e = subst (λ o. IfSome o IsShort) (sym (set_apart slots k j (Some b) (λ g. apart (k == j) e (eq-eqb k j (sym g))))) (all j)
+  by false e = subst (λ o. IfSome o IsShort) (sym (set_apart slots k j (Some b) (λ g. both_ways (k == j) e (eq-eqb k j (sym g))))) (all j)
 
 -- a receive tells nothing new
 pub slots_heard : (moves : List Move) (role action : ℕ) (b : List ℕ) (slots : List (Option (List ℕ)))

@@ -8,6 +8,7 @@ use Rattle.anb_plays.specs.Plays.{Played, End, stopped, waiting, done, ends, say
 use Rattle.anb_machine.specs.Machines.{gives}
 use Rattle.anb_machine.specs.declared.turn.Halt.{Halt}
 use Rattle.std.proofs.lemmas.Bool.Decides.{nat_tests}
+use Rattle.anb_lemmas.proofs.Lists.{set_long}
 use Rattle.anb_resolve.specs.Schedules.{Turn, next_of, if_ready, turn_of, was_sent}
 use Rattle.anb_honest.specs.declared.player.Player.{Player}
 use Rattle.anb_honest.specs.declared.stage.Stage.{Stage}
@@ -16,7 +17,6 @@ use Rattle.anb_honest.specs.declared.report.RehearseEnd.TheVariants.{Stopped, Lo
 use Rattle.anb_honest.specs.Joint.{Cast, Course, Move, turns_of, told, unreported, halt_behind, stuck, is_long, long_end, moves_on, passes, turn_with}
 use Rattle.anb_honest.specs.Acting.{StopsWith}
 use Rattle.anb_honest.specs.Inside.{IsPlayer, IsShort, Stands, GoesOn, Takes, turn_at}
-use Rattle.anb_honest.proofs.Moving.{set_long}
 use Rattle.anb_honest.proofs.Standing.{unreported_is, stuck_is, told_player, heard_player, players_moved, slots_told, slots_short, slots_heard}
 
 -- a turn that is taken is the role's next

@@ -1,21 +1,22 @@
 -- The values of terms over a table, and lists that grow item by item.
-use Rattle.std.proofs.Common.{◌≡◌, ℕ, zero, suc, ◌+◌, ◌<◌, ◌≤◌, List, [], ◌∷◌, ◌++◌, length, map, take, drop, get_or, Bool, refl, sym, ap, ◌∙◌, subst, arith, append_assoc, length-append}
-use Rattle.std.specs.Prelude.{slice_get, filter_map, flat_map, All}
+use Rattle.std.proofs.Common.{◌≡◌, ℕ, suc, ◌+◌, ◌<◌, List, [], ◌∷◌, ◌++◌, length, map, take, drop, get_or, Bool, refl, sym, ap, ◌∙◌, subst, arith, append_assoc}
+use Rattle.std.specs.Prelude.{filter_map, flat_map}
 use Rattle.std.proofs.lemmas.List.{length-map, take_all, map-append}
-use Rattle.std.proofs.lemmas.List.Elements.{All-push, All-nil, filter_map-append}
-use Rattle.std.proofs.lemmas.Option.{slice_get-get_or, slice_get_read}
-use Rattle.std.specs.List.{range_with_len}
-use Rattle.std.proofs.Math.Seq.{take-suc}
+use Rattle.std.proofs.lemmas.List.Elements.{filter_map-append}
+use Rattle.std.proofs.lemmas.Grind.{flat_map-append}
 use Rattle.anb_lemmas.proofs.Each.{take_next}
+use Rattle.anb_lemmas.proofs.Lists.{drop_next}
 use Rattle.anb_term.specs.declared.term.Op.{Op}
 use Rattle.anb_term.specs.declared.term.Term.{Term}
 use Rattle.anb_term.specs.declared.term.Term.TheVariants.{Node}
 use Rattle.anb_term.specs.Operator.{arity}
 use Rattle.anb_term.specs.View.{tree_of}
-use Rattle.anb_term.specs.Tree.{Tree, node, trees_of, list_of, IsFormed, AreFormed}
+use Rattle.anb_term.specs.Tree.{Tree, node, trees_of, IsFormed}
 use Rattle.anb_term.specs.Value.{Meaning}
 use Rattle.anb_term.specs.Lawful.{picked}
 use Rattle.anb_term.specs.RecipeView.{first_places}
+use Rattle.anb_term.specs.TreeSame.{list_of-trees_of}
+use Rattle.anb_term.proofs.Places.{picked_first}
 use Rattle.anb_plays.specs.Honest.{honest, honest_all}
 use Rattle.anb_compile.specs.Emitting.{known_in}
 use Rattle.anb_compile.proofs.Events.{known_append}
@@ -25,40 +26,13 @@ use Rattle.anb_resolve.specs.Views.{plan_event}
 use Rattle.anb_resolve.proofs.AtomLemmas.{each-append}
 use Rattle.anb_honest.specs.declared.player.Part.{Part}
 use Rattle.anb_honest.specs.Inside.{part_of, turn_value}
-use Rattle.anb_honest.proofs.Standing.{drop_at}
-
-pub dropped : {A : Type 0} (xs : List A) (i : ℕ) (x : A) → i < length xs → x ≡ get_or xs i x → drop i xs ≡ x ∷ drop (i + 1) xs
-dropped xs i x h e = drop_at xs i x (slice_get_read xs (length xs) i x refl h e)
-
-list_back : (ts : List Tree) → list_of (trees_of ts) ≡ ts
-list_back [] = refl
-list_back (t ∷ ts) = ap (λ l. t ∷ l) (list_back ts)
-
-length_first : (n : ℕ) → length (first_places n) ≡ n
-length_first zero = refl
-length_first (suc n) = omega (arith, length-append (first_places n) (n ∷ []), length_first n)
-
-pub count_first : (n : ℕ) → length (first_places n) ≡ n
-count_first n = length_first n
-
-pub all_first : (n m : ℕ) → n ≤ m → All (λ i. i < m) (first_places n)
-all_first zero m h = All-nil (λ i. i < m)
-all_first (suc n) m h = All-push (λ i. i < m) (first_places n) n (all_first n m (omega arith)) (omega arith)
-
-one_more : {A : Type 0} (zs : List A) (n : ℕ) (d : A) → n < length zs → picked zs (first_places n) ≡ take n zs → picked zs (first_places (suc n)) ≡ take (suc n) zs
-one_more zs n d h before = filter_map-append (slice_get zs) (first_places n) (n ∷ []) ∙ rw (before, slice_get-get_or zs n d h, take-suc zs n d h)
-
-picked_first : {A : Type 0} (n : ℕ) (zs : List A) → n ≤ length zs → picked zs (first_places n) ≡ take n zs
-picked_first zero zs h = refl
-picked_first (suc n) [] h = absurd (omega arith)
-picked_first (suc n) (z ∷ zs) h = one_more (z ∷ zs) n z (omega arith) (picked_first n (z ∷ zs) (omega arith))
 
 pub places_next : (at at' : List ℕ) (i : ℕ) → at ≡ first_places i → at' ≡ at ++ i ∷ [] → at' ≡ first_places (i + 1)
 places_next at at' i e p = let n : i + 1 ≡ suc i = omega arith in p ∙ ap (λ l. l ++ i ∷ []) e ∙ ap first_places (sym n)
 
 -- what is known of a node that is formed
 pub node_formed : (has : Op → Bool) (op : Op) (operands : List Tree) → IsFormed has (node op (trees_of operands)) → length operands ≡ arity op
-node_formed has op operands f = ap length (sym (list_back operands)) ∙ f.1
+node_formed has op operands f = ap length (sym (list_of-trees_of operands)) ∙ f.1
 
 -- the value of a node, from those of its operands
 pub node_value : {A : Type 0} (m : Meaning A) (atoms : ℕ → A) (op : Op) (operands : List Tree) (table : List A) (at : List ℕ) (b : A)
@@ -68,18 +42,13 @@ node_value m atoms op operands table at b places count values built =
     let all : picked table (first_places (arity op)) ≡ table = picked_first (arity op) table (omega arith) ∙ take_all (arity op) table (omega arith) in
     built ∙ ap (λ l. m.built op (picked table l)) places ∙ ap (m.built op) (all ∙ values)
 
--- one term of a list, and the others
-pub formed_next : (has : Op → Bool) (terms : List Term) (i : ℕ) (x : Term) → i < length terms → x ≡ get_or terms i x → AreFormed has (trees_of (map tree_of (drop i terms)))
-    → IsFormed has (tree_of x) × AreFormed has (trees_of (map tree_of (drop (i + 1) terms)))
-formed_next has terms i x h e f = subst (λ l. AreFormed has (trees_of (map tree_of l))) (dropped terms i x h e) f
-
 pub values_next : {A : Type 0} (m : Meaning A) (atoms : ℕ → A) (terms : List Term) (i : ℕ) (x : Term) (old new all : List A) (b : A) → i < length terms → x ≡ get_or terms i x
     → new ≡ old ++ b ∷ [] → b ≡ honest m atoms (tree_of x) → old ++ honest_all m atoms (trees_of (map tree_of (drop i terms))) ≡ all
     → new ++ honest_all m atoms (trees_of (map tree_of (drop (i + 1) terms))) ≡ all
 values_next m atoms terms i x old new all b h e pushed value before =
     let rest = honest_all m atoms (trees_of (map tree_of (drop (i + 1) terms))) in
     ap (λ l. l ++ rest) (pushed ∙ ap (λ y. old ++ y ∷ []) value) ∙ append_assoc old (honest m atoms (tree_of x) ∷ []) rest
-    ∙ ap (λ l. old ++ honest_all m atoms (trees_of (map tree_of l))) (sym (dropped terms i x h e)) ∙ before
+    ∙ ap (λ l. old ++ honest_all m atoms (trees_of (map tree_of l))) (sym (drop_next terms i x h e)) ∙ before
 
 -- ---- lists by their first items
 
@@ -88,12 +57,8 @@ pub mapped_next : {A B : Type 0} (f : A → B) (xs : List A) (i : ℕ) (x : A) (
 mapped_next f xs i x old new y h e before pushed is =
     pushed ∙ ap (λ l. l ++ y ∷ []) before ∙ ap (λ z. map f (take i xs) ++ z ∷ []) is ∙ sym (map-append f (take i xs) (x ∷ [])) ∙ ap (map f) (sym (take_next xs i x h e))
 
-flat-append : {A B : Type 0} (f : A → List B) (xs ys : List A) → flat_map f (xs ++ ys) ≡ flat_map f xs ++ flat_map f ys
-flat-append f [] ys = refl
-flat-append f (x ∷ xs) ys = ap (λ l. f x ++ l) (flat-append f xs ys) ∙ sym (append_assoc (f x) (flat_map f xs) (flat_map f ys))
-
 pub flat_next : {A B : Type 0} (f : A → List B) (xs : List A) (i : ℕ) (x : A) → i < length xs → x ≡ get_or xs i x → flat_map f (take (i + 1) xs) ≡ flat_map f (take i xs) ++ f x
-flat_next f xs i x h e = ap (flat_map f) (take_next xs i x h e) ∙ flat-append f (take i xs) (x ∷ []) ∙ ap (λ l. flat_map f (take i xs) ++ l) (nothing (f x)) where
+flat_next f xs i x h e = ap (flat_map f) (take_next xs i x h e) ∙ flat_map-append f (take i xs) (x ∷ []) ∙ ap (λ l. flat_map f (take i xs) ++ l) (nothing (f x)) where
   nothing : {B : Type 0} (l : List B) → l ++ [] ≡ l
   nothing [] = refl
   nothing (y ∷ l) = ap (λ r. y ∷ r) (nothing l)
@@ -135,14 +100,3 @@ module _ (events : List Event) (i : ℕ) (x : Event) (within : i < length events
       ∙ sym (filter_map-append (part_of role) (map plan_event (take i events)) (plan_event x ∷ [])) ∙ ap (filter_map (part_of role)) (sym event_next)
 
 -- ---- numbers in order
-
-range_last : (k n : ℕ) → range_with_len k (suc n) ≡ range_with_len k n ++ (k + n) ∷ []
-range_last k zero = let e : k ≡ k + 0 = omega arith in ap (λ x. x ∷ []) e
-range_last k (suc n) = let e : k + 1 + n ≡ k + suc n = omega arith in ap (λ l. k ∷ l) (range_last (k + 1) n ∙ ap (λ x. range_with_len (k + 1) n ++ x ∷ []) e)
-
-pub ranged_next : {A : Type 0} (f : ℕ → A) (n : ℕ) (old new : List A) (y : A) → old ≡ map f (range_with_len 0 n) → new ≡ old ++ y ∷ [] → y ≡ f n → new ≡ map f (range_with_len 0 (n + 1))
-ranged_next f n old new y before pushed is =
-    let e : 0 + n ≡ n = omega arith in
-    let m : n + 1 ≡ suc n = omega arith in
-    pushed ∙ ap (λ l. l ++ y ∷ []) before ∙ ap (λ z. map f (range_with_len 0 n) ++ z ∷ []) (is ∙ ap f (sym e)) ∙ sym (map-append f (range_with_len 0 n) ((0 + n) ∷ []))
-    ∙ ap (map f) (sym (range_last 0 n)) ∙ ap (λ k. map f (range_with_len 0 k)) (sym m)

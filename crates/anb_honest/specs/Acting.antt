@@ -1,6 +1,6 @@
 -- for proofs alone: what a role still does.
 use Rattle.std.specs.Prelude.{◌≡◌, ◌⊎◌, ℕ, ◌==◌, List, [], ◌∷◌, length, Bool, true, false, Option}
-use Rattle.anb_plays.specs.Plays.{Played, stopped, waiting, ends, says}
+use Rattle.anb_plays.specs.Plays.{Played, stopped, waiting, ends, says, Run}
 use Rattle.anb_machine.specs.Machines.{gives}
 use Rattle.anb_machine.specs.declared.turn.Halt.{Halt}
 use Rattle.anb_resolve.specs.Schedules.{Turn}
@@ -9,52 +9,48 @@ use Rattle.anb_honest.specs.declared.player.Stop.{Stop}
 use Rattle.anb_honest.specs.declared.player.Stop.TheVariants.{Stuck, NoMemory}
 use Rattle.anb_honest.specs.Joint.{halt_behind}
 
--- what comes over each list of arrivals
-abbrev pub Coming : Type 0
-Coming = List (List ℕ) → Played (List ℕ)
-
 -- it stops so before anything else
-abbrev pub StopsWith : Coming → Halt → Type 0
+abbrev pub StopsWith : Run → Halt → Type 0
 StopsWith coming halt =
     (arrivals : List (List ℕ)) → coming arrivals ≡ ends (stopped halt.event halt.at) arrivals
 
-abbrev pub StopsNow : Coming → Type 0
+abbrev pub StopsNow : Run → Type 0
 StopsNow coming = (halt : Halt) × StopsWith coming halt
 
 -- want of memory says nothing
-abbrev pub Stops : Coming → Stop → Type 0
+abbrev pub Stops : Run → Stop → Type 0
 Stops coming (Stuck halt) = StopsWith coming halt
 Stops coming NoMemory = Unit {0}
 
 -- a message comes first, and then what is such
-abbrev pub TellsFirst : Coming → (Coming → Type 0) → Type 0
+abbrev pub TellsFirst : Run → (Run → Type 0) → Type 0
 TellsFirst coming Next =
-    (b : List ℕ) × (later : Coming)
+    (b : List ℕ) × (later : Run)
     × ((arrivals : List (List ℕ)) → coming arrivals ≡ says b (later arrivals)) × Next later
 
 -- it waits for an arrival, and behind each it is such
-abbrev pub HearsFirst : Coming → (Coming → Type 0) → Type 0
+abbrev pub HearsFirst : Run → (Run → Type 0) → Type 0
 HearsFirst coming Next =
     (e : ℕ) × (coming [] ≡ ends (waiting e) [])
     × ((x : List ℕ) → Next (λ arrivals. coming (x ∷ arrivals)))
 
-abbrev pub ActsFirst : Bool → Coming → (Coming → Type 0) → Type 0
+abbrev pub ActsFirst : Bool → Run → (Run → Type 0) → Type 0
 ActsFirst true coming Next = TellsFirst coming Next
 ActsFirst false coming Next = HearsFirst coming Next
 
 -- it does these turns in order, or stops before one of them
-abbrev pub KeepsOrder : List Turn → Coming → Type 0
+abbrev pub KeepsOrder : List Turn → Run → Type 0
 KeepsOrder [] coming = Unit {0}
 KeepsOrder (t ∷ ts) coming = StopsNow coming ⊎ ActsFirst t.sends coming (KeepsOrder ts)
 
-abbrev pub AnyComing : Coming → Type 0
+abbrev pub AnyComing : Run → Type 0
 AnyComing coming = Unit {0}
 
 -- it stops, or a message or the wait for an arrival comes next
-abbrev pub TellsNow : Coming → Type 0
+abbrev pub TellsNow : Run → Type 0
 TellsNow coming = StopsNow coming ⊎ TellsFirst coming AnyComing
 
-abbrev pub HearsNow : Coming → Type 0
+abbrev pub HearsNow : Run → Type 0
 HearsNow coming = StopsNow coming ⊎ HearsFirst coming AnyComing
 
 -- how a role's run stopped, where it did and nothing comes before

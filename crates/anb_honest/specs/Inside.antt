@@ -3,7 +3,7 @@ use Rattle.std.specs.Prelude.{◌≡◌, ℕ, ◌+◌, ◌≤◌, ◌==◌, List
 use Rattle.std.specs.Option.{option_or}
 use Rattle.anb_base.specs.declared.TheConstants.{ARRIVAL}
 use Rattle.anb_base.specs.declared.content.Sent.{Sent}
-use Rattle.anb_plays.specs.Plays.{Played}
+use Rattle.anb_plays.specs.Plays.{Played, SendsFirst}
 use Rattle.anb_machine.specs.Machines.{gives}
 use Rattle.anb_resolve.specs.Plans.{PlanEvent, to_know, to_make, to_send, to_receive}
 use Rattle.anb_resolve.specs.Schedules.{Turn, parts_of, turn_of}
@@ -28,16 +28,12 @@ turn_value role part = record { role = role; action = part.action; sends = part.
 abbrev pub turn_at : ℕ → ℕ → Bool → Turn
 turn_at role action sends = record { role = role; action = action; sends = sends }
 
--- what p gives is these messages, and then what q gives
-abbrev pub GivesBehind : Played (List ℕ) → List (List ℕ) → Played (List ℕ) → Type 0
-GivesBehind p sent q = p ≡ record q { sent = sent ++ q.sent }
-
 -- a role after these moves
 pub record IsPlayer (c : Cast) (moves : List Move) (role : ℕ) (player : Player) : Type 0 where
   pub parts : map (turn_value role) player.parts.items ≡ parts_of c.protocol role
   pub done : player.done ≡ count_by (λ (t : Turn). t.role == role) (turns_of moves)
   pub within : player.done ≤ length player.parts.items
-  pub comes : (more : List (List ℕ)) → GivesBehind (run_over c role (took moves role ++ more)) (gave moves role) (gives player.machine more)
+  pub comes : (more : List (List ℕ)) → SendsFirst (run_over c role (took moves role ++ more)) (gave moves role) (gives player.machine more)
   pub order : KeepsOrder (drop player.done (parts_of c.protocol role)) (gives player.machine)
 
 abbrev pub IsShort : Option (List ℕ) → Type 0

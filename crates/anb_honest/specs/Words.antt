@@ -2,7 +2,7 @@
 use Rattle.std.specs.Prelude.{ℕ, List, length, Bool, not, ◌==◌, ◌||◌, Option, filter, is_none}
 use Rattle.std.specs.List.{position_from, slice_split}
 use Rattle.std.specs.Str.{bytes_eq}
-use Rattle.anb_resolve.specs.Protocols.{ProtocolValue}
+use Rattle.anb_resolve.specs.Protocols.{ProtocolValue, role_named}
 
 -- a space, a tab, and the bytes 0A and 0D
 abbrev pub is_blank : ℕ → Bool
@@ -15,9 +15,5 @@ is_word part = not (length part == 0)
 abbrev pub words_of : List ℕ → List (List ℕ)
 words_of text = filter is_word (slice_split is_blank text)
 
--- the number of the role with this name
-abbrev pub role_of : ProtocolValue → List ℕ → Option ℕ
-role_of p name = position_from (λ role. bytes_eq role name) 0 p.roles
-
 abbrev pub names_none : ProtocolValue → List ℕ → Bool
-names_none p name = is_none (role_of p name)
+names_none p name = is_none (role_named p name)

@@ -1,10 +1,11 @@
 //! Schedules from their texts.
 ghost use Rattle.std.specs.Prelude.{◌≡◌, ◌<◌, ◌≤◌, ◌+◌, ◌++◌, ℕ, [], ◌∷◌, length, map, filter, true, All, IfOk, OnOk, Some, None, Err};
 ghost use Rattle.std.specs.List.{position_from};
+ghost use Rattle.anb_resolve.specs.Protocols.{role_named};
 ghost use Rattle.anb_base.specs.declared.TheConstants.{SMALL_FILE};
 ghost use Rattle.anb_honest.specs.declared.TheConstants.{TURNS};
 ghost use Rattle.anb_honest.specs.declared.words.ScheduleNo.TheVariants as refusal;
-ghost use Rattle.anb_honest.specs.Words.{is_blank, is_word, names_none, role_of, words_of};
+ghost use Rattle.anb_honest.specs.Words.{is_blank, is_word, names_none, words_of};
 
 use anb_resolve::Protocol;
 use std::alloc::{AllocFailed, Global};
@@ -29,7 +30,7 @@ impl<T: Drop> From<AllocFailed<T>> for ScheduleNo {
 pub fn schedule(alloc: Global, p: &Protocol, text: &[u8]) -> Result<Vec<u32>, ScheduleNo>
     requires { length text.now ≤ SMALL_FILE }
     ensures turns { IfOk result (λ turns.
-        map Some turns.items ≡ map (role_of p.now) (words_of text.now)) }
+        map Some turns.items ≡ map (role_named p.now) (words_of text.now)) }
     ensures refused { (n : ℕ) → result ≡ Err (ScheduleNo.BadTurn n)
         → position_from (names_none p.now) 1 (words_of text.now) ≡ Some n }
     ensures roles { IfOk result (λ turns. All (λ role. role < length p.now.roles) turns.items) }
@@ -48,10 +49,10 @@ pub fn schedule(alloc: Global, p: &Protocol, text: &[u8]) -> Result<Vec<u32>, Sc
 fn put_turn(p: &Protocol, turns: &mut Vec<u32>, word: &[u8]) -> Result<(), ScheduleNo>
     requires { length turns.old.items < SMALL_FILE }
     ensures turns { OnOk result (map Some turns.new.items
-        ≡ map Some turns.old.items ++ map (role_of p.now) (filter is_word (word.now ∷ []))) }
+        ≡ map Some turns.old.items ++ map (role_named p.now) (filter is_word (word.now ∷ []))) }
     ensures refused { (n : ℕ) → result ≡ Err (ScheduleNo.BadTurn n)
         → (n ≡ length turns.old.items + 1) × (is_word word.now ≡ true)
-        × (role_of p.now word.now ≡ None) }
+        × (role_named p.now word.now ≡ None) }
 {
     if word.is_empty() {
         return Ok(());

@@ -3,17 +3,10 @@ use Rattle.std.proofs.Common.{◌≡◌, ℕ, List, [], ◌∷◌, ◌++◌, Boo
 use Rattle.std.specs.Prelude.{◌==◌}
 use Rattle.std.proofs.lemmas.List.Folds.{list_any-append}
 use Rattle.std.proofs.lemmas.List.Elements.{filter-append}
+use Rattle.anb_lemmas.proofs.Bools.{or_false, or_assoc}
 use Rattle.anb_plays.specs.Plays.{Played}
 use Rattle.anb_host.specs.declared.event.HostEvent.{HostEvent}
 use Rattle.anb_host.specs.Own.{session_of, is_start, arrival_of, events_of, has_start, is_over, accepted_after, accepted}
-
-or_false : (b : Bool) → (b || false) ≡ b
-or_false true = refl
-or_false false = refl
-
-or_assoc : (a b c : Bool) → ((a || b) || c) ≡ (a || (b || c))
-or_assoc true b c = refl
-or_assoc false b c = refl
 
 pub has_start-last : (past : List HostEvent) (x : HostEvent) → has_start (past ++ x ∷ []) ≡ (has_start past || is_start x)
 has_start-last past x = list_any-append is_start past (x ∷ []) ∙ ap (λ b. has_start past || b) (or_false (is_start x))

@@ -2,14 +2,14 @@
 use Rattle.std.proofs.Common.{◌≡◌, ◌+◌, ◌<◌, ◌≤◌, ◌^◌, inl, inr, ℕ, List, [], ◌∷◌, ◌++◌, length, take, Option, Some, None, Result, Err, refl, sym, ap, ◌∙◌, subst, arith, append_assoc, length-append}
 use Rattle.std.proofs.lemmas.Bool.{cases_lt}
 use Rattle.std.specs.Prelude.{slice_index}
-use Rattle.std.proofs.lemmas.List.{append-nil, length-take-le, take_all}
+use Rattle.std.proofs.lemmas.List.{append-nil, take_all}
 use Rattle.anb_lemmas.proofs.Items.{one_item}
 use Rattle.anb_base.specs.Moves.{Took, Stamped, count_written}
 use Rattle.anb_base.specs.declared.TheConstants.{ARRIVAL}
-use Rattle.anb_base.proofs.Joined.{Took-joined, Stamped-joined}
 use Rattle.anb_frame.specs.Answers.{TookAt}
 use Rattle.anb_frame.specs.Frames.{length_bytes}
 use Rattle.anb_frame.proofs.Lengths.{length-length_bytes}
+use Rattle.anb_frame.proofs.Takings.{TookAt-joined}
 use Rattle.anb_host.specs.declared.event.HostEvent.{HostEvent}
 use Rattle.anb_host.specs.declared.event.HostEvent.TheVariants.{Arrive}
 use Rattle.anb_host.specs.declared.serving.HostEnd.{HostEnd}
@@ -29,12 +29,6 @@ took_none a d w = (none a, still d) where
   still : (d : Option (List ℕ)) → Stamped d d w 0
   still None = refl
   still (Some x) = ap Some (sym (append-nil x))
-
-pub took_front : (a b d e : Option (List ℕ)) (w n : ℕ) (buf : List ℕ) → n ≤ length buf → Took a b (take n buf) → Stamped d e w n → TookAt a b d e w (take n buf)
-took_front a b d e w n buf within took stamped = (took, subst (Stamped d e w) (sym (length-take-le n buf within)) stamped)
-
-pub took_both : (a b c d e f : Option (List ℕ)) (w : ℕ) (x y : List ℕ) → TookAt a b d e w x → TookAt b c e f w y → TookAt a c d f w (x ++ y)
-took_both a b c d e f w x y p q = (Took-joined a b c x y p.0 q.0, subst (Stamped d f w) (sym (length-append x y)) (Stamped-joined d e f w (length x) (length y) p.1 q.1))
 
 pub took_while : (a b d e : Option (List ℕ)) (kept now : List (Option (List ℕ) × ℕ)) (z : List ℕ) → now ≡ kept → TookAt a b d e (count_written now) z → TookAt a b d e (count_written kept) z
 took_while a b d e kept now z same t = subst (λ k. TookAt a b d e (count_written k) z) same t
@@ -66,7 +60,7 @@ no_room s len small fits now = elim (cases_lt 0 len) [
 -- a piece more in front
 pub further : (a b c d e f : Option (List ℕ)) (w : ℕ) (begun p : List ℕ) (r : Result HostEvent HostEnd) → TookAt a b d e w p → ReadsOn b c e f w (begun ++ p) r → ReadsOn a c d f w begun r
 further a b c d e f w begun p r t (z, u, says) =
-    (p ++ z, took_both a b c d e f w p z t u, subst (λ x. Says x c r) (append_assoc begun p z) says)
+    (p ++ z, TookAt-joined a b c d e f w p z t u, subst (λ x. Says x c r) (append_assoc begun p z) says)
 
 pub reads_while : (a b d e : Option (List ℕ)) (kept now : List (Option (List ℕ) × ℕ)) (begun : List ℕ) (r : Result HostEvent HostEnd) → now ≡ kept
     → ReadsOn a b d e (count_written now) begun r → ReadsOn a b d e (count_written kept) begun r

@@ -1,15 +1,18 @@
 -- Each input is the frames of some events and a tail, in exactly one way.
-use Rattle.std.proofs.Common.{rules, ◌≡◌, ◌+◌, ◌<◌, ◌≤◌, ◌^◌, inl, inr, ℕ, zero, suc, List, [], ◌∷◌, ◌++◌, length, take, drop, Bool, true, false, cond, refl, sym, ap, ◌∙◌, subst, arith, append_assoc, length-append, Option, Some, None, lit<}
+use Rattle.std.proofs.Common.{◌≡◌, ◌+◌, ◌<◌, ◌≤◌, ◌^◌, inl, inr, ℕ, zero, suc, List, [], ◌∷◌, ◌++◌, length, take, drop, Bool, true, false, cond, refl, sym, ap, ◌∙◌, subst, arith, append_assoc, length-append, Option, Some, None}
 use Rattle.std.specs.Prelude.{◌==◌, nat_lt}
 use Rattle.std.specs.Int.{w32, from_be_bytes}
 use Rattle.std.proofs.lemmas.Bool.{cases_lt, eqb-true}
 use Rattle.std.proofs.lemmas.Nat.{be_bytes_4}
-use Rattle.std.proofs.lemmas.List.{take_at, drop_at, take-append-drop, length-take-le, length-drop, get_or-drop, get_or-take, get_or_past, length-take, nil_from_length}
+use Rattle.std.proofs.lemmas.List.{take_at, drop_at, take-append-drop, length-take-le, length-drop, nil_from_length}
+use Rattle.anb_lemmas.proofs.Numbers.{is_below, isnt_below}
 use Rattle.anb_base.specs.Bytes.{IsBytes}
 use Rattle.anb_base.specs.Moves.{Took}
 use Rattle.anb_base.specs.declared.TheConstants.{ARRIVAL}
+use Rattle.anb_base.proofs.Strings.{take_bytes, drop_bytes}
 use Rattle.anb_frame.specs.Frames.{length_bytes}
 use Rattle.anb_frame.proofs.Lengths.{length-length_bytes, from-length_bytes}
+use Rattle.anb_frame.proofs.Cuts.{length_said}
 use Rattle.anb_host.specs.declared.event.HostEvent.{HostEvent}
 use Rattle.anb_host.specs.declared.event.HostEvent.TheVariants.{Start, Arrive, Oversize}
 use Rattle.anb_host.specs.HostFrames.{IsFrame, IsPart, Tail, End, Part, Bad, Ends, HostFrames, FramesLeft}
@@ -42,12 +45,6 @@ abbrev first : List ℕ → Step
 first [] = stop End
 first (k ∷ y) = cond (k == 0) (start_step y) (cond (k == 1) (arrival_step y) (stop (Bad k)))
 
-is_below : (a b : ℕ) → a < b → nat_lt a b ≡ true
-is_below a b h = search (rules, arith)
-
-isnt_below : (a b : ℕ) → b ≤ a → nat_lt a b ≡ false
-isnt_below a b h = search (rules, arith)
-
 is_other : (k n : ℕ) → n < k → (k == n) ≡ false
 is_other k n h = by (k == n) refl where
   by : (b : Bool) → (k == n) ≡ b → b ≡ false
@@ -61,17 +58,14 @@ front n xs = take_at (length_bytes n) xs 4 (length-length_bytes n)
 behind : (n : ℕ) (xs : List ℕ) → drop 4 (length_bytes n ++ xs) ≡ xs
 behind n xs = drop_at (length_bytes n) xs 4 (length-length_bytes n)
 
-long_by : (n : ℕ) (xs : List ℕ) → length (length_bytes n ++ xs) ≡ 4 + length xs
-long_by n xs = omega (arith, length-append (length_bytes n) xs, length-length_bytes n)
-
 start_is : (s : ℕ) (rest : List ℕ) → s < 2 ^ 32 → start_step (length_bytes s ++ rest) ≡ goes (Start s) rest
 start_is s rest small =
-    rw (isnt_below (length (length_bytes s ++ rest)) 4 (omega (arith, long_by s rest)), front s rest, behind s rest, from-length_bytes s small) refl
+    rw (isnt_below (length (length_bytes s ++ rest)) 4 (omega (arith, length_said s rest)), front s rest, behind s rest, from-length_bytes s small) refl
 
 arrival_is : (s len : ℕ) (body : List ℕ) → s < 2 ^ 32 → len < 2 ^ 32 → arrival_step (length_bytes s ++ (length_bytes len ++ body)) ≡ body_step s len body
 arrival_is s len body small fits =
     rw (
-      isnt_below (length (length_bytes s ++ (length_bytes len ++ body))) 8 (omega (arith, long_by s (length_bytes len ++ body), long_by len body)),
+      isnt_below (length (length_bytes s ++ (length_bytes len ++ body))) 8 (omega (arith, length_said s (length_bytes len ++ body), length_said len body)),
       front s (length_bytes len ++ body),
       behind s (length_bytes len ++ body),
       front len body,
@@ -91,7 +85,7 @@ of_part x have need long p = elim p [
     | inr (s, len, body, e, small, fits, short, is) ↦
         let y : List ℕ = length_bytes s ++ (length_bytes len ++ body) in
         let whole : x ≡ 1 ∷ y = e ∙ ap (λ l. 1 ∷ l) (append_assoc (length_bytes s) (length_bytes len) body) in
-        let size : length y ≡ 8 + length body = omega (arith, long_by s (length_bytes len ++ body), long_by len body) in
+        let size : length y ≡ 8 + length body = omega (arith, length_said s (length_bytes len ++ body), length_said len body) in
         rw whole (arrival_is s len body small fits ∙ rw (is_below (length body) len short) (part_is _ _ _ _ (omega (arith, long, ap length whole, size)) (sym is)))
   ]
 ]
@@ -167,15 +161,6 @@ some_number : (x : List ℕ) → IsBytes x → length x ≡ 4 → (n : ℕ) × (
 unfolding length_bytes
 some_number x bytes four = (from_be_bytes w32 x, omega (arith, bytes 0, bytes 1, bytes 2, bytes 3), be_bytes_4 x (from_be_bytes w32 x) four bytes refl)
 
-take_bytes : (n : ℕ) (x : List ℕ) → IsBytes x → IsBytes (take n x)
-take_bytes n x bytes i = elim (cases_lt i n) [
-  | inl h ↦ rw (get_or-take n x i 0 h) (bytes i)
-  | inr h ↦ rw (get_or_past (take n x) i 0 (omega (arith, length-take {A = ℕ}))) (lit< tt)
-]
-
-drop_bytes : (n : ℕ) (x : List ℕ) → IsBytes x → IsBytes (drop n x)
-drop_bytes n x bytes i = rw (get_or-drop n x i 0) (bytes (n + i))
-
 -- a number, and what follows it
 split_number : (x : List ℕ) → IsBytes x → 4 ≤ length x → (n : ℕ) × (n < 2 ^ 32) × (x ≡ length_bytes n ++ drop 4 x)
 split_number x bytes four =
@@ -201,7 +186,7 @@ start_there y bytes = elim (cases_lt (length y) 4) [
 body_there : (y body : List ℕ) (s len : ℕ) → s < 2 ^ 32 → len < 2 ^ 32 → IsBytes body → y ≡ length_bytes s ++ (length_bytes len ++ body) → HasStep (1 ∷ y)
 body_there y body s len small fits bytes e =
     let whole : 1 ∷ y ≡ 1 ∷ ((length_bytes s ++ length_bytes len) ++ body) = ap (λ l. 1 ∷ l) (e ∙ sym (append_assoc (length_bytes s) (length_bytes len) body)) in
-    let size : length y ≡ 8 + length body = ap length e ∙ omega (arith, long_by s (length_bytes len ++ body), long_by len body) in
+    let size : length y ≡ 8 + length body = ap length e ∙ omega (arith, length_said s (length_bytes len ++ body), length_said len body) in
     elim (cases_lt (length body) len) [
       | inl short ↦ (stop (Part (length (1 ∷ y)) (9 + len)), (refl, inr (inr (s, len, body, whole, small, fits, short, refl))), tt)
       | inr there ↦

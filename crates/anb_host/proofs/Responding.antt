@@ -3,7 +3,7 @@ use Rattle.std.proofs.Common.{rules, arith, ◌<◌, ◌≡◌, ℕ, List, [], �
 use Rattle.std.specs.Prelude.{nat_lt, Result, Ok, Err, IfOk}
 use Rattle.std.proofs.lemmas.List.{append-nil}
 use Rattle.std.proofs.Math.Seq.{drop-append_seam}
-use Rattle.anb_plays.specs.Plays.{Played, End, stopped, waiting, done}
+use Rattle.anb_plays.specs.Plays.{Played, End, stopped, waiting, done, SendsFirst}
 use Rattle.anb_machine.specs.Machines.{MachineValue, gives}
 use Rattle.anb_host.specs.declared.event.HostEvent.{HostEvent}
 use Rattle.anb_host.specs.declared.event.HostEvent.TheVariants.{Start, Arrive, Oversize}
@@ -13,7 +13,7 @@ use Rattle.anb_host.specs.declared.event.Cause.TheVariants as cause
 use Rattle.anb_host.specs.declared.session.Session.{Session}
 use Rattle.anb_host.specs.declared.session.Session.TheVariants.{Unstarted, Running, Over}
 use Rattle.anb_host.specs.Own.{is_start, arrival_of, has_start, is_over, accepted, notices, own}
-use Rattle.anb_host.specs.Hosts.{Follows, Stands, IsRefusal}
+use Rattle.anb_host.specs.Hosts.{Stands, IsRefusal}
 use Rattle.anb_host.specs.Inside.{Settled}
 use Rattle.anb_host.proofs.Past.{has_start-last, accepted-last, accepted-none}
 
@@ -34,11 +34,11 @@ module _ (play : List (List ℕ) → Played (List ℕ)) where
   stands_still past events Over h a st = (h ∙ st.0, subst (λ xs. is_over (play xs).end ≡ true) (sym a) st.1)
   stands_still past events (Running machine) h a st = let t = subst P (sym a) (st.1, st.2) in (h ∙ st.0, t.0, t.1) where
     P : List (List ℕ) → Type 0
-    P xs = (is_over (play xs).end ≡ false) × ((more : List (List ℕ)) → Follows (play (xs ++ more)) (play xs).sent (gives machine more))
+    P xs = (is_over (play xs).end ≡ false) × ((more : List (List ℕ)) → SendsFirst (play (xs ++ more)) (play xs).sent (gives machine more))
 
   -- a machine went on, from where these messages were sent
-  module _ (arrivals first : List (List ℕ)) (coming : List (List ℕ) → Played (List ℕ)) (f : (more : List (List ℕ)) → Follows (play (arrivals ++ more)) first (coming more)) where
-    now_is : Follows (play arrivals) first (coming [])
+  module _ (arrivals first : List (List ℕ)) (coming : List (List ℕ) → Played (List ℕ)) (f : (more : List (List ℕ)) → SendsFirst (play (arrivals ++ more)) first (coming more)) where
+    now_is : SendsFirst (play arrivals) first (coming [])
     now_is = ap play (sym (append-nil arrivals)) ∙ f []
 
     pub told_now : (s : ℕ) (told : List Notice) → told ≡ notices s (coming []).sent (coming []).end
@@ -50,8 +50,8 @@ module _ (play : List (List ℕ) → Played (List ℕ)) where
     over_now : (b : Bool) → is_over (coming []).end ≡ b → is_over (play arrivals).end ≡ b
     over_now b e = ap (λ (p : Played (List ℕ)). is_over p.end) now_is ∙ e
 
-    follows_now : (machine : MachineValue) → ((more : List (List ℕ)) → Follows (coming more) (coming []).sent (gives machine more))
-        → (more : List (List ℕ)) → Follows (play (arrivals ++ more)) (play arrivals).sent (gives machine more)
+    follows_now : (machine : MachineValue) → ((more : List (List ℕ)) → SendsFirst (coming more) (coming []).sent (gives machine more))
+        → (more : List (List ℕ)) → SendsFirst (play (arrivals ++ more)) (play arrivals).sent (gives machine more)
     follows_now machine g more =
         f more ∙ ap (λ (p : Played (List ℕ)). record p { sent = first ++ p.sent }) (g more)
         ∙ ap (λ (l : List (List ℕ)). record (gives machine more) { sent = l }) (sym (append_assoc first (coming []).sent (gives machine more).sent))
@@ -62,7 +62,7 @@ module _ (play : List (List ℕ) → Played (List ℕ)) where
     stands_now events Over h a st = (h, subst (λ xs. is_over (play xs).end ≡ true) (sym a) (over_now true st))
     stands_now events (Running machine) h a st = let t = subst P (sym a) (over_now false st.0, follows_now machine st.1) in (h, t.0, t.1) where
       P : List (List ℕ) → Type 0
-      P xs = (is_over (play xs).end ≡ false) × ((more : List (List ℕ)) → Follows (play (xs ++ more)) (play xs).sent (gives machine more))
+      P xs = (is_over (play xs).end ≡ false) × ((more : List (List ℕ)) → SendsFirst (play (xs ++ more)) (play xs).sent (gives machine more))
 
   module _ (s : ℕ) (low : nat_lt 1023 s ≡ false) (past : List HostEvent) where
     -- a start
@@ -71,7 +71,7 @@ module _ (play : List (List ℕ) → Played (List ℕ)) where
         → Stands play past Unstarted → (told ≡ own play s past (Start s)) × Stands play (past ++ Start s ∷ []) session
     starts coming session told same e st h =
         let none : accepted play past ≡ [] = accepted-none play past h in
-        let f : (more : List (List ℕ)) → Follows (play more) [] (coming more) = λ more. sym (same more) in
+        let f : (more : List (List ℕ)) → SendsFirst (play more) [] (coming more) = λ more. sym (same more) in
         let a : accepted play (past ++ Start s ∷ []) ≡ [] = accepted-last play past (Start s) false (rw h refl) ∙ none in
         (rw (low, h, none) (told_now [] [] coming f s told e), stands_now [] [] coming f (past ++ Start s ∷ []) session (has_start-last past (Start s) ∙ rw h refl) a st)
 
@@ -81,7 +81,7 @@ module _ (play : List (List ℕ) → Played (List ℕ)) where
         → Stands play past (Running machine) → (told ≡ own play s past (Arrive s b)) × Stands play (past ++ Arrive s b ∷ []) session
     arrives b machine coming session told same e st h =
         let first = (play (accepted play past)).sent in
-        let f : (more : List (List ℕ)) → Follows (play ((accepted play past ++ b ∷ []) ++ more)) first (coming more) =
+        let f : (more : List (List ℕ)) → SendsFirst (play ((accepted play past ++ b ∷ []) ++ more)) first (coming more) =
         λ more. ap play (append_assoc (accepted play past) (b ∷ []) more) ∙ h.2 (b ∷ more) ∙ ap (λ (p : Played (List ℕ)). record p { sent = first ++ p.sent }) (same more) in
         let on : (has_start past && not (is_over (play (accepted play past)).end)) ≡ true = rw (h.0, h.1) refl in
         let a : accepted play (past ++ Arrive s b ∷ []) ≡ accepted play past ++ b ∷ [] = accepted-last play past (Arrive s b) true on in (

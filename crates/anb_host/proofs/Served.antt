@@ -1,9 +1,10 @@
 -- From single frames to the end of serving.
-use Rattle.std.proofs.Common.{◌≡◌, ◌+◌, ◌<◌, ◌≤◌, inl, inr, ℕ, List, [], ◌∷◌, ◌++◌, length, take, replicate, Option, Some, None, IfSome, refl, sym, ap, ◌∙◌, subst, arith, append_assoc, length-append}
+use Rattle.std.proofs.Common.{◌≡◌, ◌+◌, ◌<◌, inl, inr, ℕ, List, [], ◌∷◌, ◌++◌, length, take, replicate, Option, Some, None, IfSome, refl, sym, ap, ◌∙◌, subst, arith, append_assoc, length-append}
 use Rattle.std.proofs.lemmas.List.{append-nil, take_at}
-use Rattle.anb_base.specs.Moves.{Rose, Took, Put, PutPrefix, AtEnd, Stamped}
+use Rattle.anb_base.specs.Moves.{Took, Put, PutPrefix, AtEnd, Stamped}
 use Rattle.anb_base.specs.Wires.{WireState}
 use Rattle.anb_base.proofs.Joined.{Took-joined, Put-joined}
+use Rattle.anb_base.proofs.Moving.{put_nothing, took_nothing, put_further}
 use Rattle.anb_frame.specs.Frames.{length_bytes}
 use Rattle.anb_frame.proofs.Lengths.{length-length_bytes}
 use Rattle.anb_plays.specs.Plays.{Played}
@@ -19,11 +20,7 @@ use Rattle.anb_host.specs.Turns.{TakesOf, GoesOn, FailsIn, EndsAt}
 use Rattle.anb_host.specs.Runs.{TookFrames, Done, Handled}
 use Rattle.anb_host.proofs.Pieces.{header_long}
 use Rattle.anb_host.proofs.Reading.{ends_at, left_goes_on}
-use Rattle.anb_host.proofs.Writing.{out-append, put_nothing, put_none, put_further}
-
-took_nothing : (a : Option (List ℕ)) → Took a a []
-took_nothing None = refl
-took_nothing (Some xs) = refl
+use Rattle.anb_host.proofs.Writing.{out-append, put_none}
 
 some_of : {A : Type 0} (o : Option A) (P : A → Type 0) → ((x : A) → P x) → IfSome o P
 some_of None P f = tt
@@ -243,7 +240,3 @@ spent h now old new budget so_far past events tail st left =
       subst (λ es. TookFrames (plays_of h) past es old new []) is e.took,
       subst (λ es. Put old.written new.written (out (told (plays_of h) past es))) is e.answered,
     )
-
--- a count that rose later rose from before too
-pub rose_later : (a b c : ℕ) → a ≤ b → Rose b c → Rose a c
-rose_later a b c before rose = elim rose [ inl h ↦ inl (omega arith) | inr last ↦ inr last ]

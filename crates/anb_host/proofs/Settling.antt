@@ -1,18 +1,12 @@
 -- What a machine says on its way to where it waits, or to its end.
-use Rattle.std.proofs.Common.{◌≡◌, ℕ, List, [], ◌∷◌, ◌++◌, All, map, Bool, sym, ap, ◌∙◌, append_assoc}
+use Rattle.std.proofs.Common.{◌≡◌, ℕ, List, [], ◌∷◌, ◌++◌, All, map, Bool, sym, ap, ◌∙◌}
 use Rattle.std.proofs.lemmas.List.{append-nil, map-append}
 use Rattle.std.proofs.lemmas.List.Elements.{All-append, All-cons, All-nil}
-use Rattle.anb_plays.specs.Plays.{Played, End, ends, says}
+use Rattle.anb_plays.specs.Plays.{Played, End, ends, says, SendsFirst}
 use Rattle.anb_host.specs.declared.event.Notice.{Notice}
 use Rattle.anb_host.specs.declared.event.Notice.TheVariants.{Message}
 use Rattle.anb_host.specs.Own.{is_over, end_notices, notices}
-use Rattle.anb_host.specs.Hosts.{Follows, IsNarrow}
-
--- one message more
-pub follows_saying : (p q r : Played (List ℕ)) (sent : List (List ℕ)) (b : List ℕ) → Follows p sent q → q ≡ says b r → Follows p (sent ++ b ∷ []) r
-follows_saying p q r sent b f e =
-    f ∙ ap (λ (x : Played (List ℕ)). record x { sent = sent ++ x.sent }) e
-    ∙ ap (λ (l : List (List ℕ)). record r { sent = l }) (sym (append_assoc sent (b ∷ []) r.sent))
+use Rattle.anb_host.specs.Hosts.{IsNarrow}
 
 pub told_further : (s : ℕ) (told : List Notice) (sent : List (List ℕ)) (b : List ℕ) → told ≡ map (Message s) sent → told ++ Message s b ∷ [] ≡ map (Message s) (sent ++ b ∷ [])
 told_further s told sent b e = ap (λ (l : List Notice). l ++ Message s b ∷ []) e ∙ sym (map-append (Message s) sent (b ∷ []))
@@ -20,12 +14,8 @@ told_further s told sent b e = ap (λ (l : List Notice). l ++ Message s b ∷ []
 pub narrow_further : (told : List Notice) (n : Notice) → All IsNarrow told → IsNarrow n → All IsNarrow (told ++ n ∷ [])
 narrow_further told n all narrow = All-append IsNarrow told (n ∷ []) all (All-cons IsNarrow n [] narrow (All-nil IsNarrow))
 
--- the same, where the machine stands elsewhere
-pub follows_on : (p q r : Played (List ℕ)) (sent : List (List ℕ)) → Follows p sent q → q ≡ r → Follows p sent r
-follows_on p q r sent f e = f ∙ ap (λ (x : Played (List ℕ)). record x { sent = sent ++ x.sent }) e
-
 -- after these messages it ends so
-module _ (s : ℕ) (p : Played (List ℕ)) (sent : List (List ℕ)) (x : End) (f : Follows p sent (ends x [])) where
+module _ (s : ℕ) (p : Played (List ℕ)) (sent : List (List ℕ)) (x : End) (f : SendsFirst p sent (ends x [])) where
   pub all_sent : p.sent ≡ sent
   all_sent = ap (λ (q : Played (List ℕ)). q.sent) f ∙ append-nil sent
 

@@ -1,9 +1,10 @@
 -- What a host's sessions stand for after an event of one of them.
-use Rattle.std.proofs.Common.{arith, ◌<◌, ◌≤◌, ◌≡◌, ℕ, zero, suc, List, [], ◌∷◌, ◌++◌, length, Bool, true, false, cond, Some, refl, sym, ap, ◌∙◌, subst}
-use Rattle.std.specs.Prelude.{◌==◌, ◌≢◌, nat_lt, slice_get, slice_set, IfSome, Result, Ok, Err, OnOk, OnErr}
-use Rattle.std.proofs.lemmas.Bool.{eqb-true, eq-eqb}
+use Rattle.std.proofs.Common.{◌<◌, ◌≤◌, ◌≡◌, ℕ, zero, suc, List, [], ◌∷◌, ◌++◌, length, Bool, true, false, cond, Some, refl, sym, ap, ◌∙◌, subst}
+use Rattle.std.specs.Prelude.{◌==◌, ◌≢◌, nat_lt, slice_get, slice_set, IfSome, Result, Ok, Err, OnOk}
+use Rattle.std.proofs.lemmas.Bool.{eqb-true, eq-eqb, both_ways}
 use Rattle.std.proofs.lemmas.List.{append-nil}
 use Rattle.std.proofs.lemmas.Option.{slice_get_past, slice_get_within}
+use Rattle.anb_lemmas.proofs.Lists.{set_gets, set_apart, set_long}
 use Rattle.anb_plays.specs.Plays.{Played}
 use Rattle.anb_host.specs.declared.event.HostEvent.{HostEvent}
 use Rattle.anb_host.specs.declared.event.Notice.{Notice}
@@ -13,23 +14,6 @@ use Rattle.anb_host.specs.declared.session.Session.{Session}
 use Rattle.anb_host.specs.Own.{session_of, events_of, own, answer}
 use Rattle.anb_host.specs.Hosts.{Stands}
 use Rattle.anb_host.proofs.Past.{events_of-last}
-
-pub set_gets : {A : Type 0} (xs : List A) (i : ℕ) (v : A) → i < length xs → slice_get (slice_set xs i v) i ≡ Some v
-set_gets [] i v h = absurd (omega arith)
-set_gets (x ∷ xs) zero v h = refl
-set_gets (x ∷ xs) (suc i) v h = set_gets xs i v (omega arith)
-
-pub set_apart : {A : Type 0} (xs : List A) (i j : ℕ) (v : A) → j ≢ i → slice_get (slice_set xs i v) j ≡ slice_get xs j
-set_apart [] i j v h = refl
-set_apart (x ∷ xs) zero zero v h = absurd (h refl)
-set_apart (x ∷ xs) zero (suc j) v h = refl
-set_apart (x ∷ xs) (suc i) zero v h = refl
-set_apart (x ∷ xs) (suc i) (suc j) v h = set_apart xs i j v (λ e. h (ap suc e))
-
-pub set_long : {A : Type 0} (xs : List A) (i : ℕ) (v : A) → length (slice_set xs i v) ≡ length xs
-set_long [] i v = refl
-set_long (x ∷ xs) zero v = refl
-set_long (x ∷ xs) (suc i) v = ap suc (set_long xs i v)
 
 pub set_twice : {A : Type 0} (xs : List A) (i : ℕ) (u v : A) → i < length xs → slice_get (slice_set (slice_set xs i u) i v) i ≡ Some v
 set_twice xs i u v h = set_gets (slice_set xs i u) i v (subst (λ n. i < n) (sym (set_long xs i u)) h)
@@ -42,10 +26,6 @@ pub set_back : {A : Type 0} (xs : List A) (i : ℕ) (u v : A) → slice_get xs i
 set_back [] i u v h = refl
 set_back (x ∷ xs) zero u v h = let e : x ≡ v = cc in ap (λ y. y ∷ xs) (sym e)
 set_back (x ∷ xs) (suc i) u v h = ap (λ l. x ∷ l) (set_back xs i u v h)
-
-apart : (b : Bool) → b ≡ false → b ≡ true → ⊥
-apart true h g = cc
-apart false h g = cc
 
 -- each session stands for its own events
 abbrev pub Each : (ℕ → List (List ℕ) → Played (List ℕ)) → List Session → List HostEvent → Type 0
@@ -71,7 +51,7 @@ module _ (plays : ℕ → List (List ℕ) → Played (List ℕ)) (sessions : Lis
         (subst (λ o. IfSome o (Stands (plays (session_of x)) (events_of (session_of x) (past ++ x ∷ [])))) (sym (set_twice sessions (session_of x) u v within))
         (subst (λ es. Stands (plays (session_of x)) es v) (sym its_own) st))
     by false e =
-        subst (λ o. IfSome o (Stands (plays i) (events_of i (past ++ x ∷ [])))) (sym (set_twice_apart sessions (session_of x) i u v (λ g. apart (session_of x == i) e (eq-eqb (session_of x) i (sym g)))))
+        subst (λ o. IfSome o (Stands (plays i) (events_of i (past ++ x ∷ [])))) (sym (set_twice_apart sessions (session_of x) i u v (λ g. both_ways (session_of x == i) e (eq-eqb (session_of x) i (sym g)))))
         (subst (λ es. IfSome (slice_get sessions i) (Stands (plays i) es)) (sym (others i e)) (all i))
 
   -- an event of no session
@@ -101,14 +81,6 @@ answered plays sessions x k u session v told is there f past all =
           (each_further plays sessions past x u v (slice_get_within sessions (session_of x) session at) g.1 all),
     )
 
-pub on_ok : {T E : Type 0} {P : Type 0} (r : Result T E) → P → OnOk r P
-on_ok (Ok x) p = p
-on_ok (Err e) p = tt
-
 pub on_ok_map : {T E : Type 0} {P Q : Type 0} (r : Result T E) → OnOk r P → (P → Q) → OnOk r Q
 on_ok_map (Ok x) p f = f p
 on_ok_map (Err e) p f = tt
-
-pub on_err : {T E : Type 0} {P : Type 0} (r : Result T E) → P → OnErr r P
-on_err (Ok x) p = tt
-on_err (Err e) p = p

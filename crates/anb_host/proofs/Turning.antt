@@ -1,8 +1,8 @@
 -- One turn of serving, by what was read, answered and written.
-use Rattle.std.proofs.Common.{◌≡◌, inl, inr, ◌⊎◌, ℕ, List, [], ◌∷◌, ◌++◌, length, Option, Some, None, Result, Ok, Err, IfSome, sym, ap, ◌∙◌, subst}
+use Rattle.std.proofs.Common.{◌≡◌, inl, inr, ◌⊎◌, ℕ, List, [], ◌∷◌, ◌++◌, length, Option, Result, Ok, Err, IfSome, sym, ap, ◌∙◌, subst}
 use Rattle.std.specs.Option.{IfNone}
 use Rattle.std.specs.Result.{OnOk, OnErr, IfErr, result_err}
-use Rattle.anb_base.specs.Moves.{Took, Put, PutPrefix, Stamped, count_written}
+use Rattle.anb_base.specs.Moves.{Took, Put, PutPrefix, Stamped}
 use Rattle.anb_base.specs.Wires.{WireState}
 use Rattle.anb_frame.specs.Answers.{TookAt}
 use Rattle.anb_machine.specs.ByteRuns.{run_bytes}
@@ -15,23 +15,6 @@ use Rattle.anb_host.specs.Hosts.{HostValue, plays_of, StandsFor}
 use Rattle.anb_host.specs.Own.{answer}
 use Rattle.anb_host.specs.Turns.{ReadsOn, TakesOf, GoesOn, FailsIn, EndsAt}
 use Rattle.anb_host.proofs.Writing.{put_none}
-
--- what stands first and third of what is kept stays, where all of it stays
-pub kept_first : (a b : List (Option (List ℕ) × ℕ)) (x y : Option (List ℕ)) (n m : ℕ) (xs ys : List (Option (List ℕ) × ℕ)) → b ≡ a → a ≡ (x, n) ∷ xs → b ≡ (y, m) ∷ ys → y ≡ x
-kept_first a b x y n m xs ys same is now = ap (λ (p : Option (List ℕ) × ℕ). p.0) (first (y, m) (x, n) ys xs (sym now ∙ same ∙ is)) where
-  first : (p q : Option (List ℕ) × ℕ) (ps qs : List (Option (List ℕ) × ℕ)) → p ∷ ps ≡ q ∷ qs → p ≡ q
-  first p q ps qs e = cc
-
-pub kept_third : (a b : List (Option (List ℕ) × ℕ)) (p q p' q' : Option (List ℕ) × ℕ) (x y : Option (List ℕ)) (n m : ℕ) → b ≡ a → a ≡ p ∷ q ∷ (x, n) ∷ [] → b ≡ p' ∷ q' ∷ (y, m) ∷ [] → y ≡ x
-kept_third a b p q p' q' x y n m same is now = ap (λ (r : Option (List ℕ) × ℕ). r.0) (third (y, m) (x, n) p q p' q' (sym now ∙ same ∙ is)) where
-  third : (r s p q p' q' : Option (List ℕ) × ℕ) → p' ∷ q' ∷ r ∷ [] ≡ p ∷ q ∷ s ∷ [] → r ≡ s
-  third r s p q p' q' e = cc
-
--- what stands first beside a source is what is written
-pub stamped_told : (kept others : List (Option (List ℕ) × ℕ)) (written taken_at now : Option (List ℕ)) (faults n : ℕ) → kept ≡ (written, faults) ∷ others → Stamped taken_at now (count_written kept) n
-    → IfSome written (λ w. Stamped taken_at now (length w) n)
-stamped_told kept others None taken_at now faults n is h = tt
-stamped_told kept others (Some w) taken_at now faults n is h = subst (λ k. Stamped taken_at now (count_written k) n) is h
 
 -- ---- what was read
 

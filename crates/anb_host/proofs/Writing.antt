@@ -1,9 +1,9 @@
 -- The frames of notices, written one by one.
-use Rattle.std.proofs.Common.{◌≡◌, ◌+◌, ◌<◌, ℕ, List, [], ◌∷◌, ◌++◌, length, take, drop, get_or, Option, Some, None, refl, sym, ap, ◌∙◌, subst, arith, append_assoc, length-append}
-use Rattle.std.proofs.Math.Seq.{take-append-add}
-use Rattle.std.proofs.lemmas.List.{append-nil, take-append-le, take-append-drop}
+use Rattle.std.proofs.Common.{◌≡◌, ◌+◌, ◌<◌, ℕ, List, [], ◌∷◌, ◌++◌, length, take, drop, get_or, Option, refl, sym, ap, ◌∙◌, subst, arith, append_assoc}
+use Rattle.std.proofs.lemmas.List.{append-nil, take-append-drop}
 use Rattle.anb_base.specs.Moves.{Put, PutPrefix}
 use Rattle.anb_base.proofs.Joined.{Put-joined}
+use Rattle.anb_base.proofs.Moving.{put_nothing, put_further, put_within}
 use Rattle.anb_lemmas.proofs.Each.{take_next}
 use Rattle.anb_host.specs.declared.event.Notice.{Notice}
 use Rattle.anb_host.specs.HostFrames.{notice_frame, out}
@@ -12,23 +12,9 @@ pub out-append : (xs ys : List Notice) → out (xs ++ ys) ≡ out xs ++ out ys
 out-append [] ys = refl
 out-append (x ∷ xs) ys = ap (λ l. notice_frame x ++ l) (out-append xs ys) ∙ sym (append_assoc (notice_frame x) (out xs) (out ys))
 
-pub put_nothing : (a : Option (List ℕ)) → Put a a []
-put_nothing None = refl
-put_nothing (Some xs) = ap Some (sym (append-nil xs))
-
 -- nothing is a prefix of anything
 pub put_none : (a : Option (List ℕ)) (x : List ℕ) → PutPrefix a a x
 put_none a x = (0, omega arith, put_nothing a)
-
--- some bytes whole, and then a prefix of others
-pub put_further : (a b c : Option (List ℕ)) (x y : List ℕ) → Put a b x → PutPrefix b c y → PutPrefix a c (x ++ y)
-put_further a b c x y p q =
-    let put : Put a c (x ++ take q.0 y) = Put-joined a b c x (take q.0 y) p q.2 in
-    (length x + q.0, omega (arith, q.1, length-append x y), subst (Put a c) (sym (take-append-add x y q.0)) put)
-
--- a prefix of some bytes, whatever follows them
-pub put_within : (a c : Option (List ℕ)) (x y : List ℕ) → PutPrefix a c x → PutPrefix a c (x ++ y)
-put_within a c x y p = (p.0, omega (arith, p.1, length-append x y), subst (Put a c) (sym (take-append-le p.0 x y p.1)) p.2)
 
 module _ (told : List Notice) (i : ℕ) where
   split : out told ≡ out (take i told) ++ out (drop i told)

@@ -1,6 +1,6 @@
 -- What a host keeps, and which events it stands for.
 use Rattle.std.specs.Prelude.{◌≡◌, ℕ, ◌≤◌, List, [], ◌∷◌, ◌++◌, length, Bool, true, false, IfSome, slice_get}
-use Rattle.anb_plays.specs.Plays.{Played}
+use Rattle.anb_plays.specs.Plays.{Played, Run, SendsFirst}
 use Rattle.anb_code.specs.CodeValue.{CodeValue}
 use Rattle.anb_machine.specs.ByteRuns.{run_bytes}
 use Rattle.anb_machine.specs.Machines.{gives}
@@ -11,7 +11,7 @@ use Rattle.anb_host.specs.declared.event.HostEvent.{HostEvent}
 use Rattle.anb_host.specs.declared.event.HostEvent.TheVariants.{Arrive}
 use Rattle.anb_host.specs.declared.event.Notice.{Notice}
 use Rattle.anb_host.specs.declared.event.Notice.TheVariants.{Message, Refused}
-use Rattle.anb_host.specs.Own.{Run, is_over, has_start, accepted, events_of}
+use Rattle.anb_host.specs.Own.{is_over, has_start, accepted, events_of}
 
 -- the code, the initial values and the seed of all sessions, what is kept of each, and whether
 -- memory was wanting
@@ -26,17 +26,13 @@ pub record HostValue : Type 0 where
 abbrev pub plays_of : HostValue → ℕ → Run
 plays_of h s arrivals = run_bytes h.code h.init h.seed s arrivals
 
--- what such a play gives is these messages, and then what q gives
-abbrev pub Follows : Played (List ℕ) → List (List ℕ) → Played (List ℕ) → Type 0
-Follows p sent q = p ≡ record q { sent = sent ++ q.sent }
-
 -- what is kept of a session with this play stands for its events: nothing before its start, then a
 -- machine that still gives what comes over further arrivals, and nothing again when it is over
 abbrev pub Stands : Run → List HostEvent → Session → Type 0
 Stands play events Unstarted = has_start events ≡ false
 Stands play events (Running machine) =
     (has_start events ≡ true) × (is_over (play (accepted play events)).end ≡ false)
-    × ((more : List (List ℕ)) → Follows (play (accepted play events ++ more))
+    × ((more : List (List ℕ)) → SendsFirst (play (accepted play events ++ more))
     (play (accepted play events)).sent (gives machine more))
 Stands play events Over =
     (has_start events ≡ true) × (is_over (play (accepted play events)).end ≡ true)

@@ -3,12 +3,12 @@ use Rattle.std.specs.Prelude.{◌≡◌, ℕ, ◌≤◌, List, [], length, true,
 use Rattle.std.specs.List.{All}
 use Rattle.anb_base.specs.declared.TheConstants.{ARRIVAL}
 use Rattle.anb_code.specs.Taking.{take_texts}
-use Rattle.anb_plays.specs.Plays.{Played}
+use Rattle.anb_plays.specs.Plays.{Played, SendsFirst}
 use Rattle.anb_machine.specs.Machines.{gives, waits}
 use Rattle.anb_host.specs.declared.session.Session.{Session}
 use Rattle.anb_host.specs.declared.session.Session.TheVariants.{Unstarted, Running, Over}
 use Rattle.anb_host.specs.declared.host.Host.TheInside.{Inside}
-use Rattle.anb_host.specs.Hosts.{HostValue, Follows}
+use Rattle.anb_host.specs.Hosts.{HostValue}
 use Rattle.anb_host.specs.Own.{is_over}
 
 abbrev pub host_of : Inside → HostValue
@@ -36,5 +36,5 @@ abbrev pub Settled : (List (List ℕ) → Played (List ℕ)) → Session → Typ
 Settled coming Unstarted = ⊥
 Settled coming (Running machine) =
     (is_over (coming []).end ≡ false)
-    × ((more : List (List ℕ)) → Follows (coming more) (coming []).sent (gives machine more))
+    × ((more : List (List ℕ)) → SendsFirst (coming more) (coming []).sent (gives machine more))
 Settled coming Over = is_over (coming []).end ≡ true

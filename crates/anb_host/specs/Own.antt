@@ -1,7 +1,7 @@
 -- What each session is told: by its own play, over its own events, whatever stands between.
 use Rattle.std.specs.Prelude.{◌≡◌, ℕ, List, [], ◌∷◌, ◌++◌, length, map, drop, Bool, true, false, not, ◌&&◌, ◌||◌, ◌==◌, nat_lt, filter, if◌then◌else◌}
 use Rattle.std.specs.List.{list_any}
-use Rattle.anb_plays.specs.Plays.{Played, End, stopped, waiting, done}
+use Rattle.anb_plays.specs.Plays.{Played, End, stopped, waiting, done, Run}
 use Rattle.anb_host.specs.declared.event.HostEvent.{HostEvent}
 use Rattle.anb_host.specs.declared.event.HostEvent.TheVariants.{Start, Arrive, Oversize}
 use Rattle.anb_host.specs.declared.event.Notice.{Notice}
@@ -50,10 +50,6 @@ end_notices s done = Finished s ∷ []
 -- messages of session s, and how its play ended
 abbrev pub notices : ℕ → List (List ℕ) → End → List Notice
 notices s messages end = map (Message s) messages ++ end_notices s end
-
--- what comes over each list of arrivals
-abbrev pub Run : Type 0
-Run = List (List ℕ) → Played (List ℕ)
 
 -- one session, whose play this is
 module _ (play : Run) where

@@ -1,11 +1,12 @@
 -- Serving so far.
 use Rattle.std.specs.Prelude.{◌≡◌, ℕ, ◌+◌, List, [], ◌++◌, length, replicate, IfSome}
+use Rattle.anb_plays.specs.Plays.{Run}
 use Rattle.anb_base.specs.Moves.{Took, Put}
 use Rattle.anb_base.specs.Wires.{WireState}
 use Rattle.anb_host.specs.declared.event.HostEvent.{HostEvent}
 use Rattle.anb_host.specs.HostFrames.{Tail, End, HostFrames, FramesLeft, out}
 use Rattle.anb_host.specs.Hosts.{HostValue, plays_of, StandsFor}
-use Rattle.anb_host.specs.Own.{Run, told}
+use Rattle.anb_host.specs.Own.{told}
 use Rattle.anb_host.specs.Serving.{stamps}
 
 -- the frames of these events were taken, and the bytes z, each when all events before were answered

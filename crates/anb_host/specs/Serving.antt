@@ -1,5 +1,6 @@
 -- What serving a host over a wire reads and writes.
 use Rattle.std.specs.Prelude.{◌≡◌, ℕ, ◌+◌, ◌<◌, ◌≤◌, ◌⊎◌, List, [], ◌∷◌, ◌++◌, length, take, replicate, IfSome}
+use Rattle.anb_plays.specs.Plays.{Run}
 use Rattle.anb_base.specs.Moves.{Took, Put, PutPrefix}
 use Rattle.anb_base.specs.Wires.{WireState}
 use Rattle.anb_host.specs.declared.event.HostEvent.{HostEvent}
@@ -7,7 +8,7 @@ use Rattle.anb_host.specs.declared.event.HostEvent.TheVariants.{Start, Arrive, O
 use Rattle.anb_host.specs.declared.serving.HostEnd.{HostEnd}
 use Rattle.anb_host.specs.declared.serving.HostEnd.TheVariants.{Ended, Truncated, BadKind, ReadFault, WriteFault, Spent, NoMemory}
 use Rattle.anb_host.specs.HostFrames.{Tail, End, Part, Bad, Ends, IsPart, HostFrames, out}
-use Rattle.anb_host.specs.Own.{Run, answer, told}
+use Rattle.anb_host.specs.Own.{answer, told}
 
 -- how many bytes an event's frame has
 abbrev pub size_of : HostEvent → ℕ

@@ -1,8 +1,9 @@
 //! Laws of what hosts read and tell.
 
 ghost use Rattle.std.specs.Prelude.{ℕ};
+ghost use Rattle.anb_plays.specs.Plays.{Run};
 ghost use Rattle.anb_host.specs.HostFrames.{HasFrames, HasOneReading};
-ghost use Rattle.anb_host.specs.Own.{Run, IsIsolated};
+ghost use Rattle.anb_host.specs.Own.{IsIsolated};
 
 /// Law: whatever the sessions play, each is told what it would be told alone.
 pub fn sessions_are_isolated()

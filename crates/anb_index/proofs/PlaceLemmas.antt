@@ -5,7 +5,7 @@ use Rattle.std.specs.Option.{is_some}
 use Rattle.std.specs.Str.{bytes_eq}
 use Rattle.std.proofs.lemmas.Bool.{cases_Bool}
 use Rattle.std.proofs.lemmas.Slice.Eq.{bytes_eq-Decides}
-use Rattle.anb_index.specs.Places.{is_among, place_of}
+use Rattle.anb_index.specs.Places.{among, place_of}
 
 module _ {X : Type 0} (test : X → Bool) where
   -- a place is there exactly where something passes
@@ -41,17 +41,17 @@ module _ {X : Type 0} (test : X → Bool) where
   ]
 
 -- a table of places goes on with a text that is there, and with a new one
-pub place_of-found : (texts : List (List ℕ)) (text q : List ℕ) → is_among texts text ≡ true → place_of (texts ++ text ∷ []) q ≡ place_of texts q
+pub place_of-found : (texts : List (List ℕ)) (text q : List ℕ) → among texts text ≡ true → place_of (texts ++ text ∷ []) q ≡ place_of texts q
 place_of-found texts text q h = elim (cases_Bool (bytes_eq text q)) [
-  | inl k ↦ let same : text ≡ q = (bytes_eq-Decides text q).0 k in position_from-found (λ y. bytes_eq y q) 0 texts text (subst (λ (t : List ℕ). is_among texts t ≡ true) same h)
+  | inl k ↦ let same : text ≡ q = (bytes_eq-Decides text q).0 k in position_from-found (λ y. bytes_eq y q) 0 texts text (subst (λ (t : List ℕ). among texts t ≡ true) same h)
   | inr k ↦ position_from-other (λ y. bytes_eq y q) 0 texts text k
 ]
 
-pub place_of-new : (texts : List (List ℕ)) (text : List ℕ) (place : Option ℕ) (q : List ℕ) → is_among texts text ≡ false → place ≡ place_of texts q → cond (bytes_eq text q) (Some (length texts)) place ≡ place_of (texts ++ text ∷ []) q
+pub place_of-new : (texts : List (List ℕ)) (text : List ℕ) (place : Option ℕ) (q : List ℕ) → among texts text ≡ false → place ≡ place_of texts q → cond (bytes_eq text q) (Some (length texts)) place ≡ place_of (texts ++ text ∷ []) q
 place_of-new texts text place q h is = elim (cases_Bool (bytes_eq text q)) [
   | inl k ↦
       let same : text ≡ q = (bytes_eq-Decides text q).0 k in
-      rw k (ap Some (omega arith) ∙ sym (position_from-new (λ y. bytes_eq y q) 0 texts text (subst (λ (t : List ℕ). is_among texts t ≡ false) same h) k))
+      rw k (ap Some (omega arith) ∙ sym (position_from-new (λ y. bytes_eq y q) 0 texts text (subst (λ (t : List ℕ). among texts t ≡ false) same h) k))
   | inr k ↦ rw k (is ∙ sym (position_from-other (λ y. bytes_eq y q) 0 texts text k))
 ]
 

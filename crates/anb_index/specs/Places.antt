@@ -8,5 +8,5 @@ abbrev pub place_of : List (List ℕ) → List ℕ → Option ℕ
 place_of texts text = position_from (λ y. bytes_eq y text) 0 texts
 
 -- whether a text is one of these
-abbrev pub is_among : List (List ℕ) → List ℕ → Bool
-is_among texts text = list_any (λ y. bytes_eq y text) texts
+abbrev pub among : List (List ℕ) → List ℕ → Bool
+among texts text = list_any (λ y. bytes_eq y text) texts

@@ -5,7 +5,7 @@
 #![tactic(auto)]
 
 ghost use Rattle.std.specs.Prelude.{◌≡◌, [], ◌∷◌, ◌++◌, IfOk, OnOk, OnErr};
-ghost use Rattle.anb_index.specs.Places.{is_among, place_of};
+ghost use Rattle.anb_index.specs.Places.{among, place_of};
 
 use std::alloc::{AllocError, Global};
 use std::collections::BTreeMap;
@@ -34,7 +34,7 @@ impl<'a> Model for TextIndex<'a> {
 
 impl<'a> TextIndex<'a> {
     ghost use Rattle.std.specs.Prelude.{◌≡◌, [], ◌∷◌, ◌++◌, IfOk, OnOk, OnErr};
-    ghost use Rattle.anb_index.specs.Places.{is_among, place_of};
+    ghost use Rattle.anb_index.specs.Places.{among, place_of};
 
     /// The empty list.
     pub fn new(alloc: Global) -> Self
@@ -49,7 +49,7 @@ impl<'a> TextIndex<'a> {
     /// Appends a text, and says whether it stood there already. Without memory the list stays.
     pub fn push(&mut self, text: &'a str) -> Result<bool, AllocError>
         ensures pushed { OnOk result (self.new ≡ self.old ++ text.now ∷ []) }
-        ensures found { IfOk result (λ found. found ≡ is_among self.old text.now) }
+        ensures found { IfOk result (λ found. found ≡ among self.old text.now) }
         ensures unchanged { OnErr result (self.new ≡ self.old) }
     {
         let place = self.texts.len();
@@ -76,7 +76,7 @@ impl<'a> TextIndex<'a> {
 
     /// Whether a text stands there.
     pub fn contains(&self, text: &str) -> bool
-        ensures { result ≡ is_among self.now text.now }
+        ensures { result ≡ among self.now text.now }
     {
         self.places.contains_key(text)
     }

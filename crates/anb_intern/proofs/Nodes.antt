@@ -1,27 +1,18 @@
 -- The terms of a pool's nodes.
-use Rattle.std.proofs.Common.{◌≡◌, ℕ, zero, suc, ◌+◌, ◌<◌, ◌≤◌, List, [], ◌∷◌, ◌++◌, length, take, drop, Bool, true, false, ◌||◌, if◌then◌else◌, Option, option_map, Some, None, refl, sym, ap, ◌∙◌, subst, arith, inl, inr, ◌⊎◌, ⊎_elim, append_assoc, length-append}
+use Rattle.std.proofs.Common.{◌≡◌, ℕ, zero, suc, ◌+◌, ◌<◌, ◌≤◌, List, [], ◌∷◌, ◌++◌, length, take, drop, Bool, true, false, ◌||◌, if◌then◌else◌, Some, refl, sym, ap, ◌∙◌, subst, arith, inl, inr, ◌⊎◌, ⊎_elim, append_assoc, length-append}
 use Rattle.std.specs.Prelude.{slice_get, unwrap_or}
 use Rattle.std.specs.List.{AllByRecursion, list_any}
 use Rattle.std.proofs.lemmas.List.{append-nil}
+use Rattle.anb_lemmas.proofs.Lists.{get_last, got_within, get_front}
 use Rattle.anb_term.specs.declared.term.Op.{Op}
 use Rattle.anb_term.specs.Tree.{Tree, leaf, node, Trees, trees_of, list_of}
 use Rattle.anb_term.specs.TreeSame.{list_of-trees_of}
-use Rattle.anb_term.proofs.Lists.{slice_get-append, slice_get-within, slice_get-there, slice_get-last, take-front}
+use Rattle.anb_term.proofs.Lists.{slice_get-append, slice_get-there, slice_get-last, take-front}
 use Rattle.anb_intern.specs.declared.node.NodeId.{NodeId}
 use Rattle.anb_intern.specs.declared.node.Node.{Node}
 use Rattle.anb_intern.specs.declared.node.Node.TheVariants.{Atom, Apply}
 use Rattle.anb_intern.specs.Nodes.{operands_at, tree_at, AreUnder, IsOver, AreDistinct, Below, AreBefore, HasPut}
-use Rattle.anb_intern.specs.Pools.{trees_after, trees_at, NodeView, atom, apply, view, IsPool}
-
--- what stands among the first stands there
-pub front_is : {A : Type 0} (xs ys : List A) (i : ℕ) → i < length xs → slice_get (xs ++ ys) i ≡ slice_get xs i
-front_is [] ys i h = absurd (omega arith)
-front_is (x ∷ xs) ys zero h = refl
-front_is (x ∷ xs) ys (suc i) h = front_is xs ys i (omega arith)
-
-at_end : {A : Type 0} (xs : List A) (y : A) → slice_get (xs ++ y ∷ []) (length xs) ≡ Some y
-at_end [] y = refl
-at_end (x ∷ xs) y = at_end xs y
+use Rattle.anb_intern.specs.Pools.{trees_after, trees_at, atom, apply, view, IsPool}
 
 -- the terms before stay
 pub after_is : (ts : List Tree) (ks : List Node) → (more : List Tree) × (trees_after ts ks ≡ ts ++ more) × (length more ≡ length ks)
@@ -64,7 +55,7 @@ trees_take ks n h =
 -- a node over the first terms has its term whatever comes after
 pub operands_stay : (ts us : List Tree) (is : List NodeId) → AreUnder (length ts) is → operands_at (ts ++ us) is ≡ operands_at ts is
 operands_stay ts us [] h = refl
-operands_stay ts us (i ∷ is) h = ap (λ o. unwrap_or o (leaf 0) ∷ operands_at (ts ++ us) is) (front_is ts us i.0 h.0) ∙ ap (λ l. unwrap_or (slice_get ts i.0) (leaf 0) ∷ l) (operands_stay ts us is h.1)
+operands_stay ts us (i ∷ is) h = ap (λ o. unwrap_or o (leaf 0) ∷ operands_at (ts ++ us) is) (get_front ts us i.0 h.0) ∙ ap (λ l. unwrap_or (slice_get ts i.0) (leaf 0) ∷ l) (operands_stay ts us is h.1)
 
 pub tree_stays : (ts us : List Tree) (k : Node) → IsOver (length ts) k → tree_at (ts ++ us) k ≡ tree_at ts k
 tree_stays ts us (Atom n) h = refl
@@ -77,7 +68,7 @@ stands_after ts [] i k over at = cc
 stands_after ts (l ∷ ks) zero k over at =
     let s : l ≡ k = cc in
     let r = after_is (ts ++ tree_at ts l ∷ []) ks in
-    let here : slice_get (trees_after (ts ++ tree_at ts l ∷ []) ks) (length ts) ≡ Some (tree_at ts l) = ap (λ x. slice_get x (length ts)) r.1 ∙ slice_get-append (ts ++ tree_at ts l ∷ []) r.0 (length ts) (tree_at ts l) (at_end ts (tree_at ts l)) in
+    let here : slice_get (trees_after (ts ++ tree_at ts l ∷ []) ks) (length ts) ≡ Some (tree_at ts l) = ap (λ x. slice_get x (length ts)) r.1 ∙ slice_get-append (ts ++ tree_at ts l ∷ []) r.0 (length ts) (tree_at ts l) (get_last ts (tree_at ts l)) in
     let whole : trees_after (ts ++ tree_at ts l ∷ []) ks ≡ ts ++ (tree_at ts l ∷ r.0) = r.1 ∙ append_assoc ts (tree_at ts l ∷ []) r.0 in
     let same : tree_at (trees_after (ts ++ tree_at ts l ∷ []) ks) l ≡ tree_at ts l = ap (λ x. tree_at x l) whole ∙ tree_stays ts (tree_at ts l ∷ r.0) l (subst (λ n. IsOver n l) (omega arith) (over 0 l refl)) in
     subst (λ n. slice_get (trees_after ts (l ∷ ks)) n ≡ Some (tree_at (trees_after ts (l ∷ ks)) k)) (omega arith) (here ∙ ap Some (sym same) ∙ ap (λ x. Some (tree_at (trees_after (ts ++ tree_at ts l ∷ []) ks) x)) s)
@@ -122,7 +113,7 @@ module _ (ks : List Node) (pool : IsPool ks) where
 
   node_there : (i : ℕ) (t : Tree) → slice_get (trees_at ks) i ≡ Some t → (k : Node) × (slice_get ks i ≡ Some k) × (tree_at (trees_at ks) k ≡ t)
   node_there i t at =
-      let there = slice_get-there ks i (omega (arith, slice_get-within (trees_at ks) i t at, length_at ks)) in
+      let there = slice_get-there ks i (omega (arith, got_within (trees_at ks) i t at, length_at ks)) in
       let s = stands i there.0 there.1 in
       (there.0, there.1, cc)
 
@@ -167,12 +158,12 @@ module _ (ks : List Node) (pool : IsPool ks) where
       let k = node_there i t a in
       let l = node_there j t b in
       let over_k = over_more i n k.0 (omega arith) (pool.over i k.0 k.1) in
-      let within = slice_get-within ks j l.0 l.1 in
+      let within = got_within ks j l.0 l.1 in
       let over_l = over_more j (length ks) l.0 (omega (arith, within)) (pool.over j l.0 l.1) in
       pool.once i j k.0 l.0 k.1 l.1 (one_view n k.0 l.0 (omega (arith, m)) (distinct_below n (omega (arith, m))) over_k over_l (k.2 ∙ sym l.2))
 
   pub distinct : AreDistinct (trees_at ks)
-  distinct i j t a b = distinct_below (length ks) (omega arith) i j t (omega (arith, slice_get-within (trees_at ks) i t a, length_at ks)) a b
+  distinct i j t a b = distinct_below (length ks) (omega arith) i j t (omega (arith, got_within (trees_at ks) i t a, length_at ks)) a b
 
   before_all : (i : ℕ) (is : List NodeId) → i < length ks → AreUnder i is → AllByRecursion (Below (trees_at ks) i) (operands_at (trees_at ks) is)
   before_all i [] h u = tt
@@ -189,7 +180,7 @@ module _ (ks : List Node) (pool : IsPool ks) where
   pub before : AreBefore (trees_at ks)
   before i o us at =
       let k = node_there i (node o us) at in
-      before_node i k.0 o us (slice_get-within ks i k.0 k.1) (pool.over i k.0 k.1) k.2
+      before_node i k.0 o us (got_within ks i k.0 k.1) (pool.over i k.0 k.1) k.2
 
 or_left : (a b : Bool) → (a || b) ≡ false → a ≡ false
 or_left true b e = e
@@ -269,7 +260,7 @@ pub not_found : (ks : List Node) (k : Node) (i : ℕ) (f : Node → Bool) → Is
     → IsOver (length (trees_at ks)) k → slice_get (trees_at ks) i ≡ Some (tree_at (trees_at ks) k) → ⊥
 not_found ks k i f pool seen none over at =
     let l = node_there ks pool i (tree_at (trees_at ks) k) at in
-    let within = slice_get-within ks i l.0 l.1 in
+    let within = got_within ks i l.0 l.1 in
     let one = one_view ks pool (length ks) l.0 k (omega arith) (distinct_below ks pool (length ks) (omega arith)) (over_more i (length ks) l.0 (omega (arith, within)) (pool.over i l.0 l.1)) (subst (λ n. IsOver n k) (length_at ks) over) l.2 in
     let yes = seen l.0 (sym one) in
     let no = found_not f ks i l.0 none l.1 in
@@ -279,6 +270,25 @@ not_found ks k i f pool seen none over at =
 pub found_there : (ks : List Node) (k : Node) (i : ℕ) (l : Node) → IsPool ks → slice_get ks i ≡ Some l → view k ≡ view l
     → IsOver (length (trees_at ks)) k × (slice_get (trees_at ks) i ≡ Some (tree_at (trees_at ks) k))
 found_there ks k i l pool at same =
-    let within = slice_get-within ks i l at in
+    let within = got_within ks i l at in
     let over = one_over (length (trees_at ks)) l k (sym same) (over_more i (length (trees_at ks)) l (omega (arith, within, length_at ks)) (pool.over i l at)) in
     (over, stands ks pool i l at ∙ ap Some (sym (one_tree (trees_at ks) k l same)))
+
+pub under_take : (m n : ℕ) (ids : List NodeId) → AreUnder m ids → AreUnder m (take n ids)
+under_take m zero ids u = tt
+under_take m (suc n) [] u = tt
+under_take m (suc n) (i ∷ ids) u = (u.0, under_take m n ids u.1)
+
+pub under_drop : (m n : ℕ) (ids : List NodeId) → AreUnder m ids → AreUnder m (drop n ids)
+under_drop m zero ids u = u
+under_drop m (suc n) [] u = tt
+under_drop m (suc n) (i ∷ ids) u = under_drop m n ids u.1
+
+pub operands_long : (ts : List Tree) (ids : List NodeId) → length (operands_at ts ids) ≡ length ids
+operands_long ts [] = refl
+operands_long ts (i ∷ ids) = ap suc (operands_long ts ids)
+
+pub operands_take : (ts : List Tree) (n : ℕ) (ids : List NodeId) → operands_at ts (take n ids) ≡ take n (operands_at ts ids)
+operands_take ts zero ids = refl
+operands_take ts (suc n) [] = refl
+operands_take ts (suc n) (i ∷ ids) = ap (λ l. unwrap_or (slice_get ts i.0) (leaf 0) ∷ l) (operands_take ts n ids)

@@ -1,14 +1,14 @@
 -- Terms that are put in one after another.
 use Rattle.std.proofs.Common.{◌≡◌, ℕ, zero, suc, ◌+◌, ◌<◌, ◌≤◌, List, [], ◌∷◌, ◌++◌, length, map, drop, get_or, Some, refl, sym, ap, ◌∙◌, subst, arith, append_assoc, length-append}
 use Rattle.std.specs.Prelude.{slice_get, unwrap_or}
-use Rattle.std.proofs.lemmas.List.{drop_more}
 use Rattle.anb_term.specs.declared.term.Term.{Term}
 use Rattle.std.specs.List.{AllByRecursion}
+use Rattle.anb_lemmas.proofs.Lists.{got_within}
 use Rattle.anb_term.specs.declared.term.Op.{Op}
 use Rattle.anb_term.specs.TreeSame.{list_of-trees_of}
-use Rattle.anb_term.specs.Tree.{Tree, leaf, node, list_of, tree_size, trees_size, trees_of}
+use Rattle.anb_term.specs.Tree.{Tree, leaf, node, tree_size, trees_size, trees_of}
 use Rattle.anb_term.specs.View.{tree_of}
-use Rattle.anb_term.proofs.Lists.{slice_get-within, slice_get-there}
+use Rattle.anb_term.proofs.Lists.{slice_get-there, split_at}
 use Rattle.anb_intern.specs.declared.node.NodeId.{NodeId}
 use Rattle.anb_intern.specs.Nodes.{operands_at, AreUnder, HasMore, Below, AreBefore}
 use Rattle.anb_intern.proofs.Nodes.{operands_stay}
@@ -25,9 +25,6 @@ under_at n (j ∷ is) (suc i) d u h = under_at n is i d u.1 (omega arith)
 pub operands_last : (ts : List Tree) (is : List NodeId) (i : NodeId) → operands_at ts (is ++ i ∷ []) ≡ operands_at ts is ++ unwrap_or (slice_get ts i.0) (leaf 0) ∷ []
 operands_last ts [] i = refl
 operands_last ts (j ∷ is) i = ap (λ l. unwrap_or (slice_get ts j.0) (leaf 0) ∷ l) (operands_last ts is i)
-
-split_at : (xs : List Term) (i : ℕ) (x : Term) → i < length xs → x ≡ get_or xs i x → map tree_of (drop i xs) ≡ tree_of x ∷ map tree_of (drop (i + 1) xs)
-split_at xs i x h e = ap (map tree_of) (drop_more xs i x h) ∙ ap (λ y. tree_of y ∷ map tree_of (drop (i + 1) xs)) (sym e)
 
 pub record IsPutting (before now : List Tree) (ids : List NodeId) (xs : List Term) (i : ℕ) : Type 0 where
   pub more : List Tree
@@ -51,7 +48,7 @@ module _ (before now : List Tree) (ids : List NodeId) (xs : List Term) (i : ℕ)
         more = so_far.more ++ p.more;
         is = p.is ∙ ap (λ l. l ++ p.more) so_far.is ∙ append_assoc before so_far.more p.more;
         count = omega (arith, so_far.count, p.few, length-append so_far.more p.more, ap (λ l. trees_size (trees_of l)) split);
-        under = subst (AreUnder (length now')) (sym is_ids) (under_last (length now) (length now') ids id grown (slice_get-within now' id.0 (tree_of x) at) so_far.under);
+        under = subst (AreUnder (length now')) (sym is_ids) (under_last (length now) (length now') ids id grown (got_within now' id.0 (tree_of x) at) so_far.under);
         stored =
             ap (λ l. operands_at now' l ++ map tree_of (drop (i + 1) xs)) is_ids
             ∙ ap (λ l. l ++ map tree_of (drop (i + 1) xs)) (operands_last now' ids id)
@@ -65,11 +62,6 @@ module _ (before now : List Tree) (ids : List NodeId) (xs : List Term) (i : ℕ)
 pub record IsFinding (now : List Tree) (ids : List NodeId) (xs : List Term) (i : ℕ) : Type 0 where
   pub under : AreUnder (length now) ids
   pub stored : operands_at now ids ++ map tree_of (drop i xs) ≡ map tree_of xs
-
-pub one_size : (xs : List Term) (i : ℕ) (x : Term) → i < length xs → x ≡ get_or xs i x → tree_size (tree_of x) ≤ trees_size (trees_of (map tree_of xs))
-one_size [] i x h e = absurd (omega arith)
-one_size (y ∷ ys) zero x h e = let s = ap (λ z. tree_size (tree_of z)) e in omega arith
-one_size (y ∷ ys) (suc i) x h e = omega (arith, one_size ys i x (omega arith) e)
 
 -- each of a node's operands is there
 operand_there : (ts : List Tree) (ids : List NodeId) (xs : List Term) (i : ℕ) (x : Term) → AreUnder (length ts) ids → operands_at ts ids ≡ map tree_of xs → i < length xs → x ≡ get_or xs i x
@@ -89,7 +81,7 @@ module _ (now : List Tree) (ids : List NodeId) (xs : List Term) (i : ℕ) (x : T
 
   pub find_next : IsFinding now ids xs i → (id : NodeId) (ids' : List NodeId) → slice_get now id.0 ≡ Some (tree_of x) → ids' ≡ ids ++ id ∷ [] → IsFinding now ids' xs (i + 1)
   find_next so_far id ids' at is_ids = record {
-    under = subst (AreUnder (length now)) (sym is_ids) (under_last (length now) (length now) ids id (omega arith) (slice_get-within now id.0 (tree_of x) at) so_far.under);
+    under = subst (AreUnder (length now)) (sym is_ids) (under_last (length now) (length now) ids id (omega arith) (got_within now id.0 (tree_of x) at) so_far.under);
     stored =
         ap (λ l. operands_at now l ++ map tree_of (drop (i + 1) xs)) is_ids
         ∙ ap (λ l. l ++ map tree_of (drop (i + 1) xs)) (operands_last now ids id)
@@ -108,5 +100,5 @@ numbered ts i (u ∷ us) h ((j, l, at), rest) =
 
 pub node_not : (ts : List Tree) (o : Op) (us : List Tree) (i : ℕ) → AreBefore ts → ((ids : List NodeId) → AreUnder (length ts) ids → operands_at ts ids ≡ us → ⊥) → slice_get ts i ≡ Some (node o (trees_of us)) → ⊥
 node_not ts o us i before none at =
-    let r = numbered ts i us (omega (arith, slice_get-within ts i _ at)) (subst (AllByRecursion (Below ts i)) (list_of-trees_of us) (before i o (trees_of us) at)) in
+    let r = numbered ts i us (omega (arith, got_within ts i _ at)) (subst (AllByRecursion (Below ts i)) (list_of-trees_of us) (before i o (trees_of us) at)) in
     none r.0 r.1 r.2

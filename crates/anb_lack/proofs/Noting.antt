@@ -4,11 +4,13 @@ use Rattle.std.specs.Prelude.{cond, slice_get, replicate, unwrap_or}
 use Rattle.std.specs.List.{AllByRecursion, flat_map}
 use Rattle.std.proofs.lemmas.Grind.{flat_map-append}
 use Rattle.std.proofs.lemmas.List.{drop_more, take_more, map-append}
+use Rattle.anb_lemmas.proofs.Each.{each_got}
+use Rattle.anb_lemmas.proofs.Lists.{get_either, got_within}
 use Rattle.anb_term.specs.declared.term.Term.{Term}
 use Rattle.anb_term.specs.Tree.{Tree, leaf, node, Trees, none, more, list_of, trees_of}
 use Rattle.anb_term.specs.View.{tree_of}
 use Rattle.anb_term.specs.Composes.{Among}
-use Rattle.anb_term.proofs.Lists.{all_at, slice_get-append, slice_get-within}
+use Rattle.anb_term.proofs.Lists.{slice_get-append}
 use Rattle.anb_intern.specs.declared.node.NodeId.{NodeId}
 use Rattle.anb_intern.specs.Nodes.{AreBefore, AreDistinct, AreUnder, Below, operands_at}
 use Rattle.anb_intern.proofs.Nodes.{operands_stay}
@@ -22,17 +24,6 @@ use Rattle.anb_lack.specs.Noted.{Grows, Has, IsNoted}
 use Rattle.anb_lack.specs.Parts.{is_part, parts, parts_of_all}
 
 -- ---- lists
-
--- what stands in two lists stands in the first or in the second
-split_append : {A : Type 0} (xs ys : List A) (n : ℕ) (x : A) → slice_get (xs ++ ys) n ≡ Some x
-    → (slice_get xs n ≡ Some x) ⊎ ((m : ℕ) × (n ≡ length xs + m) × (slice_get ys m ≡ Some x))
-split_append [] ys n x e = inr (n, omega arith, e)
-split_append (y ∷ xs) ys zero x e = inl e
-split_append (y ∷ xs) ys (suc n) x e = step (split_append xs ys n x e) where
-  step : (slice_get xs n ≡ Some x) ⊎ ((m : ℕ) × (n ≡ length xs + m) × (slice_get ys m ≡ Some x))
-      → (slice_get xs n ≡ Some x) ⊎ ((m : ℕ) × (suc n ≡ suc (length xs) + m) × (slice_get ys m ≡ Some x))
-  step (inl h) = inl h
-  step (inr (m, is, at)) = inr (m, omega (arith, is), at)
 
 behind : {A : Type 0} (xs ys : List A) (n m : ℕ) (x : A) → n ≡ length xs + m → slice_get ys m ≡ Some x → slice_get (xs ++ ys) n ≡ Some x
 behind [] ys n m x is at = let same : n ≡ m = omega (arith, is) in ap (slice_get ys) same ∙ at
@@ -170,19 +161,19 @@ module _ (xs : List (Tree × Origin)) (t : Tree) (q : Origin) (ts : List Tree) (
   nowhere n m u None e is h = refl
   nowhere n m u (Some o) e is h =
       let r = noted.holds u o e in
-      absurd (let same = distinct r.0 n u (keeps r.0 u r.1) h in let low = slice_get-within ts r.0 u r.1 in omega (arith, same, low, is))
+      absurd (let same = distinct r.0 n u (keeps r.0 u r.1) h in let low = got_within ts r.0 u r.1 in omega (arith, same, low, is))
 
   new : (n m : ℕ) (u : Tree) → n ≡ length ts + m → slice_get grows.more m ≡ Some u → slice_get ts' n ≡ Some u → Told n u
   new n m u is h there =
-      let part = among_true (parts t) u (all_at (Among (parts t)) grows.more m u grows.each h) in
+      let part = among_true (parts t) u (each_got (Among (parts t)) grows.more m u grows.each h) in
       let before_none = nowhere n m u (first_from xs u) refl is there in
-      let own = behind os (replicate (length grows.more) q) n m q (omega (arith, is, noted.long)) (replicated (length grows.more) q m (slice_get-within grows.more m u h)) in
+      let own = behind os (replicate (length grows.more) q) n m q (omega (arith, is, noted.long)) (replicated (length grows.more) q m (got_within grows.more m u h)) in
       (q, ap (λ l. slice_get l n) grows.origins ∙ own, comes xs t u q before_none part)
 
   pub noted_next : IsNoted ys ts' os'
   noted_next = record {
     long = omega (arith, ap length grows.terms, ap length grows.origins, length-append ts grows.more, length-append os (replicate (length grows.more) q), length_replicate (length grows.more) q, noted.long);
-    told = λ n u h. elim (split_append ts grows.more n u (sym (ap (λ l. slice_get l n) grows.terms) ∙ h)) [
+    told = λ n u h. elim (get_either ts grows.more n u (sym (ap (λ l. slice_get l n) grows.terms) ∙ h)) [
       | inl a ↦ old n u a
       | inr b ↦ new n b.0 u b.1 b.2 h
     ];
@@ -194,19 +185,6 @@ module _ (xs : List (Tree × Origin)) (t : Tree) (q : Origin) (ts : List Tree) (
     length_replicate : {A : Type 0} (n : ℕ) (a : A) → length (replicate n a) ≡ n
     length_replicate zero a = refl
     length_replicate (suc n) a = ap suc (length_replicate n a)
-
-pub none_noted : IsNoted [] [] []
-none_noted = record { long = refl; told = λ n u h. cc; holds = λ u o h. cc }
-
--- a term's origin, by whether it has a number
-pub has_origin : (xs : List (Tree × Origin)) (ts : List Tree) (os : List Origin) (n : ℕ) (u : Tree) (o : Origin) → IsNoted xs ts os → slice_get ts n ≡ Some u → slice_get os n ≡ Some o → Some o ≡ first_from xs u
-has_origin xs ts os n u o noted at is = let r = noted.told n u at in sym is ∙ r.1 ∙ sym r.2
-
-pub no_origin : (xs : List (Tree × Origin)) (ts : List Tree) (os : List Origin) (u : Tree) → IsNoted xs ts os → ((i : ℕ) → slice_get ts i ≡ Some u → ⊥) → None ≡ first_from xs u
-no_origin xs ts os u noted absent = by (first_from xs u) refl where
-  by : (found : Option Origin) → first_from xs u ≡ found → None ≡ found
-  by None e = refl
-  by (Some o) e = absurd (let r = noted.holds u o e in absent r.0 r.1)
 
 -- one more event
 pub brought_more : (events : List Event) (i : ℕ) (e : Event) → i < length events → e ≡ get_or events i e
@@ -226,7 +204,7 @@ noting_next now now' grown ids ids' id xs i x h own is under stored at pushed =
     let low : length now ≤ length now' = omega (arith, ap length is, length-append now grown) in
     let split : map tree_of (drop i xs) ≡ tree_of x ∷ rest = ap (map tree_of) (drop_more xs i x h) ∙ ap (λ y. tree_of y ∷ rest) (sym own) in
     let old_ones : operands_at now' ids ≡ operands_at now ids = ap (λ l. operands_at l ids) is ∙ operands_stay now grown ids under in (
-      subst (AreUnder (length now')) (sym pushed) (under_last (length now) (length now') ids id low (slice_get-within now' id.0 (tree_of x) at) under),
+      subst (AreUnder (length now')) (sym pushed) (under_last (length now) (length now') ids id low (got_within now' id.0 (tree_of x) at) under),
       ap (λ l. operands_at now' l ++ rest) pushed ∙ ap (λ l. l ++ rest) (operands_last now' ids id) ∙ ap (λ o. (operands_at now' ids ++ unwrap_or o (leaf 0) ∷ []) ++ rest) at
           ∙ append_assoc (operands_at now' ids) (tree_of x ∷ []) rest ∙ ap (λ l. l ++ (tree_of x ∷ rest)) old_ones ∙ ap (λ l. operands_at now ids ++ l) (sym split) ∙ stored,
     )

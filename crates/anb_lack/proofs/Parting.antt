@@ -1,25 +1,26 @@
 -- The numbers of a term's parts, and which of them are listed.
 use Rattle.std.proofs.Common.{◌≡◌, ℕ, ◌+◌, ◌<◌, List, [], ◌∷◌, ◌++◌, length, map, take, drop, get_or, set, Bool, true, false, Some, refl, sym, ap, ◌∙◌, subst, append-nil, append_assoc}
 use Rattle.std.specs.Prelude.{◌||◌, ◌==◌, not, cond, filter, slice_get, unwrap_or}
-use Rattle.std.proofs.lemmas.Bool.{eqb-true, eq-eqb}
+use Rattle.std.proofs.lemmas.Bool.{eqb-true, eq-eqb, or_parts}
 use Rattle.std.proofs.lemmas.List.{drop_more, take_more, map-append}
 use Rattle.std.proofs.lemmas.List.Elements.{filter-append}
 use Rattle.std.proofs.lemmas.Option.{slice_get-get_or}
+use Rattle.anb_lemmas.proofs.Bools.{or_false, or_true}
 use Rattle.anb_term.specs.declared.term.Op.{Op}
 use Rattle.anb_term.specs.Tree.{Tree, leaf, node, trees_of, tree_eqb}
 use Rattle.anb_term.specs.View.{tree_of}
 use Rattle.anb_term.specs.declared.term.Term.{Term}
-use Rattle.anb_term.specs.TreeSame.{tree_same, tree_itself}
+use Rattle.anb_term.specs.TreeSame.{tree_same}
 use Rattle.anb_term.proofs.Lists.{set-other, set-same, slice_get-map}
 use Rattle.anb_intern.specs.declared.node.NodeId.{NodeId}
 use Rattle.anb_intern.specs.declared.node.Node.{Node}
 use Rattle.anb_intern.specs.declared.node.Node.TheVariants.{Atom}
 use Rattle.anb_intern.specs.Nodes.{AreDistinct, operands_at, tree_at}
 use Rattle.anb_intern.proofs.Putting.{operands_last}
-use Rattle.anb_resolve.specs.Choices.{each_after}
 use Rattle.anb_resolve.specs.Names.{distinct, first_new}
-use Rattle.anb_resolve.proofs.Afters.{any-append}
+use Rattle.anb_resolve.proofs.Afters.{any-append, each_after_last}
 use Rattle.anb_certify.specs.Decided.{composes, is_among}
+use Rattle.anb_certify.proofs.Flagging.{among_last as among_itself, among_other}
 use Rattle.anb_lack.specs.Listing.{IsListing}
 use Rattle.anb_lack.specs.Parts.{lacks, parts, parts_of_all}
 
@@ -59,46 +60,19 @@ parts_next ts ids out out' i d t whole h at put so_far =
 
 -- ---- each once
 
-each_last : {X Y : Type 0} (f : List X → X → List Y) (before xs : List X) (x : X) → each_after f before (xs ++ x ∷ []) ≡ each_after f before xs ++ f (before ++ xs) x
-each_last f before [] x = append-nil (f before x) ∙ ap (λ l. f l x) (sym (append-nil before))
-each_last f before (y ∷ xs) x =
-    ap (λ l. f before y ++ l) (each_last f (before ++ y ∷ []) xs x ∙ ap (λ l. each_after f (before ++ y ∷ []) xs ++ f l x) (append_assoc before (y ∷ []) xs))
-    ∙ sym (append_assoc (f before y) (each_after f (before ++ y ∷ []) xs) (f (before ++ y ∷ xs) x))
-
 -- whether a thing that comes last is new
 distinct_last : (xs : List Tree) (u : Tree) (b : Bool) → is_among xs u ≡ b → distinct tree_eqb (xs ++ u ∷ []) ≡ distinct tree_eqb xs ++ cond b [] (u ∷ [])
-distinct_last xs u b is = each_last (first_new tree_eqb) [] xs u ∙ ap (λ c. distinct tree_eqb xs ++ cond c [] (u ∷ [])) is
-
-or_nothing : (b : Bool) → (b || false) ≡ b
-or_nothing true = refl
-or_nothing false = refl
-
-or_true : (b : Bool) → (b || true) ≡ true
-or_true true = refl
-or_true false = refl
+distinct_last xs u b is = each_after_last (first_new tree_eqb) [] xs u ∙ ap (λ c. distinct tree_eqb xs ++ cond c [] (u ∷ [])) is
 
 among_last : (xs : List Tree) (x u : Tree) → is_among (xs ++ x ∷ []) u ≡ (is_among xs u || tree_eqb x u)
-among_last xs x u = any-append (λ e. tree_eqb e u) xs (x ∷ []) ∙ ap (λ b. is_among xs u || b) (or_nothing (tree_eqb x u))
-
-among_itself : (xs : List Tree) (x : Tree) → is_among (xs ++ x ∷ []) x ≡ true
-among_itself xs x = among_last xs x x ∙ ap (λ b. is_among xs x || b) (tree_itself x) ∙ or_true (is_among xs x)
-
-among_other : (xs : List Tree) (x u : Tree) → (x ≡ u → ⊥) → is_among (xs ++ x ∷ []) u ≡ is_among xs u
-among_other xs x u apart = among_last xs x u ∙ by (tree_eqb x u) refl where
-  by : (b : Bool) → tree_eqb x u ≡ b → (is_among xs u || b) ≡ is_among xs u
-  by true e = absurd (apart (tree_same x u e))
-  by false e = or_nothing (is_among xs u)
+among_last xs x u = any-append (λ e. tree_eqb e u) xs (x ∷ []) ∙ ap (λ b. is_among xs u || b) (or_false (tree_eqb x u))
 
 -- one that is there already changes nothing
 among_again : (xs : List Tree) (x u : Tree) → is_among xs x ≡ true → is_among (xs ++ x ∷ []) u ≡ is_among xs u
 among_again xs x u there = among_last xs x u ∙ by (tree_eqb x u) refl where
   by : (b : Bool) → tree_eqb x u ≡ b → (is_among xs u || b) ≡ is_among xs u
   by true e = or_true (is_among xs u) ∙ sym there ∙ ap (is_among xs) (tree_same x u e)
-  by false e = or_nothing (is_among xs u)
-
-or_parts_false : (a b : Bool) → (a || b) ≡ false → (a ≡ false) × (b ≡ false)
-or_parts_false true b e = cc
-or_parts_false false b e = (refl, e)
+  by false e = or_false (is_among xs u)
 
 module _ (S ts : List Tree) where
   abbrev lacking_of : List Tree → List Tree
@@ -130,7 +104,7 @@ module _ (S ts : List Tree) where
     -- a part that has no flag is listed, and has it then
     pub listed_next : (flags' : List Bool) (listed' : List Tree) → slice_get flags n ≡ Some false → flags' ≡ set flags n true → listed' ≡ listed ++ u ∷ [] → IsListing S ts flags' (seen ++ u ∷ []) listed'
     listed_next flags' listed' off marked pushed =
-        let both = or_parts_false (composes S u) (is_among (lacking_of seen) u) (flag_now false off) in
+        let both = or_parts (composes S u) (is_among (lacking_of seen) u) (flag_now false off) in
         let now : lacking_of (seen ++ u ∷ []) ≡ lacking_of seen ++ u ∷ [] = filter_last seen u false both.0 in
         record {
           told = λ m v h. ap (λ l. slice_get l m) marked ∙ told_marked off m v h (n == m) refl ∙ ap (λ l. Some (composes S v || is_among l v)) (sym now);
@@ -153,7 +127,7 @@ module _ (S ts : List Tree) where
 
   -- before any part
   pub listing_begins : (flags : List Bool) → flags ≡ map (composes S) ts → IsListing S ts flags [] []
-  listing_begins flags is = record { told = λ n u h. ap (λ l. slice_get l n) is ∙ slice_get-map (composes S) ts n u h ∙ ap Some (sym (or_nothing (composes S u))); listed = refl }
+  listing_begins flags is = record { told = λ n u h. ap (λ l. slice_get l n) is ∙ slice_get-map (composes S) ts n u h ∙ ap Some (sym (or_false (composes S u))); listed = refl }
 
 -- one more number
 pub seen_more : (ts : List Tree) (ids : List NodeId) (i : ℕ) (d : NodeId) (t : Tree) → i < length ids → slice_get ts (get_or ids i d).0 ≡ Some t

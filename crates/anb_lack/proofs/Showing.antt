@@ -1,5 +1,5 @@
 -- What the lists of a text are worth.
-use Rattle.std.proofs.Common.{◌≡◌, List, [], ◌∷◌, ◌++◌, Bool, true, false, Some, refl, sym, ap, ◌∙◌, subst, inl, inr, ◌⊎◌}
+use Rattle.std.proofs.Common.{◌≡◌, List, [], ◌∷◌, ◌++◌, Bool, true, false, Some, refl, sym, ap, ◌∙◌, subst, inl, inr}
 use Rattle.std.specs.Prelude.{cond, filter, not, map}
 use Rattle.std.specs.List.{AllByRecursion, flat_map, list_any}
 use Rattle.std.proofs.lemmas.Grind.{flat_map-append}
@@ -50,14 +50,6 @@ is_part_there : (u t : Tree) → Occurs u t → is_part u t ≡ true
 is_part_there u t h = among_true (parts t) u (occurs_part u t h)
 
 -- ---- where a term that occurs in labels first stands
-
-occurs_split : (xs ys : List Tree) (u : Tree) → OccursInOne (xs ++ ys) u → OccursInOne xs u ⊎ OccursInOne ys u
-occurs_split [] ys u h = inr h
-occurs_split (x ∷ xs) ys u (inl h) = inl (inl h)
-occurs_split (x ∷ xs) ys u (inr h) = elim (occurs_split xs ys u h) [
-  | inl a ↦ inl (inr a)
-  | inr b ↦ inr b
-]
 
 abbrev From : List (Tree × Origin) → Tree → Type 0
 From xs u = (origin : Origin) × (first_from xs u ≡ Some origin)

@@ -1,9 +1,9 @@
 -- Short lists by their items, equal byte strings, and options by what they come from.
-use Rattle.std.proofs.Common.{◌≡◌, Bool, ℕ, List, [], ◌∷◌, length, Option, Some, None, true, false, refl, ap, arith, ◌⊎◌, inl, inr, cond}
+use Rattle.std.proofs.Common.{◌≡◌, ℕ, List, [], ◌∷◌, length, true, false, refl, ap, arith, ◌≢◌}
 use Rattle.std.specs.List.{slice_index}
-use Rattle.std.specs.Option.{option_map}
 use Rattle.std.specs.Str.{bytes_eq}
 use Rattle.std.proofs.lemmas.Slice.Eq.{bytes_eq-Decides}
+use Rattle.std.proofs.lemmas.Bool.{false_from_ne_true}
 
 pub no_items : {A : Type 0} (xs : List A) → length xs ≡ 0 → [] ≡ xs
 no_items [] e = refl
@@ -27,12 +27,5 @@ bytes_are_one a b e = (bytes_eq-Decides a b).0 e
 pub bytes_eq-same : (a : List ℕ) → bytes_eq a a ≡ true
 bytes_eq-same a = (bytes_eq-Decides a a).1 refl
 
--- what a mapped option comes from
-pub mapped_from : {A B : Type 0} (f : A → B) (o : Option A) (y : B) → option_map f o ≡ Some y → (x : A) × (o ≡ Some x) × (f x ≡ y)
-mapped_from f None y e = cc
-mapped_from f (Some x) y e = (x, refl, cc)
-
--- which side of a choice was taken
-pub side_taken : {A : Type 0} (b : Bool) (x y z : A) → cond b x y ≡ z → ((b ≡ true) × (x ≡ z)) ⊎ ((b ≡ false) × (y ≡ z))
-side_taken true x y z e = inl (refl, e)
-side_taken false x y z e = inr (refl, e)
+pub bytes_differ : (one other : List ℕ) → one ≢ other → bytes_eq one other ≡ false
+bytes_differ one other differ = false_from_ne_true (bytes_eq one other) (λ e. differ ((bytes_eq-Decides one other).0 e))

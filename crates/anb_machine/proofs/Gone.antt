@@ -1,25 +1,26 @@
 -- What an instruction leaves of a run's registers.
-use Rattle.std.proofs.Common.{◌≡◌, ◌<◌, ◌≤◌, ◌+◌, ℕ, zero, suc, List, [], ◌∷◌, ◌++◌, length, map, drop, Bool, true, false, Option, Some, None, Result, Ok, Err, IfOk, refl, sym, ap, ◌∙◌, subst, arith, All, inl, inr}
+use Rattle.std.proofs.Common.{◌≡◌, ◌≤◌, ◌+◌, ℕ, zero, suc, List, [], ◌∷◌, ◌++◌, length, map, drop, Bool, true, Option, Some, None, Result, Ok, Err, IfOk, refl, sym, ap, ◌∙◌, subst, arith, inl, inr}
 use Rattle.std.specs.Prelude.{slice_get}
 use Rattle.std.proofs.lemmas.List.{append-nil}
+use Rattle.anb_lemmas.proofs.Options.{mapped_from}
 use Rattle.anb_base.specs.declared.TheConstants.{ARRIVAL, WIDE}
 use Rattle.anb_base.specs.declared.content.Suite.{Suite}
 use Rattle.anb_format.specs.Formats.{FormatValue}
 use Rattle.anb_format.specs.Laws.{AreWithin}
 use Rattle.anb_algebra.specs.ByteMeaning.{byte_meaning}
-use Rattle.anb_plays.specs.Codes.{Act, receives, works}
+use Rattle.anb_plays.specs.Codes.{Act, works}
 use Rattle.anb_plays.specs.Exec.{worked}
 use Rattle.anb_plays.specs.Plays.{Played, says}
 use Rattle.anb_code.specs.declared.instr.Instr.{Instr}
-use Rattle.anb_code.specs.declared.instr.Instr.TheVariants.{Take, Fresh, Recv, Send}
+use Rattle.anb_code.specs.declared.instr.Instr.TheVariants.{Recv}
 use Rattle.anb_code.specs.Meaning.{act_of}
 use Rattle.anb_machine.specs.declared.state.RunState.{RunState}
 use Rattle.anb_machine.specs.declared.turn.Turn.{Turn}
 use Rattle.anb_machine.specs.declared.turn.Turn.TheVariants.{Message, Wants, Done, Stopped, NoMemory}
-use Rattle.anb_machine.specs.Keeping.{HasGone, HasMoved, IsBound, IsLean, IsThinned, WritesWithin, new_widths, thinned_by}
+use Rattle.anb_machine.specs.Keeping.{HasGone, HasMoved, IsLean, IsThinned, new_widths, thinned_by}
 use Rattle.anb_machine.specs.Standing.{AtReceive, ComesSame, IsKept, IsNarrowTurn, IsNext, IsSameRun, IsWork, IsWorkDone, StepsTo, acts_from, acts_left}
 use Rattle.anb_machine.proofs.Lean.{drop_next, lean_moved, lean_stayed}
-use Rattle.anb_machine.proofs.Steps.{mapped, work_ready}
+use Rattle.anb_machine.proofs.Steps.{work_ready}
 use Rattle.anb_machine.proofs.Written.{HasWritten, work_within}
 
 head_is : (instrs : List Instr) (n : ℕ) (x y : Instr) (rest : List Instr) → slice_get instrs n ≡ Some x → drop n instrs ≡ y ∷ rest → x ≡ y
@@ -45,7 +46,7 @@ module _ (s t : RunState) (x : Instr) (is : slice_get s.code.now.instrs s.next �
 
   done_wrote : (formats : List FormatValue) (suite : Suite) (table : List (List ℕ)) (act : Act) (new : List (List ℕ)) → IsWorkDone (byte_meaning formats suite) table act true new
       → (ws : List (List ℕ)) × (new ≡ table ++ ws) × HasWritten formats suite table act ws
-  done_wrote formats suite table (works w) new h = let m = mapped (λ ws. table ++ ws) (worked (byte_meaning formats suite) table w) new h in (m.0, sym m.2, m.1)
+  done_wrote formats suite table (works w) new h = let m = mapped_from (λ ws. table ++ ws) (worked (byte_meaning formats suite) table w) new h in (m.0, sym m.2, m.1)
   done_wrote formats suite table act new h = absurd h
 
   pub moves_work : IsKept s → IsNext s (act_of s.algebra.formats x) → IsWork (act_of s.algebra.formats x)

@@ -1,7 +1,7 @@
 -- The registers that a run keeps, from one instruction to the next.
-use Rattle.std.proofs.Common.{◌≡◌, ◌<◌, ◌≤◌, ◌+◌, ◌&&◌, ◌||◌, not, nat_lt, nat_le, ℕ, zero, suc, List, [], ◌∷◌, ◌++◌, length, map, drop, take, get_or, slice_index, replicate, Bool, true, false, cond, Some, refl, sym, ap, ◌∙◌, subst, arith, All, append_assoc}
+use Rattle.std.proofs.Common.{◌≡◌, ◌<◌, ◌≤◌, ◌+◌, ◌&&◌, ◌||◌, not, nat_lt, nat_le, ℕ, zero, suc, List, [], ◌∷◌, ◌++◌, length, drop, take, get_or, slice_index, replicate, Bool, true, false, cond, Some, refl, sym, ap, ◌∙◌, subst, arith, All, append_assoc}
 use Rattle.std.specs.Prelude.{slice_get}
-use Rattle.std.specs.List.{AllByRecursion, AllZip}
+use Rattle.std.specs.List.{AllByRecursion}
 use Rattle.std.proofs.lemmas.Bool.Decides.{nat_tests}
 use Rattle.std.proofs.lemmas.List.{append-nil, length-append, length-replicate, take_more}
 use Rattle.std.proofs.lemmas.List.Elements.{recursion_from_All, All-from_recursion}
@@ -10,16 +10,16 @@ use Rattle.anb_format.specs.Formats.{FormatValue}
 use Rattle.anb_format.specs.Laws.{AreWithin}
 use Rattle.anb_code.specs.declared.instr.Instr.{Instr}
 use Rattle.anb_code.specs.declared.instr.Instr.TheVariants.{Take}
-use Rattle.anb_code.specs.CodeValue.{CodeValue}
 use Rattle.anb_code.specs.Registers.{operands, register_widths, widths_after, written_widths}
 use Rattle.anb_code.specs.Taking.{take_texts}
 use Rattle.anb_code.specs.Uses.{AreLastUses, is_among, is_read}
 use Rattle.anb_code.specs.Verified.{EachAfter, IsInstrAfter, IsVerifiedCode}
 use Rattle.anb_code.proofs.Taking.{no_takes, other_last}
 use Rattle.anb_machine.specs.declared.state.RunState.{RunState}
-use Rattle.anb_machine.specs.Keeping.{AreDropped, AreOver, HasGone, HasMoved, HasStayed, IsBound, IsLean, IsLive, IsThinned, instrs_left, later_widths, new_widths, thinned_by}
+use Rattle.anb_machine.specs.Keeping.{AreDropped, AreOver, HasMoved, HasStayed, IsBound, IsLean, IsLive, IsThinned, instrs_left, later_widths, new_widths, thinned_by}
 use Rattle.anb_machine.specs.Machines.{live_widths}
 use Rattle.anb_machine.specs.Standing.{IsSameRun}
+use Rattle.anb_machine.proofs.Written.{narrow_at}
 
 -- ---- registers and widths
 
@@ -73,12 +73,6 @@ either false true true v = refl
 either false true false v = refl
 either false false true v = refl
 either false false false v = refl
-
-pub dropped_both : (instrs : List Instr) (a b : ℕ → Bool) (old mid new : List (List ℕ)) → AreDropped instrs a old mid → AreDropped instrs b mid new → AreDropped instrs (λ r. a r || b r) old new
-dropped_both instrs a b old mid new d e = record {
-  count = e.count ∙ d.count;
-  each = λ r. e.each r ∙ ap (cond (b r && not (is_read instrs r)) []) (d.each r) ∙ either (a r) (b r) (not (is_read instrs r)) (get_or old r []);
-}
 
 pub over_dropped : (formats : List FormatValue) (instrs : List Instr) (uses : List ℕ) (done : ℕ) (among : ℕ → Bool) (old new : List (List ℕ)) → AreLastUses formats instrs uses
     → AreOver uses done among old new → AreDropped (drop done instrs) among old new
@@ -150,11 +144,6 @@ narrow_front s lean =
     let all : All (λ w. w ≤ WIDE) (lean.widths ++ more.0) = subst (All (λ w. w ≤ WIDE)) (sym lean.later ∙ more.1) lean.narrow in
     All-from_recursion (λ w. w ≤ WIDE) lean.widths (front_all (λ w. w ≤ WIDE) lean.widths more.0 (recursion_from_All (λ w. w ≤ WIDE) (lean.widths ++ more.0) all))
 
-at_narrow : (widths : List ℕ) (r : ℕ) → AllByRecursion (λ w. w ≤ WIDE) widths → slice_index widths r ≤ WIDE
-at_narrow [] r h = omega arith
-at_narrow (w ∷ widths) zero h = h.0
-at_narrow (w ∷ widths) (suc r) h = at_narrow widths r h.1
-
 get_got : (table : List (List ℕ)) (r : ℕ) (b : List ℕ) → slice_get table r ≡ Some b → get_or table r [] ≡ b
 get_got [] r b e = cc
 get_got (x ∷ table) zero b e = cc
@@ -164,7 +153,7 @@ get_got (x ∷ table) (suc r) b e = get_got table r b e
 pub register_narrow : (s : RunState) → IsLean s → (r : ℕ) (b : List ℕ) → slice_get s.registers.items r ≡ Some b → length b ≤ WIDE
 register_narrow s lean r b e =
     let bound = live_bound (instrs_left s) s.registers.items lean.widths lean.live r in
-    let most = at_narrow lean.widths r (recursion_from_All (λ w. w ≤ WIDE) lean.widths (narrow_front s lean)) in
+    let most = narrow_at lean.widths r (recursion_from_All (λ w. w ≤ WIDE) lean.widths (narrow_front s lean)) in
     omega (arith, bound, most, ap length (get_got s.registers.items r b e))
 
 zip_live : (instrs : List Instr) (first : ℕ) (table : List (List ℕ)) (widths : List ℕ) → length widths ≡ length table

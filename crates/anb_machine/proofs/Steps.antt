@@ -1,14 +1,15 @@
 -- One instruction of a run.
-use Rattle.std.proofs.Common.{◌≡◌, ◌<◌, ◌≤◌, ℕ, zero, suc, ◌+◌, List, [], ◌∷◌, ◌++◌, length, map, Bool, true, false, cond, Option, Some, None, option_map, refl, sym, ap, ◌∙◌, subst, arith, length-append}
+use Rattle.std.proofs.Common.{◌≡◌, ◌<◌, ◌≤◌, ℕ, zero, suc, ◌+◌, List, [], ◌∷◌, ◌++◌, length, map, Bool, true, false, cond, Some, None, refl, sym, ap, ◌∙◌, subst, arith, length-append}
 use Rattle.std.specs.Prelude.{slice_get, vec_capacity}
 use Rattle.std.proofs.lemmas.List.{append-nil}
+use Rattle.anb_lemmas.proofs.Options.{none_mapped, mapped_from}
+use Rattle.anb_lemmas.proofs.Lists.{got_within}
 use Rattle.anb_format.specs.Formats.{FormatValue}
 use Rattle.anb_seal.specs.Streams.{draw_of}
 use Rattle.anb_algebra.specs.ByteMeaning.{byte_meaning, has_operator}
 use Rattle.anb_algebra.specs.ByteLawful.{bytes_are_lawful}
 use Rattle.anb_term.specs.declared.term.Op.{Op}
 use Rattle.anb_term.specs.Value.{Meaning}
-use Rattle.anb_term.proofs.Lists.{slice_get-within}
 use Rattle.anb_plays.specs.Plays.{ends, stopped}
 use Rattle.anb_plays.specs.Codes.{Act, takes, draws, receives, sends, works, Work}
 use Rattle.anb_plays.specs.Exec.{exec, worked, IsVerified}
@@ -32,15 +33,9 @@ acts_at formats (y ∷ ys) (suc n) x e = rw (after n) (acts_at formats ys n x e)
 
 pub at_next : (s : RunState) (x : Instr) → slice_get s.code.now.instrs s.next ≡ Some x → IsNext s (act_of s.algebra.formats x)
 at_next s x e = record {
-  within = slice_get-within s.code.now.instrs s.next x e;
+  within = got_within s.code.now.instrs s.next x e;
   acts = acts_at s.algebra.formats s.code.now.instrs s.next x e;
 }
-
-no_acts : (formats : List FormatValue) (instrs : List Instr) (n : ℕ) → length instrs ≤ n → acts_from formats instrs n ≡ []
-no_acts formats [] zero h = refl
-no_acts formats [] (suc n) h = refl
-no_acts formats (y ∷ ys) zero h = absurd (omega arith)
-no_acts formats (y ∷ ys) (suc n) h = no_acts formats ys n (omega arith)
 
 receives_next : (formats : List FormatValue) (instrs : List Instr) (n : ℕ) → AtReceive (acts_from formats instrs n) → (n < length instrs) × (acts_from formats instrs n ≡ receives ∷ acts_from formats instrs (n + 1))
 receives_next formats [] zero h = absurd h
@@ -133,10 +128,6 @@ pub taken : {A : Type 0} (b : Bool) (x y z : A) → b ≡ true → x ≡ cond b 
 taken true x y z h e = e
 taken false x y z h e = cc
 
-pub mapped : {A B : Type 0} (f : A → B) (o : Option A) (y : B) → option_map f o ≡ Some y → (x : A) × (o ≡ Some x) × (f x ≡ y)
-mapped f None y e = cc
-mapped f (Some x) y e = (x, refl, cc)
-
 goes : {A : Type 0} (m : Meaning A) (draw : ℕ → A) (acts : List Act) (w : Work) (table ws : List A) (e at i : ℕ) → worked m table w ≡ Some ws
     → (arrivals : List A) → exec m draw (works w ∷ acts) table e at i arrivals ≡ exec m draw acts (table ++ ws) e (at + 1) i arrivals
 goes m draw acts w table ws e at i h arrivals = rw h refl
@@ -152,7 +143,7 @@ module _ (s : RunState) where
       → IsSameRun s t → t.next ≡ s.next + 1 → t.event ≡ s.event → t.drawn ≡ s.drawn → vec_capacity s.registers ≤ vec_capacity t.registers
       → IsKept t × ComesSame s t
   did_work t (works w) true kept next is went_on h same further event drawn room =
-      let x = mapped (λ ws. s.registers.items ++ ws) (worked (byte_meaning s.algebra.formats s.algebra.suite) s.registers.items w) t.registers.items h in
+      let x = mapped_from (λ ws. s.registers.items ++ ws) (worked (byte_meaning s.algebra.formats s.algebra.suite) s.registers.items w) t.registers.items h in
       let verified : IsVerified (has_operator s.algebra.formats) (works w ∷ acts_after s) (length s.registers.items) =
       subst (λ l. IsVerified (has_operator s.algebra.formats) l (length s.registers.items)) next.acts kept.verified in
       let count = written_count (byte_meaning s.algebra.formats s.algebra.suite) (bytes_are_lawful s.algebra.formats s.algebra.suite) s.registers.items x.0 w verified.0 x.1 in
@@ -163,15 +154,11 @@ module _ (s : RunState) where
   did_work t (works w) false kept next is went_on h same further event drawn room = cc
   did_work t act went kept next is went_on h same further event drawn room = absurd is
 
-unmapped : {A B : Type 0} (f : A → B) (o : Option A) → option_map f o ≡ None → o ≡ None
-unmapped f None e = refl
-unmapped f (Some x) e = cc
-
 pub stops : (s : RunState) (act : Act) (went : Bool) (table : List (List ℕ)) → IsNext s act → IsWork act → went ≡ false
     → IsWorkDone (byte_meaning s.algebra.formats s.algebra.suite) s.registers.items act went table
     → (arrivals : List (List ℕ)) → coming s arrivals ≡ ends (stopped s.event (s.next + 1)) arrivals
 stops s (works w) false table next is fails h arrivals =
-    let none = unmapped (λ ws. s.registers.items ++ ws) (worked (byte_meaning s.algebra.formats s.algebra.suite) s.registers.items w) h in
+    let none = none_mapped (λ ws. s.registers.items ++ ws) (worked (byte_meaning s.algebra.formats s.algebra.suite) s.registers.items w) h in
     comes_from s (works w) next arrivals ∙ fails_at (byte_meaning s.algebra.formats s.algebra.suite) (draw_of s.seed s.session) (acts_after s) w s.registers.items s.event s.next s.drawn none arrivals
 stops s (works w) true table next is fails h arrivals = cc
 stops s act went table next is fails h arrivals = absurd is

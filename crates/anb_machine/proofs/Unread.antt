@@ -1,14 +1,13 @@
 -- What no act reads makes no difference to what comes.
-use Rattle.std.proofs.Common.{◌≡◌, ◌==◌, ◌||◌, ◌+◌, ℕ, zero, suc, List, [], ◌∷◌, ◌++◌, length, map, Bool, true, false, Option, Some, None, refl, sym, ap, ◌∙◌, subst, arith}
+use Rattle.std.proofs.Common.{◌≡◌, ◌==◌, ◌||◌, ◌+◌, ℕ, zero, suc, List, [], ◌∷◌, ◌++◌, length, map, Bool, true, false, Option, Some, None, refl, sym, ap, ◌∙◌, arith}
 use Rattle.std.proofs.Math.Bool.{or-true}
-use Rattle.std.proofs.lemmas.Bool.Decides.{nat_tests}
 use Rattle.std.specs.Prelude.{slice_get}
 use Rattle.std.specs.List.{list_any}
+use Rattle.anb_lemmas.proofs.Numbers.{nat_eq-same}
 use Rattle.anb_format.specs.Formats.{FormatValue}
 use Rattle.anb_term.specs.Value.{Meaning}
-use Rattle.anb_term.specs.Demand.{alike}
 use Rattle.anb_term.specs.Lawful.{picked}
-use Rattle.anb_plays.specs.Plays.{Played, stopped, ends}
+use Rattle.anb_plays.specs.Plays.{stopped, ends}
 use Rattle.anb_plays.specs.Codes.{Act, takes, draws, receives, sends, works, Work, make, undo, equal}
 use Rattle.anb_plays.specs.Exec.{exec, worked, on_written}
 use Rattle.anb_plays.specs.Runs.{says_if}
@@ -48,9 +47,6 @@ used_read : (formats : List FormatValue) (instrs : List Instr) (r : ℕ) → is_
 used_read formats [] r = refl
 used_read formats (x ∷ instrs) r = rw (reads_operands formats x r, used_read formats instrs r) refl
 
-same_eq : (n : ℕ) → (n == n) ≡ true
-same_eq n = grind (arith, nat_tests)
-
 among-append : (xs : List ℕ) (n r : ℕ) → is_among (xs ++ n ∷ []) r ≡ (is_among xs r || (n == r))
 among-append [] n r = or_false (n == r) where
   or_false : (b : Bool) → (b || false) ≡ b
@@ -86,7 +82,7 @@ module _ {A : Type 0} where
   pick_same : (table other : List A) (ns : List ℕ) → Same (is_among ns) table other → picked table ns ≡ picked other ns
   pick_same table other [] h = refl
   pick_same table other (n ∷ ns) h =
-      let here : slice_get table n ≡ slice_get other n = h n (ap (λ b. b || is_among ns n) (same_eq n)) in
+      let here : slice_get table n ≡ slice_get other n = h n (ap (λ b. b || is_among ns n) (nat_eq-same n)) in
       let rest = pick_same table other ns (λ r is. h r (ap (λ b. (n == r) || b) is ∙ or-true (n == r))) in
       rw (here, rest) refl
 
@@ -94,11 +90,11 @@ module _ {A : Type 0} where
   work_same m table other (make o ns) h = rw (pick_same table other ns h) refl
   work_same m table other (undo o ks n) h =
       let keys = pick_same table other ks (λ r is. h r (among-append ks n r ∙ ap (λ b. b || (n == r)) is)) in
-      let of : slice_get table n ≡ slice_get other n = h n (among-append ks n n ∙ ap (λ b. is_among ks n || b) (same_eq n) ∙ or-true (is_among ks n)) in
+      let of : slice_get table n ≡ slice_get other n = h n (among-append ks n n ∙ ap (λ b. is_among ks n || b) (nat_eq-same n) ∙ or-true (is_among ks n)) in
       rw (keys, of) refl
   work_same m table other (equal a b) h =
-      let first : slice_get table a ≡ slice_get other a = h a (ap (λ c. c || (b == a || false)) (same_eq a)) in
-      let second : slice_get table b ≡ slice_get other b = h b (ap (λ c. (a == b) || (c || false)) (same_eq b) ∙ or-true (a == b)) in
+      let first : slice_get table a ≡ slice_get other a = h a (ap (λ c. c || (b == a || false)) (nat_eq-same a)) in
+      let second : slice_get table b ≡ slice_get other b = h b (ap (λ c. (a == b) || (c || false)) (nat_eq-same b) ∙ or-true (a == b)) in
       rw (first, second) refl
 
   module _ (m : Meaning A) (draw : ℕ → A) where
@@ -121,7 +117,7 @@ module _ {A : Type 0} where
     exec_same (receives ∷ acts) table other e at i (x ∷ arrivals) long h =
         exec_same acts (table ++ x ∷ []) (other ++ x ∷ []) (e + 1) (at + 1) i arrivals (longer table other (x ∷ []) long) (later receives acts table other (x ∷ []) long h)
     exec_same (sends n ∷ acts) table other e at i arrivals long h =
-        ap (λ o. says_if o (exec m draw acts table (e + 1) (at + 1) i arrivals)) (now (sends n) acts table other h n (ap (λ b. b || false) (same_eq n)))
+        ap (λ o. says_if o (exec m draw acts table (e + 1) (at + 1) i arrivals)) (now (sends n) acts table other h n (ap (λ b. b || false) (nat_eq-same n)))
         ∙ ap (says_if (slice_get other n)) (exec_same acts table other (e + 1) (at + 1) i arrivals long (stay (sends n) acts table other h))
     exec_same (works w ∷ acts) table other e at i arrivals long h =
         on_same (worked m table w) (worked m other w) (λ ws. exec m draw acts (table ++ ws) e (at + 1) i arrivals) (λ ws. exec m draw acts (other ++ ws) e (at + 1) i arrivals) (ends (stopped e (at + 1)) arrivals)

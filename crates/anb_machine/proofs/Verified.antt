@@ -3,18 +3,18 @@ use Rattle.std.proofs.Common.{◌≡◌, ◌≤◌, ℕ, zero, suc, ◌+◌, Lis
 use Rattle.std.specs.Prelude.{slice_get}
 use Rattle.std.specs.Option.{option_map_or}
 use Rattle.std.proofs.lemmas.List.Sums.{sum_by-cons}
+use Rattle.anb_lemmas.proofs.Lists.{got_within}
 use Rattle.anb_term.specs.declared.term.Op.{Op}
 use Rattle.anb_term.specs.declared.term.Op.TheVariants.{Hash, Mac, Seal, Wrap, Format}
-use Rattle.anb_term.proofs.Lists.{slice_get-within}
-use Rattle.anb_format.specs.Formats.{FormatValue, field_count, is_sound}
-use Rattle.anb_format.proofs.Facts.{is_sound-IsSound}
+use Rattle.anb_format.specs.Formats.{FormatValue, field_count, is_sound, pieces_at}
+use Rattle.anb_format.proofs.BuiltLemmas.{passes_sound}
 use Rattle.anb_algebra.specs.ByteMeaning.{has_operator}
 use Rattle.anb_algebra.proofs.Operators.{operators_from}
 use Rattle.anb_plays.specs.Exec.{HasTakes}
 use Rattle.anb_code.specs.declared.instr.Instr.{Instr}
 use Rattle.anb_code.specs.declared.instr.Instr.TheVariants.{Build, Parse}
 use Rattle.anb_code.specs.CodeValue.{CodeValue}
-use Rattle.anb_code.specs.Registers.{pieces_at, count_written}
+use Rattle.anb_code.specs.Registers.{count_written}
 use Rattle.anb_code.specs.Verified.{EachAfter, IsFormatAfter, IsInstrAfter, count_registers, IsVerifiedCode}
 use Rattle.anb_code.specs.Meaning.{act_of, acts_of, IsOperator}
 use Rattle.anb_code.specs.Taking.{take_texts}
@@ -33,7 +33,7 @@ module _ (formats : List FormatValue) (checked : EachAfter IsFormatAfter [] form
   few f format e = let x = each_at IsFormatAfter [] formats f format checked e in let h = x.1 in h.fields
 
   sound : (f : ℕ) (format : FormatValue) → slice_get formats f ≡ Some format → is_sound format.pieces ≡ true
-  sound f format e = let x = each_at IsFormatAfter [] formats f format checked e in let h = x.1 in is_sound-IsSound format.pieces h.sound
+  sound f format e = let x = each_at IsFormatAfter [] formats f format checked e in let h = x.1 in passes_sound format.pieces h.sound
 
   -- the operators over the formats are operators of bytes
   covers : (o : Op) → IsOperator formats o → IsTrue (has_operator formats o)
@@ -49,7 +49,7 @@ module _ (formats : List FormatValue) (checked : EachAfter IsFormatAfter [] form
       let is = h.format in
       let P : ℕ → Type 0 = λ n. n ≤ 32 in
       let there : pieces_at formats f ≡ is.0.pieces = ap (λ o. option_map_or (λ (x : FormatValue). x.pieces) o []) is.1 in
-      (slice_get-within formats f is.0 is.1, subst P (sym (ap field_count there)) (few f is.0 is.1))
+      (got_within formats f is.0 is.1, subst P (sym (ap field_count there)) (few f is.0 is.1))
   few_of x before h = tt
 
   module _ (instrs : List Instr) (all : EachAfter (IsInstrAfter formats) [] instrs) where

@@ -1,26 +1,22 @@
 -- Works on registers.
-use Rattle.std.proofs.Common.{◌≡◌, ◌<◌, ℕ, suc, List, [], ◌∷◌, ◌++◌, length, Bool, true, false, cond, IsTrue, Some, None, option_map, refl, sym, ap, ◌∙◌, subst, arith, length-append}
+use Rattle.std.proofs.Common.{◌≡◌, ◌<◌, ℕ, List, [], ◌∷◌, ◌++◌, length, Bool, true, false, cond, IsTrue, Some, None, option_map, refl, sym, ap, ◌∙◌, subst, arith, length-append}
 use Rattle.std.specs.Prelude.{slice_get, ◌↔◌}
-use Rattle.std.specs.List.{AllByRecursion}
 use Rattle.std.proofs.lemmas.List.Elements.{recursion_from_All}
+use Rattle.std.proofs.lemmas.List.{append-nil}
 use Rattle.anb_term.specs.Demand.{alike}
 use Rattle.anb_term.specs.Lawful.{Lawful, picked}
 use Rattle.anb_term.specs.Value.{Meaning}
-use Rattle.anb_term.proofs.Lists.{slice_get-there}
+use Rattle.anb_term.proofs.Lists.{slice_get-there, picked_length}
 use Rattle.anb_term.proofs.Steps.{bound}
 use Rattle.anb_term.proofs.Values.{counted}
 use Rattle.anb_plays.specs.Codes.{Work, make, undo, equal}
 use Rattle.anb_plays.specs.Exec.{worked, IsReady, count_written}
 
-append_nil : {A : Type 0} (xs : List A) → xs ++ [] ≡ xs
-append_nil [] = refl
-append_nil (x ∷ xs) = ap (λ l. x ∷ l) (append_nil xs)
-
 module _ {A : Type 0} (m : Meaning A) (lawful : Lawful m) (table : List A) (a b : ℕ) where
   -- the result of comparing is whether the demand is true
   alike_as : (x y : A) (same went : Bool) → m.same x y ≡ same → slice_get table a ≡ Some x → slice_get table b ≡ Some y → (IsTrue went ↔ (slice_get table a ≡ slice_get table b))
       → option_map (λ ws. table ++ ws) (worked m table (equal a b)) ≡ cond went (Some table) None
-  alike_as x y true true e ea eb h = rw (ea, eb, e, append_nil table) refl
+  alike_as x y true true e ea eb h = rw (ea, eb, e, append-nil table) refl
   alike_as x y true false e ea eb h = let is : x ≡ y = lawful.tells x y e in let no : false ≡ true = h.1 (ea ∙ ap Some is ∙ sym eb) in cc
   alike_as x y false true e ea eb h =
       let is : Some x ≡ Some y = sym ea ∙ h.0 refl ∙ eb in
@@ -34,10 +30,6 @@ module _ {A : Type 0} (m : Meaning A) (lawful : Lawful m) (table : List A) (a b 
       let x = slice_get-there table a ha in
       let y = slice_get-there table b hb in
       alike_as x.0 y.0 (m.same x.0 y.0) went refl x.1 y.1 h
-
-picked_length : {A : Type 0} (table : List A) (ns : List ℕ) → AllByRecursion (λ n. n < length table) ns → length (picked table ns) ≡ length ns
-picked_length table [] h = refl
-picked_length table (n ∷ ns) h = let x = slice_get-there table n h.0 in rw x.1 (ap suc (picked_length table ns h.1))
 
 nothing_written : {A : Type 0} (b : Bool) (ws : List A) → cond b (Some []) None ≡ Some ws → length ws ≡ 0
 nothing_written true ws e = let s : [] ≡ ws = cc in sym (ap length s)

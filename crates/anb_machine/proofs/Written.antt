@@ -1,14 +1,14 @@
 -- What an instruction writes is within its widths.
-use Rattle.std.proofs.Common.{◌≡◌, ◌<◌, ◌≤◌, ◌+◌, ◌^◌, ℕ, zero, suc, List, [], ◌∷◌, length, map, get_or, slice_index, replicate, Bool, true, false, cond, Option, Some, None, option_map, refl, sym, ap, ◌∙◌, subst, arith, All}
+use Rattle.std.proofs.Common.{◌≡◌, ◌<◌, ◌≤◌, ◌+◌, ◌^◌, ℕ, zero, suc, List, [], ◌∷◌, length, map, get_or, slice_index, replicate, Bool, true, false, cond, Option, Some, None, option_map, refl, ap, subst, arith, All}
 use Rattle.std.specs.Prelude.{slice_get}
-use Rattle.std.specs.List.{AllByRecursion, AllZip}
+use Rattle.std.specs.List.{AllByRecursion}
 use Rattle.std.proofs.lemmas.List.Elements.{recursion_from_All}
 use Rattle.anb_base.specs.declared.TheConstants.{ARRIVAL, WIDE}
 use Rattle.anb_base.specs.declared.content.Suite.{Suite}
-use Rattle.anb_format.specs.Formats.{FormatValue, field_count}
+use Rattle.anb_format.specs.Formats.{FormatValue, field_count, pieces_at}
 use Rattle.anb_format.specs.Laws.{AreWithin}
-use Rattle.anb_format.proofs.Facts.{IsParts-parts_of}
 use Rattle.anb_format.proofs.Narrow.{built_narrow, parts_narrow}
+use Rattle.anb_format.proofs.ReadingLemmas.{parts_of-builds}
 use Rattle.anb_seal.specs.Primitives.{hash_of, mac_of, key_for, sealed, unsealed, wrapped, unwrapped}
 use Rattle.anb_seal.proofs.Macs.{hash_of-within_block, block_of-longest}
 use Rattle.anb_seal.proofs.Closed.{length-closed}
@@ -18,9 +18,8 @@ use Rattle.anb_term.specs.Lawful.{picked}
 use Rattle.anb_plays.specs.Codes.{Act, works}
 use Rattle.anb_plays.specs.Exec.{worked}
 use Rattle.anb_code.specs.declared.instr.Instr.{Instr}
-use Rattle.anb_code.specs.declared.instr.Instr.TheVariants.{Take, Fresh, Recv, Hash, Mac, Seal, Unseal, Wrap, Unwrap, Build, Parse, Equal, Send}
+use Rattle.anb_code.specs.declared.instr.Instr.TheVariants.{Hash, Mac, Seal, Unseal, Wrap, Unwrap, Build, Parse, Equal}
 use Rattle.anb_code.specs.Meaning.{act_of}
-use Rattle.anb_code.specs.Registers.{pieces_at}
 use Rattle.anb_machine.specs.Keeping.{IsBound, new_widths}
 use Rattle.anb_machine.specs.Standing.{IsWorkReady}
 
@@ -66,7 +65,7 @@ none_within : (b : Bool) (ws : List (List ℕ)) → cond b (Some []) None ≡ So
 none_within true ws e = let is : [] ≡ ws = cc in subst (λ l. AreWithin l []) is tt
 none_within false ws e = cc
 
-narrow_at : (widths : List ℕ) (r : ℕ) → AllByRecursion (λ w. w ≤ WIDE) widths → slice_index widths r ≤ WIDE
+pub narrow_at : (widths : List ℕ) (r : ℕ) → AllByRecursion (λ w. w ≤ WIDE) widths → slice_index widths r ≤ WIDE
 narrow_at [] r h = omega arith
 narrow_at (w ∷ widths) zero h = h.0
 narrow_at (w ∷ widths) (suc r) h = narrow_at widths r h.1
@@ -127,7 +126,7 @@ module _ (formats : List FormatValue) (suite : Suite) (table : List (List ℕ)) 
       one_within _ ws _ e (built_narrow ARRIVAL (pieces_at formats f) (picked table rs) (map (slice_index widths) rs) (pick_within rs (read rs ready.2)) (narrow_all rs))
   work_within (Parse f r) ws ready e =
       let h = rw (there table r ready.3) at e in
-      let parts = IsParts-parts_of (pieces_at formats f) (get_or table r []) ws h in
+      let parts = parts_of-builds (pieces_at formats f) (get_or table r []) ws h in
       all_within ws (field_count (pieces_at formats f)) (slice_index widths r) parts.count (wider ws (parts_narrow (pieces_at formats f) (get_or table r []) ws parts)) where
         wider : (bs : List (List ℕ)) → AllByRecursion (λ b. length b ≤ length (get_or table r [])) bs → AllByRecursion (λ b. length b ≤ slice_index widths r) bs
         wider [] all = tt

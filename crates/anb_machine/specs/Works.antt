@@ -1,9 +1,8 @@
 -- What is known of the formats that an instruction names.
 use Rattle.std.specs.Prelude.{◌≤◌, ◌<◌, List, length}
-use Rattle.anb_format.specs.Formats.{FormatValue, field_count}
+use Rattle.anb_format.specs.Formats.{FormatValue, field_count, pieces_at}
 use Rattle.anb_code.specs.declared.instr.Instr.{Instr}
 use Rattle.anb_code.specs.declared.instr.Instr.TheVariants.{Build, Parse}
-use Rattle.anb_code.specs.Registers.{pieces_at}
 
 -- a format that is named is there, and has at most 32 fields
 abbrev pub HasFewFields : List FormatValue → Instr → Type 0

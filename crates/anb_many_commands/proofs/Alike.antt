@@ -3,14 +3,14 @@ use Rattle.std.proofs.Common.{◌≡◌, ℕ, ◌+◌, List, [], ◌∷◌, ◌+
 use Rattle.std.specs.Prelude.{◌==◌, nat_lt, filter}
 use Rattle.std.specs.List.{AllByRecursion}
 use Rattle.anb_base.specs.Bytes.{IsBytes}
-use Rattle.anb_plays.specs.Plays.{Played, End, stopped, waiting, done}
+use Rattle.anb_plays.specs.Plays.{Played, End, stopped, waiting, done, Run}
 use Rattle.anb_plays.specs.Runs.{no_place}
 use Rattle.anb_host.specs.declared.event.HostEvent.{HostEvent}
 use Rattle.anb_host.specs.declared.event.Notice.{Notice}
 use Rattle.anb_host.specs.declared.event.Notice.TheVariants.{Message, Refused}
 use Rattle.anb_host.specs.declared.event.Cause.TheVariants as cause
 use Rattle.anb_host.specs.HostFrames.{out}
-use Rattle.anb_host.specs.Own.{Run, session_of, is_start, is_oversize, arrival_of, events_of, has_start, is_over, end_notices, accepted_after, accepted, has_ended, sent_in, own, answer, told}
+use Rattle.anb_host.specs.Own.{session_of, is_start, is_oversize, arrival_of, events_of, has_start, is_over, end_notices, accepted_after, accepted, has_ended, sent_in, own, answer, told}
 use Rattle.anb_host.specs.Serving.{size_of, stamps}
 
 -- ---- events of bytes

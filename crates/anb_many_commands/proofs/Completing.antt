@@ -1,6 +1,7 @@
 -- Serving an input of whole frames is done.
-use Rattle.std.proofs.Common.{◌≡◌, ◌⊎◌, ℕ, ◌+◌, ◌<◌, ◌≤◌, cond, Bool, true, false, List, [], length, take, drop, Option, Some, None, refl, ap, sym, ◌∙◌, inl, inr, arith}
+use Rattle.std.proofs.Common.{◌≡◌, ◌⊎◌, ℕ, ◌<◌, ◌≤◌, cond, Bool, true, false, List, [], length, Option, Some, None, refl, ap, sym, ◌∙◌, inl, inr, arith}
 use Rattle.std.proofs.lemmas.List.{drop_all, take_all}
+use Rattle.anb_lemmas.proofs.Numbers.{is_below}
 use Rattle.anb_base.specs.Bytes.{IsBytes}
 use Rattle.anb_base.specs.Wires.{WireState}
 use Rattle.anb_host.specs.declared.event.HostEvent.{HostEvent}
@@ -15,7 +16,6 @@ use Rattle.anb_command.proofs.Ones.{not_both}
 use Rattle.anb_role_commands.specs.Jobs.{Job, JobIs}
 use Rattle.anb_many_commands.specs.declared.hosting.TheConstants.{FRAMES}
 use Rattle.anb_many_commands.specs.HostCommand.{CompletesHost, DoesHost, IsServing, handled, read_of_input, sizes, status_of_input}
-use Rattle.anb_many_commands.proofs.Ending.{is_below}
 use Rattle.anb_many_commands.proofs.Sizes.{frames_size}
 
 module _ (Asks : Answer Job → Type 0) (one : HasOneAnswer Asks) (left : List ℕ) (S T : WireState) (s : Status) (only_memory : is_fault s ≡ true → s ≡ NoMemory) where

@@ -1,21 +1,24 @@
 -- From the end of serving to the outcome.
-use Rattle.std.proofs.Common.{rules, ◌≡◌, ℕ, zero, suc, ◌+◌, ◌<◌, ◌≤◌, cond, Bool, true, false, List, [], ◌∷◌, ◌++◌, length, take, drop, replicate, Option, Some, None, refl, ap, sym, ◌∙◌, subst, inl, inr, arith, length-append}
-use Rattle.std.specs.Prelude.{IfSome, nat_lt}
+use Rattle.std.proofs.Common.{◌≡◌, ℕ, zero, suc, ◌+◌, ◌<◌, ◌≤◌, cond, false, List, [], ◌∷◌, ◌++◌, length, take, drop, replicate, Option, Some, None, refl, ap, sym, ◌∙◌, subst, inl, inr, arith, length-append}
+use Rattle.std.specs.Prelude.{IfSome}
 use Rattle.std.proofs.lemmas.List.{take_all}
+use Rattle.anb_plays.specs.Plays.{Run}
+use Rattle.anb_lemmas.proofs.Numbers.{is_below, isnt_below}
 use Rattle.anb_base.specs.Moves.{Put, Took}
 use Rattle.anb_base.specs.Wires.{WireState}
+use Rattle.anb_base.proofs.Moving.{put_nothing}
 use Rattle.anb_host.specs.declared.event.HostEvent.{HostEvent}
 use Rattle.anb_host.specs.declared.serving.HostEnd.{HostEnd}
 use Rattle.anb_host.specs.declared.serving.HostEnd.TheVariants as ends
-use Rattle.anb_host.specs.HostFrames.{Tail, End, Part, Bad, HostFrames, out}
-use Rattle.anb_host.specs.Own.{Run, told}
+use Rattle.anb_host.specs.HostFrames.{Tail, End, Part, Bad, out}
+use Rattle.anb_host.specs.Own.{told}
 use Rattle.anb_host.specs.Serving.{Answers, Reads, Serves, stamps}
 use Rattle.anb_command.specs.declared.status.Status.{Status}
-use Rattle.anb_command.specs.declared.status.Status.TheVariants.{Done, FileFault, Unreached, Truncated, ReadFault, WriteFault, BadKind, Spent, NoMemory}
+use Rattle.anb_command.specs.declared.status.Status.TheVariants.{FileFault, Truncated, ReadFault, WriteFault, BadKind, Spent, NoMemory}
 use Rattle.anb_command.specs.Statuses.{is_fault}
 use Rattle.anb_command.specs.Steps.{Answer, refused, given, HasOneAnswer, IsFailure}
 use Rattle.anb_command.proofs.Ones.{RefusesQuietly, not_both, same_given, same_refusal}
-use Rattle.anb_command.proofs.Written.{faulty, put_nothing}
+use Rattle.anb_command.proofs.Written.{faulty}
 use Rattle.anb_role_commands.specs.Jobs.{Job}
 use Rattle.anb_many_commands.specs.declared.hosting.TheConstants.{FRAMES}
 use Rattle.anb_many_commands.specs.HostCommand.{ArePlays, IsInTime, IsServing, Outcome, Takes, TakesInTime, handled, read_of_input, read_of_tail, sizes, status_before, status_of_input}
@@ -31,12 +34,6 @@ take_short : {A : Type 0} (k : ℕ) (xs : List A) → length (take k xs) ≤ k
 take_short zero xs = omega arith
 take_short (suc k) [] = omega arith
 take_short (suc k) (x ∷ xs) = let rest = take_short k xs in omega (arith, rest)
-
-pub is_below : (a b : ℕ) → a < b → nat_lt a b ≡ true
-is_below a b h = search (rules, arith)
-
-isnt_below : (a b : ℕ) → b ≤ a → nat_lt a b ≡ false
-isnt_below a b h = search (rules, arith)
 
 -- what comes of a job whose sessions are these
 module _ (Asks : Answer Job → Type 0) (one : HasOneAnswer Asks) (job : Job) (asks : Asks (given job)) (R plays : ℕ → Run) (are : ArePlays job plays)

@@ -1,5 +1,6 @@
 -- Serving behind the reach of a place, and why a status is answered.
 use Rattle.std.proofs.Common.{◌≡◌, ◌⊎◌, ℕ, List, [], Option, Some, refl, ap, sym, ◌∙◌, subst, inl, inr}
+use Rattle.anb_plays.specs.Plays.{Run}
 use Rattle.anb_base.specs.Moves.{Rose}
 use Rattle.anb_base.specs.Wires.{WireState}
 use Rattle.anb_base.specs.declared.place.Place.{Place}
@@ -9,7 +10,6 @@ use Rattle.anb_host.specs.declared.serving.HostEnd.{HostEnd}
 use Rattle.anb_host.specs.declared.serving.HostEnd.TheVariants as ends
 use Rattle.anb_host.specs.HostFrames.{Tail, FramesLeft}
 use Rattle.anb_host.specs.Hosts.{HostValue, plays_of}
-use Rattle.anb_host.specs.Own.{Run}
 use Rattle.anb_host.specs.Serving.{Serves}
 use Rattle.anb_command.specs.declared.status.Status.{Status}
 use Rattle.anb_command.specs.declared.status.Status.TheVariants.{Unreached, NoMemory}

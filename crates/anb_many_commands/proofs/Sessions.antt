@@ -1,8 +1,7 @@
 -- A code that plays a job in each session gives what sessions of the job are told.
 use Rattle.std.proofs.Common.{◌≡◌, ℕ, List, refl, sym, ap, ◌∙◌}
 use Rattle.anb_code.specs.CodeValue.{CodeValue}
-use Rattle.anb_host.specs.Own.{Run}
-use Rattle.anb_plays.specs.Plays.{Played, End, stopped, waiting, done}
+use Rattle.anb_plays.specs.Plays.{Played, End, stopped, waiting, done, Run}
 use Rattle.anb_plays.specs.Runs.{no_place}
 use Rattle.anb_command.specs.Prepared.{IsRunBy}
 use Rattle.anb_role_commands.specs.Jobs.{Job}

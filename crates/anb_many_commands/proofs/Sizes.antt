@@ -1,15 +1,15 @@
 -- How many bytes the frames of events have, and what they are.
-use Rattle.std.proofs.Common.{◌≡◌, ℕ, zero, suc, ◌+◌, ◌≤◌, List, [], ◌∷◌, ◌++◌, length, take, drop, Option, Some, None, refl, sym, ap, ◌∙◌, subst, arith, length-append}
+use Rattle.std.proofs.Common.{◌≡◌, ℕ, zero, suc, ◌+◌, List, [], ◌∷◌, ◌++◌, length, take, drop, Option, Some, None, refl, sym, ap, ◌∙◌, subst, arith, length-append}
 use Rattle.std.proofs.lemmas.List.{drop_at}
 use Rattle.anb_base.specs.Bytes.{IsBytes}
 use Rattle.anb_base.specs.Moves.{Took}
+use Rattle.anb_base.proofs.Strings.{bytes_right}
 use Rattle.anb_frame.specs.Frames.{frame, length_bytes}
 use Rattle.anb_host.specs.declared.event.HostEvent.{HostEvent}
 use Rattle.anb_host.specs.declared.event.HostEvent.TheVariants.{Start, Arrive, Oversize}
 use Rattle.anb_host.specs.HostFrames.{IsFrame, Tail, End, HostFrames}
-use Rattle.anb_host.specs.Serving.{size_of}
 use Rattle.anb_host.proofs.Served.{size_is}
-use Rattle.anb_command.proofs.Cutting.{bytes_right, bytes_taken}
+use Rattle.anb_command.proofs.Cutting.{bytes_taken}
 use Rattle.anb_many_commands.specs.HostCommand.{sizes}
 use Rattle.anb_many_commands.proofs.Alike.{HasBytes, HaveBytes}
 

@@ -1,12 +1,13 @@
 -- What `host` does: many sessions of a role, each with a play of its own, on one wire.
 use Rattle.std.specs.Prelude.{◌≡◌, ◌⊎◌, ℕ, ◌+◌, ◌<◌, ◌≤◌, nat_lt, true, false, if◌then◌else◌, List, [], ◌∷◌, ◌++◌, length, take, drop, replicate, Option, Some, IfSome}
 use Rattle.std.specs.List.{AllByRecursion}
+use Rattle.anb_plays.specs.Plays.{Run}
 use Rattle.anb_base.specs.Bytes.{IsBytes}
 use Rattle.anb_base.specs.Moves.{Put, Took}
 use Rattle.anb_base.specs.Wires.{WireState}
 use Rattle.anb_host.specs.declared.event.HostEvent.{HostEvent}
 use Rattle.anb_host.specs.HostFrames.{Tail, End, Part, Bad, HostFrames, out}
-use Rattle.anb_host.specs.Own.{Run, told}
+use Rattle.anb_host.specs.Own.{told}
 use Rattle.anb_host.specs.Serving.{IsBegun, size_of, stamps}
 use Rattle.anb_resolve.specs.Plays.{IsPlay}
 use Rattle.anb_command.specs.declared.status.Status.{Status}

@@ -1,5 +1,6 @@
 -- What comes of serving a host over a wire.
 use Rattle.std.specs.Prelude.{◌≡◌, ◌⊎◌, ℕ, List, []}
+use Rattle.anb_plays.specs.Plays.{Run}
 use Rattle.anb_base.specs.Wires.{WireState}
 use Rattle.anb_base.specs.declared.place.Place.{Place}
 use Rattle.anb_code.specs.CodeValue.{CodeValue}
@@ -7,7 +8,6 @@ use Rattle.anb_host.specs.declared.event.HostEvent.{HostEvent}
 use Rattle.anb_host.specs.declared.serving.HostEnd.{HostEnd}
 use Rattle.anb_host.specs.declared.serving.HostEnd.TheVariants.{Ended, Truncated, BadKind, ReadFault, WriteFault, Spent, NoMemory}
 use Rattle.anb_host.specs.HostFrames.{FramesLeft, Tail}
-use Rattle.anb_host.specs.Own.{Run}
 use Rattle.anb_host.specs.Serving.{Serves}
 use Rattle.anb_machine.specs.ByteRuns.{run_bytes}
 use Rattle.anb_command.specs.declared.status.Status.{Status}

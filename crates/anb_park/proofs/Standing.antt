@@ -6,10 +6,12 @@ use Rattle.std.proofs.lemmas.Grind.{flat_map-append}
 use Rattle.anb_base.specs.declared.content.Suite.TheVariants.{One}
 use Rattle.anb_base.specs.Moves.{Put}
 use Rattle.anb_base.specs.declared.TheConstants.{ARRIVAL}
+use Rattle.anb_base.proofs.Moving.{put_nothing}
 use Rattle.anb_seal.specs.Primitives.{sealed}
 use Rattle.anb_frame.specs.Frames.{length_bytes, frame, frames}
 use Rattle.anb_frame.specs.Cuts.{Tail, CutLeft}
-use Rattle.anb_plays.specs.Plays.{Played, waiting, done, ends}
+use Rattle.anb_plays.specs.Plays.{Played, waiting, done, ends, SendsFirst}
+use Rattle.anb_plays.proofs.Grows.{sends_saying, sends_on}
 use Rattle.anb_code.specs.CodeValue.{CodeValue}
 use Rattle.anb_machine.specs.ByteRuns.{run_bytes}
 use Rattle.anb_machine.specs.Machines.{MachineValue, gives, waits, turn_of, Turned}
@@ -19,17 +21,16 @@ use Rattle.anb_session.specs.declared.PlayEnd.{PlayEnd}
 use Rattle.anb_session.specs.declared.PlayEnd.TheVariants.{Done, Stopped, Waiting, Truncated, TooLarge, ReadFault, WriteFault, NoMemory}
 use Rattle.anb_session.specs.Sessions.{end_at}
 use Rattle.anb_session.specs.Turns.{Ends, EndsWaiting, Receives}
-use Rattle.anb_session.proofs.Written.{put_nothing}
 use Rattle.anb_park.specs.declared.body.Head.{Head}
-use Rattle.anb_park.specs.Records.{Parked, marker, body_of, record_of, after, count_takes, HasSizes, play_of, IsWaiting, RefusesBody, AcceptsBody, Accepts}
+use Rattle.anb_park.specs.Records.{Parked, marker, body_of, after, count_takes, HasSizes, play_of, IsWaiting, RefusesBody, AcceptsBody, Accepts}
 use Rattle.anb_park.specs.declared.resuming.ParkNo.{ParkNo}
 use Rattle.anb_park.specs.declared.resuming.ParkNo.TheVariants as cause
 use Rattle.anb_park.specs.declared.live.Live.TheInside.{Inside}
 use Rattle.anb_park.specs.Inside.{live_of}
-use Rattle.anb_park.specs.Lives.{LiveValue, Follows, Stands, IsParked, started, sent_after}
+use Rattle.anb_park.specs.Lives.{LiveValue, Stands, IsParked, started, sent_after}
 use Rattle.anb_park.specs.Going.{AreFrames, HasHead, RunsTo, RunsElsewhere, GoesOnFrom, StandsOn, StandsStill}
 use Rattle.anb_park.proofs.Framed.{all_more, not_so}
-use Rattle.anb_park.proofs.Following.{follows_saying, follows_on, follows_ended}
+use Rattle.anb_park.proofs.Following.{follows_ended}
 
 -- ---- the body
 
@@ -75,14 +76,14 @@ stands_same : (code : CodeValue) (p : Parked) (sent : List (List ℕ)) (old new 
 stands_same code p sent old new body same s = record {
   sizes = s.sizes;
   body = body ∙ s.body;
-  comes = λ more. follows_on (play_of code (after p more)) (gives old.machine more) (gives new.machine more) sent (s.comes more) (same more);
+  comes = λ more. sends_on (play_of code (after p more)) (gives old.machine more) (gives new.machine more) sent (s.comes more) (same more);
 }
 
 pub stands_turning : (code : CodeValue) (p : Parked) (sent : List (List ℕ)) (old new : LiveValue) (t : Turn) → Turned old.machine new.machine t → new.body ≡ old.body → t ≢ turn.NoMemory → Stands code p sent old → Stands code p (sent_after sent t) new
 stands_turning code p sent old new (turn.Message b) turned body some s = record {
   sizes = s.sizes;
   body = body ∙ s.body;
-  comes = λ more. follows_saying (play_of code (after p more)) (gives old.machine more) (gives new.machine more) sent b (s.comes more) (turned.0 more);
+  comes = λ more. sends_saying (play_of code (after p more)) (gives old.machine more) (gives new.machine more) sent b (s.comes more) (turned.0 more);
 }
 stands_turning code p sent old new (turn.Wants e) turned body some s = stands_same code p sent old new body turned.0 s
 stands_turning code p sent old new turn.Done turned body some s = stands_same code p sent old new body turned.0 s
@@ -95,18 +96,15 @@ stands_receiving code p sent old new b fits comes body s = record {
   sizes = record { id = s.sizes.id; seed = s.sizes.seed; session = s.sizes.session; init = s.sizes.init; values = s.sizes.values; arrivals = all_more p.arrivals b s.sizes.arrivals fits };
   body = body ∙ ap (λ t. t ++ frame b) s.body ∙ ap (λ t. body_of p ++ t) (sym (append-nil (frame b))) ∙ body_more p (b ∷ []);
   comes = λ more.
-      subst (λ (q : Parked). Follows (play_of code q) sent (gives new.machine more)) (sym (after_both p (b ∷ []) more))
-      (follows_on (play_of code (after p (b ∷ more))) (gives old.machine (b ∷ more)) (gives new.machine more) sent (s.comes (b ∷ more)) (comes more));
+      subst (λ (q : Parked). SendsFirst (play_of code q) sent (gives new.machine more)) (sym (after_both p (b ∷ []) more))
+      (sends_on (play_of code (after p (b ∷ more))) (gives old.machine (b ∷ more)) (gives new.machine more) sent (s.comes (b ∷ more)) (comes more));
 }
-
-pub recorded : (code : CodeValue) (p : Parked) (sent : List (List ℕ)) (live : LiveValue) (key parked : List ℕ) → parked ≡ sealed One key live.body → Stands code p sent live → parked ≡ record_of key p
-recorded code p sent live key parked is s = is ∙ ap (sealed One key) s.body
 
 -- it waits with nothing before the next arrival
 pub parked_here : (code : CodeValue) (p : Parked) (sent : List (List ℕ)) (live : LiveValue) (event : ℕ) → Stands code p sent live → gives live.machine [] ≡ ends (waiting event) [] → waits live.machine ≡ true → IsParked code p live
 parked_here code p sent live event s waits_now waits_too =
-    let f : Follows (play_of code p) sent (ends (waiting event) []) =
-    subst (λ (q : Parked). Follows (play_of code q) sent (ends (waiting event) [])) (after_nothing p) (follows_on (play_of code (after p [])) (gives live.machine []) (ends (waiting event) []) sent (s.comes []) waits_now) in
+    let f : SendsFirst (play_of code p) sent (ends (waiting event) []) =
+    subst (λ (q : Parked). SendsFirst (play_of code q) sent (ends (waiting event) [])) (after_nothing p) (sends_on (play_of code (after p [])) (gives live.machine []) (ends (waiting event) []) sent (s.comes []) waits_now) in
     let e = follows_ended (play_of code p) sent [] (waiting event) f in
     record {
       stands = subst (λ (l : List (List ℕ)). Stands code p l live) (sym e.0) s;
@@ -114,12 +112,6 @@ parked_here code p sent live event s waits_now waits_too =
       waits = waits_too;
       next = (event, ap turn_of waits_now);
     }
-
-pub accepted_again : (code : CodeValue) (p : Parked) (live : LiveValue) (key parked : List ℕ) → parked ≡ sealed One key live.body → IsParked code p live → Accepts (count_takes code) (IsWaiting code) p.id key parked p
-accepted_again code p live key parked is h = record {
-  whole = recorded code p (play_of code p).sent live key parked is h.stands;
-  body = record { whole = refl; sizes = h.stands.sizes; own = refl; waits = h.waiting };
-}
 
 -- ---- going on from a body
 
@@ -133,9 +125,9 @@ module _ (code : CodeValue) (p : Parked) (first now : MachineValue) (same : (xs 
 
   pub waiting_from : RunsTo first p.arrivals now → IsWaiting code p
   waiting_from r =
-      let f : Follows (gives first p.arrivals) (gives first p.arrivals).sent (ends (waiting r.event) []) =
-      subst (λ l. Follows (gives first l) (gives first p.arrivals).sent (ends (waiting r.event) [])) (append-nil p.arrivals)
-      (follows_on (gives first (p.arrivals ++ [])) (gives now []) (ends (waiting r.event) []) (gives first p.arrivals).sent (r.comes []) r.waiting) in
+      let f : SendsFirst (gives first p.arrivals) (gives first p.arrivals).sent (ends (waiting r.event) []) =
+      subst (λ l. SendsFirst (gives first l) (gives first p.arrivals).sent (ends (waiting r.event) [])) (append-nil p.arrivals)
+      (sends_on (gives first (p.arrivals ++ [])) (gives now []) (ends (waiting r.event) []) (gives first p.arrivals).sent (r.comes []) r.waiting) in
       let e = follows_ended (gives first p.arrivals) (gives first p.arrivals).sent [] (waiting r.event) f in
       (r.event, ap (λ (q : Played (List ℕ)). q.end) (sym (same p.arrivals)) ∙ e.1, ap (λ (q : Played (List ℕ)). q.left) (sym (same p.arrivals)) ∙ e.2)
 
@@ -160,14 +152,6 @@ sizes_of code m head rest bs takes h a is enough = record {
   init = length-take-le takes bs enough ∙ is;
   values = All-take (λ b. length b ≤ ARRIVAL) takes bs a.short;
   arrivals = All-drop (λ b. length b ≤ ARRIVAL) takes bs a.short;
-}
-
-pub parked_from : (code : CodeValue) (id : List ℕ) (p : Parked) (live : LiveValue) → AcceptsBody (count_takes code) (IsWaiting code) id live.body p → GoesOnFrom code p live.machine → IsParked code p live
-parked_from code id p live a g = record {
-  stands = record { sizes = a.sizes; body = a.whole; comes = g.comes };
-  waiting = a.waits;
-  waits = g.waits;
-  next = (g.next.0, ap turn_of g.next.1);
 }
 
 pub accepted : (code : CodeValue) (id key parked m : List ℕ) (p : Parked) → sealed One key m ≡ parked → AcceptsBody (count_takes code) (IsWaiting code) id m p → Accepts (count_takes code) (IsWaiting code) id key parked p

@@ -3,14 +3,14 @@ use Rattle.std.specs.Prelude.{◌≡◌, ◌≢◌, ℕ, ◌≤◌, ◌<◌, ◌
 use Rattle.anb_base.specs.declared.TheConstants.{ARRIVAL}
 use Rattle.anb_frame.specs.Frames.{frames, length_bytes}
 use Rattle.anb_frame.specs.Cuts.{Tail, CutLeft}
-use Rattle.anb_plays.specs.Plays.{waiting, ends}
+use Rattle.anb_plays.specs.Plays.{waiting, ends, SendsFirst}
 use Rattle.anb_code.specs.CodeValue.{CodeValue}
 use Rattle.anb_machine.specs.Machines.{MachineValue, gives, waits}
 use Rattle.anb_session.specs.declared.PlayEnd.{PlayEnd}
 use Rattle.anb_session.specs.declared.PlayEnd.TheVariants.{Waiting}
 use Rattle.anb_park.specs.declared.body.Head.{Head}
 use Rattle.anb_park.specs.Records.{Parked, marker, after, play_of}
-use Rattle.anb_park.specs.Lives.{LiveValue, Follows, Stands, IsParked}
+use Rattle.anb_park.specs.Lives.{LiveValue, Stands, IsParked}
 
 -- the bytes are the frames of these, each of which an arrival could be
 pub record AreFrames (x : List ℕ) (bs : List (List ℕ)) : Type 0 where
@@ -32,7 +32,7 @@ pub record RunsTo (old : MachineValue) (bs : List (List ℕ)) (new : MachineValu
   pub event : ℕ
   pub waiting : gives new [] ≡ ends (waiting event) []
   pub waits : waits new ≡ true
-  pub comes : (more : List (List ℕ)) → Follows (gives old (bs ++ more)) (gives old bs).sent (gives new more)
+  pub comes : (more : List (List ℕ)) → SendsFirst (gives old (bs ++ more)) (gives old bs).sent (gives new more)
 
 -- the run over these doesn't wait, or doesn't use them all
 abbrev pub RunsElsewhere : MachineValue → List (List ℕ) → Type 0
@@ -43,7 +43,7 @@ RunsElsewhere old bs =
 pub record GoesOnFrom (code : CodeValue) (p : Parked) (machine : MachineValue) : Type 0 where
   pub waits : waits machine ≡ true
   pub next : (e : ℕ) × (gives machine [] ≡ ends (waiting e) [])
-  pub comes : (more : List (List ℕ)) → Follows (play_of code (after p more)) (play_of code p).sent (gives machine more)
+  pub comes : (more : List (List ℕ)) → SendsFirst (play_of code (after p more)) (play_of code p).sent (gives machine more)
 
 -- a session moved on by some of what was left
 pub record StandsOn (old new : LiveValue) (left now : Option (List ℕ)) : Type 0 where

@@ -1,6 +1,6 @@
 -- What a session under way stands for.
 use Rattle.std.specs.Prelude.{◌≡◌, ℕ, List, [], ◌∷◌, ◌++◌, true}
-use Rattle.anb_plays.specs.Plays.{Played}
+use Rattle.anb_plays.specs.Plays.{Played, SendsFirst}
 use Rattle.anb_code.specs.CodeValue.{CodeValue}
 use Rattle.anb_machine.specs.Machines.{MachineValue, gives, waits, turn_of}
 use Rattle.anb_machine.specs.declared.turn.Turn.{Turn}
@@ -12,17 +12,13 @@ pub record LiveValue : Type 0 where
   pub machine : MachineValue
   pub body : List ℕ
 
--- what a play gives is these messages, and then what q gives
-abbrev pub Follows : Played (List ℕ) → (sent : List (List ℕ)) → Played (List ℕ) → Type 0
-Follows p sent q = p ≡ record q { sent = sent ++ q.sent }
-
 -- it stands for a session whose first messages, these, were handed out: what it still gives is the
 -- rest of the session's play, whatever else arrives
 pub record Stands (code : CodeValue) (p : Parked) (sent : List (List ℕ)) (live : LiveValue)
     : Type 0 where
   pub sizes : HasSizes (count_takes code) p
   pub body : live.body ≡ body_of p
-  pub comes : (more : List (List ℕ)) → Follows (play_of code (after p more)) sent (gives live.machine more)
+  pub comes : (more : List (List ℕ)) → SendsFirst (play_of code (after p more)) sent (gives live.machine more)
 
 -- it can be parked as this session, which waits: its messages so far were handed out, nothing was
 -- handed in since, and the next turn is that it wants an arrival

@@ -3,6 +3,7 @@ use Rattle.std.proofs.Common.{◌≡◌, ℕ, false, List, [], take, Option, Som
 use Rattle.anb_base.specs.Bytes.{IsBytes}
 use Rattle.anb_base.specs.Moves.{Put}
 use Rattle.anb_base.specs.declared.TheConstants.{ARRIVAL}
+use Rattle.anb_base.proofs.Moving.{put_nothing}
 use Rattle.anb_frame.specs.Frames.{frames}
 use Rattle.anb_frame.specs.Cuts.{Tail, End, Short, Long, Cut}
 use Rattle.anb_plays.specs.Plays as plays
@@ -16,7 +17,7 @@ use Rattle.anb_command.specs.Steps.{Answer, refused, given, HasOneAnswer, IsFail
 use Rattle.anb_command.proofs.Cutting.{bytes_in_cut, bytes_taken}
 use Rattle.anb_command.proofs.Ones.{RefusesQuietly, not_both, same_given, same_refusal}
 use Rattle.anb_command.proofs.Runs.{leaves_once, reads_leaves}
-use Rattle.anb_command.proofs.Written.{faulty, put_nothing}
+use Rattle.anb_command.proofs.Written.{faulty}
 use Rattle.anb_park_commands.specs.Going.{ParksTo}
 use Rattle.anb_park_commands.specs.Parking.{IsOutcome, Outcome, due, record_after, status_at}
 use Rattle.anb_park_commands.specs.Sessions.{RoleSession}

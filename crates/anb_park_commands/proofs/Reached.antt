@@ -2,27 +2,28 @@
 use Rattle.std.proofs.Common.{◌≡◌, ◌⊎◌, ℕ, List, [], ◌++◌, length, Option, Some, refl, ap, sym, ◌∙◌, subst, inl, inr, arith}
 use Rattle.std.proofs.Math.Path.{fun_ext}
 use Rattle.std.specs.Prelude.{IfSome}
+use Rattle.anb_role_commands.specs.Playing.{play_by}
 use Rattle.anb_base.specs.Moves.{Rose, Put, Took}
 use Rattle.anb_base.specs.Wires.{WireState}
 use Rattle.anb_base.specs.declared.TheConstants.{ARRIVAL}
 use Rattle.anb_base.specs.declared.place.Place.{Place}
+use Rattle.anb_base.proofs.Moving.{Rose-later, put_nothing}
 use Rattle.anb_code.specs.CodeValue.{CodeValue}
 use Rattle.anb_frame.specs.Cuts.{Tail, CutLeft}
 use Rattle.anb_frame.specs.Frames.{frames}
 use Rattle.anb_park.specs.Lives.{LiveValue, Stands}
 use Rattle.anb_park.specs.Records.{Parked}
 use Rattle.anb_plays.specs.Runs.{without_place}
-use Rattle.anb_session.specs.Sessions.{IsPrompt, Run, Runs, due_at}
+use Rattle.anb_plays.specs.Plays.{Run}
+use Rattle.anb_session.specs.Sessions.{IsPrompt, Runs, due_at}
 use Rattle.anb_session.specs.declared.PlayEnd.{PlayEnd}
 use Rattle.anb_session.specs.declared.PlayEnd.TheVariants as ends
-use Rattle.anb_session.proofs.Written.{rose_later}
 use Rattle.anb_command.specs.declared.status.Status.{Status}
 use Rattle.anb_command.specs.declared.status.Status.TheVariants as ended
 use Rattle.anb_command.specs.Causes.{HasWireCause}
 use Rattle.anb_command.specs.OverWire.{HasReached, OnlyWrites, StaysReached}
 use Rattle.anb_command.specs.Statuses.{after_reach, phase_of}
-use Rattle.anb_command.proofs.Written.{put_nothing}
-use Rattle.anb_park_commands.specs.Going.{IsKept, ParksOn, ParksTo, Writes, begun, begun_by, ended_so, plays_on}
+use Rattle.anb_park_commands.specs.Going.{IsKept, ParksOn, ParksTo, Writes, begun, ended_so, plays_on}
 use Rattle.anb_park_commands.proofs.Written.{kept_to, parks_to}
 
 -- ---- the end of a session that isn't parked
@@ -61,9 +62,9 @@ module _ (S T U : WireState) (stays : StaysReached S T) (writes : OnlyWrites T U
       }
 
   pub cause_further : (place : Place) (s : Status) → HasWireCause (Some place) T U s → HasWireCause (Some place) S U s
-  cause_further place (ended.Unreached at) cause = (cause.0, rose_later S.reach_faults T.reach_faults U.reach_faults (omega (arith, stays.reach_faults)) cause.1)
-  cause_further place ended.ReadFault cause = rose_later S.read_faults T.read_faults U.read_faults stays.reads cause
-  cause_further place ended.WriteFault cause = rose_later S.write_faults T.write_faults U.write_faults stays.writes cause
+  cause_further place (ended.Unreached at) cause = (cause.0, Rose-later S.reach_faults T.reach_faults U.reach_faults (omega (arith, stays.reach_faults)) cause.1)
+  cause_further place ended.ReadFault cause = Rose-later S.read_faults T.read_faults U.read_faults stays.reads cause
+  cause_further place ended.WriteFault cause = Rose-later S.write_faults T.write_faults U.write_faults stays.writes cause
   cause_further place (ended.FileFault file) cause = cause
   cause_further place (ended.ChildFault role) cause = cause
   cause_further place ended.Usage cause = cause
@@ -115,11 +116,11 @@ kept_after code s place S T reached status kept = subst (λ (l : Option (List �
 -- ---- a new session
 
 module _ (code : CodeValue) (id seed : List ℕ) (initial : List (List ℕ)) (live : LiveValue) (stands : Stands code (begun id seed initial) [] live) where
-  pub same_run : plays_on live ≡ begun_by code initial seed
+  pub same_run : plays_on live ≡ play_by code initial seed
   same_run = fun_ext (λ more. ap without_place (sym (stands.comes more)))
 
-  pub parks_begun : (saved : List (List ℕ) → List ℕ) (S T : WireState) (s : Status) → ParksOn (plays_on live) saved S T s → ParksOn (begun_by code initial seed) saved S T s
+  pub parks_begun : (saved : List (List ℕ) → List ℕ) (S T : WireState) (s : Status) → ParksOn (plays_on live) saved S T s → ParksOn (play_by code initial seed) saved S T s
   parks_begun saved S T s parks = subst (λ (R : Run). ParksOn R saved S T s) same_run parks
 
-  pub prompt_begun : (S T : WireState) → IsPrompt (plays_on live) S T → IsPrompt (begun_by code initial seed) S T
+  pub prompt_begun : (S T : WireState) → IsPrompt (plays_on live) S T → IsPrompt (play_by code initial seed) S T
   prompt_begun S T prompt = subst (λ (R : Run). IsPrompt R S T) same_run prompt

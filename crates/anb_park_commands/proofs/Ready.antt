@@ -2,6 +2,7 @@
 use Rattle.std.proofs.Common.{◌≡◌, ℕ, List, ◌++◌, length, refl, ap, sym, ◌∙◌}
 use Rattle.std.specs.List.{AllByRecursion}
 use Rattle.std.proofs.lemmas.List.{append_cancel_left}
+use Rattle.anb_role_commands.specs.Playing.{play_by}
 use Rattle.anb_base.specs.Bytes.{IsBytes}
 use Rattle.anb_code.specs.CodeValue.{CodeValue}
 use Rattle.anb_park.specs.Lives.{IsParked, LiveValue}
@@ -10,7 +11,7 @@ use Rattle.anb_plays.specs.Plays.{End, Played}
 use Rattle.anb_plays.specs.Runs.{without_place}
 use Rattle.anb_command.specs.Prepared.{IsRunBy}
 use Rattle.anb_command.specs.Steps.{Answer, given}
-use Rattle.anb_park_commands.specs.Going.{HasSession, begun, begun_by, plays_on, saved}
+use Rattle.anb_park_commands.specs.Going.{HasSession, begun, plays_on, saved}
 use Rattle.anb_park_commands.specs.Parking.{record_after}
 use Rattle.anb_park_commands.specs.Records.{RecordIs}
 use Rattle.anb_park_commands.specs.Sessions.{Begins, GoesOn, RoleSession}
@@ -83,7 +84,7 @@ module _ (Prepares : Answer RoleSession → Type 0) (code : CodeValue) (s : Park
 -- ---- where it is begun
 
 pub begins_ready : (Prepares : Answer RoleSession → Type 0) (code : CodeValue) (id seed : List ℕ) (initial : List (List ℕ)) (key : List ℕ) → (has : HasSession Prepares code (begun id seed initial) key)
-    → length initial ≡ count_takes code → IsReady Begins Prepares (begun_by code initial seed) (saved key (begun id seed initial)) (Keeps code (begun id seed initial))
+    → length initial ≡ count_takes code → IsReady Begins Prepares (play_by code initial seed) (saved key (begun id seed initial)) (Keeps code (begun id seed initial))
 begins_ready Prepares code id seed initial key has count = record {
   asked = session Prepares code (begun id seed initial) key has;
   asks = has.asks;

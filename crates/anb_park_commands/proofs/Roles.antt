@@ -4,18 +4,20 @@ use Rattle.std.proofs.lemmas.List.{length-map}
 use Rattle.std.specs.List.{AllByRecursion}
 use Rattle.anb_base.specs.Bytes.{IsBytes, IsBytes-pass, is_bytes-IsBytes}
 use Rattle.anb_base.specs.declared.content.Suite.TheVariants.{One}
+use Rattle.anb_base.proofs.Strings.{bytes_left, bytes_right}
 use Rattle.anb_code.specs.CodeValue.{CodeValue}
 use Rattle.anb_compile.specs.Fitting.{FitsRole}
 use Rattle.anb_compile.specs.Laws.{FittingCodesPlay}
 use Rattle.anb_frame.specs.Frames.{frames, length_bytes}
 use Rattle.anb_park.specs.Records.{IsWaiting, Parked, after, body_of, count_takes, marker, play_of}
-use Rattle.anb_plays.specs.Plays.{End, Played, stopped, waiting, done}
+use Rattle.anb_plays.specs.Plays.{Played, waiting}
 use Rattle.anb_plays.specs.Runs.{no_place, without_place}
+use Rattle.anb_plays.proofs.Runs.{waiting_placeless}
 use Rattle.anb_resolve.specs.Protocols.{ProtocolValue}
 use Rattle.anb_resolve.specs.Texts.{known_by, term_text}
 use Rattle.anb_seal.specs.Laws.{GivesBytes, UnsealsExactly}
 use Rattle.anb_seal.specs.Primitives.{sealed}
-use Rattle.anb_command.proofs.Cutting.{bytes_in_frames, bytes_left, bytes_right}
+use Rattle.anb_command.proofs.Cutting.{bytes_in_frames}
 use Rattle.anb_park_commands.specs.Going.{HaveBytes, RunsRole}
 use Rattle.anb_park_commands.specs.Sessions.{IsPlayOf, WaitsIn}
 
@@ -49,11 +51,6 @@ record_bytes gives exact key bytes m s are is whole =
 
 -- ---- waiting
 
-waits_placed : (x : End) (e : ℕ) → no_place x ≡ waiting e → x ≡ waiting e
-waits_placed (stopped n at) e is = absurd (cc)
-waits_placed (waiting n) e is = is
-waits_placed done e is = absurd (cc)
-
 module _ (p : ProtocolValue) (role : ℕ) (code : CodeValue) (runs : RunsRole p role code) (s : Parked) (count : length s.init ≡ count_takes code) (bytes : HaveBytes s) where
   pub waits_in_play : IsWaiting code s → WaitsIn p role s
   waits_in_play (e, ends, left) = (without_place (play_of code s), (runs.plays s count bytes (without_place (play_of code s))).1 refl, (e, ap no_place ends), left)
@@ -61,4 +58,4 @@ module _ (p : ProtocolValue) (role : ℕ) (code : CodeValue) (runs : RunsRole p 
   pub waits_in_code : WaitsIn p role s → IsWaiting code s
   waits_in_code (play, is, (e, ends), left) =
       let same : play ≡ without_place (play_of code s) = (runs.plays s count bytes play).0 is in
-      (e, waits_placed (play_of code s).end e (ap (λ (q : Played (List ℕ)). q.end) (sym same) ∙ ends), ap (λ (q : Played (List ℕ)). q.left) (sym same) ∙ left)
+      (e, waiting_placeless (play_of code s).end e (ap (λ (q : Played (List ℕ)). q.end) (sym same) ∙ ends), ap (λ (q : Played (List ℕ)). q.left) (sym same) ∙ left)

@@ -5,6 +5,7 @@ use Rattle.std.proofs.lemmas.Grind.{flat_map-append}
 use Rattle.anb_base.specs.Moves.{Put, PutPrefix}
 use Rattle.anb_base.proofs.Joined.{Put-joined}
 use Rattle.anb_base.specs.Wires.{WireState}
+use Rattle.anb_base.proofs.Moving.{put_further, put_within}
 use Rattle.anb_frame.specs.Frames.{frame, frames}
 use Rattle.anb_frame.specs.Cuts.{Tail, End, Short, Long}
 use Rattle.anb_plays.specs.Plays as plays
@@ -13,9 +14,9 @@ use Rattle.anb_plays.specs.Runs.{no_place, without_place}
 use Rattle.anb_session.specs.Sessions.{Reads, Runs, end_at}
 use Rattle.anb_session.specs.declared.PlayEnd.{PlayEnd}
 use Rattle.anb_session.specs.declared.PlayEnd.TheVariants as ends
-use Rattle.anb_session.proofs.Written.{put_further, put_within}
 use Rattle.anb_command.specs.declared.status.Status.{Status}
 use Rattle.anb_command.specs.declared.status.Status.TheVariants as ended
+use Rattle.anb_command.proofs.Runs.{reads_untold}
 use Rattle.anb_park_commands.specs.Going.{ParksTo, Writes, ended_so}
 use Rattle.anb_park_commands.specs.Parking.{due, is_parked, status_at}
 
@@ -35,11 +36,6 @@ module _ (sent : List (List ℕ)) (left : List (List ℕ)) (saved : List ℕ) wh
   ends_so (plays.waiting e) End other = absurd (other e refl)
   ends_so (plays.waiting e) (Short have need) other = (refl, append-nil sent)
   ends_so (plays.waiting e) (Long len) other = (refl, append-nil sent)
-
-reads_untold : (e : plays.End) (arrivals unused : List (List ℕ)) (tail : Tail) (left now : Option (List ℕ)) → Reads e arrivals unused tail left now → Reads (no_place e) arrivals unused tail left now
-reads_untold plays.done arrivals unused tail left now reads = reads
-reads_untold (plays.stopped e at) arrivals unused tail left now reads = reads
-reads_untold (plays.waiting e) arrivals unused tail left now reads = reads
 
 -- the first of some, of those and others behind them
 take_first : (k : ℕ) (xs ys : List (List ℕ)) → (n : ℕ) × (take k xs ≡ take n (xs ++ ys))

@@ -92,9 +92,6 @@ pub record HasSession (Prepares : Answer RoleSession → Type 0) (code : CodeVal
 abbrev pub begun : (id seed : List ℕ) → (initial : List (List ℕ)) → Parked
 begun id seed initial = started id initial seed 0
 
-abbrev pub begun_by : CodeValue → (initial : List (List ℕ)) → (seed : List ℕ) → List (List ℕ) → Played (List ℕ)
-begun_by code initial seed more = without_place (run_bytes code initial seed 0 more)
-
 -- ---- what is written of a session that waits
 
 -- where it is parked, the session waits, with all that arrived

@@ -1,5 +1,6 @@
 //! A new session of a role over a wire.
 ghost use Rattle.std.specs.Prelude.{◌≡◌, ◌≤◌, [], ◌∷◌, length, IfOk, IfErr, Some, true, All};
+ghost use Rattle.anb_role_commands.specs.Playing.{play_by};
 ghost use Rattle.anb_base.specs.declared.TheConstants.{ARRIVAL};
 ghost use Rattle.anb_base.specs.Moves.{Rose};
 ghost use Rattle.anb_code.specs.Taking.{take_texts};
@@ -12,7 +13,7 @@ ghost use Rattle.anb_command.specs.Steps.{IsFailure, refused};
 ghost use Rattle.anb_command.specs.Touches.{Touches};
 ghost use Rattle.anb_command.specs.OverWire.{OverWire};
 ghost use Rattle.anb_session.specs.Sessions.{IsPrompt};
-ghost use Rattle.anb_park_commands.specs.Going.{HasSession, IsKept, ParksOn, begun, begun_by, saved};
+ghost use Rattle.anb_park_commands.specs.Going.{HasSession, IsKept, ParksOn, begun, saved};
 ghost use Rattle.anb_park_commands.specs.ParkCommand.{CompletesPark, DoesPark, IsReadToPark, NewSessionIs};
 
 use crate::going::go_over;
@@ -82,14 +83,14 @@ fn begin_over<W: Wire>(
         ≡ length (take_texts beginning.now.prepared.code.instrs) }
     requires short { All (λ value. length value ≤ ARRIVAL) beginning.now.prepared.initial }
     ensures parks { ParksOn
-        (begun_by beginning.now.prepared.code beginning.now.prepared.initial
+        (play_by beginning.now.prepared.code beginning.now.prepared.initial
         beginning.now.prepared.seed)
         (saved beginning.now.key (begun beginning.now.id beginning.now.prepared.seed
         beginning.now.prepared.initial)) (W.state wire.old) (W.state wire.new) result }
     ensures kept { IsKept beginning.now.prepared.code (begun beginning.now.id
         beginning.now.prepared.seed beginning.now.prepared.initial) (W.state wire.old).left result }
     ensures prompt { IsPrompt
-        (begun_by beginning.now.prepared.code beginning.now.prepared.initial
+        (play_by beginning.now.prepared.code beginning.now.prepared.initial
         beginning.now.prepared.seed) (W.state wire.old) (W.state wire.new) }
     ensures late { phase_of result ≡ before_reach → ⊥ }
     ensures wire { OverWire (place_by endpoint.entry) true result

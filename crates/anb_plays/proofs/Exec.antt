@@ -1,7 +1,7 @@
 -- A run over the values of registers is the code's run.
 use Rattle.std.proofs.Common.{◌≡◌, ℕ, zero, suc, ◌+◌, ◌≤◌, List, [], ◌∷◌, ◌++◌, length, take, Bool, Some, refl, sym, ap, ◌∙◌, subst, inl, inr, ◌⊎◌, arith, length-append}
-use Rattle.std.specs.Prelude.{slice_get}
 use Rattle.std.proofs.lemmas.List.{take_all}
+use Rattle.anb_lemmas.proofs.Lists.{get_last, take_suc_got}
 use Rattle.anb_term.specs.declared.term.Op.{Op}
 use Rattle.anb_term.specs.Lawful.{Lawful}
 use Rattle.anb_term.specs.Value.{Meaning, RecipeTree, label, recipe_trees, values}
@@ -12,11 +12,7 @@ use Rattle.anb_plays.specs.Codes.{Act, takes, draws, receives, sends, works, Wor
 use Rattle.anb_plays.specs.Runs.{run_from}
 use Rattle.anb_plays.specs.Exec.{exec, IsVerified, count_written, NoTakes, HasTakes}
 use Rattle.anb_plays.specs.Statements.{ExecIsRun}
-use Rattle.anb_plays.proofs.Registers.{take_next, values_join, register, Fails, Works, work}
-
-last_is : {A : Type 0} (ys : List A) (y : A) → slice_get (ys ++ y ∷ []) (length ys) ≡ Some y
-last_is [] y = refl
-last_is (z ∷ zs) y = last_is zs y
+use Rattle.anb_plays.proofs.Registers.{values_join, register, Fails, Works, work}
 
 -- the recipes of the first labels
 labels : ℕ → List RecipeTree
@@ -32,7 +28,7 @@ module _ {A : Type 0} (m : Meaning A) (lawful : Lawful m) (draw : ℕ → A) whe
   labelled : (regs : List RecipeTree) (vs table : List A) (x : A) → values m vs (recipe_trees regs) ≡ Some table
       → values m (vs ++ x ∷ []) (recipe_trees (regs ++ label (length vs) ∷ [])) ≡ Some (table ++ x ∷ [])
   labelled regs vs table x e =
-      values_join m (vs ++ x ∷ []) regs (label (length vs) ∷ []) table (x ∷ []) (values_more m vs (x ∷ []) (recipe_trees regs) table e) (rw (last_is vs x) refl)
+      values_join m (vs ++ x ∷ []) regs (label (length vs) ∷ []) table (x ∷ []) (values_more m vs (x ∷ []) (recipe_trees regs) table e) (rw (get_last vs x) refl)
 
   exec_work : (acts : List Act) (w : Work) (regs : List RecipeTree) (vs table : List A) (e at i : ℕ) (arrivals : List A) → values m vs (recipe_trees regs) ≡ Some table
       → IsVerified m.has acts (length table + count_written w)
@@ -69,7 +65,7 @@ module _ {A : Type 0} (m : Meaning A) (lawful : Lawful m) (draw : ℕ → A) whe
   label_values vs zero h = refl
   label_values vs (suc k) h =
       let x = slice_get-there vs k (omega arith) in
-      values_join m vs (labels k) (label k ∷ []) (take k vs) (x.0 ∷ []) (label_values vs k (omega arith)) (rw x.1 refl) ∙ ap Some (sym (take_next vs k x.0 x.1))
+      values_join m vs (labels k) (label k ∷ []) (take k vs) (x.0 ∷ []) (label_values vs k (omega arith)) (rw x.1 refl) ∙ ap Some (sym (take_suc_got vs k x.0 x.1))
 
   begun : (acts : List Act) (k : ℕ) (init : List A) (at : ℕ) (arrivals : List A) → k ≡ length init → IsVerified m.has acts (length init) → NoTakes m.has acts
       → exec m draw acts init 0 at 0 arrivals ≡ run_from m draw acts (labels k) init 0 at 0 arrivals

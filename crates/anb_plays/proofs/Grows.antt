@@ -1,8 +1,8 @@
 -- A run over more arrivals goes on from where it waited, and is the same where it was over.
-use Rattle.std.proofs.Common.{ℕ, ◌+◌, List, [], ◌∷◌, ◌++◌, Bool, true, false, cond, Option, Some, None, refl, ap, inl, inr}
+use Rattle.std.proofs.Common.{ℕ, ◌+◌, List, [], ◌∷◌, ◌++◌, Bool, true, false, cond, Option, Some, None, refl, ap, inl, inr, ◌≡◌, sym, ◌∙◌, append_assoc}
 use Rattle.anb_term.specs.Value.{Meaning, RecipeTree, value}
 use Rattle.anb_term.specs.Demand.{all_hold}
-use Rattle.anb_plays.specs.Plays.{Played, stopped, ends, says}
+use Rattle.anb_plays.specs.Plays.{Played, stopped, ends, says, SendsFirst}
 use Rattle.anb_plays.specs.Codes.{Act, takes, draws, receives, sends, works, at_register, writes, demands}
 use Rattle.anb_plays.specs.Runs.{says_if, run_from}
 use Rattle.anb_plays.specs.Statements.{Grows, RunGrows}
@@ -34,3 +34,11 @@ module _ {A : Type 0} (m : Meaning A) (draw : ℕ → A) (more : List A) where
 
 pub run_grows : {A : Type 0} (m : Meaning A) → RunGrows m
 run_grows m draw code init arrivals more = grows m draw more code [] init 0 0 0 arrivals
+
+pub sends_saying : (p q r : Played (List ℕ)) (sent : List (List ℕ)) (b : List ℕ) → SendsFirst p sent q → q ≡ says b r → SendsFirst p (sent ++ b ∷ []) r
+sends_saying p q r sent b f e =
+    f ∙ ap (λ (x : Played (List ℕ)). record x { sent = sent ++ x.sent }) e
+    ∙ ap (λ (l : List (List ℕ)). record r { sent = l }) (sym (append_assoc sent (b ∷ []) r.sent))
+
+pub sends_on : (p q r : Played (List ℕ)) (sent : List (List ℕ)) → SendsFirst p sent q → q ≡ r → SendsFirst p sent r
+sends_on p q r sent f e = f ∙ ap (λ (x : Played (List ℕ)). record x { sent = sent ++ x.sent }) e

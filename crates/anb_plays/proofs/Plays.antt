@@ -1,5 +1,5 @@
 -- A plan has at most one play.
-use Rattle.std.proofs.Common.{◌≡◌, ℕ, ◌+◌, List, [], ◌∷◌, ◌++◌, sym, ap, ◌∙◌, inl, inr}
+use Rattle.std.proofs.Common.{◌≡◌, ℕ, ◌+◌, List, [], ◌∷◌, ◌++◌, sym, ap, ◌∙◌, inl, inr, refl}
 use Rattle.anb_term.specs.Tree.{Tree}
 use Rattle.anb_term.specs.Value.{Meaning}
 use Rattle.anb_term.specs.Agree.{Gives}
@@ -35,3 +35,10 @@ module _ {A : Type 0} (m : Meaning A) where
   pub plays_are_one : PlaysAreOne m
   plays_are_one draw plan init arrivals p q x y =
       judge_one (known plan) init 0 arrivals p q _ _ (walk_one draw plan (known plan) init 0 0 arrivals p q) x y
+
+pub known-append : (xs ys : List Event) → known (xs ++ ys) ≡ known xs ++ known ys
+known-append [] ys = refl
+known-append (know t ∷ xs) ys = ap (λ l. t ∷ l) (known-append xs ys)
+known-append (fresh t ∷ xs) ys = known-append xs ys
+known-append (send t ∷ xs) ys = known-append xs ys
+known-append (recv t ∷ xs) ys = known-append xs ys

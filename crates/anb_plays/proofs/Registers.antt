@@ -5,24 +5,17 @@ use Rattle.std.specs.List.{AllByRecursion}
 use Rattle.std.proofs.lemmas.Bool.{eq-eqb}
 use Rattle.std.proofs.lemmas.List.{take_all}
 use Rattle.std.proofs.lemmas.List.Elements.{recursion_from_All}
+use Rattle.anb_lemmas.proofs.Lists.{take_suc_got}
 use Rattle.anb_term.specs.declared.term.Op.{Op}
 use Rattle.anb_term.specs.Operator.{arity, keys}
 use Rattle.anb_term.specs.Lawful.{Lawful, picked}
-use Rattle.anb_term.specs.Value.{Meaning, RecipeTree, part, RecipeTrees, recipe_trees, value, values, cons_both}
+use Rattle.anb_term.specs.Value.{Meaning, RecipeTree, part, RecipeTrees, recipe_trees, value, values}
 use Rattle.anb_term.specs.Demand.{opens, equals, holds, all_hold}
-use Rattle.anb_term.proofs.Lists.{slice_get-there}
+use Rattle.anb_term.proofs.Lists.{slice_get-there, cons_of_both}
 use Rattle.anb_term.proofs.Steps.{consed, part_is}
 use Rattle.anb_term.proofs.Values.{counted}
 use Rattle.anb_plays.specs.Codes.{Work, make, undo, equal, at_register, at_registers, parts, writes, demands}
 use Rattle.anb_plays.specs.Exec.{worked, IsReady, count_written}
-
-pub take_next : {A : Type 0} (xs : List A) (n : ℕ) (x : A) → slice_get xs n ≡ Some x → take (suc n) xs ≡ take n xs ++ x ∷ []
-take_next [] n x e = cc
-take_next (y ∷ ys) zero x e = let s : y ≡ x = cc in ap (λ z. z ∷ []) s
-take_next (y ∷ ys) (suc n) x e = ap (λ l. y ∷ l) (take_next ys n x e)
-
-pair : {A : Type 0} (o : Option A) (os : Option (List A)) (x : A) (xs : List A) → o ≡ Some x → os ≡ Some xs → cons_both o os ≡ Some (x ∷ xs)
-pair o os x xs e f = rw (e, f)
 
 one_true : (b c : Bool) → b ≡ c → (b && true) ≡ c
 one_true true c e = e
@@ -34,7 +27,7 @@ module _ {A : Type 0} (m : Meaning A) (vs : List A) where
   values_join (r ∷ rs) qs xs ys e f =
       let c = consed (value m vs r) (values m vs (recipe_trees rs)) xs e in
       let ih = values_join rs qs c.1 ys c.3 f in
-      pair (value m vs r) (values m vs (recipe_trees (rs ++ qs))) c.0 (c.1 ++ ys) c.2 ih ∙ ap (λ l. Some (l ++ ys)) (sym c.4)
+      cons_of_both (value m vs r) (values m vs (recipe_trees (rs ++ qs))) c.0 (c.1 ++ ys) c.2 ih ∙ ap (λ l. Some (l ++ ys)) (sym c.4)
 
   -- a register's recipe has the register's value
   pub register : (regs : List RecipeTree) (table : List A) (n : ℕ) (x : A) → values m vs (recipe_trees regs) ≡ Some table → slice_get table n ≡ Some x → value m vs (at_register regs n) ≡ Some x
@@ -64,7 +57,7 @@ module _ {A : Type 0} (m : Meaning A) (vs : List A) where
       let ih = part_values j o ks r kv qs v (omega arith) ek er h n u in
       let q = slice_get-there qs j (omega arith) in
       let p : value m vs (part o j ks r) ≡ Some q.0 = rw (ek, er) (part_is m o j kv qs v q.0 h n u q.1) in
-      values_join (parts j o ks r) (part o j ks r ∷ []) (take j qs) (q.0 ∷ []) ih (rw p refl) ∙ ap Some (sym (take_next qs j q.0 q.1))
+      values_join (parts j o ks r) (part o j ks r ∷ []) (take j qs) (q.0 ∷ []) ih (rw p refl) ∙ ap Some (sym (take_suc_got qs j q.0 q.1))
 
   -- the demand fails, and nothing is written
   abbrev pub Fails : List RecipeTree → List A → Work → Type 0
@@ -109,3 +102,7 @@ module _ {A : Type 0} (m : Meaning A) (vs : List A) where
         let x = slice_get-there table a ready.0 in
         let y = slice_get-there table b ready.1 in
         equal_case a b x.0 y.0 x.1 y.1 (m.same x.0 y.0) refl
+
+pub length-parts : (n : ℕ) (o : Op) (ks : RecipeTrees) (r : RecipeTree) → length (parts n o ks r) ≡ n
+length-parts zero o ks r = refl
+length-parts (suc n) o ks r = omega (arith, length-append (parts n o ks r) (part o n ks r ∷ []), length-parts n o ks r)

@@ -1,6 +1,7 @@
 -- The run of a code that fits is the plan's play.
 use Rattle.std.proofs.Common.{◌≡◌, ℕ, ◌+◌, List, [], ◌∷◌, ◌++◌, length, Bool, true, false, cond, IsTrue, Option, refl, sym, subst, inl, inr}
 use Rattle.std.proofs.lemmas.List.Elements.{All-from_recursion, recursion_from_All}
+use Rattle.anb_lemmas.proofs.Each.{each_in_both}
 use Rattle.anb_term.specs.Tree.{Tree}
 use Rattle.anb_term.specs.Value.{Meaning, label}
 use Rattle.anb_term.specs.Lawful.{Lawful, AreValues}
@@ -8,13 +9,12 @@ use Rattle.anb_term.specs.Agree.{Agree}
 use Rattle.anb_term.specs.Demand.{all_hold}
 use Rattle.anb_term.specs.Statements.{NewAtomAgrees}
 use Rattle.anb_term.proofs.Values.{Valued}
-use Rattle.anb_term.proofs.Lists.{all_append}
 use Rattle.anb_term.proofs.Frames.{one_more, agree_before}
 use Rattle.anb_term.proofs.Demands.{hold_both, all_hold_more, agree_all_hold}
 use Rattle.anb_plays.specs.Plans.{Event, know, fresh, send, recv, IsFreshAfter}
-use Rattle.anb_plays.specs.Plays.{Played, stopped, ends, Judge, Walk, Play}
+use Rattle.anb_plays.specs.Plays.{Played, stopped, ends, Judge, Walk, Play, End, waiting, done}
 use Rattle.anb_plays.specs.Codes.{Act, takes, draws, receives, sends, works, at_register, demands}
-use Rattle.anb_plays.specs.Runs.{says_if, run_from, run, without_place}
+use Rattle.anb_plays.specs.Runs.{says_if, run_from, run, without_place, no_place}
 use Rattle.anb_plays.specs.Fits.{Place, Along, after_take, after_label, after_work, start, AnySend, AnyWork, AnyBorder, SendsIt, IsSound, IsEnough}
 use Rattle.anb_plays.specs.Statements.{RunsAsPlayed}
 use Rattle.anb_plays.proofs.Growing.{still_agrees, is_given}
@@ -43,7 +43,7 @@ module _ {A : Type 0} (m : Meaning A) (lawful : Lawful m) (new_atom : NewAtomAgr
   walked frame vs e arrivals p W agree (inr a) = absurd (a.0 agree)
 
   more_values : (vs : List A) (x : A) → Valued m vs → IsTrue (m.is_value x) → Valued m (vs ++ x ∷ [])
-  more_values vs x are vx = all_append (λ y. IsTrue (m.is_value y)) vs (x ∷ []) are (vx, tt)
+  more_values vs x are vx = each_in_both (λ y. IsTrue (m.is_value y)) vs (x ∷ []) are (vx, tt)
 
   as_all : (vs : List A) → Valued m vs → AreValues m vs
   as_all vs are = All-from_recursion (λ y. IsTrue (m.is_value y)) vs are
@@ -99,3 +99,8 @@ runs_as_played m lawful new_atom draw code plan init arrivals fits new drawn vi 
     law m lawful new_atom draw drawn code plan (start plan) init 0 0 0 arrivals fits.sends fits.sound fits.enough new long
     (recursion_from_All (λ y. IsTrue (m.is_value y)) init vi) (recursion_from_All (λ y. IsTrue (m.is_value y)) arrivals va) refl in
     (h, λ p q. plays_are_one m draw plan init arrivals p _ q h)
+
+pub waiting_placeless : (x : End) (event : ℕ) → no_place x ≡ waiting event → x ≡ waiting event
+waiting_placeless done event e = cc
+waiting_placeless (stopped k at) event e = cc
+waiting_placeless (waiting k) event e = e

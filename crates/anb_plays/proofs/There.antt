@@ -1,12 +1,12 @@
 -- It can't be that a plan has no play, where what it sends has recipes.
 use Rattle.std.proofs.Common.{ℕ, ◌+◌, List, [], ◌∷◌, ◌++◌, IsTrue, refl, inl, inr}
 use Rattle.std.proofs.lemmas.List.Elements.{All-from_recursion, recursion_from_All}
+use Rattle.anb_lemmas.proofs.Each.{each_in_both}
 use Rattle.anb_term.specs.Tree.{Tree}
 use Rattle.anb_term.specs.Value.{Meaning}
 use Rattle.anb_term.specs.Agree.{Agree}
 use Rattle.anb_term.specs.Statements.{NewAtomAgrees}
 use Rattle.anb_term.proofs.Values.{Valued}
-use Rattle.anb_term.proofs.Lists.{all_append}
 use Rattle.anb_plays.specs.Plans.{Event, know, fresh, send, recv, known, CanSend, IsFreshAfter}
 use Rattle.anb_plays.specs.Plays.{Played, stopped, waiting, done, ends, says, Judge, Walk}
 use Rattle.anb_plays.specs.Statements.{PlaysAreThere}
@@ -19,7 +19,7 @@ module _ {A : Type 0} (m : Meaning A) (new_atom : NewAtomAgrees m) (draw : ℕ �
   judged frame vs e arrivals W f k = k (ends (stopped e 0) arrivals) (inr ((λ a. f a (λ p w. k p (inl (a, w)))), refl))
 
   one_more : (vs : List A) (x : A) → Valued m vs → IsTrue (m.is_value x) → Valued m (vs ++ x ∷ [])
-  one_more vs x are vx = all_append (λ y. IsTrue (m.is_value y)) vs (x ∷ []) are (vx, tt)
+  one_more vs x are vx = each_in_both (λ y. IsTrue (m.is_value y)) vs (x ∷ []) are (vx, tt)
 
   walks : (es : List Event) (frame : List Tree) (vs : List A) (e i : ℕ) (arrivals : List A) → CanSend m.has frame es → IsFreshAfter frame es → Valued m vs → Valued m arrivals
       → Agree m frame vs → ((p : Played A) → Walk m draw es frame vs e i arrivals p → ⊥) → ⊥

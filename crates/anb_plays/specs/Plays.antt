@@ -24,6 +24,14 @@ ends x arrivals = record { sent = []; end = x; left = arrivals }
 abbrev pub says : {A : Type 0} → A → Played A → Played A
 says b p = record p { sent = b ∷ p.sent }
 
+-- what comes of a run over bytes, for whatever arrivals
+abbrev pub Run : Type 0
+Run = List (List ℕ) → Played (List ℕ)
+
+-- it sends these first, and then does what the other does
+abbrev pub SendsFirst : Played (List ℕ) → (sent : List (List ℕ)) → Played (List ℕ) → Type 0
+SendsFirst p sent q = p ≡ record q { sent = sent ++ q.sent }
+
 module _ {A : Type 0} (m : Meaning A) where
   -- where the labels' values agree with their terms it goes on, and where they don't it stops at event e
   abbrev pub Judge : List Tree → List A → ℕ → List A → Played A → Type 0 → Type 0

@@ -1,10 +1,10 @@
 -- What a narration declares of a name.
 use Rattle.std.specs.Prelude.{ℕ, List, [], ◌∷◌, Bool, false, Option, Some, None, ◌||◌, if◌then◌else◌}
 use Rattle.std.specs.Str.{bytes_eq}
+use Rattle.anb_index.specs.Places.{among}
 use Rattle.anb_format.specs.declared.pieces.Piece.{Piece}
 use Rattle.anb_syntax.specs.Grammar.{FormatItem, TypeItem}
 use Rattle.anb_syntax.specs.declared.narration.Sort.{Sort}
-use Rattle.anb_resolve.specs.Names.{among}
 
 -- the sort of a name that stands among the types
 abbrev pub sort_of : List TypeItem → List ℕ → Option Sort

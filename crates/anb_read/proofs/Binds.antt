@@ -1,5 +1,5 @@
 -- Results, case by case.
-use Rattle.std.proofs.Common.{◌≡◌, List, Bool, true, false, Result, Ok, Err, refl, ap, inl, inr, ◌⊎◌, cond}
+use Rattle.std.proofs.Common.{◌≡◌, List, Bool, true, false, Result, Ok, Err, refl, ap, inl, inr, ◌⊎◌}
 use Rattle.std.specs.Prelude.{◌&&◌}
 use Rattle.anb_read.specs.declared.refusal.ReadNo.{ReadNo}
 use Rattle.anb_syntax.specs.Words.{Tok}
@@ -14,11 +14,6 @@ pub bind_err : {A B : Type 0} (r : Result A ReadNo) (f : A → Result B ReadNo) 
 bind_err (Ok x) f y e = inr (x, refl, e)
 bind_err (Err x) f y e = let h : x ≡ y = cc in inl (ap Err h)
 
-pub ands : (a b : Bool) → a ≡ true → b ≡ true → (a && b) ≡ true
-ands true true e f = refl
-ands true false e f = cc
-ands false b e f = cc
-
 -- reading one after the other
 pub again_bind : {A B : Type 0} (fp fq : Bool) (out : Result (A × List Tok) ReadNo) (a : A) (m : List Tok) (k : A × List Tok → Result (B × List Tok) ReadNo) (b : B) (rest : List Tok)
     → Again fp out a m → Again fq (k (a, m)) b rest → Again (fp && fq) (out >>= k) b rest
@@ -26,15 +21,6 @@ again_bind true true out a m k b rest h i = rw h i
 again_bind true false out a m k b rest h i = (i.0, rw h i.1)
 again_bind false fq out a m k b rest h i = (h.0, rw h.1 refl)
 
-pub split : {A : Type 0} (b : Bool) (x y z : A) → cond b x y ≡ z → ((b ≡ true) × (x ≡ z)) ⊎ ((b ≡ false) × (y ≡ z))
-split true x y z e = inl (refl, e)
-split false x y z e = inr (refl, e)
-
 pub bind_same : {A B : Type 0} (r : Result A ReadNo) (f g : A → Result B ReadNo) → ((x : A) → r ≡ Ok x → f x ≡ g x) → (r >>= f) ≡ (r >>= g)
 bind_same (Ok x) f g h = h x refl
 bind_same (Err e) f g h = refl
-
-pub and_parts : (a b : Bool) → (a && b) ≡ true → (a ≡ true) × (b ≡ true)
-and_parts true true e = (refl, refl)
-and_parts true false e = cc
-and_parts false b e = cc

@@ -7,6 +7,7 @@ use Rattle.anb_syntax.specs.Words.{Word, Tok, bad, end, is_letter, is_name_byte,
 use Rattle.anb_syntax.specs.Lexing.{Lexes, LexesHere, begins_with, characters_here, gap_len, is_sign, quoted, token_here}
 use Rattle.anb_syntax.specs.Grammar.{Narration, Written, told}
 use Rattle.anb_syntax.specs.Text.{Text}
+use Rattle.anb_syntax.proofs.Names.{name_long}
 use Rattle.anb_read.specs.declared.refusal.ReadNo.{ReadNo}
 use Rattle.anb_read.specs.Laws.{EachIsEither}
 use Rattle.anb_read.specs.Productions.{narration_at}
@@ -22,12 +23,6 @@ either_has : (test : Bool) (this other : Option (Word × ℕ)) → (test ≡ tru
 either_has true this other one two = one refl
 either_has false this other one two = two
 
-name_byte : (b : ℕ) → is_letter b ≡ true → is_name_byte b ≡ true
-name_byte b letter = rw letter refl
-
-some_letters : (b : ℕ) (x : List ℕ) → is_letter b ≡ true → 0 < prefix_len is_name_byte (b ∷ x)
-some_letters b x letter = rw (name_byte b letter) (omega arith)
-
 quoted_has : (r : Option (List ℕ × ℕ)) → HasBytes (quoted r)
 quoted_has None t e = cc
 quoted_has (Some r) t e = let same : suc r.1 ≡ t.1 = cc in omega (arith, same)
@@ -41,7 +36,7 @@ nothing_has t e = cc
 -- a token has bytes
 token_has : (b : ℕ) (x : List ℕ) → HasBytes (token_here (b ∷ x))
 token_has b x =
-    either_has (is_letter b) (Some (name (take (prefix_len is_name_byte (b ∷ x)) (b ∷ x)), prefix_len is_name_byte (b ∷ x))) _ (λ letter. given_has _ _ (some_letters b x letter))
+    either_has (is_letter b) (Some (name (take (prefix_len is_name_byte (b ∷ x)) (b ∷ x)), prefix_len is_name_byte (b ∷ x))) _ (λ letter. given_has _ _ (name_long b x letter))
     (either_has (b == 34) (quoted (characters_here x)) _ (λ _. quoted_has (characters_here x))
     (either_has (is_sign b) (Some (sign b, 1)) _ (λ _. given_has _ 1 (omega arith))
     (either_has (b == 45 && begins_with 62 x) (Some (sign 45, 2)) None (λ _. given_has _ 2 (omega arith)) nothing_has)))

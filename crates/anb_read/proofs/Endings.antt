@@ -2,6 +2,7 @@
 use Rattle.std.proofs.Common.{◌≡◌, ℕ, List, [], ◌∷◌, ◌++◌, drop, map, ◌+◌, Bool, true, false, Option, Some, None, refl, sym, ap, ◌∙◌, subst, inl, inr, ◌⊎◌, append_assoc}
 use Rattle.std.specs.List.{flat_map, list_all}
 use Rattle.std.proofs.lemmas.List.Folds.{list_all-append}
+use Rattle.std.proofs.lemmas.Bool.{and_parts, and_from}
 use Rattle.anb_base.specs.declared.content.Suite.{Suite}
 use Rattle.anb_format.specs.declared.pieces.Piece.{Piece}
 use Rattle.anb_format.specs.declared.pieces.Piece.TheVariants.{Lit, Field}
@@ -9,7 +10,6 @@ use Rattle.anb_syntax.specs.Words.{Word, name, literal, sign, end, bad, Tok, Beg
 use Rattle.anb_syntax.specs.Lexing.{gap_len, token_here, Lexes, LexesHere}
 use Rattle.anb_syntax.specs.Grammar.{Tree, atom, apply, hash, mac, seal, wrap, Trees, none, more, spell_tree, spell_trees, spell_others, comma_name, spell_names, TypeItem, spell_type, FormatItem, spell_format, piece_word, KnowItem, spell_know, ActionItem, spell_action, Written, spell, spell_suite, spell_formats, spell_knows, spell_ending}
 use Rattle.anb_syntax.specs.Text.{Continues}
-use Rattle.anb_read.proofs.Binds.{ands, and_parts}
 use Rattle.anb_read.proofs.Shallow.{not_none}
 
 -- a word that stands for a token
@@ -24,10 +24,10 @@ record AreTokens (xs : List Word) : Type 0 where
   are : list_all is_token xs ≡ true
 
 joined : (a b : List Word) → AreTokens a → AreTokens b → AreTokens (a ++ b)
-joined a b h k = record { are = list_all-append is_token a b ∙ ands _ _ h.are k.are }
+joined a b h k = record { are = list_all-append is_token a b ∙ and_from _ _ h.are k.are }
 
 before : (x : Word) (xs : List Word) → is_token x ≡ true → AreTokens xs → AreTokens (x ∷ xs)
-before x xs e h = record { are = ands _ _ e h.are }
+before x xs e h = record { are = and_from _ _ e h.are }
 
 nothing : AreTokens []
 nothing = record { are = refl }

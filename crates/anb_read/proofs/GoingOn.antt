@@ -4,6 +4,7 @@ use Rattle.std.specs.Prelude.{nat_lt, not, ◌&&◌}
 use Rattle.std.specs.List.{prefix_len}
 use Rattle.std.proofs.lemmas.List.{take-map, take_more}
 use Rattle.std.proofs.lemmas.List.Sums.{prefix_len-drop_yes, prefix_len-drop_no, prefix_len-drop_all}
+use Rattle.anb_lemmas.proofs.Numbers.{is_below, isnt_below}
 use Rattle.anb_syntax.specs.Words.{Word, Tok, head, Begins}
 use Rattle.anb_syntax.specs.Lexing.{Lexes}
 use Rattle.anb_syntax.specs.Grammar.{Written, spell}
@@ -49,9 +50,6 @@ module _ {X : Type 0} (P : X → Type 0) where
 not_earlier : (n : ℕ) → nat_lt n n ≡ false
 not_earlier n = search rules
 
-earlier_is : (m n : ℕ) → m < n → nat_lt m n ≡ true
-earlier_is m n h = search (rules, h)
-
 module _ (x : List ℕ) (all : List Tok) (l : Lexes 0 x all) where
   counts : (pre : List Word) (ts : List Tok) (front : List Word) (next : Tok) (others : List Tok) → Begins all pre ts → Begins ts front (next ∷ others) → prefix_len (is_earlier next.at) ts ≡ length front
   counts pre ts [] next others g h = rw (h, not_earlier next.at) refl
@@ -59,7 +57,7 @@ module _ (x : List ℕ) (all : List Tok) (l : Lexes 0 x all) where
   counts pre (t ∷ ts) (y ∷ front) next others g h =
       let lt = increasing 0 x all pre (pre ++ y ∷ front) t next ts others l g (begins_joined all pre (y ∷ front) (t ∷ ts) (next ∷ others) g h) (omega (arith, length-append pre (y ∷ front))) in
       let e = counts (pre ++ y ∷ []) ts front next others (begins_joined all pre (y ∷ []) (t ∷ ts) ts g (h.0, refl)) h.1 in
-      rw (earlier_is t.at next.at lt) (omega (arith, e))
+      rw (is_below t.at next.at lt) (omega (arith, e))
 
 cut : (ts : List Tok) (front : List Word) (rest z : List Tok) → Begins ts front rest → Begins (take (length front) ts ++ z) front z
 cut ts [] rest z g = refl
@@ -83,16 +81,13 @@ same_count text at (p ∷ ps) = rw (same_at text p, same_count text at ps) refl
 pub counted : (at : ℕ) (ps : List Place) (n : ℕ) (d : Place) (m : ℕ) → n < length ps → m ≡ (tok_of [] (get_or ps n d)).at → m < at → prefix_len (begins_before at) ps ≡ n + prefix_len (begins_before at) (drop n ps)
     → prefix_len (begins_before at) ps ≡ n + 1 + prefix_len (begins_before at) (drop (n + 1) ps)
 counted at ps n d m within is lt h =
-    let e = prefix_len-drop_yes (begins_before at) ps n d within (rw (← is) (earlier_is m at lt)) in
+    let e = prefix_len-drop_yes (begins_before at) ps n d within (rw (← is) (is_below m at lt)) in
     omega (arith, h, e)
-
-not_less : (m n : ℕ) → n ≤ m → nat_lt m n ≡ false
-not_less m n h = search (rules, h)
 
 pub stopped : (at : ℕ) (ps : List Place) (n : ℕ) (d : Place) (m : ℕ) → n < length ps → m ≡ (tok_of [] (get_or ps n d)).at → at ≤ m → prefix_len (begins_before at) ps ≡ n + prefix_len (begins_before at) (drop n ps)
     → prefix_len (begins_before at) ps ≡ n
 stopped at ps n d m within is le h =
-    let e = prefix_len-drop_no (begins_before at) ps n d within (rw (← is) (not_less m at le)) in
+    let e = prefix_len-drop_no (begins_before at) ps n d within (rw (← is) (isnt_below m at le)) in
     omega (arith, h, e)
 
 pub all_passed : (at : ℕ) (ps : List Place) (n : ℕ) → length ps ≤ n → prefix_len (begins_before at) ps ≡ n + prefix_len (begins_before at) (drop n ps) → prefix_len (begins_before at) ps ≡ n
@@ -299,12 +294,12 @@ module _ (x : List ℕ) (at : ℕ) (front other : List Word) (b : IsBefore x at 
   one_front =
       let P : List Tok → Type 0 = λ us. Begins us other (c.next ∷ c.others) in
       let begins = subst P (lexes_once 0 x c.tokens b.tokens c.lexes b.lexes) c.begins in
-      let not_less : (length front < length other) → ⊥ = λ lt. omega (arith, b.stands, c.stands, increasing 0 x b.tokens front other b.next c.next b.others c.others b.lexes b.begins begins lt) in
+      let isnt_below : (length front < length other) → ⊥ = λ lt. omega (arith, b.stands, c.stands, increasing 0 x b.tokens front other b.next c.next b.others c.others b.lexes b.begins begins lt) in
       let not_more : (length other < length front) → ⊥ = λ lt. omega (arith, b.stands, c.stands, increasing 0 x b.tokens other front c.next b.next c.others b.others b.lexes begins b.begins lt) in
       elim (compared (length front) (length other)) [
         | inl le ↦ elim (compared (length other) (length front)) [
           | inl ge ↦ (same_cut front other b.tokens (b.next ∷ b.others) (c.next ∷ c.others) b.begins begins (omega arith)).0
-          | inr lt ↦ absurd (not_less lt)
+          | inr lt ↦ absurd (isnt_below lt)
         ]
         | inr lt ↦ absurd (not_more lt)
       ]

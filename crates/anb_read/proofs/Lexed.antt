@@ -9,6 +9,7 @@ use Rattle.anb_syntax.specs.declared.tokens.Token.{Token}
 use Rattle.anb_syntax.specs.declared.tokens.TokenKind.{TokenKind}
 use Rattle.anb_syntax.specs.declared.tokens.TokenKind.TheVariants as kinds
 use Rattle.anb_syntax.specs.declared.tokens.Next.TheVariants as next
+use Rattle.anb_syntax.proofs.Relexed.{here_some, here_end}
 use Rattle.anb_read.specs.Places.{kind_of, found, tok_of, toks}
 use Rattle.anb_read.specs.declared.places.Place.{Place}
 use Rattle.anb_read.specs.declared.places.Place.TheVariants as places
@@ -24,16 +25,6 @@ same_word kinds.Open n x e = refl
 same_word kinds.Close n x e = refl
 same_word kinds.Equals n x e = refl
 same_word kinds.Arrow n x e = refl
-
-here_some : (Others : ℕ → Type 0) (last : Type 0) (x : List ℕ) (o : Option (Word × ℕ)) (w : Word) (t : Word × ℕ) → o ≡ Some t → w ≡ t.0 → Others t.1 → LexesHere Others last x o w
-here_some Others last [] None w t e h k = cc
-here_some Others last (b ∷ x) None w t e h k = cc
-here_some Others last [] (Some u) w t e h k = let s : t ≡ u = cc in (h ∙ ap (λ (v : Word × ℕ). v.0) s, subst (λ (v : Word × ℕ). Others v.1) s k)
-here_some Others last (b ∷ x) (Some u) w t e h k = let s : t ≡ u = cc in (h ∙ ap (λ (v : Word × ℕ). v.0) s, subst (λ (v : Word × ℕ). Others v.1) s k)
-
-here_end : (Others : ℕ → Type 0) (last : Type 0) (x : List ℕ) (w : Word) → x ≡ [] → w ≡ end → last → LexesHere Others last x (token_here x) w
-here_end Others last [] w e h k = (h, k)
-here_end Others last (b ∷ x) w e h k = cc
 
 here_bad : (Others : ℕ → Type 0) (last : Type 0) (x : List ℕ) (o : Option (Word × ℕ)) (w : Word) → 0 < length x → o ≡ None → w ≡ bad → last → LexesHere Others last x o w
 here_bad Others last [] o w lt e h k = absurd (omega arith)

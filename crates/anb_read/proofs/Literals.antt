@@ -1,16 +1,10 @@
 -- The literal at an offset, and names as texts.
-use Rattle.std.proofs.Common.{◌≡◌, ℕ, zero, suc, ◌+◌, ◌<◌, List, [], ◌∷◌, drop, true, Option, Some, None, refl, sym, ap, ◌∙◌, arith}
-use Rattle.std.specs.Prelude.{not}
-use Rattle.std.specs.List.{list_all, list_any}
-use Rattle.std.specs.Str.{IsAscii, IsUtf8, bytes_eq}
-use Rattle.std.proofs.lemmas.Str.{IsUtf8-from_ascii}
-use Rattle.std.proofs.lemmas.Bool.Decides.{nat_tests}
+use Rattle.std.proofs.Common.{◌≡◌, ℕ, ◌+◌, List, [], drop, Option, Some, None, refl, sym, ap, ◌∙◌, arith}
 use Rattle.anb_format.specs.Literals.{IsLiteralAt}
-use Rattle.anb_syntax.specs.Words.{Word, name, literal, sign, end, bad, is_name_byte, is_letter, is_spelled, is_name, reserved_words}
+use Rattle.anb_syntax.specs.Words.{Word, name, literal, sign, end, bad}
 use Rattle.anb_syntax.specs.Lexing.{token_here}
 use Rattle.anb_syntax.proofs.LiteralTokens.{literal_read, literal_tokens}
 use Rattle.anb_read.specs.Places.{literal_of, found, literal_here}
-use Rattle.anb_read.proofs.Binds.{and_parts}
 
 pub literal_is : (x bytes : List ℕ) (at n : ℕ) → IsLiteralAt x at bytes n → bytes ≡ literal_here (drop at x)
 literal_is x bytes at n h = sym (ap (λ y. found (token_here y)) h.stands ∙ ap found (literal_read h.spelling bytes h.rest h.is))

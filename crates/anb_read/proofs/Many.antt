@@ -3,12 +3,14 @@ use Rattle.std.proofs.Common.{◌≡◌, ℕ, zero, suc, ◌+◌, ◌≤◌, ◌
 use Rattle.std.specs.Prelude.{◌&&◌, not}
 use Rattle.std.proofs.lemmas.List.{append-nil}
 use Rattle.std.specs.List.{flat_map, list_all, AllByRecursion}
+use Rattle.std.proofs.lemmas.Bool.{and_parts, not-true, not_from_false, and_from}
+use Rattle.anb_lemmas.proofs.Options.{side_taken}
 use Rattle.anb_read.specs.declared.refusal.ReadNo.{ReadNo}
 use Rattle.anb_syntax.specs.Words.{Word, bad, Tok, head, Begins}
 use Rattle.anb_read.specs.Productions.{◌>>=◌, many, many_within}
 use Rattle.anb_read.proofs.Readers.{opens, closes, Refuses, Again, IsRead, Reads}
 use Rattle.anb_read.proofs.Begins.{begins_joined, begins_split, heads}
-use Rattle.anb_read.proofs.Binds.{bind_ok, bind_err, bind_same, ands, and_parts, again_bind, split}
+use Rattle.anb_read.proofs.Binds.{bind_ok, bind_err, bind_same, again_bind}
 use Rattle.anb_read.proofs.Shallow.{opens_joined, closes_joined, shallow_none, shallow_joined}
 use Rattle.anb_read.proofs.Then.{deeper_behind}
 
@@ -21,14 +23,6 @@ module _ {A : Type 0} (starts : Word → Bool) (t : A → Word → Bool) where
   abbrev pub stops_many : List A → Word → Bool
   stops_many [] x = not (starts x)
   stops_many (a ∷ rest) x = stops_after a rest x
-
-not_true : (b : Bool) → b ≡ false → not b ≡ true
-not_true true e = cc
-not_true false e = refl
-
-true_not : (b : Bool) → not b ≡ true → b ≡ false
-true_not true e = cc
-true_not false e = refl
 
 abbrev pub cons_to : {A : Type 0} → A → List A × List Tok → Result (List A × List Tok) ReadNo
 cons_to a y = Ok (a ∷ y.0, y.1)
@@ -85,25 +79,25 @@ module _ {A : Type 0} (l : ℕ) (starts : Word → Bool) (p : List Tok → Resul
   stops_before a (b ∷ vs) m rest i js g e = let d = begins_split m (s b) (ss vs) rest g in (goes_on a (head m) i (on b m d.0 js.0 d.1), e)
 
   stops_with : (a : A) (vs : List A) (m rest : List Tok) → Begins m (ss vs) rest → t a (head m) ≡ true → ts vs (head rest) ≡ true → ts (a ∷ vs) (head rest) ≡ true
-  stops_with a [] m rest g e h = ands _ _ (ap (λ (u : List Tok). t a (head u)) (sym g) ∙ e) h
+  stops_with a [] m rest g e h = and_from _ _ (ap (λ (u : List Tok). t a (head u)) (sym g) ∙ e) h
   stops_with a (b ∷ vs) m rest g e h = h
 
   ended : (w : List Tok) (vs : List A) (rest : List Tok) → starts (head w) ≡ false → none_at A w ≡ Ok (vs, rest) → IsRead l l (many starts p) Vs (list_all f) ss ts w vs rest
   ended w vs rest c e =
       let P : List A × List Tok → Type 0 = λ y. IsRead l l (many starts p) Vs (list_all f) ss ts w y.0 y.1 in
       let i : ([], w) ≡ (vs, rest) = cc in
-      subst P i (record { valid = tt; fit = refl; begins = refl; stop = not_true _ c; shallow = shallow_none l })
+      subst P i (record { valid = tt; fit = refl; begins = refl; stop = not_from_false _ c; shallow = shallow_none l })
 
   cons_read : (w : List Tok) (a : A) (m : List Tok) (others : List A) (r : List Tok) (vs : List A) (rest : List Tok) → IsRead l l p V f s t w a m → IsRead l l (many starts p) Vs (list_all f) ss ts m others r
       → cons_to a (others, r) ≡ Ok (vs, rest) → IsRead l l (many starts p) Vs (list_all f) ss ts w vs rest
   cons_read w a m others r vs rest i j e =
       let P : List A × List Tok → Type 0 = λ y. IsRead l l (many starts p) Vs (list_all f) ss ts w y.0 y.1 in
       let h : (a ∷ others, r) ≡ (vs, rest) = cc in
-      subst P h (record { valid = (i.valid, j.valid); fit = ands _ _ i.fit j.fit; begins = begins_joined w (s a) (ss others) m r i.begins j.begins; stop = stops_with a others m r j.begins i.stop j.stop; shallow = shallow_joined l l (s a) (ss others) (hp.balanced a i.valid) i.shallow j.shallow })
+      subst P h (record { valid = (i.valid, j.valid); fit = and_from _ _ i.fit j.fit; begins = begins_joined w (s a) (ss others) m r i.begins j.begins; stop = stops_with a others m r j.begins i.stop j.stop; shallow = shallow_joined l l (s a) (ss others) (hp.balanced a i.valid) i.shallow j.shallow })
 
   many_sound : (k : ℕ) (w : List Tok) (vs : List A) (rest : List Tok) → length w < k → many starts p w ≡ Ok (vs, rest) → IsRead l l (many starts p) Vs (list_all f) ss ts w vs rest
   many_sound zero w vs rest b e = absurd (omega arith)
-  many_sound (suc k) w vs rest b e = elim (split (starts (head w)) (p w >>= λ x. many starts p x.1 >>= cons_to x.0) (Ok ([], w)) (Ok (vs, rest)) (sym (many_step w) ∙ e)) [
+  many_sound (suc k) w vs rest b e = elim (side_taken (starts (head w)) (p w >>= λ x. many starts p x.1 >>= cons_to x.0) (Ok ([], w)) (Ok (vs, rest)) (sym (many_step w) ∙ e)) [
     | inl c ↦
         let x = bind_ok (p w) (λ x. many starts p x.1 >>= cons_to x.0) (vs, rest) c.1 in
         let y = bind_ok (many starts p x.0.1) (cons_to x.0.0) (vs, rest) x.2 in
@@ -118,7 +112,7 @@ module _ {A : Type 0} (l : ℕ) (starts : Word → Bool) (p : List Tok → Resul
 
   many_again : (vs : List A) (w rest : List Tok) → Vs vs → Begins w (ss vs) rest → ts vs (head rest) ≡ true → Again (list_all f vs) (many starts p w) vs rest
   many_again [] w rest i g e =
-      let c : starts (head w) ≡ false = ap (λ (u : List Tok). starts (head u)) g ∙ true_not _ e in
+      let c : starts (head w) ≡ false = ap (λ (u : List Tok). starts (head u)) g ∙ not-true _ e in
       many_step w ∙ rw c (ap (λ (u : List Tok). Ok ([], u)) g)
   many_again (a ∷ vs) w rest i g e =
       let d = begins_split w (s a) (ss vs) rest g in
@@ -169,7 +163,7 @@ module _ {A : Type 0} (l : ℕ) (starts : Word → Bool) (p : List Tok → Resul
 
   many_refused : (k : ℕ) (w : List Tok) (y : ReadNo) → length w < k → many starts p w ≡ Err y → Refuses l (many starts p) Vs ss w y
   many_refused zero w y b e = absurd (omega arith)
-  many_refused (suc k) w y b e = elim (split (starts (head w)) (p w >>= λ x. many starts p x.1 >>= cons_to x.0) (Ok ([], w)) (Err y) (sym (many_step w) ∙ e)) [
+  many_refused (suc k) w y b e = elim (side_taken (starts (head w)) (p w >>= λ x. many starts p x.1 >>= cons_to x.0) (Ok ([], w)) (Err y) (sym (many_step w) ∙ e)) [
     | inl c ↦ elim (bind_err (p w) (λ x. many starts p x.1 >>= cons_to x.0) y c.1) [
       | inl h ↦ refused_item w y c.0 (hp.refused w y h)
       | inr x ↦ elim (bind_err (many starts p x.0.1) (cons_to x.0.0) y x.2) [

@@ -1,31 +1,26 @@
 -- Later tokens begin at larger offsets.
-use Rattle.std.proofs.Common.{◌≡◌, ℕ, suc, ◌+◌, ◌<◌, ◌≤◌, List, [], ◌∷◌, length, drop, true, Option, Some, None, refl, sym, ap, subst, arith, inl, inr, cond, take}
+use Rattle.std.proofs.Common.{◌≡◌, ℕ, suc, ◌+◌, ◌<◌, ◌≤◌, List, [], ◌∷◌, length, drop, Option, Some, None, refl, sym, ap, subst, arith, inl, inr, cond, take}
 use Rattle.std.specs.Prelude.{◌==◌, ◌&&◌}
 use Rattle.std.specs.List.{prefix_len}
+use Rattle.anb_lemmas.proofs.Options.{side_taken}
 use Rattle.anb_syntax.specs.Words.{Word, name, literal, sign, Tok, Begins, is_letter, is_name_byte}
 use Rattle.anb_syntax.specs.Lexing.{gap_len, token_here, quoted, characters_here, is_sign, begins_with, Lexes, LexesHere}
-use Rattle.anb_read.proofs.Binds.{split}
-
-letters_are : (b : ℕ) → is_letter b ≡ true → is_name_byte b ≡ true
-letters_are b e = rw e refl
+use Rattle.anb_syntax.proofs.Names.{name_long}
 
 quoted_long : (o : Option (List ℕ × ℕ)) (t : Word × ℕ) → quoted o ≡ Some t → 0 < t.1
 quoted_long None t e = cc (e)
 quoted_long (Some r) t e = let s : (literal r.0, suc r.1) ≡ t = cc (e) in let h : suc r.1 ≡ t.1 = ap (λ (u : Word × ℕ). u.1) s in omega arith
 
-name_long : (b : ℕ) (x : List ℕ) → is_letter b ≡ true → 0 < prefix_len is_name_byte (b ∷ x)
-name_long b x e = rw (letters_are b e) (omega arith)
-
 -- a token isn't empty
 pub token_long : (x : List ℕ) (t : Word × ℕ) → token_here x ≡ Some t → 0 < t.1
 token_long [] t e = cc (e)
-token_long (b ∷ x) t e = elim (split (is_letter b) (Some (name (take (prefix_len is_name_byte (b ∷ x)) (b ∷ x)), prefix_len is_name_byte (b ∷ x))) (others b x) (Some t) e) [
+token_long (b ∷ x) t e = elim (side_taken (is_letter b) (Some (name (take (prefix_len is_name_byte (b ∷ x)) (b ∷ x)), prefix_len is_name_byte (b ∷ x))) (others b x) (Some t) e) [
   | inl c ↦ let s : (name (take (prefix_len is_name_byte (b ∷ x)) (b ∷ x)), prefix_len is_name_byte (b ∷ x)) ≡ t = cc (c.1) in subst (λ (u : Word × ℕ). 0 < u.1) s (name_long b x c.0)
-  | inr c ↦ elim (split (b == 34) (quoted (characters_here x)) (signs b x) (Some t) c.1) [
+  | inr c ↦ elim (side_taken (b == 34) (quoted (characters_here x)) (signs b x) (Some t) c.1) [
     | inl d ↦ quoted_long (characters_here x) t d.1
-    | inr d ↦ elim (split (is_sign b) (Some (sign b, 1)) (arrows b x) (Some t) d.1) [
+    | inr d ↦ elim (side_taken (is_sign b) (Some (sign b, 1)) (arrows b x) (Some t) d.1) [
       | inl f ↦ let s : (sign b, 1) ≡ t = cc (f.1) in subst (λ (u : Word × ℕ). 0 < u.1) s (omega arith)
-      | inr f ↦ elim (split (b == 45 && begins_with 62 x) (Some (sign 45, 2)) None (Some t) f.1) [
+      | inr f ↦ elim (side_taken (b == 45 && begins_with 62 x) (Some (sign 45, 2)) None (Some t) f.1) [
         | inl g ↦ let s : (sign 45, 2) ≡ t = cc (g.1) in subst (λ (u : Word × ℕ). 0 < u.1) s (omega arith)
         | inr g ↦ cc (g.1)
       ]

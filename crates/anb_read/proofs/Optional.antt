@@ -1,6 +1,7 @@
 -- A reader under a function, and a part that may be left out.
 use Rattle.std.proofs.Common.{◌≡◌, ℕ, ◌+◌, List, [], Bool, true, false, Option, Some, None, Result, Ok, Err, refl, sym, ap, ◌∙◌, subst, inl, inr, ◌⊎◌}
 use Rattle.std.specs.Prelude.{not}
+use Rattle.std.proofs.lemmas.Bool.{not-true, not_from_false}
 use Rattle.anb_read.specs.declared.refusal.ReadNo.{ReadNo}
 use Rattle.anb_syntax.specs.Words.{Word, Tok, head, Begins}
 use Rattle.anb_read.specs.Productions.{◌>>=◌, put, optional}
@@ -70,14 +71,6 @@ module _ {A B : Type 0} (l m : ℕ) (p : List Tok → Result (A × List Tok) Rea
     some = g hp.some;
     is_valid = to hp.some hp.is_valid;
   }
-
-not_on : (b : Bool) → b ≡ false → not b ≡ true
-not_on true e = cc
-not_on false e = refl
-
-on_not : (b : Bool) → not b ≡ true → b ≡ false
-on_not true e = cc
-on_not false e = refl
 
 -- a part that a word begins, or nothing
 abbrev pub IsMaybe : {A : Type 0} → (A → Type 0) → Option A → Type 0
@@ -152,8 +145,8 @@ module _ {A : Type 0} (l : ℕ) (p : List Tok → Result (A × List Tok) ReadNo)
   reads_optional = reads_as _ _ _ _ _ _ _ _ _ _ _
       (reads_either l l test (λ w. p w >>= put Some) (nothing_at (Option A) None) (IsThere V) (λ o. o ≡ None) (maybe_fits f) (maybe_words s) (there_stops t) always (maybe_stops t test) reads_there reads_left_out
       (λ o w rest v c g e. sym (there_same o (head rest) v) ∙ e)
-      (λ o w rest v c g e. out_stops o (head rest) v ∙ not_on _ (ap (λ (u : List Tok). test (head u)) (sym (stays o w rest v g)) ∙ c))
+      (λ o w rest v c g e. out_stops o (head rest) v ∙ not_from_false _ (ap (λ (u : List Tok). test (head u)) (sym (stays o w rest v g)) ∙ c))
       (λ o x v e. there_same o x v ∙ e) (λ o x v e. refl)
       (λ o w rest v g e. there_on o w rest v g)
-      (λ o w rest v g e. ap (λ (u : List Tok). test (head u)) (stays o w rest v g) ∙ on_not _ (sym (out_stops o (head rest) v) ∙ e)))
+      (λ o w rest v g e. ap (λ (u : List Tok). test (head u)) (stays o w rest v g) ∙ not-true _ (sym (out_stops o (head rest) v) ∙ e)))
       all_maybe maybe_all (λ o v. refl) (λ o v. refl) (λ o x v. refl)

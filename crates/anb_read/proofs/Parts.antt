@@ -1,12 +1,12 @@
 -- Readers of one token, of nothing, and by a first word.
 use Rattle.std.proofs.Common.{◌≡◌, ℕ, ◌+◌, ◌<◌, List, [], ◌∷◌, Bool, true, false, Option, Some, None, Result, Ok, Err, refl, sym, ap, ◌∙◌, subst, inl, inr, ◌⊎◌, arith, cond}
+use Rattle.anb_lemmas.proofs.Options.{side_taken}
 use Rattle.anb_read.specs.declared.refusal.ReadNo.{ReadNo}
 use Rattle.anb_syntax.specs.Words.{Word, bad, Tok, head, tail, Begins}
 use Rattle.anb_read.specs.Productions.{fault, begins_term, taken, one}
 use Rattle.anb_read.proofs.Readers.{opens, closes, Shallow, Refuses, Again, IsRead, Reads}
 use Rattle.anb_read.proofs.Begins.{heads}
 use Rattle.anb_read.proofs.Shallow.{shallow_none, shallow_one}
-use Rattle.anb_read.proofs.Binds.{split}
 
 -- nothing stops it
 abbrev pub always : {A : Type 0} → A → Word → Bool
@@ -154,7 +154,7 @@ module _ {A : Type 0} (l m : ℕ) (test : Word → Bool) (p q : List Tok → Res
 
   pub reads_either : Reads l m either E f s stop
   reads_either = record {
-    sound = λ w v rest e. elim (split (test (head w)) (p w) (q w) (Ok (v, rest)) e) [
+    sound = λ w v rest e. elim (side_taken (test (head w)) (p w) (q w) (Ok (v, rest)) e) [
       | inl c ↦ let i = hp.sound w v rest c.1 in record { valid = inl i.valid; fit = i.fit; begins = i.begins; stop = stop_p v w rest i.valid c.0 i.begins i.stop; shallow = i.shallow }
       | inr c ↦ let i = hq.sound w v rest c.1 in record { valid = inr i.valid; fit = i.fit; begins = i.begins; stop = stop_q v w rest i.valid c.0 i.begins i.stop; shallow = i.shallow }
     ];
@@ -162,7 +162,7 @@ module _ {A : Type 0} (l m : ℕ) (test : Word → Bool) (p q : List Tok → Res
       | inl k ↦ rw (on v w rest k b e) (hp.again w v rest k b (back_p v (head rest) k e))
       | inr k ↦ rw (off v w rest k b e) (hq.again w v rest k b (back_q v (head rest) k e))
     ];
-    refused = λ w y e. elim (split (test (head w)) (p w) (q w) (Err y) e) [
+    refused = λ w y e. elim (side_taken (test (head w)) (p w) (q w) (Err y) e) [
       | inl c ↦ let k = hp.refused w y c.1 in record {
         front = k.front;
         rest = k.rest;

@@ -1,8 +1,10 @@
 -- The readers of one token, and readers in a row.
 use Rattle.std.proofs.Common.{◌≡◌, ℕ, ◌+◌, ◌<◌, List, [], ◌∷◌, ◌++◌, Bool, true, false, Option, Some, None, Result, refl, sym, ap, ◌∙◌, subst, inl, inr, cond}
-use Rattle.std.specs.Prelude.{◌&&◌, ◌==◌}
+use Rattle.std.specs.Prelude.{◌&&◌}
 use Rattle.std.specs.Str.{bytes_eq}
 use Rattle.std.proofs.lemmas.Bool.{eqb-true, eq-eqb}
+use Rattle.anb_lemmas.proofs.Options.{side_taken}
+use Rattle.anb_lemmas.proofs.Items.{bytes_eq-same, bytes_are_one}
 use Rattle.anb_base.specs.Bytes.{IsBytes, is_bytes, IsBytes-pass, is_bytes-IsBytes}
 use Rattle.anb_base.specs.declared.content.Suite.{Suite}
 use Rattle.anb_base.specs.declared.content.Suite.TheVariants.{One, Two}
@@ -10,37 +12,28 @@ use Rattle.anb_format.specs.declared.pieces.Piece.{Piece}
 use Rattle.anb_format.specs.declared.pieces.Piece.TheVariants.{Lit, Field}
 use Rattle.anb_format.specs.declared.pieces.FieldKind.{FieldKind}
 use Rattle.anb_format.specs.declared.pieces.FieldKind.TheVariants.{Len, Net, Hex, Rest}
+use Rattle.anb_format.specs.Formats.{IsBytesPiece}
 use Rattle.anb_syntax.specs.declared.narration.Sort.{Sort}
 use Rattle.anb_syntax.specs.declared.narration.Sort.TheVariants.{Agent, Number, Key}
 use Rattle.anb_read.specs.declared.refusal.ReadNo.{ReadNo}
 use Rattle.anb_syntax.specs.Words.{Word, name, literal, sign, end, bad, Tok, head, Begins, word_eqb, is_name, sort_word, hash_name, kind_word, kind_of_word}
-use Rattle.anb_syntax.specs.Grammar.{IsName, IsPiece, piece_word}
+use Rattle.anb_syntax.specs.Grammar.{IsName, piece_word}
+use Rattle.anb_syntax.proofs.Names.{kind_again}
 use Rattle.anb_read.specs.Productions.{◌>>=◌, this_word, word_name, word_sort, word_suite, word_piece, field, expect, name_at, sort_at, suite_at, piece_at, begins_term}
 use Rattle.anb_read.proofs.Readers.{opens, closes, Reads}
-use Rattle.anb_read.proofs.Binds.{split, ands, and_parts}
 use Rattle.anb_read.proofs.Parts.{OneWord, reads_one, always, yes}
 use Rattle.anb_read.proofs.Then.{reads_then}
 
-pub bytes_same : (a : List ℕ) → bytes_eq a a ≡ true
-bytes_same [] = refl
-bytes_same (x ∷ a) = ands _ _ (eq-eqb x x refl) (bytes_same a)
-
-pub bytes_eq_true : (a b : List ℕ) → bytes_eq a b ≡ true → a ≡ b
-bytes_eq_true [] [] e = refl
-bytes_eq_true [] (y ∷ b) e = cc
-bytes_eq_true (x ∷ a) [] e = cc
-bytes_eq_true (x ∷ a) (y ∷ b) e = let k = and_parts (x == y) (bytes_eq a b) e in let h : x ≡ y = eqb-true x y k.0 in cc (h, bytes_eq_true a b k.1)
-
 pub word_same : (x : Word) → word_eqb x x ≡ true
-word_same (name b) = bytes_same b
-word_same (literal b) = bytes_same b
+word_same (name b) = bytes_eq-same b
+word_same (literal b) = bytes_eq-same b
 word_same (sign c) = eq-eqb c c refl
 word_same end = refl
 word_same bad = refl
 
 pub word_eqb_true : (x y : Word) → word_eqb x y ≡ true → y ≡ x
-word_eqb_true (name a) (name b) e = ap name (sym (bytes_eq_true a b e))
-word_eqb_true (literal a) (literal b) e = ap literal (sym (bytes_eq_true a b e))
+word_eqb_true (name a) (name b) e = ap name (sym (bytes_are_one a b e))
+word_eqb_true (literal a) (literal b) e = ap literal (sym (bytes_are_one a b e))
 word_eqb_true (sign c) (sign d) e = ap sign (sym (eqb-true c d e))
 word_eqb_true end end e = refl
 word_eqb_true bad bad e = refl
@@ -49,7 +42,7 @@ word_eqb_true _ _ e = cc
 one_this : (x : Word) → OneWord (this_word x) (λ u. Unit {0}) (λ u. x)
 one_this x = record {
   gives = λ v i. rw (word_same x) refl;
-  only = λ y v e. elim (split (word_eqb x y) (Some tt) None (Some v) e) [ inl c ↦ (word_eqb_true x y c.0, tt) | inr c ↦ cc (c.1) ];
+  only = λ y v e. elim (side_taken (word_eqb x y) (Some tt) None (Some v) e) [ inl c ↦ (word_eqb_true x y c.0, tt) | inr c ↦ cc (c.1) ];
   some = tt;
   is_valid = tt;
 }
@@ -62,7 +55,7 @@ gives_name : (v : List ℕ) → IsName v → word_name (name v) ≡ Some v
 gives_name v i = rw i refl
 
 only_name : (x : Word) (v : List ℕ) → word_name x ≡ Some v → (x ≡ name v) × IsName v
-only_name (name b) v e = elim (split (is_name b) (Some b) None (Some v) e) [
+only_name (name b) v e = elim (side_taken (is_name b) (Some b) None (Some v) e) [
   | inl c ↦ let s : b ≡ v = cc (c.1) in (ap name s, subst IsName s c.0)
   | inr c ↦ cc (c.1)
 ]
@@ -84,8 +77,8 @@ reads_name l h = reads_one l l word_name IsName name one_name (λ v i e. cc) (λ
 
 -- a reserved word is no name
 pub not_reserved : (r n : List ℕ) → is_name r ≡ false → IsName n → bytes_eq r n ≡ false
-not_reserved r n h i = elim (split (bytes_eq r n) true false (bytes_eq r n) (by_cases (bytes_eq r n))) [
-  | inl c ↦ let s : is_name n ≡ false = ap is_name (sym (bytes_eq_true r n c.0)) ∙ h in cc (i, s)
+not_reserved r n h i = elim (side_taken (bytes_eq r n) true false (bytes_eq r n) (by_cases (bytes_eq r n))) [
+  | inl c ↦ let s : is_name n ≡ false = ap is_name (sym (bytes_are_one r n c.0)) ∙ h in cc (i, s)
   | inr c ↦ c.0
 ]
   where
@@ -100,8 +93,8 @@ table spelled (a ∷ others) b = cond (bytes_eq (spelled a) b) (Some a) (table s
 
 table_only : {A : Type 0} (spelled : A → List ℕ) (others : List A) (b : List ℕ) (v : A) → table spelled others b ≡ Some v → b ≡ spelled v
 table_only spelled [] b v e = cc
-table_only spelled (a ∷ others) b v e = elim (split (bytes_eq (spelled a) b) (Some a) (table spelled others b) (Some v) e) [
-  | inl c ↦ let s : a ≡ v = cc (c.1) in sym (bytes_eq_true (spelled a) b c.0) ∙ ap spelled s
+table_only spelled (a ∷ others) b v e = elim (side_taken (bytes_eq (spelled a) b) (Some a) (table spelled others b) (Some v) e) [
+  | inl c ↦ let s : a ≡ v = cc (c.1) in sym (bytes_are_one (spelled a) b c.0) ∙ ap spelled s
   | inr c ↦ table_only spelled others b v c.1
 ]
 
@@ -138,34 +131,27 @@ pub reads_suite : (l : ℕ) → 0 < l → Reads l l suite_at (λ s. Unit {0}) ye
 unfolding suite_at
 reads_suite l h = reads_one l l word_suite (λ s. Unit {0}) (λ s. name (hash_name s)) one_suite (λ v i e. cc) (λ v i. refl) (λ v i e. h)
 
--- the pieces of formats
-gives_kind : (k : FieldKind) → kind_of_word (kind_word k) ≡ Some k
-gives_kind Len = refl
-gives_kind Net = refl
-gives_kind Hex = refl
-gives_kind Rest = refl
-
-gives_piece : (v : Piece) → IsPiece v → word_piece (piece_word v) ≡ Some v
+gives_piece : (v : Piece) → IsBytesPiece v → word_piece (piece_word v) ≡ Some v
 gives_piece (Lit b) i = rw (is_bytes-IsBytes b i) refl
-gives_piece (Field k) i = rw (gives_kind k) refl
+gives_piece (Field k) i = rw (kind_again k) refl
 
-only_field : (o : Option FieldKind) (b : List ℕ) (v : Piece) → ((k : FieldKind) → o ≡ Some k → b ≡ kind_word k) → field o ≡ Some v → (name b ≡ piece_word v) × IsPiece v
+only_field : (o : Option FieldKind) (b : List ℕ) (v : Piece) → ((k : FieldKind) → o ≡ Some k → b ≡ kind_word k) → field o ≡ Some v → (name b ≡ piece_word v) × IsBytesPiece v
 only_field None b v h e = cc
 only_field (Some k) b (Lit c) h e = cc
 only_field (Some k) b (Field j) h e = let s : k ≡ j = cc in (ap name (h k refl ∙ ap kind_word s), tt)
 
-only_literal : (b : List ℕ) (v : Piece) → (is_bytes b ≡ true) × (Some (Lit b) ≡ Some v) → (literal b ≡ piece_word v) × IsPiece v
+only_literal : (b : List ℕ) (v : Piece) → (is_bytes b ≡ true) × (Some (Lit b) ≡ Some v) → (literal b ≡ piece_word v) × IsBytesPiece v
 only_literal b (Lit c) h = let s : b ≡ c = cc (h.1) in (ap literal s, subst IsBytes s (IsBytes-pass b h.0))
 only_literal b (Field k) h = cc (h.1)
 
-only_piece : (x : Word) (v : Piece) → word_piece x ≡ Some v → (x ≡ piece_word v) × IsPiece v
+only_piece : (x : Word) (v : Piece) → word_piece x ≡ Some v → (x ≡ piece_word v) × IsBytesPiece v
 only_piece (name b) v e = only_field (kind_of_word b) b v (λ k h. table_only kind_word (Len ∷ Net ∷ Hex ∷ Rest ∷ []) b k h) e
-only_piece (literal b) v e = elim (split (is_bytes b) (Some (Lit b)) None (Some v) e) [ inl c ↦ only_literal b v c | inr c ↦ cc (c.1) ]
+only_piece (literal b) v e = elim (side_taken (is_bytes b) (Some (Lit b)) None (Some v) e) [ inl c ↦ only_literal b v c | inr c ↦ cc (c.1) ]
 only_piece (sign c) v e = cc
 only_piece end v e = cc
 only_piece bad v e = cc
 
-one_piece : OneWord word_piece IsPiece piece_word
+one_piece : OneWord word_piece IsBytesPiece piece_word
 one_piece = record { gives = gives_piece; only = only_piece; some = Field Len; is_valid = tt }
 
 no_bad_piece : (v : Piece) → piece_word v ≡ bad → ⊥
@@ -176,9 +162,9 @@ balanced_piece : (l : ℕ) (v : Piece) → opens (piece_word v ∷ []) + l ≡ c
 balanced_piece l (Lit b) = refl
 balanced_piece l (Field k) = refl
 
-pub reads_piece : (l : ℕ) → 0 < l → Reads l l piece_at IsPiece yes (λ p. piece_word p ∷ []) always
+pub reads_piece : (l : ℕ) → 0 < l → Reads l l piece_at IsBytesPiece yes (λ p. piece_word p ∷ []) always
 unfolding piece_at
-reads_piece l h = reads_one l l word_piece IsPiece piece_word one_piece (λ v i e. no_bad_piece v e) (λ v i. balanced_piece l v) (λ v i e. h)
+reads_piece l h = reads_one l l word_piece IsBytesPiece piece_word one_piece (λ v i e. no_bad_piece v e) (λ v i. balanced_piece l v) (λ v i e. h)
 
 -- the next word
 pub next_is : (T : Word → Bool) (b : Bool) (x : Word) (xs : List Word) (w rest : List Tok) → Begins w (x ∷ xs) rest → T x ≡ b → T (head w) ≡ b

@@ -6,9 +6,10 @@ use Rattle.anb_format.specs.declared.pieces.Piece.{Piece}
 use Rattle.anb_format.specs.declared.pieces.Piece.TheVariants.{Lit, Field}
 use Rattle.anb_format.specs.declared.pieces.FieldKind.{FieldKind}
 use Rattle.anb_format.specs.declared.pieces.FieldKind.TheVariants.{Len, Net, Hex, Rest}
+use Rattle.anb_format.specs.Formats.{IsBytesPiece}
 use Rattle.anb_read.specs.declared.refusal.ReadNo.{ReadNo}
 use Rattle.anb_syntax.specs.Words.{Word, name, Tok, comma, semicolon, equals}
-use Rattle.anb_syntax.specs.Grammar.{IsName, AreNames, comma_name, spell_names, TypeItem, IsTypeItem, spell_type, FormatItem, IsFormatItem, spell_format, IsPiece, piece_word}
+use Rattle.anb_syntax.specs.Grammar.{IsName, AreNames, comma_name, spell_names, TypeItem, IsTypeItem, spell_type, FormatItem, IsFormatItem, spell_format, piece_word}
 use Rattle.anb_read.specs.Productions.{with_front, many, is_comma, is_piece, comma_name_at, names_at, type_at, piece_at, format_at}
 use Rattle.anb_read.proofs.Readers.{Reads}
 use Rattle.anb_read.proofs.Begins.{begins_length}
@@ -104,8 +105,8 @@ piece_is (Field k) = kind_is k
 abbrev piece_words : Piece → List Word
 piece_words p = piece_word p ∷ []
 
-reads_pieces : (l : ℕ) → 0 < l → Reads l l (many is_piece piece_at) (AllByRecursion IsPiece) (list_all yes) (flat_map piece_words) (stops_many is_piece always)
-reads_pieces l h = reads_many l is_piece piece_at IsPiece yes piece_words always (reads_piece l h)
+reads_pieces : (l : ℕ) → 0 < l → Reads l l (many is_piece piece_at) (AllByRecursion IsBytesPiece) (list_all yes) (flat_map piece_words) (stops_many is_piece always)
+reads_pieces l h = reads_many l is_piece piece_at IsBytesPiece yes piece_words always (reads_piece l h)
     (λ p w rest v g. next_is is_piece true (piece_word p) [] w rest g (piece_is p)) (λ p w rest v g. omega (arith, begins_length w (piece_words p) rest g)) (λ a x v e. refl) refl
 
 one_by_one : (ps : List Piece) → flat_map piece_words ps ≡ map piece_word ps

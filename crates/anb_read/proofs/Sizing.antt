@@ -3,6 +3,7 @@ use Rattle.std.proofs.Common.{◌≡◌, ℕ, suc, ◌+◌, ◌≤◌, List, [],
 use Rattle.std.specs.Prelude.{◌==◌, ◌&&◌, unwrap_or}
 use Rattle.std.specs.List.{prefix_len, sum_by, flat_map}
 use Rattle.std.proofs.lemmas.List.Sums.{sum_by-cons}
+use Rattle.anb_lemmas.proofs.Options.{side_taken}
 use Rattle.anb_format.specs.declared.pieces.Piece.{Piece}
 use Rattle.anb_format.specs.declared.pieces.Piece.TheVariants.{Lit, Field}
 use Rattle.anb_format.specs.declared.pieces.FieldKind.{FieldKind}
@@ -13,7 +14,6 @@ use Rattle.anb_syntax.specs.Grammar.{Tree, atom, apply, hash, mac, seal, wrap, T
 use Rattle.anb_syntax.specs.Text.{Text}
 use Rattle.anb_syntax.proofs.LiteralTokens.{literal_tokens}
 use Rattle.anb_syntax.specs.Sizes.{tree_size, trees_size, name_size, type_size, format_size, know_size, action_size, size}
-use Rattle.anb_read.proofs.Binds.{split}
 
 -- how many bytes a word takes at least
 abbrev word_size : Word → ℕ
@@ -77,14 +77,14 @@ signs b x = cond (is_sign b) (Some (sign b, 1)) (arrows b x)
 
 pub token_fits : (y : List ℕ) (t : Word × ℕ) → token_here y ≡ Some t → Fits y t
 token_fits [] t e = cc (e)
-token_fits (b ∷ x) t e = elim (split (is_letter b) (Some (name (take (prefix_len is_name_byte (b ∷ x)) (b ∷ x)), prefix_len is_name_byte (b ∷ x))) (cond (b == 34) (quoted (characters_here x)) (signs b x)) (Some t) e) [
+token_fits (b ∷ x) t e = elim (side_taken (is_letter b) (Some (name (take (prefix_len is_name_byte (b ∷ x)) (b ∷ x)), prefix_len is_name_byte (b ∷ x))) (cond (b == 34) (quoted (characters_here x)) (signs b x)) (Some t) e) [
   | inl c ↦ let s : (name (take (prefix_len is_name_byte (b ∷ x)) (b ∷ x)), prefix_len is_name_byte (b ∷ x)) ≡ t = cc (c.1) in
       subst (Fits (b ∷ x)) s (record { word = taken_most (prefix_len is_name_byte (b ∷ x)) (b ∷ x); within = prefix_most is_name_byte (b ∷ x) })
-  | inr c ↦ elim (split (b == 34) (quoted (characters_here x)) (signs b x) (Some t) c.1) [
+  | inr c ↦ elim (side_taken (b == 34) (quoted (characters_here x)) (signs b x) (Some t) c.1) [
     | inl d ↦ quoted_fits (b ∷ x) (characters_here x) t e d.1
-    | inr d ↦ elim (split (is_sign b) (Some (sign b, 1)) (arrows b x) (Some t) d.1) [
+    | inr d ↦ elim (side_taken (is_sign b) (Some (sign b, 1)) (arrows b x) (Some t) d.1) [
       | inl f ↦ let s : (sign b, 1) ≡ t = cc (f.1) in subst (Fits (b ∷ x)) s (record { word = omega arith; within = omega arith })
-      | inr f ↦ elim (split (b == 45 && begins_with 62 x) (Some (sign 45, 2)) None (Some t) f.1) [
+      | inr f ↦ elim (side_taken (b == 45 && begins_with 62 x) (Some (sign 45, 2)) None (Some t) f.1) [
         | inl g ↦ let s : (sign 45, 2) ≡ t = cc (g.1) in subst (Fits (b ∷ x)) s (record { word = omega arith; within = arrow_fits x (b == 45) g.0 })
         | inr g ↦ cc (g.1)
       ]

@@ -1,13 +1,14 @@
 -- One reader after another.
 use Rattle.std.proofs.Common.{◌≡◌, ℕ, ◌+◌, List, ◌++◌, Bool, true, false, Result, Ok, Err, refl, sym, ap, ◌∙◌, subst, inl, inr, arith, append_assoc}
 use Rattle.std.specs.Prelude.{◌&&◌}
+use Rattle.std.proofs.lemmas.Bool.{and_from}
 use Rattle.anb_read.specs.declared.refusal.ReadNo.{ReadNo}
 use Rattle.anb_syntax.specs.Words.{Word, Tok, head, Begins}
 use Rattle.anb_read.specs.Productions.{◌>>=◌}
 use Rattle.anb_read.proofs.Readers.{opens, closes, Shallow, TooDeep, IfDeep, Refuses, Again, IsRead, Reads}
 use Rattle.anb_read.proofs.Begins.{begins_joined, begins_split, heads}
 use Rattle.anb_read.proofs.Shallow.{opens_joined, closes_joined, shallow_joined}
-use Rattle.anb_read.proofs.Binds.{bind_ok, bind_err, ands, again_bind}
+use Rattle.anb_read.proofs.Binds.{bind_ok, bind_err, again_bind}
 
 -- more words after the completion
 pub deeper : (deep : Bool) (l : ℕ) (front : List Word) (x : Word) (more others : List Word) → IfDeep deep (TooDeep l front x more) → IfDeep deep (TooDeep l front x (more ++ others))
@@ -46,7 +47,7 @@ module _ {A B : Type 0} (l m n : ℕ)
       let same : x.0.0 ≡ first b = sym (is_first x.0.0 b j.valid) in
       record {
         valid = (subst Vp same i.valid, subst (λ a. Vq a b) same j.valid);
-        fit = ands _ _ (subst (λ a. fp a ≡ true) same i.fit) j.fit;
+        fit = and_from _ _ (subst (λ a. fp a ≡ true) same i.fit) j.fit;
         begins = begins_joined w (sp (first b)) (sq b) x.0.1 rest (subst (λ a. Begins w (sp a) x.0.1) same i.begins) j.begins;
         stop = j.stop;
         shallow = shallow_joined l m (sp (first b)) (sq b) (hp.balanced (first b) (subst Vp same i.valid)) (subst (λ a. Shallow l (sp a)) same i.shallow) j.shallow;

@@ -4,6 +4,8 @@ use Rattle.std.specs.Prelude.{◌&&◌, ◌||◌, ◌==◌, not}
 use Rattle.std.specs.List.{flat_map, list_all, AllByRecursion}
 use Rattle.std.specs.Str.{bytes_eq}
 use Rattle.std.proofs.lemmas.List.{append-nil}
+use Rattle.std.proofs.lemmas.Bool.{or_right, not-true, not_from_false}
+use Rattle.anb_lemmas.proofs.Items.{bytes_are_one}
 use Rattle.anb_read.specs.declared.refusal.ReadNo.{ReadNo}
 use Rattle.anb_syntax.specs.Words.{Word, name, literal, sign, end, bad, Tok, head, place, Begins, word_eqb, comma, open_sign, close_sign, hash_word, mac_word, seal_word, wrap_word, is_name}
 use Rattle.anb_syntax.specs.Grammar.{IsName, Tree, atom, apply, hash, mac, seal, wrap, Trees, none, more, trees_of, list_of, IsTree, AreTrees, spell_tree, spell_trees, spell_others, fits_tree, fits_trees}
@@ -14,7 +16,7 @@ use Rattle.anb_read.proofs.Parts.{reads_nothing, nothing_at, reads_as, reads_eit
 use Rattle.anb_read.proofs.Many.{stops_many, reads_many}
 use Rattle.anb_read.proofs.Shallow.{opens_joined, closes_joined, shallow_none}
 use Rattle.anb_read.proofs.Then.{reads_then}
-use Rattle.anb_read.proofs.Picks.{a_word, a_name, word_eqb_true, bytes_eq_true, not_reserved, reads_word, reads_name, seq, seq_until, next_is}
+use Rattle.anb_read.proofs.Picks.{a_word, a_name, word_eqb_true, not_reserved, reads_word, reads_name, seq, seq_until, next_is}
 use Rattle.anb_read.proofs.Rows.{stops_at, AreBehind, others_of, reads_behind}
 
 -- only a name may go on, with its arguments
@@ -159,14 +161,6 @@ pub and_true : (b : Bool) → (b && true) ≡ b
 and_true true = refl
 and_true false = refl
 
-no_open : (b : Bool) → not b ≡ true → b ≡ false
-no_open true e = cc
-no_open false e = refl
-
-open_no : (b : Bool) → b ≡ false → not b ≡ true
-open_no true e = cc
-open_no false e = refl
-
 module _ (l : ℕ) (p : List Tok → Result (Tree × List Tok) ReadNo) (hp : Reads l l p IsTree (fits_tree l) spell_tree tree_stops) where
   reads_comma_term : Reads l l (comma_term_at p) IsTree (fits_tree l) comma_words tree_stops
   unfolding comma_term_at
@@ -206,7 +200,7 @@ module _ (l : ℕ) (p : List Tok → Result (Tree × List Tok) ReadNo) (hp : Rea
     some_words (more t ts) u b = ap (λ (xs : List Word). spell_tree t ++ xs) (others_words (sign c) ts)
 
     next_open : (us : List Tree) (w rest : List Tok) → Begins w (flat_map comma_words us ++ sign c ∷ []) rest → not (is_open (head w)) ≡ true
-    next_open [] w rest g = next_is (λ x. not (is_open x)) true (sign c) [] w rest g (open_no _ opens_none)
+    next_open [] w rest g = next_is (λ x. not (is_open x)) true (sign c) [] w rest g (not_from_false _ opens_none)
     next_open (u ∷ us) w rest g = next_is (λ x. not (is_open x)) true comma ((spell_tree u ++ flat_map comma_words us) ++ sign c ∷ []) w rest g refl
 
     first_is : (t : Tree) (ts : Trees) → list_of ts ≡ t ∷ others_of (list_of ts) → first_tree ts ≡ t
@@ -219,7 +213,7 @@ module _ (l : ℕ) (p : List Tok → Result (Tree × List Tok) ReadNo) (hp : Rea
         (reads_then _ _ _ _ _ _ _ _ _ _ _ _ _ first_tree hp
         (λ t. seq_until list_of (sign c) (reads_behind l is_comma (comma_term_at p) IsTree (fits_tree l) comma_words tree_stops reads_comma_terms t)
         (λ us. seq (λ ts. tt) (reads_word l m (sign c) (λ e. cc) is_balanced (λ e. cc)) (λ u. reads_nothing Trees m (trees_of us)) (λ a b v. refl))
-        (λ us ts v. ap list_of v.1 ∙ back_and_there us) (λ us. stops_at is_comma tree_stops (sign c) (open_no _ no_comma) (tree_ends (sign c) (open_no _ opens_none)) (others_of us)))
+        (λ us ts v. ap list_of v.1 ∙ back_and_there us) (λ us. stops_at is_comma tree_stops (sign c) (not_from_false _ no_comma) (tree_ends (sign c) (not_from_false _ opens_none)) (others_of us)))
         (λ t ts v. first_is t ts v.0.0)
         (λ t ts w rest v g e. tree_ends (head w) (next_open (others_of (list_of ts)) w rest g) t))
         (λ ts v. some_valid ts (first_tree ts) v.0 v.1.0) valid_some
@@ -284,10 +278,10 @@ module _ (l : ℕ) (p : List Tok → Result (Tree × List Tok) ReadNo) (hp : Rea
   unfolding after_name_at
   reads_after n = reads_either (suc l) (suc l) is_open (applied_at p n) (nothing_at Tree (atom n)) (IsApplied n) (IsAtom n) (fits_tree (suc l)) after_words always always tree_stops (reads_applied n) (reads_atom n)
       (λ t w rest v c g e. applied_stops n t (head rest) v)
-      (λ t w rest v c g e. atom_stops n t (head rest) v ∙ open_no _ (ap (λ (u : List Tok). is_open (head u)) (sym (atom_stays n t w rest v g)) ∙ c))
+      (λ t w rest v c g e. atom_stops n t (head rest) v ∙ not_from_false _ (ap (λ (u : List Tok). is_open (head u)) (sym (atom_stays n t w rest v g)) ∙ c))
       (λ a x v e. refl) (λ a x v e. refl)
       (λ t w rest v g e. applied_on n t w rest v g)
-      (λ t w rest v g e. ap (λ (u : List Tok). is_open (head u)) (atom_stays n t w rest v g) ∙ no_open _ (sym (atom_stops n t (head rest) v) ∙ e))
+      (λ t w rest v g e. ap (λ (u : List Tok). is_open (head u)) (atom_stays n t w rest v g) ∙ not-true _ (sym (atom_stops n t (head rest) v) ∙ e))
 
   after_first : (n : List ℕ) (t : Tree) → IsApplied n t ⊎ IsAtom n t → name_of t ≡ n
   after_first n t (inl v) = ap name_of v.0
@@ -546,10 +540,10 @@ starts_with : (x : Word) (v : Tree) (others : List Word) → IsTree v → begins
 starts_with x v others i b e = (v, i, record { starts = b; nested = refl; others = others; goes_on = e })
 
 starting_name : (b : List ℕ) (h m s w n : Bool) → bytes_eq hash_word b ≡ h → bytes_eq mac_word b ≡ m → bytes_eq seal_word b ≡ s → bytes_eq wrap_word b ≡ w → is_name b ≡ n → Started (name b) (h || m || s || w || n)
-starting_name b true m s w n eh em es ew en = starts_with (name b) (hash (atom a_word)) (open_sign ∷ name a_word ∷ close_sign ∷ []) a_name (rw eh refl) (ap (λ c. name c ∷ open_sign ∷ name a_word ∷ close_sign ∷ []) (bytes_eq_true hash_word b eh))
-starting_name b false true s w n eh em es ew en = starts_with (name b) (mac (atom a_word) (atom a_word)) (open_sign ∷ name a_word ∷ comma ∷ name a_word ∷ close_sign ∷ []) (a_name, a_name) (rw (eh, em) refl) (ap (λ c. name c ∷ open_sign ∷ name a_word ∷ comma ∷ name a_word ∷ close_sign ∷ []) (bytes_eq_true mac_word b em))
-starting_name b false false true w n eh em es ew en = starts_with (name b) (seal (atom a_word) (atom a_word)) (open_sign ∷ name a_word ∷ comma ∷ name a_word ∷ close_sign ∷ []) (a_name, a_name) (rw (eh, em, es) refl) (ap (λ c. name c ∷ open_sign ∷ name a_word ∷ comma ∷ name a_word ∷ close_sign ∷ []) (bytes_eq_true seal_word b es))
-starting_name b false false false true n eh em es ew en = starts_with (name b) (wrap (atom a_word) (atom a_word) (atom a_word)) (open_sign ∷ name a_word ∷ comma ∷ name a_word ∷ comma ∷ name a_word ∷ close_sign ∷ []) (a_name, a_name, a_name) (rw (eh, em, es, ew) refl) (ap (λ c. name c ∷ open_sign ∷ name a_word ∷ comma ∷ name a_word ∷ comma ∷ name a_word ∷ close_sign ∷ []) (bytes_eq_true wrap_word b ew))
+starting_name b true m s w n eh em es ew en = starts_with (name b) (hash (atom a_word)) (open_sign ∷ name a_word ∷ close_sign ∷ []) a_name (rw eh refl) (ap (λ c. name c ∷ open_sign ∷ name a_word ∷ close_sign ∷ []) (bytes_are_one hash_word b eh))
+starting_name b false true s w n eh em es ew en = starts_with (name b) (mac (atom a_word) (atom a_word)) (open_sign ∷ name a_word ∷ comma ∷ name a_word ∷ close_sign ∷ []) (a_name, a_name) (rw (eh, em) refl) (ap (λ c. name c ∷ open_sign ∷ name a_word ∷ comma ∷ name a_word ∷ close_sign ∷ []) (bytes_are_one mac_word b em))
+starting_name b false false true w n eh em es ew en = starts_with (name b) (seal (atom a_word) (atom a_word)) (open_sign ∷ name a_word ∷ comma ∷ name a_word ∷ close_sign ∷ []) (a_name, a_name) (rw (eh, em, es) refl) (ap (λ c. name c ∷ open_sign ∷ name a_word ∷ comma ∷ name a_word ∷ close_sign ∷ []) (bytes_are_one seal_word b es))
+starting_name b false false false true n eh em es ew en = starts_with (name b) (wrap (atom a_word) (atom a_word) (atom a_word)) (open_sign ∷ name a_word ∷ comma ∷ name a_word ∷ comma ∷ name a_word ∷ close_sign ∷ []) (a_name, a_name, a_name) (rw (eh, em, es, ew) refl) (ap (λ c. name c ∷ open_sign ∷ name a_word ∷ comma ∷ name a_word ∷ comma ∷ name a_word ∷ close_sign ∷ []) (bytes_are_one wrap_word b ew))
 starting_name b false false false false true eh em es ew en = starts_with (name b) (atom b) [] en (rw (eh, em, es, ew, en) refl) refl
 starting_name b false false false false false eh em es ew en = (atom a_word, a_name, tt)
 
@@ -560,12 +554,8 @@ starting (sign c) = (atom a_word, a_name, tt)
 starting end = (atom a_word, a_name, tt)
 starting bad = (atom a_word, a_name, tt)
 
-or_last : (a b : Bool) → b ≡ true → (a || b) ≡ true
-or_last true b e = refl
-or_last false b e = e
-
 pub begins_name : (n : List ℕ) → IsName n → begins_term (name n) ≡ true
-begins_name n i = or_last (bytes_eq hash_word n || bytes_eq mac_word n || bytes_eq seal_word n || bytes_eq wrap_word n) (is_name n) i
+begins_name n i = or_right (bytes_eq hash_word n || bytes_eq mac_word n || bytes_eq seal_word n || bytes_eq wrap_word n) (is_name n) i
 
 pub first_begins : (t : Tree) → IsTree t → begins_term (name (first_word t)) ≡ true
 first_begins (atom n) v = begins_name n v

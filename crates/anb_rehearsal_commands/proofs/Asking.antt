@@ -7,9 +7,9 @@ use Rattle.anb_read.specs.Laws.{NarrationsAreUnique, RefusalsAreUnique, NoneIsBo
 use Rattle.anb_values.specs.Fit.{FitIsUnique}
 use Rattle.anb_values.specs.declared.fitted.Fitted.{Fitted}
 use Rattle.anb_resolve.specs.Plans.{MakesNames}
-use Rattle.anb_resolve.specs.Protocols.{ProtocolValue}
+use Rattle.anb_resolve.specs.Protocols.{ProtocolValue, role_named}
 use Rattle.anb_resolve.specs.Texts.{known_names}
-use Rattle.anb_honest.specs.Words.{names_none, role_of, words_of}
+use Rattle.anb_honest.specs.Words.{names_none, words_of}
 use Rattle.anb_command.specs.declared.limits.TheConstants.{SCHEDULE_LIMIT}
 use Rattle.anb_command.specs.declared.status.Status.{Status}
 use Rattle.anb_command.specs.declared.status.Status.TheVariants.{BadTurn}
@@ -37,12 +37,12 @@ seed_for_one p told host_seed one other (a, x, s) (b, y, t) =
     seed_one a told host_seed one other s (subst (λ (makes : Bool). SeedIs makes told host_seed other) (same_test b a (MakesNames p) y x) t)
 
 -- where each word names a role, none is the first that names none
-all_named : (p : ProtocolValue) (i : ℕ) (turns : List ℕ) (words : List (List ℕ)) → map Some turns ≡ map (role_of p) words → position_from (names_none p) i words ≡ None
+all_named : (p : ProtocolValue) (i : ℕ) (turns : List ℕ) (words : List (List ℕ)) → map Some turns ≡ map (role_named p) words → position_from (names_none p) i words ≡ None
 all_named p i turns [] e = refl
 all_named p i [] (w ∷ words) e = absurd (cc)
 all_named p i (r ∷ turns) (w ∷ words) e =
-    let first : Some r ≡ role_of p w = cc in
-    let rest : map Some turns ≡ map (role_of p) words = cc in
+    let first : Some r ≡ role_named p w = cc in
+    let rest : map Some turns ≡ map (role_named p) words = cc in
     ap (λ o. cond (is_none o) (Some i) (position_from (names_none p) (i + 1) words)) (sym first) ∙ all_named p (i + 1) turns words rest
 
 same_turns : (xs ys : List ℕ) → map Some xs ≡ map Some ys → xs ≡ ys

@@ -2,26 +2,25 @@
 use Rattle.std.proofs.Common.{◌≡◌, ◌⊎◌, ℕ, Bool, true, false, List, [], take, length, Option, Some, None, refl, ap, sym, ◌∙◌, subst, inl, inr}
 use Rattle.anb_base.specs.Moves.{Put, PutPrefix}
 use Rattle.anb_base.specs.Wires.{WireState}
+use Rattle.anb_base.proofs.Moving.{put_nothing}
 use Rattle.anb_honest.specs.declared.report.Report.{Report}
 use Rattle.anb_honest.specs.declared.report.RehearseEnd.{RehearseEnd}
 use Rattle.anb_honest.specs.declared.report.RehearseEnd.TheVariants as ended
 use Rattle.anb_honest.specs.Honest.{AreHonest, honest_end}
 use Rattle.anb_honest.specs.Joint.{is_complete}
 use Rattle.anb_resolve.specs.Schedules.{IsComplete, taken}
-use Rattle.anb_plays.specs.Plays.{Played}
 use Rattle.anb_command.specs.declared.status.Status.{Status}
 use Rattle.anb_command.specs.declared.status.Status.TheVariants.{Done, FileFault, Unreached, ReadFault, WriteFault, NotAll, ChildFault, NoMemory}
 use Rattle.anb_command.specs.Fetches.{Files, IfTold}
-use Rattle.anb_command.specs.Refusing.{IsRefusing}
 use Rattle.anb_command.specs.Statuses.{before_reach, is_fault, phase_of}
 use Rattle.anb_command.specs.Steps.{Answer, refused, given, HasOneAnswer, IsFailure}
 use Rattle.anb_command.proofs.Answering.{late, refusing}
 use Rattle.anb_command.proofs.Chains.{told_map}
 use Rattle.anb_command.proofs.Ones.{RefusesQuietly, not_both, same_given, same_refusal}
-use Rattle.anb_command.proofs.Written.{faulty, put_nothing}
+use Rattle.anb_command.proofs.Written.{faulty}
 use Rattle.anb_rehearsal_commands.specs.Rehearsals.{IsReadToRehearse, Rehearsal, RehearsalIs}
 use Rattle.anb_rehearsal_commands.specs.RehearseCommand.{CompletesRehearse, DoesRehearse, IsRehearsed, IsRehearsing, Outcome, RolesPlay, Tells, WritesPart, cast_of}
-use Rattle.anb_rehearsal_commands.specs.Telling.{IsRehearsedTo, IsTold}
+use Rattle.anb_rehearsal_commands.specs.Telling.{IsRehearsedTo}
 use Rattle.anb_rehearsal_commands.proofs.Ended.{tells_done, tells_not_all, tells_one}
 
 -- a fault is neither done nor a role that isn't

@@ -1,11 +1,12 @@
 -- The line of a drill is what is written.
-use Rattle.std.proofs.Common.{◌≡◌, ℕ, List, Option, refl, sym, ◌∙◌}
+use Rattle.std.proofs.Common.{ℕ, List, Option, refl, sym, ◌∙◌}
+use Rattle.anb_base.proofs.Moving.{put_nothing}
 use Rattle.anb_command.specs.declared.status.Status.{Status}
 use Rattle.anb_command.specs.declared.status.Status.TheVariants.{NoMemory}
 use Rattle.anb_command.specs.Steps.{HasOneAnswer}
 use Rattle.anb_command.specs.Writing.{IsWritingOne, IsWritten}
 use Rattle.anb_command.proofs.Ones.{is_quiet, one_settled}
-use Rattle.anb_command.proofs.Written.{put_nothing, refusal, the_one, written}
+use Rattle.anb_command.proofs.Written.{refusal, the_one, written}
 use Rattle.anb_rehearsal_commands.specs.DrillCommand.{DrillText, drill_text}
 
 drill_one : (n : ℕ) → HasOneAnswer (DrillText n)

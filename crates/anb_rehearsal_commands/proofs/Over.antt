@@ -1,28 +1,15 @@
 -- A report that is written to the standard streams.
-use Rattle.std.proofs.Common.{◌≡◌, ◌⊎◌, ℕ, ◌≤◌, List, false, Option, Some, Result, refl, ap, sym, ◌∙◌, subst, arith}
+use Rattle.std.proofs.Common.{◌≡◌, ◌⊎◌, ℕ, List, false, Option, Some, ap, sym, ◌∙◌, subst, arith}
 use Rattle.anb_base.specs.Wires.{WireState}
-use Rattle.anb_base.specs.declared.place.Place.{Place}
 use Rattle.anb_base.specs.declared.place.Place.TheVariants.{Stdio}
 use Rattle.anb_honest.specs.declared.report.RehearseEnd.{RehearseEnd}
-use Rattle.anb_text.specs.declared.writing.WriteNo.{WriteNo}
-use Rattle.anb_text.specs.Writing.{IsWritten}
 use Rattle.anb_command.specs.declared.status.Status.{Status}
 use Rattle.anb_command.specs.declared.status.Status.TheVariants.{Unreached, NoMemory}
 use Rattle.anb_command.specs.Causes.{HasWireCause}
 use Rattle.anb_command.specs.OverWire.{DidNotReach, HasReached, OnlyWrites, OverWire, StaysReached}
 use Rattle.anb_command.specs.Statuses.{after_reach, at_reach, before_reach, phase_of}
 use Rattle.anb_command.proofs.OverWire.{not_before, not_reached, ran, written_unreached}
-use Rattle.anb_command.proofs.States.{telling}
 use Rattle.anb_rehearsal_commands.specs.Telling.{IsTold}
-
--- all that the wire tells says the same
-pub told_written : (l m t u w x p q : Option (List ℕ)) (a b c d e f : ℕ) (S T : WireState) → S ≡ telling l t a w c p e → T ≡ telling m u b x d q f
-    → (text : List ℕ) (r : Result (Unit {0}) WriteNo) → IsWritten text r w x c d → IsWritten text r S.written T.written S.write_faults T.write_faults
-told_written l m t u w x p q a b c d e f S T is js text r written =
-    moved w x S.written T.written c d S.write_faults T.write_faults (ap (λ (V : WireState). V.written) is) (ap (λ (V : WireState). V.written) js) (ap (λ (V : WireState). V.write_faults) is) (ap (λ (V : WireState). V.write_faults) js) written
-  where
-    moved : (w x w' x' : Option (List ℕ)) (c d c' d' : ℕ) → w' ≡ w → x' ≡ x → c' ≡ c → d' ≡ d → IsWritten text r w x c d → IsWritten text r w' x' c' d'
-    moved w x w' x' c d c' d' e1 e2 e3 e4 is = rw (e1, e2, e3, e4) is
 
 -- ---- a place that was reached, and what was written there
 

@@ -1,9 +1,9 @@
 -- What the words and the files ask to rehearse.
 use Rattle.std.specs.Prelude.{◌≡◌, ◌↔◌, ◌⊎◌, ℕ, List, map, Bool, IsTrue, Option, Some}
 use Rattle.std.specs.List.{position_from}
-use Rattle.anb_honest.specs.Words.{names_none, role_of, words_of}
+use Rattle.anb_honest.specs.Words.{names_none, words_of}
 use Rattle.anb_resolve.specs.Plans.{MakesNames}
-use Rattle.anb_resolve.specs.Protocols.{ProtocolValue}
+use Rattle.anb_resolve.specs.Protocols.{ProtocolValue, role_named}
 use Rattle.anb_resolve.specs.Texts.{known_names}
 use Rattle.anb_command.specs.declared.limits.TheConstants.{SCHEDULE_LIMIT}
 use Rattle.anb_command.specs.declared.status.Status.TheVariants.{BadTurn}
@@ -34,7 +34,7 @@ SeedFor p told host_seed answer =
 abbrev pub ScheduleIs : ProtocolValue → List ℕ → Answer (List ℕ) → Type 0
 ScheduleIs p text (refused status) =
     (n : ℕ) × (status ≡ BadTurn n) × (position_from (names_none p) 1 (words_of text) ≡ Some n)
-ScheduleIs p text (given turns) = map Some turns ≡ map (role_of p) (words_of text)
+ScheduleIs p text (given turns) = map Some turns ≡ map (role_named p) (words_of text)
 
 module _ (files : Files) where
   abbrev pub SettingOf : (values : List ℕ) → Option (List ℕ) → ProtocolValue → Answer Setting → Type 0

@@ -6,42 +6,31 @@ use Rattle.std.proofs.lemmas.Bool.{and_left, and_parts, and_right, cases_eq, eq-
 use Rattle.std.proofs.lemmas.List.Elements.{recursion_from_All}
 use Rattle.std.proofs.lemmas.List.{append-nil}
 use Rattle.std.proofs.lemmas.List.Folds.{list_any-append}
+use Rattle.anb_lemmas.proofs.Bools.{or_without}
 use Rattle.anb_term.specs.declared.term.Op.{Op}
-use Rattle.anb_format.specs.Formats.{FormatValue, field_count}
+use Rattle.anb_format.specs.Formats.{FormatValue, field_count, pieces_at}
 use Rattle.anb_plays.specs.Codes.{Act, takes, works}
 use Rattle.anb_plays.specs.Exec.{HasTakes, IsVerified, NoTakes}
 use Rattle.anb_code.specs.declared.instr.Instr.{Instr}
 use Rattle.anb_code.specs.declared.instr.Instr.TheVariants.{Take, Fresh, Recv, Hash, Mac, Seal, Unseal, Wrap, Unwrap, Build, Parse, Equal, Send}
 use Rattle.anb_code.specs.Meaning.{act_of}
-use Rattle.anb_code.specs.Registers.{count_written, pieces_at}
+use Rattle.anb_code.specs.Registers.{count_written}
 use Rattle.anb_code.specs.Verified.{count_registers}
 use Rattle.anb_report.specs.Looking.{asked, brings, brought, built_of, compared, is_among, is_envelope, is_no_envelope, is_unchecked, keys_of, opened, opened_by, parts_of, repeated, seen, unchecked, with_operands, with_parts, writes_at, written_by}
 use Rattle.anb_report.proofs.Walking.{opens, ComparesWell, MakesWell, UndoesWell, Walks}
+use Rattle.anb_report.proofs.Tables.{among_front, among_back, among_first}
 
 -- ---- membership
 
 among_both : (xs ys : List ℕ) (r : ℕ) → is_among (xs ++ ys) r ≡ (is_among xs r || is_among ys r)
 among_both xs ys r = list_any-append (λ k. nat_eq k r) xs ys
 
-in_front : (xs ys : List ℕ) (r : ℕ) → is_among xs r ≡ true → is_among (xs ++ ys) r ≡ true
-in_front xs ys r e = among_both xs ys r ∙ or_left (is_among xs r) (is_among ys r) e
-
-in_back : (xs ys : List ℕ) (r : ℕ) → is_among ys r ≡ true → is_among (xs ++ ys) r ≡ true
-in_back xs ys r e = among_both xs ys r ∙ or_right (is_among xs r) (is_among ys r) e
-
-or_false : (b c : Bool) → c ≡ false → (b || c) ≡ b
-or_false true c e = refl
-or_false false c e = e
-
 -- where one of the two lists hasn't it, the other decides
 front_alone : (xs ys : List ℕ) (r : ℕ) → is_among ys r ≡ false → is_among (xs ++ ys) r ≡ is_among xs r
-front_alone xs ys r e = among_both xs ys r ∙ or_false (is_among xs r) (is_among ys r) e
+front_alone xs ys r e = among_both xs ys r ∙ or_without (is_among xs r) (is_among ys r) e
 
 back_alone : (xs ys : List ℕ) (r : ℕ) → is_among xs r ≡ false → is_among (xs ++ ys) r ≡ is_among ys r
 back_alone xs ys r e = among_both xs ys r ∙ ap (λ b. b || is_among ys r) e
-
-first_among : (r : ℕ) (rest : List ℕ) → is_among (r ∷ rest) r ≡ true
-first_among r rest = or_left (nat_eq r r) (is_among rest r) (eq-eqb r r refl)
 
 not_if : (b : Bool) (xs : List ℕ) (r : ℕ) → is_among xs r ≡ false → is_among (if b then xs else []) r ≡ false
 not_if true xs r e = e
@@ -63,7 +52,7 @@ all_below (k ∷ ns) n h r e = below_here k n r ns (nat_eq k r) refl h.0 (all_be
 
 -- some registers, and others where r is one of them: if r stands in the result, so do the others
 operands_too : (later ns : List ℕ) (r k : ℕ) (b : Bool) → is_among later r ≡ b → is_among (later ++ (if b then ns else [])) r ≡ true → is_among ns k ≡ true → is_among (later ++ (if b then ns else [])) k ≡ true
-operands_too later ns r k true e h i = in_back later ns k i
+operands_too later ns r k true e h i = among_back later ns k i
 operands_too later ns r k false e h i = absurd (false≢true (sym e ∙ sym (front_alone later [] r refl) ∙ h))
 
 -- ---- ranges
@@ -118,7 +107,7 @@ none_before (x ∷ before) after r e =
     let all = before ++ r ∷ after in
     let parts = or_parts (is_among (repeated all) r) (is_among (if is_among all x then x ∷ [] else []) r) (sym (among_both (repeated all) (if is_among all x then x ∷ [] else []) r) ∙ e) in
     let again : x ≡ r → ⊥ = λ same.
-    false≢true (sym parts.1 ∙ taken (is_among all x) (x ∷ []) r (in_back before (r ∷ after) x (or_left (nat_eq r x) (is_among after x) (eq-eqb r x (sym same)))) (or_left (nat_eq x r) false (eq-eqb x r same))) in
+    false≢true (sym parts.1 ∙ taken (is_among all x) (x ∷ []) r (among_back before (r ∷ after) x (or_left (nat_eq r x) (is_among after x) (eq-eqb r x (sym same)))) (or_left (nat_eq x r) false (eq-eqb x r same))) in
     or_from (nat_eq x r) (is_among before r) (ne_eqb x r again) (none_before before after r parts.0)
 
 -- ---- what is looked at and what is brought, from a place on
@@ -139,11 +128,11 @@ module _ (formats : List FormatValue) where
   parts_more : (xs : List Instr) (some : List ℕ) (next r : ℕ) → is_among some r ≡ true → is_among (with_parts formats some next xs) r ≡ true
   parts_more [] some next r h = h
   parts_more (x ∷ xs) some next r h =
-      parts_more xs (some ++ parts_of formats some next x) (next + count_written formats x) r (in_front some (parts_of formats some next x) r h)
+      parts_more xs (some ++ parts_of formats some next x) (next + count_written formats x) r (among_front some (parts_of formats some next x) r h)
 
   operands_more : (xs : List Instr) (some : List ℕ) (next r : ℕ) → is_among some r ≡ true → is_among (with_operands formats some next xs) r ≡ true
   operands_more [] some next r h = h
-  operands_more (x ∷ xs) some next r h = in_front (with_operands formats some (next + count_written formats x) xs) _ r (operands_more xs some (next + count_written formats x) r h)
+  operands_more (x ∷ xs) some next r h = among_front (with_operands formats some (next + count_written formats x) xs) _ r (operands_more xs some (next + count_written formats x) r h)
 
   written_below : (test : Instr → Bool) (xs : List Instr) (next r : ℕ) → r < next → is_among (written_by formats test next xs) r ≡ false
   written_below test [] next r h = refl
@@ -201,11 +190,11 @@ module _ (formats : List FormatValue) (instrs : List Instr) where
         all = p.all;
         later = λ r h. front_alone p.some parts r (parts_above formats p.some next x r h) ∙ p.later r (omega (arith, h))
             ∙ front_alone rest built r (not_if (is_among rest next) (built_of x) r (none_built r (omega (arith, h))));
-        operands = λ r h. in_front p.some parts r (p.operands r (in_front rest built r h));
+        operands = λ r h. among_front p.some parts r (p.operands r (among_front rest built r h));
         arrivals = λ r h. p.arrivals r (omega (arith, h)) ∙ back_alone written (written_by formats brings (next + count) xs) r (not_if (brings x) (writes_at formats next x) r (range_above next count r h));
         opens = append_assoc before (opened_by x) (opened xs) ∙ p.opens;
-        keys = λ r h. p.keys r (in_back (keys_of x) (flat_map keys_of xs) r h);
-        compares = λ r h. p.compares r (in_back (compared x) (flat_map compared xs) r h);
+        keys = λ r h. p.keys r (among_back (keys_of x) (flat_map keys_of xs) r h);
+        compares = λ r h. p.compares r (among_back (compared x) (flat_map compared xs) r h);
       }
 
   moved : (xs : List Instr) (next other : ℕ) (before : List ℕ) → next ≡ other → Place xs next before → Place xs other before
@@ -223,13 +212,13 @@ module _ (formats : List FormatValue) (instrs : List Instr) where
   asked_whole r h = parts_more formats instrs (with_operands formats (asked formats instrs) 0 instrs) 0 r (operands_more formats instrs (asked formats instrs) 0 r h)
 
   key_whole : (r : ℕ) → is_among (flat_map keys_of instrs) r ≡ true → whole r ≡ true
-  key_whole r h = asked_whole r (in_front (flat_map keys_of instrs) _ r h)
+  key_whole r h = asked_whole r (among_front (flat_map keys_of instrs) _ r h)
 
   compared_whole : (r : ℕ) → is_among (flat_map compared instrs) r ≡ true → whole r ≡ true
-  compared_whole r h = asked_whole r (in_back (flat_map keys_of instrs) _ r (in_front (flat_map compared instrs) _ r h))
+  compared_whole r h = asked_whole r (among_back (flat_map keys_of instrs) _ r (among_front (flat_map compared instrs) _ r h))
 
   opened_whole : (r : ℕ) → is_among (opened instrs) r ≡ true → is_no_envelope formats instrs r ≡ true → whole r ≡ true
-  opened_whole r h e = asked_whole r (in_back (flat_map keys_of instrs) _ r (in_back (flat_map compared instrs) _ r (filtered_in (is_no_envelope formats instrs) (opened instrs) r h e)))
+  opened_whole r h e = asked_whole r (among_back (flat_map keys_of instrs) _ r (among_back (flat_map compared instrs) _ r (filtered_in (is_no_envelope formats instrs) (opened instrs) r h e)))
 
   -- what is opened and isn't looked at is an envelope
   envelope : (r : ℕ) → is_among (opened instrs) r ≡ true → whole r ≡ false → is_envelope formats instrs r ≡ true
@@ -280,7 +269,7 @@ module _ (formats : List FormatValue) (instrs : List Instr) where
   place_some xs next before p r h = ap (λ l. is_among l r) (sym p.all) ∙ parts_stay formats xs p.some next r h
 
   place_opened : (x : Instr) (xs : List Instr) (next : ℕ) (before : List ℕ) → Place (x ∷ xs) next before → (r : ℕ) → is_among (opened_by x) r ≡ true → is_among (opened instrs) r ≡ true
-  place_opened x xs next before p r h = ap (λ l. is_among l r) (sym p.opens) ∙ in_back before (opened_by x ++ opened xs) r (in_front (opened_by x) (opened xs) r h)
+  place_opened x xs next before p r h = ap (λ l. is_among l r) (sym p.opens) ∙ among_back before (opened_by x ++ opened xs) r (among_front (opened_by x) (opened xs) r h)
 
   not_brought : (x : Instr) (xs : List Instr) (next : ℕ) (before : List ℕ) → brings x ≡ false → 0 < count_written formats x → Place (x ∷ xs) next before → came next ≡ false
   not_brought x xs next before none some p =
@@ -305,16 +294,16 @@ module _ (formats : List FormatValue) (instrs : List Instr) where
   undone_well : (x : Instr) (xs : List Instr) (n next : ℕ) (before : List ℕ) → opened_by x ≡ n ∷ [] → n < next → Place (x ∷ xs) next before
       → UndoesWell whole came fixed (keys_of x) n next (count_written formats x) before
   undone_well x xs n next before opens less p =
-      let first : is_among (opened_by x) n ≡ true = ap (λ l. is_among l n) opens ∙ first_among n [] in
+      let first : is_among (opened_by x) n ≡ true = ap (λ l. is_among l n) opens ∙ among_first n [] in
       let open_here : is_among (opened instrs) n ≡ true = place_opened x xs next before p n first in
       let parts = parts_of formats p.some next x in
       let apart : whole n ≡ true → list_any (is_among p.some) (opened_by x) ≡ true = λ h.
       ap (list_any (is_among p.some)) opens ∙ or_left (is_among p.some n) false (sym (place_some (x ∷ xs) next before p n less) ∙ h) in
       let split : before ++ n ∷ opened xs ≡ opened instrs = sym (ap (λ l. before ++ (l ++ opened xs)) opens) ∙ p.opens in
       record {
-        keys = λ k e. key_whole k (p.keys k (in_front (keys_of x) (flat_map keys_of xs) k e));
+        keys = λ k e. key_whole k (p.keys k (among_front (keys_of x) (flat_map keys_of xs) k e));
         kept = not_from_false (is_among (unchecked formats instrs) n) (opened_is_fixed n open_here);
-        parts = λ h r low high. ap (λ l. is_among l r) (sym p.all) ∙ parts_more formats xs (p.some ++ parts) (next + count_written formats x) r (in_back p.some parts r
+        parts = λ h r low high. ap (λ l. is_among l r) (sym p.all) ∙ parts_more formats xs (p.some ++ parts) (next + count_written formats x) r (among_back p.some parts r
             (taken (list_any (is_among p.some) (opened_by x)) (writes_at formats next x) r (apart h) (range_within next (count_written formats x) r low high)));
         came = λ h. (and_parts (came n) (not (is_among (repeated (opened instrs)) n)) (envelope n open_here h)).0;
         first = λ h. none_before before (opened xs) n (ap (λ l. is_among (repeated l) n) split
@@ -323,8 +312,8 @@ module _ (formats : List FormatValue) (instrs : List Instr) where
 
   compared_well : (a b : ℕ) (xs : List Instr) (next : ℕ) (before : List ℕ) → Place (Equal a b ∷ xs) next before → ComparesWell whole came fixed a b
   compared_well a b xs next before p = record {
-    one = compared_whole a (p.compares a (first_among a (b ∷ flat_map compared xs)));
-    other = compared_whole b (p.compares b (or_right (nat_eq a b) (is_among (b ∷ flat_map compared xs) b) (first_among b (flat_map compared xs))));
+    one = compared_whole a (p.compares a (among_first a (b ∷ flat_map compared xs)));
+    other = compared_whole b (p.compares b (or_right (nat_eq a b) (is_among (b ∷ flat_map compared xs) b) (among_first b (flat_map compared xs))));
   }
 
   -- a built register, and what follows

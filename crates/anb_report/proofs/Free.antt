@@ -5,12 +5,14 @@ use Rattle.std.proofs.lemmas.List.{append-nil}
 use Rattle.std.specs.List.{AllByRecursion}
 use Rattle.std.proofs.lemmas.Bool.{eqb-true}
 use Rattle.std.proofs.lemmas.List.Elements.{recursion_from_All}
+use Rattle.anb_lemmas.proofs.Numbers.{below_or_not, same_or_not}
+use Rattle.anb_lemmas.proofs.Lists.{got_within}
 use Rattle.anb_term.specs.declared.term.Op.{Op}
 use Rattle.anb_term.specs.Operator.{arity}
 use Rattle.anb_term.specs.Value.{Meaning}
 use Rattle.anb_term.specs.Lawful.{Lawful, picked}
 use Rattle.anb_term.specs.Demand.{alike}
-use Rattle.anb_term.proofs.Lists.{slice_get-append, slice_get-there, slice_get-within, all_take, all_drop}
+use Rattle.anb_term.proofs.Lists.{slice_get-append, slice_get-there, all_take, all_drop}
 use Rattle.anb_plays.specs.Codes.{Act, takes, draws, receives, sends, works, Work, make, undo, equal}
 use Rattle.anb_plays.specs.Plays.{Played, says, ends, stopped}
 use Rattle.anb_plays.specs.Runs.{says_if}
@@ -19,20 +21,11 @@ use Rattle.anb_report.specs.Looking.{is_among}
 use Rattle.anb_report.specs.Laws.{SameCourse, received, registers, changed, built_anew, renewed}
 use Rattle.anb_report.proofs.Tables.{among_first, among_neither, among_one, get_behind, get_front, get_window, window_length, grow_alike, set_apart, set_there, picked_same, picked_none}
 use Rattle.anb_report.proofs.Renewed.{registers_keep, registers_long, changed_here, renewed_length, Valued, picked_values, as_values, made_is, Undone, undone_of_table, parts_count}
-use Rattle.anb_report.proofs.Whole.{written_or, same_or, written_there, parts_same, keys_same, more_values, stays_whole, renewed_values}
+use Rattle.anb_report.proofs.Whole.{written_or, written_there, parts_same, keys_same, more_values, stays_whole, renewed_values}
 use Rattle.anb_report.proofs.Walking.{Walks, UndoesWell}
 
 says_same : {A : Type 0} (x y : A) (p q : Played A) → SameCourse p q → SameCourse (says x p) (says y q)
 says_same x y p q s = record { end = s.end; left = s.left; sent = ap suc s.sent }
-
-low_or : (a b : ℕ) → (a < b) ⊎ (b ≤ a)
-low_or a zero = inr (omega arith)
-low_or zero (suc b) = inl (omega arith)
-low_or (suc a) (suc b) = by (low_or a b)
-  where
-    by : (a < b) ⊎ (b ≤ a) → (suc a < suc b) ⊎ (suc b ≤ suc a)
-    by (inl h) = inl (omega (arith, h))
-    by (inr h) = inr (omega (arith, h))
 
 -- the registers of later arrivals are later
 received_later : (acts : List Act) (next : ℕ) (low : ℕ) → low ≤ next → AllByRecursion (λ n. low ≤ n) (received next acts)
@@ -120,7 +113,7 @@ module _ {A : Type 0} (m : Meaning A) (lawful : Lawful m) (draw : ℕ → A) (dr
     verified = verified;
     walks = walks;
     same = λ r w. one_more T U x y r (omega (arith, long, other)) (same r w) (λ s. alike_x (let z : r ≡ next = omega (arith, s, long) in ap whole (sym z) ∙ w));
-    came = λ r h b. came_so r h b (same_or r next);
+    came = λ r h b. came_so r h b (same_or_not r next);
     later = later;
     below = λ r b. let h = below r b in omega (arith, h);
     sized = sized;
@@ -169,7 +162,7 @@ module _ {A : Type 0} (m : Meaning A) (lawful : Lawful m) (draw : ℕ → A) (dr
         verified = b.verified.1;
         walks = b.walks.1;
         same = λ r wr. grow_alike T U ws us r (omega (arith, b.long, b.other_long)) (λ h. b.same r wr) (λ j s. whole_there j (ap whole (sym s) ∙ wr));
-        came = λ r h br. came_so r h br later many (low_or r next);
+        came = λ r h br. came_so r h br later many (below_or_not r next);
         later = later;
         below = λ r f. let h = below r f in omega (arith, h);
         sized = b.sized ∙ ap length all;
@@ -189,7 +182,7 @@ module _ {A : Type 0} (m : Meaning A) (lawful : Lawful m) (draw : ℕ → A) (dr
 
       by_one : (r : ℕ) → (is_among before r ≡ true) ⊎ (is_among (n ∷ []) r ≡ true) → r < next
       by_one r (inl f) = b.below r f
-      by_one r (inr f) = one_is (same_or n r)
+      by_one r (inr f) = one_is (same_or_not n r)
         where
           one_is : (n ≡ r) ⊎ (n ≡ r → ⊥) → r < next
           one_is (inl s) = omega (arith, s, less)
@@ -219,12 +212,12 @@ module _ {A : Type 0} (m : Meaning A) (lawful : Lawful m) (draw : ℕ → A) (dr
           by : (p : Option A) → slice_get us j ≡ p → slice_get ws j ≡ slice_get us j
           by None f = q ∙ sym f
           by (Some y) f =
-              let less = slice_get-within us j y f in
+              let less = got_within us j y f in
               let z = slice_get-there ws j (omega (arith, less, many)) in
               let no : None ≡ Some z.0 = sym q ∙ z.1 in
               cc
       whole_part j wr at_T wide many (inr q) =
-          let less = slice_get-within ws j q.0 q.1 in
+          let less = got_within ws j q.0 q.1 in
           let there = written_there m lawful draw draw_is change change_is whole brought fixed keeps kept acts T ws i arrivals j q.0 q.1 in
           let same = stays_whole m lawful draw draw_is change change_is whole brought fixed keeps kept acts (T ++ ws) (next + count_written (undo o ks n)) i arrivals (before ++ n ∷ []) at_T b.none b.verified.1 b.walks.1
           (all_both T ws b.values valued) b.arrive (length T + j) q.0 wr there in

@@ -2,10 +2,11 @@
 use Rattle.std.proofs.Common.{◌≡◌, ℕ, suc, ◌+◌, ◌<◌, List, [], ◌∷◌, ◌++◌, length, map, Bool, true, false, IsTrue, Option, Some, None, refl, sym, ap, ◌∙◌, arith}
 use Rattle.std.specs.Prelude.{not, slice_get}
 use Rattle.std.proofs.lemmas.List.Elements.{recursion_from_All}
+use Rattle.std.proofs.lemmas.Bool.{not-true, not_from_false}
+use Rattle.anb_lemmas.proofs.Each.{each_in_both}
 use Rattle.anb_format.specs.Formats.{FormatValue}
 use Rattle.anb_term.specs.Value.{Meaning}
 use Rattle.anb_term.specs.Lawful.{Lawful, AreValues, picked}
-use Rattle.anb_term.proofs.Lists.{all_append}
 use Rattle.anb_plays.specs.Codes.{Act, takes, draws, receives, sends, works}
 use Rattle.anb_plays.specs.Plays.{Played, ends, stopped}
 use Rattle.anb_plays.specs.Exec.{exec, worked, on_written, HasTakes, IsVerified, NoTakes}
@@ -22,14 +23,6 @@ use Rattle.anb_report.proofs.Bridging.{WalksBehind, walks, takes_not_brought, se
 use Rattle.anb_report.proofs.Free.{Beside, GoAlike, goes_alike}
 use Rattle.anb_report.proofs.Aside.{unopened}
 
-not_false : (b : Bool) → b ≡ false → not b ≡ true
-not_false true e = cc
-not_false false e = refl
-
-not_true : (b : Bool) → not b ≡ true → b ≡ false
-not_true true e = cc
-not_true false e = refl
-
 module _ {A : Type 0} (m : Meaning A) (lawful : Lawful m) (formats : List FormatValue) (instrs : List Instr) (change : ℕ → A → A) (changes : ChangesUnchecked m formats instrs change)
     (draw : ℕ → A) (draw_is : (i : ℕ) → IsTrue (m.is_value (draw i))) (init arrivals : List A) (init_is : AreValues m init) (arrivals_are : AreValues m arrivals) where
   abbrev whole : ℕ → Bool
@@ -42,10 +35,10 @@ module _ {A : Type 0} (m : Meaning A) (lawful : Lawful m) (formats : List Format
   fixed r = not (is_among (unchecked formats instrs) r)
 
   keeps : (n : ℕ) (x : A) → fixed n ≡ true → change n x ≡ x
-  keeps n x e = changes.others n x (not_true (is_among (unchecked formats instrs) n) e)
+  keeps n x e = changes.others n x (not-true (is_among (unchecked formats instrs) n) e)
 
   kept : (n : ℕ) → whole n ≡ true → fixed n ≡ true
-  kept n e = not_false (is_among (unchecked formats instrs) n) (seen_is_fixed formats instrs n e)
+  kept n e = not_from_false (is_among (unchecked formats instrs) n) (seen_is_fixed formats instrs n e)
 
   -- the two runs behind the takes
   starts : (acts : List Act) (k at : ℕ) (others : List A) → k ≡ length init → NoTakes m.has acts → IsVerified m.has acts (length init) → Walks whole came fixed acts (length init) []
@@ -135,7 +128,7 @@ module _ {A : Type 0} (m : Meaning A) (lawful : Lawful m) (formats : List Format
       let acts = map (act_of formats) instrs in
       let X = renewed m draw change acts init 0 arrivals in
       as_values m lawful draw draw_is (replaced m draw change acts init arrivals)
-      (all_append (λ x. IsTrue (m.is_value x)) (picked X (received 0 acts)) (exec m draw acts init 0 0 0 arrivals).left
+      (each_in_both (λ x. IsTrue (m.is_value x)) (picked X (received 0 acts)) (exec m draw acts init 0 0 0 arrivals).left
       (picked_values m lawful draw draw_is X (received 0 acts) (behind_values acts 0 (length init) h refl))
       (left_values m draw acts init 0 0 0 arrivals (recursion_from_All (λ x. IsTrue (m.is_value x)) arrivals arrivals_are)))
 

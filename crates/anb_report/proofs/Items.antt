@@ -8,14 +8,16 @@ use Rattle.anb_resolve.specs.Protocols.{ProtocolValue}
 use Rattle.anb_code.specs.declared.instr.Instr.{Instr}
 use Rattle.anb_code.specs.Registers.{count_written}
 use Rattle.anb_code.specs.Verified.{count_registers}
-use Rattle.anb_explain.proofs.Loops.{drop_item}
 use Rattle.std.proofs.lemmas.List.{take_all}
+use Rattle.std.proofs.lemmas.Bool.{or_right}
+use Rattle.anb_lemmas.proofs.Lists.{drop_at_got}
 use Rattle.anb_report.specs.Noting.{notes_at, notes_first, notes_from, up_to_message}
 use Rattle.anb_report.specs.Looking.{is_message, written_by}
 use Rattle.anb_term.specs.declared.term.Term.{Term}
 use Rattle.anb_term.specs.Tree.{Tree, tree_eqb}
-use Rattle.anb_term.specs.TreeSame.{term_of-tree_of, tree_same, tree_itself}
-use Rattle.anb_term.specs.View.{tree_of, term_of}
+use Rattle.anb_term.specs.TreeSame.{tree_same, tree_itself}
+use Rattle.anb_term.specs.View.{tree_of}
+use Rattle.anb_term.proofs.Lists.{one_term}
 
 -- numbers from one on up to another
 pub first_of : (a b : ℕ) → a < b → range_with_len a (b - a) ≡ a ∷ range_with_len (a + 1) (b - (a + 1))
@@ -52,13 +54,6 @@ turn_fewer formats instrs = let e = ap (count_registers formats) (turn_taken ins
 
 -- ---- the terms of registers
 
-either_true : (a b : Bool) → b ≡ true → (a || b) ≡ true
-either_true true b e = refl
-either_true false b e = e
-
-one_term : (x y : Term) → tree_of x ≡ tree_of y → x ≡ y
-one_term x y e = sym (term_of-tree_of x) ∙ ap term_of e ∙ term_of-tree_of y
-
 -- a test that tells whether two terms are one
 pub told : (b : Bool) (x y : Term) → (IsTrue b → x ≡ y) → (x ≡ y → IsTrue b) → b ≡ tree_eqb (tree_of x) (tree_of y)
 told true x y same is = sym (ap (λ z. tree_eqb (tree_of x) (tree_of z)) (sym (same refl)) ∙ tree_itself (tree_of x))
@@ -84,7 +79,7 @@ module _ (formats : List FormatValue) (instrs : List Instr) (i : ℕ) (x : Instr
   rest = drop (i + 1) instrs
 
   pub count_first : count_registers formats (drop i instrs) ≡ count_written formats x + count_registers formats rest
-  count_first = ap (count_registers formats) (drop_item instrs i x here) ∙ sum_by-cons (count_written formats) x rest
+  count_first = ap (count_registers formats) (drop_at_got instrs i x here) ∙ sum_by-cons (count_written formats) x rest
 
   module _ (next end : ℕ) (by : end ≡ next + count_written formats x) where
     width : end - next ≡ count_written formats x
@@ -92,14 +87,14 @@ module _ (formats : List FormatValue) (instrs : List Instr) (i : ℕ) (x : Instr
 
     pub written_first : (test : Instr → Bool) → written_by formats test next (drop i instrs) ≡ (if test x then range_with_len next (end - next) else []) ++ written_by formats test end rest
     written_first test =
-        ap (written_by formats test next) (drop_item instrs i x here)
+        ap (written_by formats test next) (drop_at_got instrs i x here)
         ∙ ap (λ n. (if test x then range_with_len next n else []) ++ written_by formats test (next + count_written formats x) rest) (sym width)
         ∙ ap (λ n. (if test x then range_with_len next (end - next) else []) ++ written_by formats test n rest) (sym by)
 
   pub notes_then : (p : ProtocolValue) (terms : List Tree) (next end : ℕ) → end ≡ next + count_written formats x
       → notes_from formats p terms next (drop i instrs) ≡ notes_first formats p terms next (drop i instrs) ++ notes_from formats p terms end rest
   notes_then p terms next end by =
-      let at = drop_item instrs i x here in
+      let at = drop_at_got instrs i x here in
       ap (notes_from formats p terms next) at
       ∙ ap (λ (l : List Instr). notes_first formats p terms next l ++ notes_from formats p terms (next + count_written formats x) rest) (sym at)
       ∙ ap (λ n. notes_first formats p terms next (drop i instrs) ++ notes_from formats p terms n rest) (sym by)
@@ -112,15 +107,8 @@ message_notes formats p terms next (y ∷ instrs) x h e is =
     ap (λ b. if b then notes_at formats p terms next (y ∷ up_to_message instrs) ∷ [] else []) t
     ∙ ap (λ l. notes_at formats p terms next l ∷ []) (ap (λ l. y ∷ l) (sym (turn_taken instrs)) ∙ sym (take_more (length (up_to_message instrs)) y instrs))
 
-pub other_notes : (formats : List FormatValue) (p : ProtocolValue) (terms : List Tree) (next : ℕ) (instrs : List Instr) (x : Instr) → 0 < length instrs → x ≡ get_or instrs 0 x → is_message x ≡ false
-    → notes_first formats p terms next instrs ≡ []
-other_notes formats p terms next [] x h e is = refl
-other_notes formats p terms next (y ∷ instrs) x h e is =
-    let t : is_message y ≡ false = ap is_message (sym e) ∙ is in
-    ap (λ b. if b then notes_at formats p terms next (y ∷ up_to_message instrs) ∷ [] else []) t
-
 -- an item of a list is told so
 pub any_at : {A B : Type 0} (view : A → B) (test : B → Bool) (xs : List A) (i : ℕ) (x : A) → slice_get xs i ≡ Some x → test (view x) ≡ true → list_any test (map view xs) ≡ true
 any_at view test [] i x e is = cc
 any_at view test (y ∷ ys) zero x e is = let s : y ≡ x = cc in ap (λ b. b || list_any test (map view ys)) (ap (λ z. test (view z)) s ∙ is)
-any_at view test (y ∷ ys) (suc i) x e is = either_true (test (view y)) (list_any test (map view ys)) (any_at view test ys i x e is)
+any_at view test (y ∷ ys) (suc i) x e is = or_right (test (view y)) (list_any test (map view ys)) (any_at view test ys i x e is)

@@ -3,6 +3,7 @@ use Rattle.std.proofs.Common.{◌≡◌, ℕ, ◌+◌, ◌<◌, List, [], ◌∷
 use Rattle.std.specs.Prelude.{codes, count_by, decimal, slice_get}
 use Rattle.std.proofs.lemmas.List.Sums.{sum_by-append, sum_by-cons}
 use Rattle.std.proofs.lemmas.Option.{get_or_from_slice_get}
+use Rattle.anb_lemmas.proofs.Lists.{drop_got, drop_at_got}
 use Rattle.anb_term.specs.Tree.{Tree}
 use Rattle.anb_code.specs.CodeValue.{CodeValue}
 use Rattle.anb_resolve.specs.declared.parts.Action.{Action}
@@ -14,7 +15,6 @@ use Rattle.anb_resolve.specs.Views.{action_value}
 use Rattle.anb_chart.specs.Charts as chart
 use Rattle.anb_explain.specs.Explained.{line}
 use Rattle.anb_explain.proofs.Lines.{counted_one}
-use Rattle.anb_explain.proofs.Loops.{drop_item, item_drop}
 use Rattle.anb_report.specs.Noting.{register_texts}
 use Rattle.anb_report.specs.Remarks.{is_repeated, repeated, unused}
 use Rattle.anb_report.specs.RoleCharts.{noted_lines, noted_text}
@@ -64,10 +64,10 @@ module _ (p : ProtocolValue) (actions : List Action) (i : ℕ) (x : Action) (her
   its_names = map (atom_name p) (made_at p before value)
 
   item : map action_value (drop i actions) ≡ value ∷ later
-  item = ap (map action_value) (drop_item actions i x here)
+  item = ap (map action_value) (drop_at_got actions i x here)
 
   there : (slice_get made i ≡ Some its_names) × (drop (i + 1) made ≡ each_after (names_made_at p) (before ++ value ∷ []) later)
-  there = item_drop made (each_after (names_made_at p) (before ++ value ∷ []) later) i its_names (due ∙ ap (each_after (names_made_at p) before) item)
+  there = drop_got made (each_after (names_made_at p) (before ++ value ∷ []) later) i its_names (due ∙ ap (each_after (names_made_at p) before) item)
 
   pub lines_first : (role : ℕ) (notes : List (List (List ℕ))) (event : ℕ) (names : List (List ℕ)) → event ≡ count_by (is_own role) before → names ≡ get_or made i names
       → each_after (action_text p role notes) before (map action_value (drop i actions))
@@ -93,7 +93,7 @@ module _ (p : ProtocolValue) (actions : List Action) (i : ℕ) (x : Action) (her
       ≡ noted_lines p role notes (event + 1) (i + 1) (action_value x) ++ each_after (noted_text p role notes) (before ++ action_value x ∷ []) (map action_value (drop (i + 1) actions))
   noted_first role notes event own =
       let later = map action_value (drop (i + 1) actions) in
-      ap (λ (l : List Action). each_after (noted_text p role notes) before (map action_value l)) (drop_item actions i x here)
+      ap (λ (l : List Action). each_after (noted_text p role notes) before (map action_value l)) (drop_at_got actions i x here)
       ∙ ap (λ l. l ++ each_after (noted_text p role notes) (before ++ action_value x ∷ []) later)
       (ap (λ n. noted_lines p role notes (n + 1) (length before + 1) (action_value x)) (sym own) ∙ ap (λ n. noted_lines p role notes (event + 1) (n + 1) (action_value x)) many)
 
@@ -105,7 +105,7 @@ one_longer before a i many = omega (arith, length-append before (a ∷ []), many
 pub role_first : (p : ProtocolValue) (codes_of : List CodeValue) (i : ℕ) (x : CodeValue) (before : List CodeValue) → slice_get codes_of i ≡ Some x → length before ≡ i
     → each_after (role_after p) before (drop i codes_of) ≡ role_report p i x ++ each_after (role_after p) (before ++ x ∷ []) (drop (i + 1) codes_of)
 role_first p codes_of i x before here many =
-    ap (each_after (role_after p) before) (drop_item codes_of i x here)
+    ap (each_after (role_after p) before) (drop_at_got codes_of i x here)
     ∙ ap (λ n. role_report p n x ++ each_after (role_after p) (before ++ x ∷ []) (drop (i + 1) codes_of)) many
 
 pub code_longer : (before : List CodeValue) (x : CodeValue) (i : ℕ) → length before ≡ i → length (before ++ x ∷ []) ≡ i + 1

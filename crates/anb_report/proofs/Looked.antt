@@ -4,17 +4,17 @@ use Rattle.std.specs.Prelude.{◌&&◌, All, filter, not, slice_get}
 use Rattle.std.specs.List.{AllByRecursion, flat_map, list_any, range_with_len}
 use Rattle.std.proofs.lemmas.List.Sums.{sum_by-append, sum_by-cons}
 use Rattle.anb_format.specs.Formats.{FormatValue}
-use Rattle.anb_term.proofs.Lists.{all_append}
 use Rattle.anb_code.specs.declared.instr.Instr.{Instr}
 use Rattle.anb_code.specs.declared.instr.Instr.TheVariants.{Take, Fresh, Recv, Hash, Mac, Seal, Unseal, Wrap, Unwrap, Build, Parse, Equal, Send}
 use Rattle.anb_code.specs.Registers.{count_written, operands}
 use Rattle.anb_code.specs.Verified.{EachAfter, IsInstrAfter, count_registers}
-use Rattle.anb_explain.proofs.Loops.{drop_item, take_item}
 use Rattle.anb_resolve.specs.Seen.{marked}
 use Rattle.anb_report.specs.Looking.{asked, brought, built_of, compared, is_among, is_no_envelope, is_unchecked, keys_of, opened, opened_by, parts_of, repeated, seen, unchecked, with_operands, with_parts}
 use Rattle.anb_report.proofs.Marking.{any_same, filter_same, mark_tells, marked_both, range_same}
 use Rattle.anb_resolve.proofs.SeenLemmas.{length-marked}
 use Rattle.std.proofs.lemmas.List.{length-replicate}
+use Rattle.anb_lemmas.proofs.Each.{each_in_both}
+use Rattle.anb_lemmas.proofs.Lists.{take_got, drop_at_got}
 
 -- what builds nothing is built of nothing
 built_none : (formats : List FormatValue) (x : Instr) → count_written formats x ≡ 0 → built_of x ≡ []
@@ -59,12 +59,12 @@ module _ (formats : List FormatValue) (instrs : List Instr) (i : ℕ) (x : Instr
       let same = behind_same (get_or (marked blank later) next true) (is_among later next) (built_of x) n next (count_written formats x) (omega (arith, by, long)) (λ h. mark_tells n next later h) (built_none formats x) in
       ap (λ m. marked m (cond (get_or m next true) (built_of x) [])) e ∙ ap (marked (marked blank later)) same ∙ sym (marked_both blank later (cond (is_among later next) (built_of x) []))
       ∙ ap (λ k. marked blank (with_operands formats some k rest ++ cond (is_among (with_operands formats some k rest) next) (built_of x) [])) by
-      ∙ ap (λ l. marked blank (with_operands formats some next l)) (sym (drop_item instrs i x here))
+      ∙ ap (λ l. marked blank (with_operands formats some next l)) (sym (drop_at_got instrs i x here))
 
   pub count_next : count_registers formats (take (i + 1) instrs) ≡ count_registers formats (take i instrs) + count_written formats x
   count_next =
       let one : count_registers formats (x ∷ []) ≡ count_written formats x = omega (arith, sum_by-cons (count_written formats) x []) in
-      let both = ap (count_registers formats) (take_item instrs i x here) ∙ sum_by-append (count_written formats) (take i instrs) (x ∷ []) in
+      let both = ap (count_registers formats) (take_got instrs i x here) ∙ sum_by-append (count_written formats) (take i instrs) (x ∷ []) in
       omega (arith, both, one)
 
   pub parts_next : (some : List ℕ) (n next end : ℕ) → next ≡ count_registers formats (take i instrs) → end ≡ next + count_written formats x → AllByRecursion (λ r. r < n) (opened_by x)
@@ -81,7 +81,7 @@ module _ (formats : List FormatValue) (instrs : List Instr) (i : ℕ) (x : Instr
       ∙ ap (λ k. marked (marked blank before) (cond (list_any (is_among before) (opened_by x)) (range_with_len next k) [])) width
       ∙ sym (marked_both blank before (parts_of formats before next x))
       ∙ ap (λ k. marked blank (before ++ parts_of formats before k x)) start
-      ∙ ap (marked blank) (sym (parts_last formats some 0 (take i instrs) x) ∙ ap (with_parts formats some 0) (sym (take_item instrs i x here)))
+      ∙ ap (marked blank) (sym (parts_last formats some 0 (take i instrs) x) ∙ ap (with_parts formats some 0) (sym (take_got instrs i x here)))
 
 -- ---- what instructions open was written
 
@@ -115,7 +115,7 @@ opened_after formats before (x ∷ instrs) n each h =
     let more = sum_by-append (count_written formats) before (x ∷ []) in
     let one = sum_by-cons (count_written formats) x [] in
     let first = sum_by-cons (count_written formats) x instrs in
-    all_append (λ r. r < n) (opened_by x) (opened instrs) (opened_below (count_registers formats before) n x (omega (arith, h)) each.0.written)
+    each_in_both (λ r. r < n) (opened_by x) (opened instrs) (opened_below (count_registers formats before) n x (omega (arith, h)) each.0.written)
     (opened_after formats (before ++ x ∷ []) instrs n each.1 (omega (arith, h, more, one, first)))
 
 pub opened_written : (formats : List FormatValue) (instrs : List Instr) → EachAfter (IsInstrAfter formats) [] instrs → AllByRecursion (λ r. r < count_registers formats instrs) (opened instrs)

@@ -6,6 +6,8 @@ use Rattle.std.specs.Str.{bytes_eq}
 use Rattle.std.proofs.lemmas.Bool.{cases_lt}
 use Rattle.std.proofs.lemmas.List.{length-replicate, set_past}
 use Rattle.std.proofs.lemmas.Slice.Eq.{bytes_eq-Decides}
+use Rattle.anb_lemmas.proofs.Bools.{or_false, or_true}
+use Rattle.anb_lemmas.proofs.Lists.{unflagged}
 use Rattle.anb_resolve.specs.Seen.{marked}
 use Rattle.anb_resolve.proofs.SeenLemmas.{flag-marked, length-marked}
 use Rattle.anb_report.specs.Looking.{is_among, repeated}
@@ -14,22 +16,9 @@ pub marked_both : (marks : List Bool) (xs ys : List ℕ) → marked marks (xs ++
 marked_both marks [] ys = refl
 marked_both marks (x ∷ xs) ys = marked_both (slice_set marks x true) xs ys
 
-unmarked : (n i : ℕ) → i < n → get_or (replicate n false) i true ≡ false
-unmarked zero i h = absurd (omega arith)
-unmarked (suc n) zero h = refl
-unmarked (suc n) (suc i) h = unmarked n i (omega arith)
-
-or_true : (a : Bool) → (a || true) ≡ true
-or_true true = refl
-or_true false = refl
-
-either_false : (a : Bool) → (a || false) ≡ a
-either_false true = refl
-either_false false = refl
-
 -- what is marked is among the ones that were to be marked
 pub mark_tells : (n i : ℕ) (xs : List ℕ) → i < n → get_or (marked (replicate n false) xs) i true ≡ is_among xs i
-mark_tells n i xs h = flag-marked (replicate n false) xs i ∙ ap (λ v. is_among xs i || v) (unmarked n i h) ∙ either_false (is_among xs i)
+mark_tells n i xs h = flag-marked (replicate n false) xs i ∙ ap (λ v. is_among xs i || v) (unflagged n i h) ∙ or_false (is_among xs i)
 
 pub role_there : (roles : List (List ℕ)) (i : ℕ) (name : List ℕ) → slice_get roles i ≡ Some name → list_any (λ y. bytes_eq y name) roles ≡ true
 role_there [] i name e = cc

@@ -3,7 +3,8 @@ use Rattle.std.proofs.Common.{◌≡◌, ℕ, zero, suc, ◌+◌, ◌<◌, List,
 use Rattle.std.specs.Prelude.{◌||◌, ◌==◌, not, slice_get}
 use Rattle.std.specs.List.{list_any}
 use Rattle.std.proofs.lemmas.Bool.{eq-eqb, eqb-true}
-use Rattle.std.proofs.Math.Dec.{eqb-zero-suc, eqb-suc-zero, eqb-suc-suc}
+use Rattle.anb_lemmas.proofs.Bools.{or_false}
+use Rattle.anb_lemmas.proofs.Lists.{unflagged, flag_set}
 use Rattle.anb_term.specs.Tree.{Tree, tree_eqb}
 use Rattle.anb_term.specs.declared.term.Term.{Term}
 use Rattle.anb_term.specs.View.{tree_of}
@@ -45,32 +46,11 @@ numbered_next pool more grown terms i x numbers n is before here there =
 
 -- ---- marks
 
-or_true : (a : Bool) → (a || true) ≡ true
-or_true true = refl
-or_true false = refl
-
-or_false : (a : Bool) → (a || false) ≡ a
-or_false true = refl
-or_false false = refl
-
 or_move : (a b c : Bool) → ((a || b) || c) ≡ (b || (a || c))
 or_move true true c = refl
 or_move true false c = refl
 or_move false true c = refl
 or_move false false c = refl
-
--- a mark behind one that was set
-mark_set : (marks : List Bool) (m n : ℕ) → get_or (set marks m true) n true ≡ ((m == n) || get_or marks n true)
-mark_set [] m n = sym (or_true (m == n))
-mark_set (b ∷ marks) zero zero = ap (λ v. v || b) (sym (eq-eqb 0 0 refl))
-mark_set (b ∷ marks) zero (suc n) = ap (λ v. v || get_or marks n true) (sym (eqb-zero-suc n))
-mark_set (b ∷ marks) (suc m) zero = ap (λ v. v || b) (sym (eqb-suc-zero m))
-mark_set (b ∷ marks) (suc m) (suc n) = mark_set marks m n ∙ ap (λ v. v || get_or marks n true) (sym (eqb-suc-suc m n))
-
-unmarked : (count n : ℕ) → n < count → get_or (replicate count false) n true ≡ false
-unmarked zero n h = absurd (omega arith)
-unmarked (suc count) zero h = refl
-unmarked (suc count) (suc n) h = unmarked count n (omega arith)
 
 pub news_at : (marks : List Bool) (numbers : List ℕ) (i n : ℕ) → slice_get numbers i ≡ Some n
     → slice_get (news marks numbers) i ≡ Some (not (list_any (λ m. m == n) (take i numbers) || get_or marks n true))
@@ -79,7 +59,7 @@ news_at marks (m ∷ ns) zero n e = let s : m ≡ n = cc in ap (λ k. Some (not 
 news_at marks (m ∷ ns) (suc i) n e =
     let among = list_any (λ k. k == n) (take i ns) in
     news_at (set marks m true) ns i n e
-    ∙ ap (λ v. Some (not (among || v))) (mark_set marks m n)
+    ∙ ap (λ v. Some (not (among || v))) (flag_set marks m n)
     ∙ ap (λ v. Some (not v)) (sym (or_move (m == n) among (get_or marks n true)))
 
 news_many : (marks : List Bool) (numbers : List ℕ) → length (news marks numbers) ≡ length numbers
@@ -138,6 +118,6 @@ told terms numbers count is = record {
       let n = at.0 in
       let inside : n < count = omega (arith, below is.pool n t at.2, is.many) in
       news_at (replicate count false) numbers i n at.1
-      ∙ ap (λ v. Some (not (list_any (λ m. m == n) (take i numbers) || v))) (unmarked count n inside)
+      ∙ ap (λ v. Some (not (list_any (λ m. m == n) (take i numbers) || v))) (unflagged count n inside)
       ∙ ap (λ v. Some (not v)) (or_false (list_any (λ m. m == n) (take i numbers)) ∙ among is.pool is.distinct terms numbers i n t is.numbered at.2);
 }

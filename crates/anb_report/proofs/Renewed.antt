@@ -4,11 +4,12 @@ use Rattle.std.specs.Prelude.{slice_get, option_and_then}
 use Rattle.std.specs.List.{AllByRecursion}
 use Rattle.std.proofs.lemmas.List.{length-set}
 use Rattle.std.proofs.lemmas.List.Elements.{All-from_recursion, recursion_from_All}
+use Rattle.anb_lemmas.proofs.Each.{each_got}
 use Rattle.anb_term.specs.declared.term.Op.{Op}
 use Rattle.anb_term.specs.Operator.{arity, keys, undoable}
 use Rattle.anb_term.specs.Value.{Meaning}
 use Rattle.anb_term.specs.Lawful.{Lawful, AreValues, picked}
-use Rattle.anb_term.proofs.Lists.{slice_get-append, slice_get-there, all_at}
+use Rattle.anb_term.proofs.Lists.{slice_get-append, slice_get-there}
 use Rattle.anb_term.proofs.Values.{could}
 use Rattle.anb_plays.specs.Codes.{Act, takes, draws, receives, sends, works, Work, make, undo, equal}
 use Rattle.anb_plays.specs.Exec.{worked, on_written, count_written, IsReady}
@@ -91,7 +92,7 @@ Valued m vs = AllByRecursion (λ x. IsTrue (m.is_value x)) vs
 
 module _ {A : Type 0} (m : Meaning A) (lawful : Lawful m) (draw : ℕ → A) (draw_is : (i : ℕ) → IsTrue (m.is_value (draw i))) where
   pub picked_values : (T : List A) (ns : List ℕ) → Valued m T → Valued m (picked T ns)
-  picked_values T ns valued = picked_all (λ x. IsTrue (m.is_value x)) T ns (λ n x e. all_at (λ z. IsTrue (m.is_value z)) T n x valued e)
+  picked_values T ns valued = picked_all (λ x. IsTrue (m.is_value x)) T ns (λ n x e. each_got (λ z. IsTrue (m.is_value z)) T n x valued e)
 
   pub as_values : (xs : List A) → Valued m xs → AreValues m xs
   as_values xs h = All-from_recursion (λ x. IsTrue (m.is_value x)) xs h
@@ -119,7 +120,7 @@ module _ {A : Type 0} (m : Meaning A) (lawful : Lawful m) (draw : ℕ → A) (dr
       let u : m.undone o (picked T ks) v.0 ≡ Some ws = sym (ap (option_and_then (m.undone o (picked T ks))) v.1) ∙ e in
       let long : length (picked T ks) ≡ keys o = picked_count T ks (recursion_from_All (λ k. k < length T) ks ready.2) ∙ ready.1 in
       let c = could m lawful o (picked T ks) ws v.0 u in
-      let is = all_at (λ z. IsTrue (m.is_value z)) T n v.0 valued v.1 in
+      let is = each_got (λ z. IsTrue (m.is_value z)) T n v.0 valued v.1 in
       let d = lawful.undoes o (picked T ks) ws v.0 c ready.0 long (as_values (picked T ks) (picked_values T ks valued)) is u in
       record {
         of = v.0;

@@ -1,8 +1,8 @@
 -- Tables of registers: what stands behind others, windows, writes, and what is picked.
-use Rattle.std.proofs.Common.{◌≡◌, ℕ, zero, suc, ◌+◌, ◌≤◌, ◌<◌, List, [], ◌∷◌, ◌++◌, length, take, drop, set, Bool, true, false, Option, Some, None, refl, sym, ap, ◌∙◌, arith, ◌⊎◌, inl, inr}
+use Rattle.std.proofs.Common.{◌≡◌, ℕ, zero, suc, ◌+◌, ◌≤◌, ◌<◌, List, [], ◌∷◌, ◌++◌, length, take, drop, set, true, false, Option, Some, None, refl, sym, ap, ◌∙◌, arith, ◌⊎◌}
 use Rattle.std.specs.Prelude.{◌||◌, slice_get, nat_eq}
 use Rattle.std.specs.List.{AllByRecursion}
-use Rattle.std.proofs.lemmas.Bool.{eq-eqb}
+use Rattle.std.proofs.lemmas.Bool.{eq-eqb, or_right, or_parts, or_cases}
 use Rattle.std.proofs.lemmas.List.Folds.{list_any-append}
 use Rattle.anb_term.specs.Lawful.{picked}
 use Rattle.anb_term.proofs.Lists.{slice_get-there}
@@ -10,35 +10,23 @@ use Rattle.anb_report.specs.Looking.{is_among}
 
 -- ---- membership
 
-or_true : (a b : Bool) → b ≡ true → (a || b) ≡ true
-or_true true b e = refl
-or_true false b e = e
-
-either_false : (a b : Bool) → (a || b) ≡ false → (a ≡ false) × (b ≡ false)
-either_false true b e = cc
-either_false false b e = (refl, e)
-
-one_true : (a b : Bool) → (a || b) ≡ true → (a ≡ true) ⊎ (b ≡ true)
-one_true true b e = inl refl
-one_true false b e = inr e
-
 pub among_first : (n : ℕ) (ns : List ℕ) → is_among (n ∷ ns) n ≡ true
 among_first n ns = ap (λ b. b || is_among ns n) (eq-eqb n n refl)
 
 pub among_rest : (k : ℕ) (ns : List ℕ) (n : ℕ) → is_among ns n ≡ true → is_among (k ∷ ns) n ≡ true
-among_rest k ns n e = or_true (nat_eq k n) (is_among ns n) e
+among_rest k ns n e = or_right (nat_eq k n) (is_among ns n) e
 
 pub among_front : (xs ys : List ℕ) (n : ℕ) → is_among xs n ≡ true → is_among (xs ++ ys) n ≡ true
 among_front xs ys n e = list_any-append (λ k. nat_eq k n) xs ys ∙ ap (λ b. b || is_among ys n) e
 
 pub among_back : (xs ys : List ℕ) (n : ℕ) → is_among ys n ≡ true → is_among (xs ++ ys) n ≡ true
-among_back xs ys n e = list_any-append (λ k. nat_eq k n) xs ys ∙ or_true (is_among xs n) (is_among ys n) e
+among_back xs ys n e = list_any-append (λ k. nat_eq k n) xs ys ∙ or_right (is_among xs n) (is_among ys n) e
 
 pub among_neither : (xs ys : List ℕ) (n : ℕ) → is_among (xs ++ ys) n ≡ false → (is_among xs n ≡ false) × (is_among ys n ≡ false)
-among_neither xs ys n e = either_false (is_among xs n) (is_among ys n) (sym (list_any-append (λ k. nat_eq k n) xs ys) ∙ e)
+among_neither xs ys n e = or_parts (is_among xs n) (is_among ys n) (sym (list_any-append (λ k. nat_eq k n) xs ys) ∙ e)
 
 pub among_one : (xs ys : List ℕ) (n : ℕ) → is_among (xs ++ ys) n ≡ true → (is_among xs n ≡ true) ⊎ (is_among ys n ≡ true)
-among_one xs ys n e = one_true (is_among xs n) (is_among ys n) (sym (list_any-append (λ k. nat_eq k n) xs ys) ∙ e)
+among_one xs ys n e = or_cases (is_among xs n) (is_among ys n) (sym (list_any-append (λ k. nat_eq k n) xs ys) ∙ e)
 
 -- ---- places
 

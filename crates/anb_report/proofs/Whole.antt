@@ -1,14 +1,16 @@
 -- What is looked at as a whole is the same after parts of arrivals were replaced, and all is a value still.
 use Rattle.std.proofs.Common.{◌≡◌, ℕ, zero, suc, ◌+◌, ◌≤◌, ◌<◌, List, [], ◌∷◌, ◌++◌, length, take, drop, Bool, true, false, IsTrue, Option, Some, None, refl, sym, ap, ◌∙◌, subst, arith, length-append, ◌⊎◌, inl, inr}
-use Rattle.std.specs.Prelude.{slice_get, slice_set, nat_eq, if◌then◌else◌}
+use Rattle.std.specs.Prelude.{slice_get, slice_set, if◌then◌else◌}
 use Rattle.std.specs.List.{AllByRecursion}
-use Rattle.std.proofs.lemmas.Bool.{eqb-true, eq-eqb}
 use Rattle.std.proofs.lemmas.List.Elements.{recursion_from_All}
+use Rattle.anb_lemmas.proofs.Numbers.{same_or_not}
+use Rattle.anb_lemmas.proofs.Each.{each_in_both}
+use Rattle.anb_lemmas.proofs.Lists.{got_within}
 use Rattle.anb_term.specs.declared.term.Op.{Op}
 use Rattle.anb_term.specs.Operator.{arity, keys}
 use Rattle.anb_term.specs.Value.{Meaning}
 use Rattle.anb_term.specs.Lawful.{Lawful, picked}
-use Rattle.anb_term.proofs.Lists.{slice_get-append, slice_get-there, slice_get-within, all_append, all_take, all_drop}
+use Rattle.anb_term.proofs.Lists.{slice_get-append, slice_get-there, all_take, all_drop}
 use Rattle.anb_plays.specs.Codes.{Act, takes, draws, receives, sends, works, make, undo, equal}
 use Rattle.anb_plays.specs.Exec.{worked, on_written, count_written, IsReady, IsVerified, NoTakes}
 use Rattle.anb_report.specs.Looking.{is_among}
@@ -21,13 +23,6 @@ use Rattle.anb_report.proofs.Walking.{Walks, UndoesWell}
 pub written_or : {B : Type 0} (o : Option B) → (o ≡ None) ⊎ ((x : B) × (o ≡ Some x))
 written_or None = inl refl
 written_or (Some x) = inr (x, refl)
-
-pub same_or : (a b : ℕ) → (a ≡ b) ⊎ (a ≡ b → ⊥)
-same_or a b = by (nat_eq a b) refl
-  where
-    by : (c : Bool) → nat_eq a b ≡ c → (a ≡ b) ⊎ (a ≡ b → ⊥)
-    by true e = inl (eqb-true a b e)
-    by false e = inr (λ s. let t : nat_eq a b ≡ true = eq-eqb a b s in cc)
 
 module _ {A : Type 0} (m : Meaning A) (lawful : Lawful m) (draw : ℕ → A) (draw_is : (i : ℕ) → IsTrue (m.is_value (draw i)))
     (change : ℕ → A → A) (change_is : (n : ℕ) (x : A) → IsTrue (m.is_value x) → IsTrue (m.is_value (change n x)))
@@ -45,7 +40,7 @@ module _ {A : Type 0} (m : Meaning A) (lawful : Lawful m) (draw : ℕ → A) (dr
   one_value x is = (is, tt)
 
   pub more_values : (T ws : List A) → Valued m T → Valued m ws → Valued m (T ++ ws)
-  more_values T ws h k = all_append (λ x. IsTrue (m.is_value x)) T ws h k
+  more_values T ws h k = each_in_both (λ x. IsTrue (m.is_value x)) T ws h k
 
   -- what was opened is a value when it is built anew
   pub anew_is : (T : List A) (o : Op) (ks : List ℕ) (n : ℕ) (ws X : List A) → IsReady m.has (length T) (undo o ks n) → Undone m lawful draw draw_is T o ks n ws
@@ -161,7 +156,7 @@ module _ {A : Type 0} (m : Meaning A) (lawful : Lawful m) (draw : ℕ → A) (dr
       → Walks whole brought fixed acts (next + count_written (undo o ks n)) (before ++ n ∷ []) → Valued m T → Valued m arrivals → Undone m lawful draw draw_is T o ks n ws
       → (r : ℕ) (x : A) → whole r ≡ true → slice_get (registers m draw acts (T ++ ws) i arrivals) r ≡ Some x
       → slice_get (slice_set (renewed m draw change acts (T ++ ws) i arrivals) n (m.built o (picked (renewed m draw change acts (T ++ ws) i arrivals) ks ++ take (length ws) (drop (length T) (renewed m draw change acts (T ++ ws) i arrivals))))) r ≡ Some x
-  undo_whole acts ih o ks n T ws next i arrivals before long none ready verified well walks h k u r x w e = by (same_or n r)
+  undo_whole acts ih o ks n T ws next i arrivals before long none ready verified well walks h k u r x w e = by (same_or_not n r)
     where
       count : length ws ≡ count_written (undo o ks n)
       count = parts_count m lawful draw draw_is T o ks n ws u
@@ -194,7 +189,7 @@ module _ {A : Type 0} (m : Meaning A) (lawful : Lawful m) (draw : ℕ → A) (dr
           let built : m.built o (picked X ks ++ take (length ws) (drop (length T) X)) ≡ u.of = ap (λ l. m.built o (l ++ take (length ws) (drop (length T) X))) keyed ∙ ap (λ l. m.built o (picked T ks ++ l)) parts ∙ u.built in
           let here : slice_get F n ≡ Some u.of = grows n u.of u.at in
           let of_x : Some u.of ≡ Some x = sym here ∙ ap (slice_get F) s ∙ e in
-          let within : n < length X = omega (arith, slice_get-within T n u.of u.at, wide) in
+          let within : n < length X = omega (arith, got_within T n u.of u.at, wide) in
           ap (slice_get (slice_set X n (m.built o (picked X ks ++ take (length ws) (drop (length T) X))))) (sym s)
           ∙ set_there X n (m.built o (picked X ks ++ take (length ws) (drop (length T) X))) within ∙ ap Some built ∙ of_x
 

@@ -1,6 +1,5 @@
 pub mod Looking
 pub mod Noting
-pub mod Names
 pub mod Remarks
 pub mod Reporting
 pub mod RoleCharts

@@ -10,10 +10,9 @@ use Rattle.anb_term.specs.Tree.{Tree, leaf, node, Trees, none, more, tree_eqb}
 use Rattle.anb_code.specs.Spelling.{name_at}
 use Rattle.anb_explain.specs.Explained.{line}
 use Rattle.anb_resolve.specs.Plans.{plan_of, term_in}
-use Rattle.anb_resolve.specs.Protocols.{ActionValue, ProtocolValue}
+use Rattle.anb_resolve.specs.Protocols.{ActionValue, ProtocolValue, role_name}
 use Rattle.anb_resolve.specs.Texts.{atom_name, atoms_in}
 use Rattle.anb_report.specs.Looking.{is_among}
-use Rattle.anb_report.specs.Names.{role_name}
 
 abbrev pub unused : Bool → (kind name : List ℕ) → List ℕ
 unused there kind name = if there then [] else line (codes "note: nothing uses " ++ (kind ++ name))

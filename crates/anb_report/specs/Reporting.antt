@@ -5,12 +5,11 @@ use Rattle.std.specs.Option.{option_map_or}
 use Rattle.anb_term.specs.Tree.{Tree}
 use Rattle.anb_resolve.specs.Choices.{each_after}
 use Rattle.anb_resolve.specs.Plans.{made_at}
-use Rattle.anb_resolve.specs.Protocols.{ActionValue, ProtocolValue}
+use Rattle.anb_resolve.specs.Protocols.{ActionValue, ProtocolValue, role_name}
 use Rattle.anb_resolve.specs.Texts.{atom_name, term_text}
 use Rattle.anb_code.specs.CodeValue.{CodeValue}
 use Rattle.anb_explain.specs.Explained.{line, register_terms}
 use Rattle.anb_report.specs.Looking.{unchecked}
-use Rattle.anb_report.specs.Names.{role_name}
 use Rattle.anb_report.specs.Remarks.{remarks}
 use Rattle.anb_report.specs.Noting.{notes_of, register_texts}
 

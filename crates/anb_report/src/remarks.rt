@@ -3,11 +3,11 @@ ghost use Rattle.std.specs.Prelude.{◌≡◌, ◌<◌, ◌++◌, map, length, I
 ghost use Rattle.std.specs.List.{flat_map, list_any, range_with_len};
 ghost use Rattle.anb_code.specs.Spelling.{name_at};
 ghost use Rattle.anb_report.specs.Looking.{is_among};
-ghost use Rattle.anb_report.specs.Names.{role_name};
 ghost use Rattle.anb_term.specs.Tree.{trees_of};
 ghost use Rattle.anb_term.specs.View.{tree_of};
 ghost use Rattle.anb_resolve.specs.Plans.{term_in};
 ghost use Rattle.anb_resolve.specs.Views.{action_value, plan_event};
+ghost use Rattle.anb_resolve.specs.Protocols.{role_name};
 ghost use Rattle.anb_report.specs.Remarks.{format_of, formats_in, formats_in_all, is_from, is_repeated, is_to, never, plan_formats, remarks, repeated, repeats, silent_role, silent_roles, unused, unused_format, unused_formats, used_formats};
 
 use crate::lists::is_same;

@@ -8,7 +8,7 @@ ghost use Rattle.anb_resolve.specs.Plans.{names_made};
 ghost use Rattle.anb_resolve.specs.Texts.{IsTermOf};
 ghost use Rattle.anb_resolve.specs.Views.{action_value};
 ghost use Rattle.anb_resolve.specs.Choices.{each_after};
-ghost use Rattle.anb_report.specs.Names.{role_name};
+ghost use Rattle.anb_resolve.specs.Protocols.{role_name};
 ghost use Rattle.anb_report.specs.Reporting.{action_lines, counted, event_line, events_text, head_line, is_own, new_for, notes_at_event, notes_line, peer, report, role_after, role_report, start_lines, unchecked_line, with_new};
 
 use crate::lists::put_terms;

@@ -1,9 +1,9 @@
 -- Lists gone over with what stands before, and each thing once.
-use Rattle.std.proofs.Common.{◌≡◌, ℕ, ◌+◌, ◌<◌, List, [], ◌∷◌, ◌++◌, length, take, drop, get_or, Option, Bool, true, false, sym, ap, ◌∙◌, refl}
+use Rattle.std.proofs.Common.{◌≡◌, ℕ, ◌+◌, ◌<◌, List, [], ◌∷◌, ◌++◌, length, take, drop, get_or, Option, Bool, true, false, sym, ap, ◌∙◌, refl, ◌-◌, append_assoc}
 use Rattle.std.specs.Prelude.{◌||◌}
 use Rattle.std.specs.Option.{option_or}
 use Rattle.std.specs.List.{list_any}
-use Rattle.std.proofs.lemmas.List.{take_more, drop_more}
+use Rattle.std.proofs.lemmas.List.{take_more, drop_more, append-nil}
 use Rattle.anb_resolve.specs.Choices.{first_after, each_after}
 
 pub any-append : {X : Type 0} (p : X → Bool) (xs ys : List X) → list_any p (xs ++ ys) ≡ (list_any p xs || list_any p ys)
@@ -30,3 +30,9 @@ module _ {X Y : Type 0} (f : List X → X → List Y) where
       let d : drop i xs ≡ x ∷ drop (i + 1) xs = drop_more xs i x h ∙ ap (λ y. y ∷ drop (i + 1) xs) (sym e) in
       let t : take (i + 1) xs ≡ take i xs ++ x ∷ [] = take_more xs i x h ∙ ap (λ y. take i xs ++ y ∷ []) (sym e) in
       ap (each_after f (take i xs)) d ∙ ap (λ ys. f (take i xs) x ++ each_after f ys (drop (i + 1) xs)) (sym t)
+
+pub each_after_last : {X Y : Type 0} (f : List X → X → List Y) (before xs : List X) (x : X) → each_after f before (xs ++ x ∷ []) ≡ each_after f before xs ++ f (before ++ xs) x
+each_after_last f before [] x = append-nil (f before x) ∙ ap (λ l. f l x) (sym (append-nil before))
+each_after_last f before (y ∷ xs) x =
+    ap (λ l. f before y ++ l) (each_after_last f (before ++ y ∷ []) xs x) ∙ ap (λ l. f before y ++ (each_after f (before ++ y ∷ []) xs ++ f l x)) (append_assoc before (y ∷ []) xs)
+    ∙ sym (append_assoc (f before y) (each_after f (before ++ y ∷ []) xs) (f (before ++ y ∷ xs) x))

@@ -7,6 +7,7 @@ use Rattle.std.proofs.lemmas.Bool.{and_parts, and_from}
 use Rattle.std.proofs.lemmas.Bool.Decides.{Decides-eqb}
 use Rattle.std.proofs.lemmas.Slice.Eq.{starts_is}
 use Rattle.std.proofs.lemmas.List.{drop_more}
+use Rattle.anb_lemmas.proofs.Bools.{not_from_never, never_from_not}
 use Rattle.anb_format.specs.declared.pieces.Piece.{Piece}
 use Rattle.anb_format.specs.Formats.{FormatValue, head, IsPrefix, AreApart}
 use Rattle.anb_resolve.specs.declared.refusals.ResolveNo.{ResolveNo}
@@ -20,21 +21,13 @@ prefix_of xs p e = (drop (length p) xs, (starts_is Decides-eqb xs p (starts_with
 of_prefix : (xs p : List ℕ) → IsPrefix p xs → starts_with nat_eq xs p ≡ true
 of_prefix xs p h = (starts_is Decides-eqb xs p (starts_with nat_eq xs p) refl).1 h.0 h.1
 
-not_so : (b : Bool) → not b ≡ true → b ≡ true → ⊥
-not_so true e f = cc
-not_so false e f = cc
-
-so_not : (b : Bool) → (b ≡ true → ⊥) → not b ≡ true
-so_not true n = absurd (n refl)
-so_not false n = refl
-
 pub apart_from : (ps qs : List Piece) → are_apart ps qs ≡ true → AreApart ps qs
 apart_from ps qs e =
     let h = and_parts (not (starts_with nat_eq (head qs) (head ps))) (not (starts_with nat_eq (head ps) (head qs))) e in
-    record { ahead = λ p. not_so _ h.0 (of_prefix (head qs) (head ps) p); behind = λ p. not_so _ h.1 (of_prefix (head ps) (head qs) p) }
+    record { ahead = λ p. never_from_not _ h.0 (of_prefix (head qs) (head ps) p); behind = λ p. never_from_not _ h.1 (of_prefix (head ps) (head qs) p) }
 
 from_apart : (ps qs : List Piece) → AreApart ps qs → are_apart ps qs ≡ true
-from_apart ps qs a = and_from _ _ (so_not _ (λ e. a.ahead (prefix_of (head qs) (head ps) e))) (so_not _ (λ e. a.behind (prefix_of (head ps) (head qs) e)))
+from_apart ps qs a = and_from _ _ (not_from_never _ (λ e. a.ahead (prefix_of (head qs) (head ps) e))) (not_from_never _ (λ e. a.behind (prefix_of (head ps) (head qs) e)))
 
 is_apart : (ps qs : List Piece) (r b : Bool) → IsTrue r ↔ AreApart ps qs → are_apart ps qs ≡ b → b ≡ r
 is_apart ps qs true b h e = sym e ∙ from_apart ps qs (h.0 refl)

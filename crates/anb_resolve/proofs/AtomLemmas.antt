@@ -2,6 +2,7 @@
 use Rattle.std.proofs.Common.{◌≡◌, ℕ, ◌+◌, ◌<◌, List, [], ◌∷◌, ◌++◌, length, drop, get_or, ap, sym, ◌∙◌, append_assoc, refl}
 use Rattle.std.specs.List.{flat_map, AllByRecursion}
 use Rattle.std.proofs.lemmas.List.{drop_more}
+use Rattle.anb_lemmas.proofs.Each.{each_in_both}
 use Rattle.anb_term.specs.Tree.{Tree, leaf, node, Trees, none, more, trees_of}
 use Rattle.anb_resolve.specs.Protocols.{ProtocolValue}
 use Rattle.anb_resolve.specs.Texts.{atoms_in, atoms_in_all, atoms_in_each, IsTermOf, AreTermsOf}
@@ -27,10 +28,6 @@ atoms_next knows i ts before after total h e a t =
     ap (λ l. l ++ atoms_in_each rest) (a ∙ ap (λ l. before ++ l) (each_is_all ts)) ∙ append_assoc before (atoms_in_each ts) (atoms_in_each rest)
     ∙ ap (λ l. before ++ l) (sym (each-append ts rest) ∙ ap (λ ks. atoms_in_each (all_of ks)) (sym d)) ∙ t
 
-all-append : {X : Type 0} (P : X → Type 0) (xs ys : List X) → AllByRecursion P xs → AllByRecursion P ys → AllByRecursion P (xs ++ ys)
-all-append P [] ys a b = b
-all-append P (x ∷ xs) ys a b = (a.0, all-append P xs ys a.1 b)
-
 mutual
   -- a protocol's terms have its atoms
   pub atoms_below : (p : ProtocolValue) (t : Tree) → IsTermOf p t → AllByRecursion (λ a. a < length p.atoms) (atoms_in t)
@@ -39,8 +36,8 @@ mutual
 
   atoms_below_all : (p : ProtocolValue) (ts : Trees) → AreTermsOf p ts → AllByRecursion (λ a. a < length p.atoms) (atoms_in_all ts)
   atoms_below_all p none h = tt
-  atoms_below_all p (more t ts) h = all-append (λ a. a < length p.atoms) (atoms_in t) (atoms_in_all ts) (atoms_below p t h.0) (atoms_below_all p ts h.1)
+  atoms_below_all p (more t ts) h = each_in_both (λ a. a < length p.atoms) (atoms_in t) (atoms_in_all ts) (atoms_below p t h.0) (atoms_below_all p ts h.1)
 
 pub atoms_below_each : (p : ProtocolValue) (ts : List Tree) → AllByRecursion (IsTermOf p) ts → AllByRecursion (λ a. a < length p.atoms) (atoms_in_each ts)
 atoms_below_each p [] h = tt
-atoms_below_each p (t ∷ ts) h = all-append (λ a. a < length p.atoms) (atoms_in t) (atoms_in_each ts) (atoms_below p t h.0) (atoms_below_each p ts h.1)
+atoms_below_each p (t ∷ ts) h = each_in_both (λ a. a < length p.atoms) (atoms_in t) (atoms_in_each ts) (atoms_below p t h.0) (atoms_below_each p ts h.1)

@@ -4,14 +4,18 @@ use Rattle.std.specs.Prelude.{◌||◌, unwrap_or}
 use Rattle.std.specs.List.{AllByRecursion, flat_map}
 use Rattle.std.specs.Str.{bytes_eq}
 use Rattle.std.proofs.lemmas.Slice.Eq.{bytes_eq-Decides}
+use Rattle.std.proofs.lemmas.Bool.{or_right as or_second}
+use Rattle.anb_index.specs.Places.{among}
+use Rattle.anb_lemmas.proofs.Options.{or_is_none}
+use Rattle.anb_lemmas.proofs.Each.{each_in_parts, each_by, each_of_map}
 use Rattle.anb_base.specs.declared.content.Suite.{Suite}
 use Rattle.anb_format.specs.Formats.{FormatValue, IsSound}
-use Rattle.anb_format.proofs.Facts.{IsSound-pass}
+use Rattle.anb_format.proofs.BuiltLemmas.{sound_test}
 use Rattle.anb_term.specs.Tree as term
 use Rattle.anb_syntax.specs.Grammar.{FormatItem, KnowItem, ActionItem, Narration, IsSpellable}
 use Rattle.anb_resolve.specs.declared.parts.Atom.{Atom}
 use Rattle.anb_resolve.specs.Choices.{each_after}
-use Rattle.anb_resolve.specs.Names.{among, atoms, roles, line_names, action_roles, first_new}
+use Rattle.anb_resolve.specs.Names.{atoms, roles, line_names, action_roles, first_new}
 use Rattle.anb_resolve.specs.Protocols.{ProtocolValue, ActionValue, resolved_all, line_of, action_of, formats_of, role_number, protocol_of}
 use Rattle.anb_resolve.specs.Checks.{fault, first_fault, limit_checks, name_checks, protocol_checks, declared_twice, misshapen, overlap}
 use Rattle.anb_resolve.specs.declared.refusals.ResolveNo.{ResolveNo}
@@ -19,7 +23,6 @@ use Rattle.anb_resolve.specs.WellFormed.{CanBeChecked}
 use Rattle.anb_resolve.specs.Texts.{IsTermOf, known_terms}
 use Rattle.anb_resolve.specs.Plans.{messages}
 use Rattle.anb_resolve.proofs.Afters.{any-append}
-use Rattle.anb_resolve.proofs.Faultless.{or_none, all_map, all_parts, all-map}
 use Rattle.anb_resolve.proofs.OrLemmas.{skip, stop}
 use Rattle.anb_resolve.proofs.ReadOnce.{text_once}
 use Rattle.anb_resolve.proofs.Differing.{names_of_narration}
@@ -76,15 +79,11 @@ new_has before [] y a f = absurd (cc (a))
 new_has before (x ∷ xs) y a f = new_step before xs x y (bytes_eq x y) refl a f (new_has (before ++ x ∷ []) xs y)
 
 -- what stands among names has a place among them
-role_below : (names : List (List ℕ)) (x : List ℕ) → among names x ≡ true → role_number names x < length names
+pub role_below : (names : List (List ℕ)) (x : List ℕ) → among names x ≡ true → role_number names x < length names
 role_below names x a =
     let f = found (λ y. bytes_eq y x) 0 names a in
     let is : role_number names x ≡ 0 + f.0 = ap (λ o. unwrap_or o 0) f.2 in
     omega (arith, is, f.4)
-
-or_second : (b : Bool) (c : Bool) → c ≡ true → (b || c) ≡ true
-or_second true c h = refl
-or_second false c h = h
 
 end_there : (xs : List (List ℕ)) (acts : List ActionItem) → ((y : List ℕ) → among (flat_map action_roles acts) y ≡ true → among xs y ≡ true) → AllByRecursion (λ (a : ActionItem). (among xs a.from ≡ true) × (among xs a.to ≡ true)) acts
 end_there xs [] h = tt
@@ -102,26 +101,26 @@ unfolding protocol_of
 ends_below n =
     let has : (y : List ℕ) → among (flat_map action_roles n.actions) y ≡ true → among (roles n) y ≡ true =
     λ y e. new_has [] (line_names n ++ flat_map action_roles n.actions) y (any-append (λ z. bytes_eq z y) (line_names n) (flat_map action_roles n.actions) ∙ or_second (among (line_names n) y) _ e) refl in
-    all-map (λ (a : ActionValue). a.from < length (roles n)) (action_of (atoms n) (formats_of n) (roles n)) n.actions
-    (all_map (λ (a : ActionItem). (among (roles n) a.from ≡ true) × (among (roles n) a.to ≡ true)) (λ (a : ActionItem). role_number (roles n) a.from < length (roles n)) (λ a h. role_below (roles n) a.from h.0) n.actions (end_there (roles n) n.actions has))
+    each_of_map (λ (a : ActionValue). a.from < length (roles n)) (action_of (atoms n) (formats_of n) (roles n)) n.actions
+    (each_by (λ (a : ActionItem). (among (roles n) a.from ≡ true) × (among (roles n) a.to ≡ true)) (λ (a : ActionItem). role_number (roles n) a.from < length (roles n)) (λ a h. role_below (roles n) a.from h.0) n.actions (end_there (roles n) n.actions has))
 
 pub tos_below : (n : Narration) → AllByRecursion (λ (a : ActionValue). a.to < length (protocol_of n).roles) (protocol_of n).actions
 unfolding protocol_of
 tos_below n =
     let has : (y : List ℕ) → among (flat_map action_roles n.actions) y ≡ true → among (roles n) y ≡ true =
     λ y e. new_has [] (line_names n ++ flat_map action_roles n.actions) y (any-append (λ z. bytes_eq z y) (line_names n) (flat_map action_roles n.actions) ∙ or_second (among (line_names n) y) _ e) refl in
-    all-map (λ (a : ActionValue). a.to < length (roles n)) (action_of (atoms n) (formats_of n) (roles n)) n.actions
-    (all_map (λ (a : ActionItem). (among (roles n) a.from ≡ true) × (among (roles n) a.to ≡ true)) (λ (a : ActionItem). role_number (roles n) a.to < length (roles n)) (λ a h. role_below (roles n) a.to h.1) n.actions (end_there (roles n) n.actions has))
+    each_of_map (λ (a : ActionValue). a.to < length (roles n)) (action_of (atoms n) (formats_of n) (roles n)) n.actions
+    (each_by (λ (a : ActionItem). (among (roles n) a.from ≡ true) × (among (roles n) a.to ≡ true)) (λ (a : ActionItem). role_number (roles n) a.to < length (roles n)) (λ a h. role_below (roles n) a.to h.1) n.actions (end_there (roles n) n.actions has))
 
 pub can_be_checked : (n : Narration) → IsSpellable n → first_fault limit_checks n ≡ None → first_fault name_checks n ≡ None → misshapen n ≡ None → CanBeChecked (protocol_of n)
 can_be_checked n s l a m =
     let f = facts_of_narration n s l a m in
     let p = protocol_of n in
-    let t = all_parts (IsTermOf p) (known_terms p) (messages p.actions) f.terms in
-    record { actions = omega (arith, f.actions); knows = f.knows; known = t.0; sent = t.1; apart = text_once p (names_of_narration n s (or_none (declared_twice n) _ a).0) }
+    let t = each_in_parts (IsTermOf p) (known_terms p) (messages p.actions) f.terms in
+    record { actions = omega (arith, f.actions); knows = f.knows; known = t.0; sent = t.1; apart = text_once p (names_of_narration n s (or_is_none (declared_twice n) _ a).0) }
 
 pub sound_formats : (n : Narration) → misshapen n ≡ None → IsSpellable n → AllByRecursion (λ (f : FormatItem). IsSound f.pieces) n.formats
-sound_formats n m s = all_map IsSoundItem (λ (f : FormatItem). IsSound f.pieces) (λ f h. IsSound-pass f.pieces h) n.formats (sound_items n m s.valid.formats)
+sound_formats n m s = each_by IsSoundItem (λ (f : FormatItem). IsSound f.pieces) (λ f h. sound_test f.pieces h) n.formats (sound_items n m s.valid.formats)
 
 -- ---- the stages in order
 

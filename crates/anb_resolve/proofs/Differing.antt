@@ -1,11 +1,13 @@
 -- The names of a protocol differ, and so do the texts of what a role knows.
-use Rattle.std.proofs.Common.{◌≡◌, ℕ, zero, suc, List, [], ◌∷◌, ◌++◌, length, map, ap, sym, ◌∙◌, subst, arith, refl, true, None}
+use Rattle.std.proofs.Common.{◌≡◌, ℕ, zero, suc, List, [], ◌∷◌, ◌++◌, length, map, ap, sym, ◌∙◌, subst, arith, refl, None}
 use Rattle.std.specs.Prelude.{slice_get}
 use Rattle.std.specs.Option.{option_map_or}
 use Rattle.std.specs.List.{AllByRecursion, flat_map, zip}
 use Rattle.std.specs.Str.{bytes_eq}
 use Rattle.std.proofs.lemmas.List.{map-append}
-use Rattle.std.proofs.lemmas.Slice.Eq.{bytes_eq-Decides}
+use Rattle.anb_lemmas.proofs.Options.{or_is_none}
+use Rattle.anb_lemmas.proofs.Items.{bytes_eq-same}
+use Rattle.anb_lemmas.proofs.Each.{each_in_both, each_in_parts, each_by, each_of_map}
 use Rattle.anb_base.specs.declared.TheConstants.{ARRIVAL, WIDE}
 use Rattle.anb_format.specs.Formats.{FormatValue}
 use Rattle.anb_term.specs.Tree as term
@@ -22,13 +24,10 @@ use Rattle.anb_resolve.specs.Plans.{messages}
 use Rattle.anb_resolve.specs.Checks.{declared_twice, known_again, known_twice, self_send}
 use Rattle.anb_resolve.specs.WellFormed.{IsProtocol}
 use Rattle.anb_resolve.specs.Laws.{KnownTextsDiffer}
-use Rattle.anb_resolve.proofs.Faultless.{or_none, all_map, all_parts, all-append, all-map, stages, IsFaultless}
+use Rattle.anb_resolve.proofs.Faultless.{stages, IsFaultless}
 use Rattle.anb_resolve.proofs.Distinct.{AllApart, apart_all, apart_parts, apart-map, pairs}
 use Rattle.anb_resolve.proofs.Holding.{facts, known_ours}
 use Rattle.anb_resolve.proofs.ReadOnce.{HasNames, text_once}
-
-itself : (x : List ℕ) → bytes_eq x x ≡ true
-itself x = (bytes_eq-Decides x x).1 refl
 
 -- ---- names
 
@@ -57,16 +56,16 @@ one_or_more (x ∷ names) a = a
 
 named_atoms : (types : List TypeItem) → AllByRecursion IsTypeItem types → AllByRecursion (λ (a : Atom). IsName a.name) (flat_map item_atoms types)
 named_atoms [] a = tt
-named_atoms (i ∷ types) a = all-append (λ (a : Atom). IsName a.name) (item_atoms i) (flat_map item_atoms types) (named_item i.sort i.names (one_or_more i.names a.0)) (named_atoms types a.1)
+named_atoms (i ∷ types) a = each_in_both (λ (a : Atom). IsName a.name) (item_atoms i) (flat_map item_atoms types) (named_item i.sort i.names (one_or_more i.names a.0)) (named_atoms types a.1)
 
 pub names_of_narration : (n : Narration) → IsSpellable n → declared_twice n ≡ None → HasNames (protocol_of n)
 unfolding protocol_of
 names_of_narration n s e =
-    let apart = apart_parts (flat_map (λ (i : TypeItem). i.names) n.types) (map (λ (f : FormatItem). f.title) n.formats) (apart_all bytes_eq itself (λ x. Twice x) (declared_names n) e) in
+    let apart = apart_parts (flat_map (λ (i : TypeItem). i.names) n.types) (map (λ (f : FormatItem). f.title) n.formats) (apart_all bytes_eq bytes_eq-same (λ x. Twice x) (declared_names n) e) in
     let P : List (List ℕ) → Type 0 = λ l. AllApart l in
     record {
       atoms = named_atoms n.types s.valid.types;
-      formats = all-map (λ (f : FormatValue). IsName f.name) format_value n.formats (all_map IsFormatItem (λ (f : FormatItem). IsName f.title) (λ f h. h.0) n.formats s.valid.formats);
+      formats = each_of_map (λ (f : FormatValue). IsName f.name) format_value n.formats (each_by IsFormatItem (λ (f : FormatItem). IsName f.title) (λ f h. h.0) n.formats s.valid.formats);
       atoms_apart = subst P (sym (atom_names n.types)) apart.0;
       formats_apart = subst P (sym (title_names n.formats)) apart.1;
     }
@@ -77,7 +76,7 @@ faultless p i = stages ARRIVAL WIDE i.narration i.well_formed
 pub names_of : (p : ProtocolValue) → IsProtocol p → HasNames p
 names_of p i =
     let P : ProtocolValue → Type 0 = λ q. HasNames q in
-    subst P (sym i.is) (names_of_narration i.narration i.spellable (or_none (declared_twice i.narration) _ (faultless p i).names).0)
+    subst P (sym i.is) (names_of_narration i.narration i.spellable (or_is_none (declared_twice i.narration) _ (faultless p i).names).0)
 
 -- ---- what a role knows
 
@@ -87,17 +86,17 @@ known_apart : (p : ProtocolValue) (names : List (List ℕ)) (knows : List (List 
 known_apart p names [] role l e = tt
 known_apart p [] (ts ∷ knows) role l e = absurd (omega (arith, l))
 known_apart p (x ∷ names) (ts ∷ knows) zero l e =
-    apart_all (λ u t. term.tree_eqb u t) tree_itself (λ t. KnowledgeTwice x (term_text p t)) ts (or_none (known_again p (x, ts)) (first (known_again p) (zip names knows)) e).0
-known_apart p (x ∷ names) (ts ∷ knows) (suc role) l e = known_apart p names knows role (omega (arith, l)) (or_none (known_again p (x, ts)) (first (known_again p) (zip names knows)) e).1
+    apart_all (λ u t. term.tree_eqb u t) tree_itself (λ t. KnowledgeTwice x (term_text p t)) ts (or_is_none (known_again p (x, ts)) (first (known_again p) (zip names knows)) e).0
+known_apart p (x ∷ names) (ts ∷ knows) (suc role) l e = known_apart p names knows role (omega (arith, l)) (or_is_none (known_again p (x, ts)) (first (known_again p) (zip names knows)) e).1
 
 known_once : (p : ProtocolValue) → IsProtocol p → known_twice p ≡ None
 known_once p i =
     let P : ProtocolValue → Type 0 = λ q. known_twice q ≡ None in
     let q = protocol_of i.narration in
-    subst P (sym i.is) (or_none (known_twice q) _ (or_none (self_send q) _ (faultless p i).protocol).1).0
+    subst P (sym i.is) (or_is_none (known_twice q) _ (or_is_none (self_send q) _ (faultless p i).protocol).1).0
 
 pub known_texts_apart : KnownTextsDiffer
 known_texts_apart = λ p role i.
     let f = facts p i in
-    let ours = known_ours p role (all_parts (IsTermOf p) (known_terms p) (messages p.actions) f.terms).0 in
+    let ours = known_ours p role (each_in_parts (IsTermOf p) (known_terms p) (messages p.actions) f.terms).0 in
     pairs (known_texts p role) (apart-map (IsTermOf p) (term_text p) (text_once p (names_of p i)) (known_by p role) ours (known_apart p p.roles p.knows role f.knows (known_once p i)))

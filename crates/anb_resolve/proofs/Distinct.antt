@@ -5,9 +5,11 @@ use Rattle.std.specs.Option.{option_map_or}
 use Rattle.std.specs.List.{AllByRecursion, list_any}
 use Rattle.std.proofs.lemmas.List.Elements.{All-from_recursion}
 use Rattle.std.proofs.lemmas.List.Kept.{AllPairs-cons}
+use Rattle.anb_lemmas.proofs.Options.{or_is_none}
+use Rattle.anb_lemmas.proofs.Each.{each_in_parts, each_by, each_of_map}
 use Rattle.anb_resolve.specs.Choices.{refuse_if, first_after}
 use Rattle.anb_resolve.proofs.Afters.{any-append}
-use Rattle.anb_resolve.proofs.Faultless.{or_none, refused_none, all_map, all_both, all_parts, all-map}
+use Rattle.anb_resolve.proofs.Faultless.{refused_none, all_both}
 
 -- each thing differs from all behind it
 abbrev pub AllApart : {X : Type 0} → List X → Type 0
@@ -38,11 +40,11 @@ module _ {X R : Type 0} (same : X → X → Bool) (itself : (x : X) → same x x
   both : (before xs : List X) → first_after again before xs ≡ None → AllByRecursion (IsNew before) xs × AllApart xs
   both before [] e = (tt, tt)
   both before (x ∷ xs) e =
-      let h = or_none (again before x) (first_after again (before ++ x ∷ []) xs) e in
+      let h = or_is_none (again before x) (first_after again (before ++ x ∷ []) xs) e in
       let rest = both (before ++ x ∷ []) xs h.1 in
-      let each = all_map (IsNew (before ++ x ∷ [])) (λ y. IsNew before y × (x ≢ y)) (λ y n. behind before x y n) xs rest.0 in (
-        (refused_none _ (refusal x) h.0, all_map (λ y. IsNew before y × (x ≢ y)) (IsNew before) (λ y n. n.0) xs each),
-        (all_map (λ y. IsNew before y × (x ≢ y)) (λ y. x ≢ y) (λ y n. n.1) xs each, rest.1),
+      let each = each_by (IsNew (before ++ x ∷ [])) (λ y. IsNew before y × (x ≢ y)) (λ y n. behind before x y n) xs rest.0 in (
+        (refused_none _ (refusal x) h.0, each_by (λ y. IsNew before y × (x ≢ y)) (IsNew before) (λ y n. n.0) xs each),
+        (each_by (λ y. IsNew before y × (x ≢ y)) (λ y. x ≢ y) (λ y n. n.1) xs each, rest.1),
       )
 
   pub apart_all : (xs : List X) → first_after again [] xs ≡ None → AllApart xs
@@ -50,13 +52,13 @@ module _ {X R : Type 0} (same : X → X → Bool) (itself : (x : X) → same x x
 
 pub apart_parts : {X : Type 0} (xs ys : List X) → AllApart (xs ++ ys) → AllApart xs × AllApart ys
 apart_parts [] ys a = (tt, a)
-apart_parts (x ∷ xs) ys a = let rest = apart_parts xs ys a.1 in (((all_parts (λ y. x ≢ y) xs ys a.0).0, rest.0), rest.1)
+apart_parts (x ∷ xs) ys a = let rest = apart_parts xs ys a.1 in (((each_in_parts (λ y. x ≢ y) xs ys a.0).0, rest.0), rest.1)
 
 -- what a function that tells things apart makes of things that differ
 pub apart-map : {X Y : Type 0} (P : X → Type 0) (f : X → Y) → ((x y : X) → P x → P y → f x ≡ f y → x ≡ y) → (xs : List X) → AllByRecursion P xs → AllApart xs → AllApart (map f xs)
 apart-map P f tells [] p a = tt
 apart-map P f tells (x ∷ xs) p a =
-    (all-map (λ y. f x ≢ y) f xs (all_map (λ y. P y × (x ≢ y)) (λ y. f x ≢ f y) (λ y h e. h.1 (tells x y p.0 h.0 e)) xs (all_both P (λ y. x ≢ y) xs p.1 a.0)), apart-map P f tells xs p.1 a.1)
+    (each_of_map (λ y. f x ≢ y) f xs (each_by (λ y. P y × (x ≢ y)) (λ y. f x ≢ f y) (λ y h e. h.1 (tells x y p.0 h.0 e)) xs (all_both P (λ y. x ≢ y) xs p.1 a.0)), apart-map P f tells xs p.1 a.1)
 
 pub all-unmap : {X Y : Type 0} (P : Y → Type 0) (f : X → Y) (xs : List X) → AllByRecursion P (map f xs) → AllByRecursion (λ x. P (f x)) xs
 all-unmap P f [] a = tt

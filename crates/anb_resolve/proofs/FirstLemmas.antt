@@ -1,8 +1,8 @@
 -- The first of some things that is wrong, one step on.
-use Rattle.std.proofs.Common.{◌≡◌, ℕ, ◌+◌, ◌<◌, List, ◌∷◌, length, map, take, drop, get_or, ap, sym, ◌∙◌, subst, Bool, true, false, Option, Some, None}
+use Rattle.std.proofs.Common.{◌≡◌, ℕ, ◌+◌, ◌<◌, List, length, map, take, drop, get_or, ap, sym, ◌∙◌, subst, Bool, true, false, Option, Some, None}
 use Rattle.std.specs.Option.{option_or}
 use Rattle.std.specs.List.{AllByRecursion}
-use Rattle.std.proofs.lemmas.List.{drop_more}
+use Rattle.anb_lemmas.proofs.Lists.{map_drop_next}
 use Rattle.anb_resolve.specs.Choices.{refuse_if, first, first_after}
 use Rattle.anb_resolve.proofs.Afters.{first_step}
 
@@ -21,13 +21,9 @@ refuses b r e = ap (λ v. refuse_if v r) e
 pub passes : {R : Type 0} (b : Bool) (r : R) → b ≡ false → refuse_if b r ≡ None
 passes b r e = ap (λ v. refuse_if v r) e
 
--- the rest of a list at a place, seen another way
-pub rest_at : {X Y : Type 0} (g : X → Y) (xs : List X) (i : ℕ) (x : X) → i < length xs → x ≡ get_or xs i x → map g (drop i xs) ≡ g x ∷ map g (drop (i + 1) xs)
-rest_at g xs i x h e = ap (map g) (drop_more xs i x h ∙ ap (λ y. y ∷ drop (i + 1) xs) (sym e))
-
 module _ {X Y R : Type 0} (f : Y → Option R) (g : X → Y) (xs : List X) (i : ℕ) (x : X) (total : Option R) (h : i < length xs) (e : x ≡ get_or xs i x) (inv : first f (map g (drop i xs)) ≡ total) where
   step : option_or (f (g x)) (first f (map g (drop (i + 1) xs))) ≡ total
-  step = sym (ap (first f) (rest_at g xs i x h e)) ∙ inv
+  step = sym (ap (first f) (map_drop_next g xs i x h e)) ∙ inv
 
   -- it is this one
   pub plain_here : (r : R) → f (g x) ≡ Some r → Some r ≡ total
@@ -39,4 +35,4 @@ module _ {X Y R : Type 0} (f : Y → Option R) (g : X → Y) (xs : List X) (i : 
 
 pub all_rest : {X Y : Type 0} (P : Y → Type 0) (g : X → Y) (xs : List X) (i : ℕ) (x : X) → i < length xs → x ≡ get_or xs i x
     → AllByRecursion P (map g (drop i xs)) → P (g x) × AllByRecursion P (map g (drop (i + 1) xs))
-all_rest {X} {Y} P g xs i x h e a = let Q : List Y → Type 0 = λ l. AllByRecursion P l in subst Q (rest_at g xs i x h e) a
+all_rest {X} {Y} P g xs i x h e a = let Q : List Y → Type 0 = λ l. AllByRecursion P l in subst Q (map_drop_next g xs i x h e) a

@@ -1,10 +1,12 @@
 -- The terms of a narration whose names are right are terms of its protocol.
 use Rattle.std.proofs.Common.{◌≡◌, ℕ, suc, ◌+◌, ◌<◌, List, [], ◌∷◌, ◌++◌, length, map, ap, sym, ◌∙◌, subst, arith, refl, Bool, true, false, cond, Some, None}
-use Rattle.std.specs.Prelude.{◌||◌, ◌&&◌, ◌==◌, not, slice_get, unwrap_or, IsTrue}
+use Rattle.std.specs.Prelude.{◌||◌, ◌&&◌, ◌==◌, slice_get, unwrap_or, IsTrue}
 use Rattle.std.specs.Option.{option_map_or}
 use Rattle.std.specs.List.{AllByRecursion, list_any, flat_map, position_from}
 use Rattle.std.specs.Str.{bytes_eq}
-use Rattle.std.proofs.lemmas.Bool.{eqb-true, eq-eqb, and_from}
+use Rattle.std.proofs.lemmas.Bool.{eqb-true, eq-eqb, and_from, not-false}
+use Rattle.anb_index.specs.Places.{among}
+use Rattle.anb_lemmas.proofs.Each.{each_in_both, each_in_parts, each_by}
 use Rattle.anb_format.specs.Formats.{FormatValue, field_count, is_sound}
 use Rattle.anb_term.specs.declared.term.Op.TheVariants.{Format}
 use Rattle.anb_term.specs.Operator.{arity}
@@ -12,17 +14,13 @@ use Rattle.anb_term.specs.Tree as term
 use Rattle.anb_algebra.specs.ByteMeaning.{has_operator}
 use Rattle.anb_syntax.specs.Grammar.{Tree, atom, apply, hash, mac, seal, wrap, Trees, none, more, list_of, TypeItem, FormatItem, KnowItem, ActionItem, Narration}
 use Rattle.anb_resolve.specs.declared.parts.Atom.{Atom}
-use Rattle.anb_resolve.specs.Names.{Use, as_format, used_name, among, atoms, item_atoms, declared_names, tree_uses, trees_uses, know_uses, action_uses, uses, roles}
+use Rattle.anb_resolve.specs.Names.{Use, as_format, used_name, atoms, item_atoms, declared_names, tree_uses, trees_uses, know_uses, action_uses, uses, roles}
 use Rattle.anb_resolve.specs.Protocols.{atom_number, format_number, fields_at, format_op, resolved, resolved_all, format_value, formats_of, line_of, action_of, protocol_of}
 use Rattle.anb_resolve.specs.Texts.{IsTermOf, AreTermsOf, known_terms}
 use Rattle.anb_resolve.specs.Plans.{messages}
 use Rattle.anb_resolve.specs.Checks.{names_format, is_missorted, is_miscounted, has_count, unknown, wrong_sort, wrong_count}
-use Rattle.anb_resolve.proofs.Faultless.{refused_none, first_none, all_map, all_both, all-append, all_parts}
+use Rattle.anb_resolve.proofs.Faultless.{refused_none, first_none, all_both}
 use Rattle.anb_resolve.proofs.Afters.{any-append}
-
-not_false : (b : Bool) → not b ≡ false → b ≡ true
-not_false true e = refl
-not_false false e = absurd (cc)
 
 abbrev pub Found : {X : Type 0} → (X → Bool) → ℕ → List X → Type 0
 Found {X} p k xs = (j : ℕ) × (x : X) × (position_from p k xs ≡ Some (k + j)) × (slice_get xs j ≡ Some x) × (j < length xs)
@@ -109,7 +107,7 @@ Right n u = (among (declared_names n) (used_name u) ≡ true) × (is_missorted (
 format_right : (n : Narration) (x : List ℕ) (ts : Trees) → AllByRecursion IsSoundItem n.formats → Right n (as_format x (length (list_of ts)))
     → IsTrue (has_operator (formats_of n) (format_op (formats_of n) x)) × (length (term.list_of (resolved_all (atoms n) (formats_of n) ts)) ≡ arity (format_op (formats_of n) x))
 format_right n x ts s r =
-    let f = format_found x (length (list_of ts)) 0 n.formats s (not_false _ r.2) in
+    let f = format_found x (length (list_of ts)) 0 n.formats s (not-false _ r.2) in
     let is : format_number (formats_of n) x ≡ 0 + f.0 = ap (λ o. unwrap_or o 0) f.2 in
     let num : format_number (formats_of n) x ≡ f.0 = omega (arith, is) in
     let P : ℕ → Type 0 = λ i. has_operator (formats_of n) (Format i (fields_at (formats_of n) i)) ≡ true in
@@ -125,16 +123,16 @@ module _ (n : Narration) (s : AllByRecursion IsSoundItem n.formats) where
     tree_right (atom x) r = number_below (atoms n) x (atom_there n x r.0.0 r.0.1)
     tree_right (apply x ts) r = let o = format_right n x ts s r.0 in (o.0, o.1, trees_right ts r.1)
     tree_right (hash t) r = (refl, refl, (tree_right t r, tt))
-    tree_right (mac t u) r = let p = all_parts (Right n) (tree_uses t) (tree_uses u) r in (refl, refl, (tree_right t p.0, (tree_right u p.1, tt)))
-    tree_right (seal t u) r = let p = all_parts (Right n) (tree_uses t) (tree_uses u) r in (refl, refl, (tree_right t p.0, (tree_right u p.1, tt)))
+    tree_right (mac t u) r = let p = each_in_parts (Right n) (tree_uses t) (tree_uses u) r in (refl, refl, (tree_right t p.0, (tree_right u p.1, tt)))
+    tree_right (seal t u) r = let p = each_in_parts (Right n) (tree_uses t) (tree_uses u) r in (refl, refl, (tree_right t p.0, (tree_right u p.1, tt)))
     tree_right (wrap t u v) r =
-        let p = all_parts (Right n) (tree_uses t ++ tree_uses u) (tree_uses v) r in
-        let q = all_parts (Right n) (tree_uses t) (tree_uses u) p.0 in
+        let p = each_in_parts (Right n) (tree_uses t ++ tree_uses u) (tree_uses v) r in
+        let q = each_in_parts (Right n) (tree_uses t) (tree_uses u) p.0 in
         (refl, refl, (tree_right t q.0, (tree_right u q.1, (tree_right v p.1, tt))))
 
     trees_right : (ts : Trees) → AllByRecursion (Right n) (trees_uses ts) → AreTermsOf (protocol_of n) (resolved_all (atoms n) (formats_of n) ts)
     trees_right none r = tt
-    trees_right (more t ts) r = let p = all_parts (Right n) (tree_uses t) (trees_uses ts) r in (tree_right t p.0, trees_right ts p.1)
+    trees_right (more t ts) r = let p = each_in_parts (Right n) (tree_uses t) (trees_uses ts) r in (tree_right t p.0, trees_right ts p.1)
 
   list_right : (ts : term.Trees) → AreTermsOf (protocol_of n) ts → AllByRecursion (IsTermOf (protocol_of n)) (term.list_of ts)
   list_right term.none a = tt
@@ -143,7 +141,7 @@ module _ (n : Narration) (s : AllByRecursion IsSoundItem n.formats) where
   line_right : (ks : List KnowItem) (role : List ℕ) → AllByRecursion (Right n) (flat_map know_uses ks) → AreTermsOf (protocol_of n) (resolved_all (atoms n) (formats_of n) (line_of ks role))
   line_right [] role r = tt
   line_right (k ∷ ks) role r =
-      let p = all_parts (Right n) (know_uses k) (flat_map know_uses ks) r in
+      let p = each_in_parts (Right n) (know_uses k) (flat_map know_uses ks) r in
       choose k.terms (line_of ks role) (bytes_eq k.role role) (trees_right k.terms p.0.1) (line_right ks role p.1)
     where
       choose : (t u : Trees) (b : Bool) → AreTermsOf (protocol_of n) (resolved_all (atoms n) (formats_of n) t) → AreTermsOf (protocol_of n) (resolved_all (atoms n) (formats_of n) u) → AreTermsOf (protocol_of n) (resolved_all (atoms n) (formats_of n) (cond b t u))
@@ -153,25 +151,25 @@ module _ (n : Narration) (s : AllByRecursion IsSoundItem n.formats) where
   knows_right : (names : List (List ℕ)) → AllByRecursion (Right n) (flat_map know_uses n.knows)
       → AllByRecursion (IsTermOf (protocol_of n)) (flat_map (λ (ts : List term.Tree). ts) (map (λ role. term.list_of (resolved_all (atoms n) (formats_of n) (line_of n.knows role))) names))
   knows_right [] r = tt
-  knows_right (x ∷ names) r = all-append (IsTermOf (protocol_of n)) _ _ (list_right _ (line_right n.knows x r)) (knows_right names r)
+  knows_right (x ∷ names) r = each_in_both (IsTermOf (protocol_of n)) _ _ (list_right _ (line_right n.knows x r)) (knows_right names r)
 
   actions_right : (acts : List ActionItem) → AllByRecursion (Right n) (flat_map action_uses acts) → AllByRecursion (IsTermOf (protocol_of n)) (messages (map (action_of (atoms n) (formats_of n) (roles n)) acts))
   actions_right [] r = tt
-  actions_right (a ∷ acts) r = let p = all_parts (Right n) (action_uses a) (flat_map action_uses acts) r in (tree_right a.message p.0.1.1, actions_right acts p.1)
+  actions_right (a ∷ acts) r = let p = each_in_parts (Right n) (action_uses a) (flat_map action_uses acts) r in (tree_right a.message p.0.1.1, actions_right acts p.1)
 
   -- all terms of the protocol are its terms
   pub terms_right : AllByRecursion (Right n) (uses n) → AllByRecursion (IsTermOf (protocol_of n)) (known_terms (protocol_of n) ++ messages (protocol_of n).actions)
   unfolding protocol_of
   terms_right r =
-      let p = all_parts (Right n) (flat_map know_uses n.knows) (flat_map action_uses n.actions) r in
-      all-append (IsTermOf (protocol_of n)) _ _ (knows_right (roles n) p.0) (actions_right n.actions p.1)
+      let p = each_in_parts (Right n) (flat_map know_uses n.knows) (flat_map action_uses n.actions) r in
+      each_in_both (IsTermOf (protocol_of n)) _ _ (knows_right (roles n) p.0) (actions_right n.actions p.1)
 
 -- where no check of names finds anything, each use is right
 pub uses_right : (n : Narration) → unknown n ≡ None → wrong_sort n ≡ None → wrong_count n ≡ None → AllByRecursion (Right n) (uses n)
 uses_right n a b d =
-    let known = all_map _ (λ u. among (declared_names n) (used_name u) ≡ true) (λ u e. not_false _ (refused_none _ _ e)) (uses n) (first_none _ (uses n) a) in
-    let sorted = all_map _ (λ u. is_missorted (atoms n) n.formats u ≡ false) (λ u e. refused_none _ _ e) (uses n) (first_none _ (uses n) b) in
-    let counted = all_map _ (λ u. is_miscounted n.formats u ≡ false) (λ u e. refused_none _ _ e) (uses n) (first_none _ (uses n) d) in
-    all_map _ (Right n) (λ u h. (h.0, h.1.0, h.1.1)) (uses n)
+    let known = each_by _ (λ u. among (declared_names n) (used_name u) ≡ true) (λ u e. not-false _ (refused_none _ _ e)) (uses n) (first_none _ (uses n) a) in
+    let sorted = each_by _ (λ u. is_missorted (atoms n) n.formats u ≡ false) (λ u e. refused_none _ _ e) (uses n) (first_none _ (uses n) b) in
+    let counted = each_by _ (λ u. is_miscounted n.formats u ≡ false) (λ u e. refused_none _ _ e) (uses n) (first_none _ (uses n) d) in
+    each_by _ (Right n) (λ u h. (h.0, h.1.0, h.1.1)) (uses n)
     (all_both (λ u. among (declared_names n) (used_name u) ≡ true) (λ u. (is_missorted (atoms n) n.formats u ≡ false) × (is_miscounted n.formats u ≡ false)) (uses n) known
     (all_both (λ u. is_missorted (atoms n) n.formats u ≡ false) (λ u. is_miscounted n.formats u ≡ false) (uses n) sorted counted))

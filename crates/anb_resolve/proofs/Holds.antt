@@ -5,11 +5,15 @@ use Rattle.std.specs.List.{AllByRecursion, flat_map, sum_by, zip}
 use Rattle.std.specs.Str.{bytes_eq}
 use Rattle.std.proofs.lemmas.List.{length-append}
 use Rattle.std.proofs.lemmas.List.Sums.{sum_by-append, sum_by-cons}
-use Rattle.std.proofs.lemmas.Bool.{and_parts, eq-eqb}
+use Rattle.std.proofs.lemmas.Bool.{and_parts, eq-eqb, not-false}
 use Rattle.std.proofs.lemmas.Slice.Eq.{bytes_eq-Decides}
+use Rattle.anb_index.specs.Places.{among}
+use Rattle.anb_lemmas.proofs.Options.{or_is_none}
+use Rattle.anb_lemmas.proofs.Each.{each_in_both, each_in_parts, each_by, each_of_map}
+use Rattle.anb_lemmas.proofs.Lists.{get_front}
 use Rattle.anb_base.specs.declared.TheConstants.{ARRIVAL, WIDE}
 use Rattle.anb_format.specs.Formats.{FormatValue, AreApart, IsSound}
-use Rattle.anb_format.proofs.Facts.{IsSound-pass}
+use Rattle.anb_format.proofs.BuiltLemmas.{sound_test}
 use Rattle.anb_term.specs.Tree as term
 use Rattle.anb_term.specs.Tree.{tree_size, trees_size, nodes, IsFormed}
 use Rattle.anb_algebra.specs.ByteMeaning.{has_operator}
@@ -19,7 +23,7 @@ use Rattle.anb_resolve.specs.declared.refusals.ResolveNo.TheVariants.{Overlap, W
 use Rattle.anb_resolve.specs.declared.refusals.Item.TheVariants.{Know, Action}
 use Rattle.anb_resolve.specs.declared.refusals.Kind.TheVariants.{AllNodes, TermNodes}
 use Rattle.anb_resolve.specs.Choices.{refuse_if, first_after, each_after}
-use Rattle.anb_resolve.specs.Names.{among, atoms, roles, terms, line_names, action_roles, first_new}
+use Rattle.anb_resolve.specs.Names.{atoms, roles, terms, line_names, action_roles, first_new}
 use Rattle.anb_resolve.specs.Protocols.{ProtocolValue, ActionValue, resolved, resolved_all, format_value, formats_of, line_of, action_of, protocol_of}
 use Rattle.anb_resolve.specs.Texts.{IsTermOf, known_terms}
 use Rattle.anb_resolve.specs.Plans.{messages}
@@ -28,7 +32,7 @@ use Rattle.anb_resolve.specs.Checks.{tree_nodes, trees_nodes, declared_twice, ar
 use Rattle.anb_resolve.specs.WellFormed.{IsProtocol}
 use Rattle.anb_resolve.specs.Laws.{HoldsOf, IsActionOf}
 use Rattle.anb_resolve.proofs.Afters.{any-append}
-use Rattle.anb_resolve.proofs.Faultless.{or_none, refused_none, first_none, at_most, all_map, all_both, all-append, all_parts, all-map, IsFaultless, stages}
+use Rattle.anb_resolve.proofs.Faultless.{refused_none, first_none, at_most, all_both, IsFaultless, stages}
 use Rattle.anb_resolve.proofs.Holding.{few_formats, sound_items, IsSoundItem, facts_of_narration}
 use Rattle.anb_resolve.proofs.ApartLemmas.{apart_from}
 use Rattle.anb_resolve.proofs.KnowLemmas.{formed, all_of}
@@ -37,16 +41,7 @@ use Rattle.anb_resolve.proofs.Distinct.{pairs_by}
 use Rattle.anb_resolve.proofs.EachTerm.{of_knowledge, of_messages}
 use Rattle.anb_resolve.proofs.Differing.{names_of_narration}
 
-not_false : (b : Bool) → not b ≡ false → b ≡ true
-not_false true e = refl
-not_false false e = absurd (cc)
-
 -- ---- formats are apart
-
-front : {X : Type 0} (xs ys : List X) (k : ℕ) → k < length xs → slice_get (xs ++ ys) k ≡ slice_get xs k
-front [] ys k h = absurd (omega arith)
-front (x ∷ xs) ys zero h = refl
-front (x ∷ xs) ys (suc k) h = front xs ys k (omega arith)
 
 at_place : {X : Type 0} (P : X → Type 0) (xs : List X) (k : ℕ) (x : X) → slice_get xs k ≡ Some x → AllByRecursion P xs → P x
 at_place P [] k x e a = absurd (cc)
@@ -55,17 +50,17 @@ at_place P (y ∷ xs) (suc k) x e a = at_place P xs k x e a.1
 
 one_apart : (before : List FormatValue) (g : FormatValue) (k : ℕ) (f : FormatValue) → overlaps before g ≡ None → slice_get before k ≡ Some f → AreApart f.pieces g.pieces
 one_apart before g k f e s =
-    let all = all_map _ (λ (x : FormatValue). are_apart x.pieces g.pieces ≡ true) (λ x h. not_false _ (refused_none (not (are_apart x.pieces g.pieces)) (Overlap x.name g.name) h)) before (first_none _ before e) in
+    let all = each_by _ (λ (x : FormatValue). are_apart x.pieces g.pieces ≡ true) (λ x h. not-false _ (refused_none (not (are_apart x.pieces g.pieces)) (Overlap x.name g.name) h)) before (first_none _ before e) in
     apart_from f.pieces g.pieces (at_place (λ (x : FormatValue). are_apart x.pieces g.pieces ≡ true) before k f s all)
 
 apart_all : (before fs : List FormatValue) → first_after overlaps before fs ≡ None → (k j : ℕ) (f g : FormatValue) → slice_get (before ++ fs) k ≡ Some f → k < length before + j → slice_get fs j ≡ Some g → AreApart f.pieces g.pieces
 apart_all before [] e k j f g a h b = absurd (cc)
 apart_all before (x ∷ fs) e k zero f g a h b =
     let s : x ≡ g = cc in
-    let o = or_none (overlaps before x) _ e in
-    one_apart before g k f (ap (overlaps before) (sym s) ∙ o.0) (sym (front before (x ∷ fs) k (omega arith)) ∙ a)
+    let o = or_is_none (overlaps before x) _ e in
+    one_apart before g k f (ap (overlaps before) (sym s) ∙ o.0) (sym (get_front before (x ∷ fs) k (omega arith)) ∙ a)
 apart_all before (x ∷ fs) e k (suc j) f g a h b =
-    let o = or_none (overlaps before x) _ e in
+    let o = or_is_none (overlaps before x) _ e in
     apart_all (before ++ x ∷ []) fs o.1 k j f g (ap (λ l. slice_get l k) (append_assoc before (x ∷ []) fs) ∙ a) (omega (arith, length-append before (x ∷ []))) b
 
 -- ---- nodes
@@ -200,18 +195,18 @@ known_fit : (formats : List FormatValue) (names : List (List ℕ)) (knows : List
 known_fit formats [] [] l a = tt
 known_fit formats [] (ts ∷ knows) l a = absurd (omega (arith, l))
 known_fit formats (x ∷ names) [] l a = tt
-known_fit formats (x ∷ names) (ts ∷ knows) l a = all-append _ ts (all_of knows) (each_fits ARRIVAL WIDE formats ts a.0) (known_fit formats names knows (omega (arith, l)) a.1)
+known_fit formats (x ∷ names) (ts ∷ knows) l a = each_in_both _ ts (all_of knows) (each_fits ARRIVAL WIDE formats ts a.0) (known_fit formats names knows (omega (arith, l)) a.1)
 
 sent_fit : (formats : List FormatValue) (before acts : List ActionValue)
     → first_after (λ before (a : ActionValue). refuse_if (not (fits_width ARRIVAL formats WIDE a.message)) (Wide (Action (length before + 1)))) before acts ≡ None
     → AllByRecursion (λ t. fits_width ARRIVAL formats WIDE t ≡ true) (messages acts)
 sent_fit formats before [] e = tt
-sent_fit formats before (a ∷ acts) e = let h = or_none _ _ e in (not_false _ (refused_none (not (fits_width ARRIVAL formats WIDE a.message)) (Wide (Action (length before + 1))) h.0), sent_fit formats (before ++ a ∷ []) acts h.1)
+sent_fit formats before (a ∷ acts) e = let h = or_is_none _ _ e in (not-false _ (refused_none (not (fits_width ARRIVAL formats WIDE a.message)) (Wide (Action (length before + 1))) h.0), sent_fit formats (before ++ a ∷ []) acts h.1)
 
 others : (before acts : List ActionValue) → first_after (λ before (a : ActionValue). refuse_if (a.from == a.to) (SelfSend (length before + 1))) before acts ≡ None → AllByRecursion (λ (a : ActionValue). a.from ≡ a.to → ⊥) acts
 others before [] e = tt
 others before (a ∷ acts) e =
-    let h = or_none _ _ e in
+    let h = or_is_none _ _ e in
     ((λ s. let t : (a.from == a.to) ≡ true = eq-eqb a.from a.to s in cc (refused_none (a.from == a.to) (SelfSend (length before + 1)) h.0, t)), others (before ++ a ∷ []) acts h.1)
 
 -- ---- all
@@ -226,40 +221,40 @@ pub holds_of_narration : (n : Narration) → IsSpellable n → IsFaultless ARRIV
 unfolding protocol_of
 holds_of_narration n s st =
     let p = protocol_of n in
-    let m = or_none (misshapen n) _ st.formats in
-    let o = or_none (overlap n) _ m.1 in
+    let m = or_is_none (misshapen n) _ st.formats in
+    let o = or_is_none (overlap n) _ m.1 in
     let f = facts_of_narration n s st.limits st.names m.0 in
     let few = few_formats n st.limits in
-    let x1 = or_none (self_send p) _ st.protocol in
-    let x2 = or_none (known_twice p) _ x1.1 in
-    let x3 = or_none (wide_knowledge ARRIVAL WIDE p) _ x2.1 in
-    let x4 = or_none (wide_message ARRIVAL WIDE p) _ x3.1 in
-    let l1 = or_none (name_limit n) _ st.limits in
-    let l2 = or_none (format_limit n) _ l1.1 in
-    let l3 = or_none (field_limit n) _ l2.1 in
-    let l4 = or_none (role_limit n) _ l3.1 in
-    let l5 = or_none (action_limit n) _ l4.1 in
-    let l6 = or_none (term_limit n) _ l5.1 in
-    let l7 = or_none (all_limit n) _ l6.1 in
-    let each = all_map _ (λ t. tree_nodes t ≤ 1024) (λ t h. at_most 1024 TermNodes (tree_nodes t) h) (terms n) (first_none _ (terms n) l6.0) in
-    let low = all_parts (λ t. tree_nodes t ≤ 1024) (flat_map (λ (k : KnowItem). list_of k.terms) n.knows) (map (λ (a : ActionItem). a.message) n.actions) each in
+    let x1 = or_is_none (self_send p) _ st.protocol in
+    let x2 = or_is_none (known_twice p) _ x1.1 in
+    let x3 = or_is_none (wide_knowledge ARRIVAL WIDE p) _ x2.1 in
+    let x4 = or_is_none (wide_message ARRIVAL WIDE p) _ x3.1 in
+    let l1 = or_is_none (name_limit n) _ st.limits in
+    let l2 = or_is_none (format_limit n) _ l1.1 in
+    let l3 = or_is_none (field_limit n) _ l2.1 in
+    let l4 = or_is_none (role_limit n) _ l3.1 in
+    let l5 = or_is_none (action_limit n) _ l4.1 in
+    let l6 = or_is_none (term_limit n) _ l5.1 in
+    let l7 = or_is_none (all_limit n) _ l6.1 in
+    let each = each_by _ (λ t. tree_nodes t ≤ 1024) (λ t h. at_most 1024 TermNodes (tree_nodes t) h) (terms n) (first_none _ (terms n) l6.0) in
+    let low = each_in_parts (λ t. tree_nodes t ≤ 1024) (flat_map (λ (k : KnowItem). list_of k.terms) n.knows) (map (λ (a : ActionItem). a.message) n.actions) each in
     let count = at_most 65536 AllNodes (sum_by tree_nodes (terms n)) l7.0 in
     let ends = all_both (λ (a : ActionValue). a.from < length p.roles) (λ (a : ActionValue). (a.to < length p.roles) × (a.from ≡ a.to → ⊥)) p.actions (ends_below n)
     (all_both (λ (a : ActionValue). a.to < length p.roles) (λ (a : ActionValue). a.from ≡ a.to → ⊥) p.actions (tos_below n) (others [] p.actions x1.0)) in
-    let wide = all_map _ (λ (k : List ℕ × List term.Tree). all_fit_width ARRIVAL p.formats WIDE k.1 ≡ true) (λ k h. not_false _ (refused_none (not (all_fit_width ARRIVAL p.formats WIDE k.1)) (Wide (Know k.0)) h)) (zip p.roles p.knows) (first_none _ (zip p.roles p.knows) x3.0) in
+    let wide = each_by _ (λ (k : List ℕ × List term.Tree). all_fit_width ARRIVAL p.formats WIDE k.1 ≡ true) (λ k h. not-false _ (refused_none (not (all_fit_width ARRIVAL p.formats WIDE k.1)) (Wide (Know k.0)) h)) (zip p.roles p.knows) (first_none _ (zip p.roles p.knows) x3.0) in
     record {
       formats = few.formats;
-      titles = pairs_by (λ (f : FormatValue). f.name) p.formats (names_of_narration n s (or_none (declared_twice n) _ st.names).0).formats_apart;
+      titles = pairs_by (λ (f : FormatValue). f.name) p.formats (names_of_narration n s (or_is_none (declared_twice n) _ st.names).0).formats_apart;
       fields = few.fields;
-      sound = all-map (λ (v : FormatValue). IsSound v.pieces) format_value n.formats (all_map IsSoundItem (λ (i : FormatItem). IsSound i.pieces) (λ i h. IsSound-pass i.pieces h) n.formats (sound_items n m.0 s.valid.formats));
+      sound = each_of_map (λ (v : FormatValue). IsSound v.pieces) format_value n.formats (each_by IsSoundItem (λ (i : FormatItem). IsSound i.pieces) (λ i h. sound_test i.pieces h) n.formats (sound_items n m.0 s.valid.formats));
       apart = λ i j v w h a b. apart_all [] (formats_of n) o.0 i j v w a (omega (arith, h)) b;
       roles = f.roles;
       knows = f.knows;
       actions = f.actions;
-      ends = all_map _ (IsActionOf p) (λ a h. record { from = h.0; to = h.1.0; apart = h.1.1 }) p.actions ends;
+      ends = each_by _ (IsActionOf p) (λ a h. record { from = h.0; to = h.1.0; apart = h.1.1 }) p.actions ends;
       terms = f.terms;
-      formed = all_map (IsTermOf p) (IsFormed (has_operator p.formats)) (λ t h. formed p t h) (known_terms p ++ messages p.actions) f.terms;
-      sizes = all-append IsSmall (known_terms p) (messages p.actions)
+      formed = each_by (IsTermOf p) (IsFormed (has_operator p.formats)) (λ t h. formed p t h) (known_terms p ++ messages p.actions) f.terms;
+      sizes = each_in_both IsSmall (known_terms p) (messages p.actions)
           (of_knowledge (atoms n) (formats_of n) (λ t. tree_nodes t ≤ 1024) IsSmall (small_resolved n) n.knows (roles n) low.0)
           (of_messages (atoms n) (formats_of n) (λ t. tree_nodes t ≤ 1024) IsSmall (small_resolved n) (roles n) n.actions low.1);
       nodes = omega (
@@ -271,7 +266,7 @@ holds_of_narration n s st =
         known_low (atoms n) (formats_of n) n.knows (roles n) (λ x. once (atoms n) (formats_of n) [] (line_names n ++ flat_map action_roles n.actions) x),
         sum_by-append tree_nodes (flat_map (λ (k : KnowItem). list_of k.terms) n.knows) (map (λ (a : ActionItem). a.message) n.actions),
       );
-      widths = all-append (λ t. fits_width ARRIVAL p.formats WIDE t ≡ true) (known_terms p) (messages p.actions) (known_fit p.formats p.roles p.knows f.knows wide) (sent_fit p.formats [] p.actions x4.0);
+      widths = each_in_both (λ t. fits_width ARRIVAL p.formats WIDE t ≡ true) (known_terms p) (messages p.actions) (known_fit p.formats p.roles p.knows f.knows wide) (sent_fit p.formats [] p.actions x4.0);
     }
 
 pub holds : (p : ProtocolValue) → IsProtocol p → HoldsOf p

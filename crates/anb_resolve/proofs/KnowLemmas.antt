@@ -4,6 +4,7 @@ use Rattle.std.specs.Prelude.{slice_get}
 use Rattle.std.specs.Option.{option_or}
 use Rattle.std.specs.List.{AllByRecursion, flat_map, zip}
 use Rattle.std.proofs.lemmas.List.{drop_more, length-append}
+use Rattle.anb_lemmas.proofs.Each.{each_in_parts}
 use Rattle.anb_term.specs.Tree.{Tree, leaf, node, Trees, none, more, trees_of, IsFormed, AreFormed}
 use Rattle.anb_algebra.specs.ByteMeaning.{has_operator}
 use Rattle.anb_resolve.specs.declared.refusals.ResolveNo.{ResolveNo}
@@ -13,7 +14,6 @@ use Rattle.anb_resolve.specs.Protocols.{ActionValue, ProtocolValue}
 use Rattle.anb_resolve.specs.Plans.{messages}
 use Rattle.anb_resolve.specs.Texts.{IsTermOf, AreTermsOf, term_text}
 use Rattle.anb_resolve.specs.Checks.{again_at, is_among, known_again}
-use Rattle.anb_resolve.proofs.Faultless.{all_parts}
 
 mutual
   pub formed : (p : ProtocolValue) (t : Tree) → IsTermOf p t → IsFormed (has_operator p.formats) t
@@ -36,7 +36,7 @@ pub next_known : (P : Tree → Type 0) (knows : List (List Tree)) (i : ℕ) (ts 
     → AllByRecursion P (all_of (drop i knows)) → AllByRecursion P ts × AllByRecursion P (all_of (drop (i + 1) knows))
 next_known P knows i ts h e a =
     let Q : List (List Tree) → Type 0 = λ ks. AllByRecursion P (all_of ks) in
-    all_parts P ts (all_of (drop (i + 1) knows)) (subst Q (drop_more knows i ts h ∙ ap (λ y. y ∷ drop (i + 1) knows) (sym e)) a)
+    each_in_parts P ts (all_of (drop (i + 1) knows)) (subst Q (drop_more knows i ts h ∙ ap (λ y. y ∷ drop (i + 1) knows) (sym e)) a)
 
 pub next_zip : (names : List (List ℕ)) (knows : List (List Tree)) (i : ℕ) (x : List ℕ) (ts : List Tree) → i < length names → i < length knows → x ≡ get_or names i x → ts ≡ get_or knows i ts
     → zip (drop i names) (drop i knows) ≡ (x, ts) ∷ zip (drop (i + 1) names) (drop (i + 1) knows)

@@ -2,7 +2,8 @@
 use Rattle.std.proofs.Common.{◌≡◌, ℕ, zero, suc, ◌+◌, ◌<◌, List, [], ◌∷◌, ◌++◌, length, map, take, drop, get_or, ap, sym, ◌∙◌, subst, arith, append_assoc, append-nil, refl, Bool, true, false, cond}
 use Rattle.std.specs.Prelude.{◌||◌, ◌==◌, filter}
 use Rattle.std.specs.List.{list_any, AllByRecursion}
-use Rattle.std.proofs.lemmas.Bool.{eq-eqb, eqb-true, eqb-false}
+use Rattle.std.proofs.lemmas.Bool.{eq-eqb, eqb-true, eqb-false, or_right}
+use Rattle.anb_lemmas.proofs.Lists.{both_empty}
 use Rattle.anb_term.specs.Tree.{Tree, leaf}
 use Rattle.anb_resolve.specs.Choices.{each_after}
 use Rattle.anb_resolve.specs.Protocols.{ActionValue, ProtocolValue}
@@ -11,10 +12,6 @@ use Rattle.anb_resolve.specs.Plans.{to_know, to_make, to_send, to_receive, event
 use Rattle.anb_resolve.specs.Seen.{AreSeen, new_among}
 use Rattle.anb_resolve.proofs.Afters.{any-append, each_step}
 use Rattle.anb_resolve.proofs.SeenLemmas.{new-made}
-
-or_true : (a b : Bool) → b ≡ true → (a || b) ≡ true
-or_true true b e = refl
-or_true false b e = e
 
 none_known : (ts : List Tree) → list_any is_to_make (map to_know ts) ≡ false
 none_known [] = refl
@@ -29,7 +26,7 @@ any_at f q before (a ∷ acts) zero x h e t =
     ∙ ap (λ v. v || list_any q (each_after f (before ++ a ∷ []) acts)) (ap (λ y. list_any q (f before y)) (sym e) ∙ ap (λ l. list_any q (f l x)) (sym (append-nil before)) ∙ t)
 any_at f q before (a ∷ acts) (suc i) x h e t =
     any-append q (f before a) (each_after f (before ++ a ∷ []) acts)
-    ∙ or_true (list_any q (f before a)) _ (any_at f q (before ++ a ∷ []) acts i x (omega arith) e (ap (λ l. list_any q (f l x)) (append_assoc before (a ∷ []) (take i acts)) ∙ t))
+    ∙ or_right (list_any q (f before a)) _ (any_at f q (before ++ a ∷ []) acts i x (omega arith) e (ap (λ l. list_any q (f l x)) (append_assoc before (a ∷ []) (take i acts)) ∙ t))
 
 some_made : (role number : ℕ) (names : List ℕ) (x : ActionValue) → x.from ≡ role → (names ≡ [] → ⊥) → list_any is_to_make (own_events role number names x) ≡ true
 some_made role number [] x e some = absurd (some refl)
@@ -47,10 +44,6 @@ makes p i x h e low some = (
       ∙ any_at (events_at p x.from) is_to_make [] p.actions i x h e (some_made x.from (length (take i p.actions) + 1) (made p (take i p.actions) x.message) x refl some),
 )
 
-front_empty : {X : Type 0} (xs ys : List X) → xs ++ ys ≡ [] → (xs ≡ []) × (ys ≡ [])
-front_empty [] ys e = (refl, e)
-front_empty (x ∷ xs) ys e = absurd (cc)
-
 none_made : (role number : ℕ) (x : ActionValue) (b d : Bool)
     → list_any is_to_make (cond b (map (λ y. to_make (leaf y)) [] ++ to_send number x.message ∷ []) (cond d (to_receive number x.message ∷ []) [])) ≡ false
 none_made role number x true d = refl
@@ -60,7 +53,7 @@ none_made role number x false false = refl
 none_of : (p : ProtocolValue) (role : ℕ) (before acts : List ActionValue) → each_after (made_at p) before acts ≡ [] → list_any is_to_make (each_after (events_at p role) before acts) ≡ false
 none_of p role before [] e = refl
 none_of p role before (x ∷ acts) e =
-    let parts = front_empty (made p before x.message) (each_after (made_at p) (before ++ x ∷ []) acts) e in
+    let parts = both_empty (made p before x.message) (each_after (made_at p) (before ++ x ∷ []) acts) e in
     any-append is_to_make (events_at p role before x) (each_after (events_at p role) (before ++ x ∷ []) acts)
     ∙ ap (λ v. v || list_any is_to_make (each_after (events_at p role) (before ++ x ∷ []) acts))
     (ap (λ ns. list_any is_to_make (own_events role (length before + 1) ns x)) parts.0 ∙ none_made role (length before + 1) x (x.from == role) (x.to == role))

@@ -1,7 +1,7 @@
 -- The first place of a thing.
-use Rattle.std.proofs.Common.{◌≡◌, ℕ, zero, suc, ◌+◌, ◌<◌, ◌≤◌, List, [], ◌∷◌, length, get_or, ap, sym, ◌∙◌, subst, arith, refl, Bool, true, false, cond, Option, Some, None}
+use Rattle.std.proofs.Common.{◌≡◌, ℕ, suc, ◌+◌, ◌≤◌, List, [], ◌∷◌, length, ap, sym, ◌∙◌, arith, refl, Bool, true, false, cond, Option, Some, None}
 use Rattle.std.specs.Prelude.{◌||◌, slice_get, IfSome, IfNone, unwrap_or}
-use Rattle.std.specs.List.{list_any, position_from, AllByRecursion}
+use Rattle.std.specs.List.{list_any, position_from}
 use Rattle.std.specs.Str.{bytes_eq}
 use Rattle.std.proofs.lemmas.Slice.Eq.{bytes_eq-Decides}
 
@@ -42,11 +42,6 @@ name_placed names x (Some i) e =
 pub name_absent : (names : List (List ℕ)) (x : List ℕ) (r : Option ℕ) → r ≡ position_from (λ y. bytes_eq y x) 0 names → IfNone r (list_any (λ y. bytes_eq y x) names ≡ false)
 name_absent names x None e = place_none (λ y. bytes_eq y x) 0 names (sym e)
 name_absent names x (Some i) e = tt
-
-pub each_holds : {X : Type 0} (P : X → Type 0) (xs : List X) (i : ℕ) (x : X) → i < length xs → x ≡ get_or xs i x → AllByRecursion P xs → P x
-each_holds P [] i x h e all = absurd (omega arith)
-each_holds P (y ∷ ys) zero x h e all = subst P (sym e) all.0
-each_holds P (y ∷ ys) (suc i) x h e all = each_holds P ys i x (omega arith) e all.1
 
 low_step : {X : Type 0} (p : X → Bool) (k : ℕ) (xs : List X) (x : X) (b : Bool) → p x ≡ b → unwrap_or (position_from p (k + 1) xs) 0 ≤ (k + 1) + length xs
     → unwrap_or (position_from p k (x ∷ xs)) 0 ≤ k + length (x ∷ xs)

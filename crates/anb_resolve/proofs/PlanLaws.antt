@@ -4,9 +4,11 @@ use Rattle.std.specs.Prelude.{◌==◌, ◌||◌, ◌&&◌, not, nat_eq, filter,
 use Rattle.std.specs.Option.{option_map_or}
 use Rattle.std.proofs.lemmas.List.Elements.{filter-append}
 use Rattle.std.specs.List.{list_any, flat_map}
-use Rattle.std.proofs.lemmas.Bool.{eqb-false}
+use Rattle.std.proofs.lemmas.Bool.{eqb-false, or_parts}
+use Rattle.std.proofs.lemmas.List.{map-append}
 use Rattle.anb_term.specs.Tree.{Tree, leaf, node, Trees, none, more, Avoids, AvoidsAll, AvoidsEach}
-use Rattle.anb_plays.specs.Plans.{Event, know, fresh, send, recv, known, IsFreshAfter, FreshIsNew}
+use Rattle.anb_plays.specs.Plans.{Event, know, send, known, IsFreshAfter, FreshIsNew}
+use Rattle.anb_plays.proofs.Plays.{known-append}
 use Rattle.anb_resolve.specs.Choices.{each_after}
 use Rattle.anb_resolve.specs.Names.{first_new}
 use Rattle.anb_resolve.specs.Protocols.{ActionValue, ProtocolValue}
@@ -15,17 +17,7 @@ use Rattle.anb_resolve.specs.Plans.{PlanEvent, to_know, to_make, to_send, to_rec
 use Rattle.anb_resolve.specs.Plays.{event_of, events_of}
 use Rattle.anb_resolve.specs.Laws.{KnowsFirst}
 use Rattle.anb_resolve.proofs.Afters.{any-append}
-
-pub map-append : {X Y : Type 0} (f : X → Y) (xs ys : List X) → map f (xs ++ ys) ≡ map f xs ++ map f ys
-map-append f [] ys = refl
-map-append f (x ∷ xs) ys = ap (λ l. f x ∷ l) (map-append f xs ys)
-
-known-append : (xs ys : List Event) → known (xs ++ ys) ≡ known xs ++ known ys
-known-append [] ys = refl
-known-append (know t ∷ xs) ys = ap (λ l. t ∷ l) (known-append xs ys)
-known-append (fresh t ∷ xs) ys = known-append xs ys
-known-append (send t ∷ xs) ys = known-append xs ys
-known-append (recv t ∷ xs) ys = known-append xs ys
+use Rattle.anb_resolve.proofs.SeenLemmas.{occurs-append}
 
 known-knows : (ts : List Tree) → known (map know ts) ≡ ts
 known-knows [] = refl
@@ -55,7 +47,7 @@ known-rest p role before (a ∷ acts) =
     ∙ ap (λ l. l ++ known (map event_of rest)) (nothing_known p role (length before + 1) (made p before a.message) a (a.from == role) (a.to == role))
     ∙ known-rest p role (before ++ a ∷ []) acts
 
-events_are : (p : ProtocolValue) (role : ℕ) → events_of p role ≡ map know (known_by p role) ++ map event_of (each_after (events_at p role) [] p.actions)
+pub events_are : (p : ProtocolValue) (role : ℕ) → events_of p role ≡ map know (known_by p role) ++ map event_of (each_after (events_at p role) [] p.actions)
 unfolding plan_of
 events_are p role =
     map-append event_of (map to_know (known_by p role)) (each_after (events_at p role) [] p.actions)
@@ -65,10 +57,6 @@ pub knows_first : (p : ProtocolValue) (role : ℕ) → KnowsFirst (events_of p r
 knows_first p role = (known_by p role, map event_of (each_after (events_at p role) [] p.actions), events_are p role, known-rest p role [] p.actions)
 
 -- ---- what is made is new
-
-or_parts : (a b : Bool) → (a || b) ≡ false → (a ≡ false) × (b ≡ false)
-or_parts true b e = absurd (cc)
-or_parts false b e = (refl, e)
 
 mutual
   avoids : (a : ℕ) (t : Tree) → list_any (λ b. b == a) (atoms_in t) ≡ false → Avoids a t
@@ -86,17 +74,6 @@ avoids_each a [] e = tt
 avoids_each a (t ∷ ts) e =
     let h = or_parts (list_any (λ b. b == a) (atoms_in t)) (occurs ts a) (sym (any-append (λ b. b == a) (atoms_in t) (atoms_in_each ts)) ∙ e) in
     (avoids a t h.0, avoids_each a ts h.1)
-
-occurs-append : (ts us : List Tree) (a : ℕ) → occurs (ts ++ us) a ≡ (occurs ts a || occurs us a)
-occurs-append [] us a = refl
-occurs-append (t ∷ ts) us a =
-    any-append (λ b. b == a) (atoms_in t) (atoms_in_each (ts ++ us)) ∙ ap (λ v. list_any (λ b. b == a) (atoms_in t) || v) (occurs-append ts us a)
-    ∙ regroup (list_any (λ b. b == a) (atoms_in t)) (occurs ts a) (occurs us a)
-    ∙ ap (λ v. v || occurs us a) (sym (any-append (λ b. b == a) (atoms_in t) (atoms_in_each ts)))
-  where
-    regroup : (x y z : Bool) → (x || (y || z)) ≡ ((x || y) || z)
-    regroup true y z = refl
-    regroup false y z = refl
 
 skip_known : (ts : List Tree) (frame : List Tree) (es : List Event) → IsFreshAfter frame es → IsFreshAfter frame (map know ts ++ es)
 skip_known [] frame es h = h

@@ -1,8 +1,8 @@
 -- Laws of plans over byte strings, from those over any algebra.
-use Rattle.std.proofs.Common.{◌≡◌, ℕ, List, [], ◌∷◌, IsTrue, subst}
+use Rattle.std.proofs.Common.{◌≡◌, ℕ, List, IsTrue, subst}
 use Rattle.std.specs.List.{AllByRecursion}
 use Rattle.std.proofs.lemmas.List.Elements.{All-from_recursion, recursion_from_All}
-use Rattle.anb_base.specs.Bytes.{IsBytes, is_bytes, IsBytes-pass, is_bytes-IsBytes}
+use Rattle.anb_base.specs.Bytes.{IsBytes, is_bytes, is_bytes-IsBytes}
 use Rattle.anb_seal.specs.Streams.{draw_of}
 use Rattle.anb_seal.proofs.ByteLemmas.{bytes-draw_of}
 use Rattle.anb_base.specs.declared.content.Suite.{Suite}
@@ -10,19 +10,12 @@ use Rattle.anb_format.specs.Formats.{FormatValue}
 use Rattle.anb_term.specs.Value.{Meaning}
 use Rattle.anb_term.specs.Lawful.{AreValues}
 use Rattle.anb_algebra.specs.ByteMeaning.{byte_meaning}
+use Rattle.anb_algebra.proofs.Picks.{strings, tests}
 use Rattle.anb_plays.specs.Statements.{PlaysAreOne, PlaysAreThere, HonestAgree}
 use Rattle.anb_resolve.specs.Protocols.{ProtocolValue}
 use Rattle.anb_resolve.specs.Plays.{events_of, meaning_of}
 use Rattle.anb_resolve.specs.Laws.{PlayIsOne, PlayIsThere, HonestAgrees}
 use Rattle.anb_resolve.proofs.PlanLaws.{made_new}
-
-tests : (bs : List (List ℕ)) → AllByRecursion IsBytes bs → AllByRecursion (λ b. IsTrue (is_bytes b)) bs
-tests [] all = tt
-tests (b ∷ bs) all = (is_bytes-IsBytes b all.0, tests bs all.1)
-
-strings : (bs : List (List ℕ)) → AllByRecursion (λ b. IsTrue (is_bytes b)) bs → AllByRecursion IsBytes bs
-strings [] all = tt
-strings (b ∷ bs) all = (IsBytes-pass b all.0, strings bs all.1)
 
 -- strings of bytes are values
 pub values_of : (p : ProtocolValue) (bs : List (List ℕ)) → AllByRecursion IsBytes bs → AreValues (meaning_of p) bs

@@ -13,6 +13,7 @@ use Rattle.anb_algebra.specs.ByteMeaning.{has_operator}
 use Rattle.anb_syntax.specs.Grammar.{IsName, spell_tree, spell_trees, spell_others}
 use Rattle.anb_syntax.specs.Words.{close_sign, is_letter, is_name_byte, is_spelled, is_name, hash_word, mac_word, seal_word, wrap_word}
 use Rattle.anb_syntax.specs.Canon.{word_bytes, words_bytes}
+use Rattle.anb_syntax.proofs.Printed.{name_spelled}
 use Rattle.anb_resolve.specs.declared.parts.Atom.{Atom}
 use Rattle.anb_resolve.specs.Protocols.{ProtocolValue, fields_at}
 use Rattle.anb_resolve.specs.Texts.{spelled, spelled_all, term_text, op_text, atom_name, format_name, IsTermOf, AreTermsOf}
@@ -53,7 +54,6 @@ head_bytes (b ∷ x) e =
     let P : Bool → Type 0 = λ v. (v && list_all is_name_byte x) ≡ true in
     subst P (sym (letter (is_letter b) (nat_le 48 b && nat_le b 57) (b == 95) h.0)) h.1
 
-name_spelled : (x : List ℕ) → IsName x → is_spelled x ≡ true
 unfolding is_name
 name_spelled x e = (and_parts (is_spelled x) _ e).0
 

@@ -5,10 +5,10 @@ use Rattle.std.specs.List.{list_any}
 use Rattle.std.specs.List.{AllByRecursion}
 use Rattle.std.specs.Option.{option_map_or}
 use Rattle.std.specs.Prelude.{slice_get}
-use Rattle.std.proofs.Math.Dec.{eqb-zero-suc, eqb-suc-zero, eqb-suc-suc}
-use Rattle.std.proofs.lemmas.Bool.{eq-eqb}
 use Rattle.std.proofs.lemmas.List.{length-set, length-replicate}
 use Rattle.std.proofs.lemmas.List.Elements.{filter-append}
+use Rattle.anb_lemmas.proofs.Bools.{or_false, or_assoc}
+use Rattle.anb_lemmas.proofs.Lists.{unflagged, flag_set}
 use Rattle.anb_term.specs.Tree.{Tree}
 use Rattle.anb_resolve.specs.Choices.{each_after}
 use Rattle.anb_resolve.specs.Names.{distinct, first_new}
@@ -18,38 +18,18 @@ use Rattle.anb_resolve.specs.Plans.{messages, occurs, names_number_or_key, is_ma
 use Rattle.anb_resolve.specs.Seen.{marked, new_among, AreSeen}
 use Rattle.anb_resolve.proofs.Afters.{any-append}
 
-or-false : (a : Bool) → (a || false) ≡ a
-or-false true = refl
-or-false false = refl
-
-or-true : (a : Bool) → (a || true) ≡ true
-or-true true = refl
-or-true false = refl
-
-or-assoc : (a b c : Bool) → ((a || b) || c) ≡ (a || (b || c))
-or-assoc true b c = refl
-or-assoc false b c = refl
-
 or-swap : (a b c : Bool) → (a || (b || c)) ≡ (b || (a || c))
 or-swap true true c = refl
 or-swap true false c = refl
 or-swap false true c = refl
 or-swap false false c = refl
 
--- a flag after one was set
-flag-set : (flags : List Bool) (b a : ℕ) → get_or (set flags b true) a true ≡ ((b == a) || get_or flags a true)
-flag-set [] b a = sym (or-true (b == a))
-flag-set (f ∷ flags) zero zero = ap (λ v. v || f) (sym (eq-eqb 0 0 refl))
-flag-set (f ∷ flags) zero (suc a) = ap (λ v. v || get_or flags a true) (sym (eqb-zero-suc a))
-flag-set (f ∷ flags) (suc b) zero = ap (λ v. v || f) (sym (eqb-suc-zero b))
-flag-set (f ∷ flags) (suc b) (suc a) = flag-set flags b a ∙ ap (λ v. v || get_or flags a true) (sym (eqb-suc-suc b a))
-
 -- a flag is set where it was, or its atom is among those marked
 pub flag-marked : (flags : List Bool) (atoms : List ℕ) (a : ℕ) → get_or (marked flags atoms) a true ≡ (list_any (λ b. b == a) atoms || get_or flags a true)
 flag-marked flags [] a = refl
 flag-marked flags (b ∷ atoms) a =
-    flag-marked (set flags b true) atoms a ∙ ap (λ v. list_any (λ b. b == a) atoms || v) (flag-set flags b a)
-    ∙ or-swap (list_any (λ b. b == a) atoms) (b == a) (get_or flags a true) ∙ sym (or-assoc (b == a) (list_any (λ b. b == a) atoms) (get_or flags a true))
+    flag-marked (set flags b true) atoms a ∙ ap (λ v. list_any (λ b. b == a) atoms || v) (flag_set flags b a)
+    ∙ or-swap (list_any (λ b. b == a) atoms) (b == a) (get_or flags a true) ∙ sym (or_assoc (b == a) (list_any (λ b. b == a) atoms) (get_or flags a true))
 
 pub length-marked : (flags : List Bool) (atoms : List ℕ) → length (marked flags atoms) ≡ length flags
 length-marked flags [] = refl
@@ -133,11 +113,11 @@ module _ (p : ProtocolValue) (before : List ActionValue) (flags : List Bool) (se
   pub new-made : (t : Tree) → filter (names_number_or_key p) (new_among flags (atoms_in t)) ≡ made p before t
   new-made t = ap (filter (names_number_or_key p)) (new_is flags [] (atoms_in t)) ∙ made_among [] (atoms_in t)
 
-occurs-append : (ts us : List Tree) (a : ℕ) → occurs (ts ++ us) a ≡ (occurs ts a || occurs us a)
+pub occurs-append : (ts us : List Tree) (a : ℕ) → occurs (ts ++ us) a ≡ (occurs ts a || occurs us a)
 occurs-append [] us a = refl
 occurs-append (t ∷ ts) us a =
     any-append (λ b. b == a) (atoms_in t) (atoms_in_each (ts ++ us)) ∙ ap (λ v. list_any (λ b. b == a) (atoms_in t) || v) (occurs-append ts us a)
-    ∙ sym (or-assoc (list_any (λ b. b == a) (atoms_in t)) (occurs ts a) (occurs us a))
+    ∙ sym (or_assoc (list_any (λ b. b == a) (atoms_in t)) (occurs ts a) (occurs us a))
     ∙ ap (λ v. v || occurs us a) (sym (any-append (λ b. b == a) (atoms_in t) (atoms_in_each ts)))
 
 messages-append : (xs ys : List ActionValue) → messages (xs ++ ys) ≡ messages xs ++ messages ys
@@ -152,7 +132,7 @@ seen_more p before flags x seen = record {
       let here = list_any (λ b. b == a) (atoms_in x.message) in
       let later : occurs (messages (before ++ x ∷ [])) a ≡ (occurs (messages before) a || here) =
       ap (λ ts. occurs ts a) (messages-append before (x ∷ [])) ∙ occurs-append (messages before) (x.message ∷ []) a
-      ∙ ap (λ v. occurs (messages before) a || v) (any-append (λ b. b == a) (atoms_in x.message) [] ∙ or-false here) in
+      ∙ ap (λ v. occurs (messages before) a || v) (any-append (λ b. b == a) (atoms_in x.message) [] ∙ or_false here) in
       flag-marked flags (atoms_in x.message) a ∙ ap (λ v. here || v) (seen.told a h) ∙ joined here (occurs (known_terms p) a) (occurs (messages before) a)
       ∙ ap (λ v. occurs (known_terms p) a || v) (sym later);
 }
@@ -165,11 +145,6 @@ seen_more p before flags x seen = record {
     joined false false true = refl
     joined false false false = refl
 
-unflagged : (n a : ℕ) → a < n → get_or (replicate n false) a true ≡ false
-unflagged zero a h = absurd (omega arith)
-unflagged (suc n) zero h = refl
-unflagged (suc n) (suc a) h = unflagged n a (omega arith)
-
 -- the flags before the first action
 pub seen_first : (p : ProtocolValue) → AreSeen p [] (marked (replicate (length p.atoms) false) (atoms_in_each (known_terms p)))
 seen_first p = record {
@@ -181,7 +156,7 @@ seen_first p = record {
 pub new-distinct : (n : ℕ) (before atoms : List ℕ) → AllByRecursion (λ a. a < n) atoms → each_after (unseen (replicate n false)) before atoms ≡ each_after (first_new nat_eq) before atoms
 new-distinct n before [] all = refl
 new-distinct n before (a ∷ atoms) all =
-    let here : unseen (replicate n false) before a ≡ first_new nat_eq before a = ap (λ v. cond v [] (a ∷ [])) (ap (λ v. list_any (λ b. b == a) before || v) (unflagged n a all.0) ∙ or-false (list_any (λ b. b == a) before)) in
+    let here : unseen (replicate n false) before a ≡ first_new nat_eq before a = ap (λ v. cond v [] (a ∷ [])) (ap (λ v. list_any (λ b. b == a) before || v) (unflagged n a all.0) ∙ or_false (list_any (λ b. b == a) before)) in
     ap (λ l. l ++ each_after (unseen (replicate n false)) (before ++ a ∷ []) atoms) here
     ∙ ap (λ l. first_new nat_eq before a ++ l) (new-distinct n (before ++ a ∷ []) atoms all.1)
 

@@ -4,48 +4,39 @@ use Rattle.std.specs.Prelude.{◌&&◌, ◌==◌, nat_lt}
 use Rattle.std.specs.Option.{option_map}
 use Rattle.std.specs.List.{AllByRecursion, list_all}
 use Rattle.std.proofs.lemmas.Bool.{and_from, eqb-false, eqb-true, eq-eqb, lt-ltb}
-use Rattle.anb_base.specs.Bytes.{is_bytes, is_bytes-IsBytes}
+use Rattle.anb_lemmas.proofs.Options.{none_mapped}
 use Rattle.anb_format.specs.declared.pieces.FieldKind.TheVariants.{Len, Net, Hex, Rest}
 use Rattle.anb_format.specs.declared.pieces.FormatNo.{FormatNo}
 use Rattle.anb_format.specs.declared.pieces.FormatNo.TheVariants.{NoHead, RestNotLast}
 use Rattle.anb_format.specs.declared.pieces.Piece.{Piece}
 use Rattle.anb_format.specs.declared.pieces.Piece.TheVariants.{Lit, Field}
-use Rattle.anb_format.specs.Formats.{head, ends_at_rest, is_sound, is_bytes_piece, IsEarlyRest, IsFirstEarlyRest, IsSound}
-use Rattle.anb_syntax.specs.Grammar.{IsPiece}
+use Rattle.anb_format.specs.Formats.{head, ends_at_rest, is_sound, is_bytes_piece, IsEarlyRest, IsFirstEarlyRest, IsSound, IsBytesPiece}
+use Rattle.anb_format.proofs.BuiltLemmas.{passes_literals}
 use Rattle.anb_resolve.specs.Checks.{early_rest, shape_fault}
-
-pub mapped_none : {X Y : Type 0} (f : X → Y) (o : Option X) → option_map f o ≡ None → o ≡ None
-mapped_none f None e = refl
-mapped_none f (Some x) e = absurd (cc)
 
 rests : (ps : List Piece) → early_rest ps ≡ None → ends_at_rest ps ≡ true
 rests [] e = refl
 rests (Lit b ∷ []) e = refl
-rests (Lit b ∷ p ∷ ps) e = rests (p ∷ ps) (mapped_none (λ i. i + 1) (early_rest (p ∷ ps)) e)
+rests (Lit b ∷ p ∷ ps) e = rests (p ∷ ps) (none_mapped (λ i. i + 1) (early_rest (p ∷ ps)) e)
 rests (Field Rest ∷ []) e = refl
 rests (Field Len ∷ []) e = refl
 rests (Field Net ∷ []) e = refl
 rests (Field Hex ∷ []) e = refl
 rests (Field Rest ∷ p ∷ ps) e = absurd (cc e)
-rests (Field Len ∷ p ∷ ps) e = rests (p ∷ ps) (mapped_none (λ i. i + 1) (early_rest (p ∷ ps)) e)
-rests (Field Net ∷ p ∷ ps) e = rests (p ∷ ps) (mapped_none (λ i. i + 1) (early_rest (p ∷ ps)) e)
-rests (Field Hex ∷ p ∷ ps) e = rests (p ∷ ps) (mapped_none (λ i. i + 1) (early_rest (p ∷ ps)) e)
-
-literals : (ps : List Piece) → AllByRecursion IsPiece ps → list_all is_bytes_piece ps ≡ true
-literals [] a = refl
-literals (Lit b ∷ ps) a = and_from (is_bytes b) (list_all is_bytes_piece ps) (is_bytes-IsBytes b a.0) (literals ps a.1)
-literals (Field k ∷ ps) a = literals ps a.1
+rests (Field Len ∷ p ∷ ps) e = rests (p ∷ ps) (none_mapped (λ i. i + 1) (early_rest (p ∷ ps)) e)
+rests (Field Net ∷ p ∷ ps) e = rests (p ∷ ps) (none_mapped (λ i. i + 1) (early_rest (p ∷ ps)) e)
+rests (Field Hex ∷ p ∷ ps) e = rests (p ∷ ps) (none_mapped (λ i. i + 1) (early_rest (p ∷ ps)) e)
 
 by_head : (ps : List Piece) (b : Bool) → (length (head ps) == 0) ≡ b → shape_fault ps ≡ None → (b ≡ false) × (early_rest ps ≡ None)
 by_head ps true t e = let h = sym (ap (λ v. cond v (Some NoHead) (option_map (λ i. RestNotLast i) (early_rest ps))) t) ∙ e in absurd (cc h)
-by_head ps false t e = (refl, mapped_none (λ i. RestNotLast i) (early_rest ps) (sym (ap (λ v. cond v (Some NoHead) (option_map (λ i. RestNotLast i) (early_rest ps))) t) ∙ e))
+by_head ps false t e = (refl, none_mapped (λ i. RestNotLast i) (early_rest ps) (sym (ap (λ v. cond v (Some NoHead) (option_map (λ i. RestNotLast i) (early_rest ps))) t) ∙ e))
 
-pub sound_pieces : (ps : List Piece) → shape_fault ps ≡ None → AllByRecursion IsPiece ps → is_sound ps ≡ true
+pub sound_pieces : (ps : List Piece) → shape_fault ps ≡ None → AllByRecursion IsBytesPiece ps → is_sound ps ≡ true
 sound_pieces ps e a =
     let h = by_head ps (length (head ps) == 0) refl e in
     let some : 0 < length (head ps) = above_zero (length (head ps)) h.0 in
     and_from (nat_lt 0 (length (head ps)) && ends_at_rest ps) (list_all is_bytes_piece ps)
-    (and_from (nat_lt 0 (length (head ps))) (ends_at_rest ps) (lt-ltb 0 (length (head ps)) some) (rests ps h.1)) (literals ps a)
+    (and_from (nat_lt 0 (length (head ps))) (ends_at_rest ps) (lt-ltb 0 (length (head ps)) some) (rests ps h.1)) (passes_literals ps a)
   where
     above_zero : (n : ℕ) → (n == 0) ≡ false → 0 < n
     above_zero zero e = absurd (eqb-false 0 0 e refl)
@@ -68,10 +59,10 @@ none_early (Lit b ∷ ps) e zero h = cc (h.0)
 none_early (Field Len ∷ ps) e zero h = cc (h.0)
 none_early (Field Net ∷ ps) e zero h = cc (h.0)
 none_early (Field Hex ∷ ps) e zero h = cc (h.0)
-none_early (Lit b ∷ ps) e (suc i) h = none_early ps (mapped_none (λ k. k + 1) (early_rest ps) e) i (down (Lit b) ps i h)
-none_early (Field Len ∷ ps) e (suc i) h = none_early ps (mapped_none (λ k. k + 1) (early_rest ps) e) i (down (Field Len) ps i h)
-none_early (Field Net ∷ ps) e (suc i) h = none_early ps (mapped_none (λ k. k + 1) (early_rest ps) e) i (down (Field Net) ps i h)
-none_early (Field Hex ∷ ps) e (suc i) h = none_early ps (mapped_none (λ k. k + 1) (early_rest ps) e) i (down (Field Hex) ps i h)
+none_early (Lit b ∷ ps) e (suc i) h = none_early ps (none_mapped (λ k. k + 1) (early_rest ps) e) i (down (Lit b) ps i h)
+none_early (Field Len ∷ ps) e (suc i) h = none_early ps (none_mapped (λ k. k + 1) (early_rest ps) e) i (down (Field Len) ps i h)
+none_early (Field Net ∷ ps) e (suc i) h = none_early ps (none_mapped (λ k. k + 1) (early_rest ps) e) i (down (Field Net) ps i h)
+none_early (Field Hex ∷ ps) e (suc i) h = none_early ps (none_mapped (λ k. k + 1) (early_rest ps) e) i (down (Field Hex) ps i h)
 
 -- none stands before the one that is found
 before_early : (ps : List Piece) (i : ℕ) → early_rest ps ≡ Some i → (k : ℕ) → IsEarlyRest ps k → i ≤ k

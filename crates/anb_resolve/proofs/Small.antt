@@ -4,6 +4,7 @@ use Rattle.std.specs.List.{AllByRecursion, sum_by, flat_map, list_any}
 use Rattle.std.specs.Str.{bytes_eq}
 use Rattle.std.proofs.lemmas.List.{length-map, length-append}
 use Rattle.std.proofs.lemmas.List.Sums.{sum_by-append, sum_by-cons}
+use Rattle.anb_lemmas.proofs.Each.{each_by}
 use Rattle.anb_syntax.specs.Grammar.{Tree, atom, apply, hash, mac, seal, wrap, Trees, none, more, list_of, TypeItem, FormatItem, KnowItem, ActionItem, Narration, IsName, IsTree, AreTrees, IsKnowItem, IsActionItem, IsSpellable}
 use Rattle.anb_syntax.specs.declared.narration.Sort.{Sort}
 use Rattle.anb_syntax.specs.Words.{is_name}
@@ -13,7 +14,6 @@ use Rattle.anb_resolve.specs.Choices.{each_after}
 use Rattle.anb_resolve.specs.Names.{Use, as_role, as_atom, as_format, used_name, all_names, declared_names, uses, tree_uses, trees_uses, know_uses, action_uses, item_atoms, line_names, action_roles, roles, terms, first_new}
 use Rattle.anb_resolve.specs.Checks.{tree_nodes, trees_nodes}
 use Rattle.anb_resolve.specs.Laws.{SmallIsCountable}
-use Rattle.anb_resolve.proofs.Faultless.{all_map}
 
 -- each is no more than all together
 each_low : {X : Type 0} (f : X → ℕ) (xs : List X) (most : ℕ) → sum_by f xs ≤ most → AllByRecursion (λ x. f x ≤ most) xs
@@ -188,10 +188,10 @@ nodes_low n s =
 
 pub small_countable : SmallIsCountable
 small_countable = λ n s low. record {
-  names = all_map (λ (x : List ℕ). length x ≤ size n) (λ (x : List ℕ). length x < 2 ^ 32) (λ x h. omega (arith, h, low)) (all_names n) (each_low bytes (all_names n) (size n) (names_bytes n));
+  names = each_by (λ (x : List ℕ). length x ≤ size n) (λ (x : List ℕ). length x < 2 ^ 32) (λ x h. omega (arith, h, low)) (all_names n) (each_low bytes (all_names n) (size n) (names_bytes n));
   typed = omega (arith, low, typed_low n.types);
   formats = omega (arith, low, formats_low n.formats);
-  pieces = all_map (λ (f : FormatItem). format_size f ≤ size n) (λ (f : FormatItem). length f.pieces < 2 ^ 32) (λ f h. omega (arith, h, low)) n.formats (each_low format_size n.formats (size n) (omega arith));
+  pieces = each_by (λ (f : FormatItem). format_size f ≤ size n) (λ (f : FormatItem). length f.pieces < 2 ^ 32) (λ f h. omega (arith, h, low)) n.formats (each_low format_size n.formats (size n) (omega arith));
   roles = omega (arith, low, roles_low n s.valid.actions);
   actions = omega (arith, low, actions_low n.actions s.valid.actions);
   nodes = omega (arith, low, nodes_low n s);

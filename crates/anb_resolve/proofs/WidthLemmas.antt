@@ -1,16 +1,13 @@
 -- Widths within a bound.
-use Rattle.std.proofs.Common.{◌≡◌, ℕ, suc, ◌+◌, ◌-◌, ◌<◌, ◌≤◌, List, [], ◌∷◌, ◌++◌, length, map, drop, get_or, ap, sym, ◌∙◌, subst, arith, refl, Bool, true, false, cond, Option, Some, None, Vec, Global}
+use Rattle.std.proofs.Common.{◌≡◌, ℕ, suc, ◌+◌, ◌-◌, ◌<◌, ◌≤◌, List, [], ◌∷◌, ◌++◌, length, get_or, ap, sym, ◌∙◌, subst, arith, refl, Bool, true, false, cond, Option, Some, None, Vec, Global}
 use Rattle.std.specs.Prelude.{◌&&◌, nat_le, is_some}
 use Rattle.std.specs.Option.{option_and_then}
 use Rattle.std.specs.List.{AllByRecursion}
 use Rattle.std.proofs.lemmas.Bool.{leb-true, le-leb}
 use Rattle.anb_format.specs.Formats.{FormatValue}
 use Rattle.anb_term.specs.declared.term.Op.{Op}
-use Rattle.anb_term.specs.declared.term.Term.{Term}
-use Rattle.anb_term.specs.View.{tree_of}
 use Rattle.anb_term.specs.Value.{cons_both}
-use Rattle.anb_term.specs.Tree.{Tree, leaf, node, Trees, none, more, trees_of, list_of, IsFormed, AreFormed}
-use Rattle.anb_resolve.proofs.FirstLemmas.{rest_at}
+use Rattle.anb_term.specs.Tree.{Tree, leaf, node, Trees, none, more, trees_of, list_of}
 use Rattle.anb_resolve.specs.Widths.{at_most, op_width, sealed_width, width, widths, fits_width, fit_width, all_fit_width, width_if, widths_if}
 
 pub last_width : (w : ℕ) (ws : List ℕ) → sealed_width (w ∷ ws) ≡ get_or (w ∷ ws) (length ws) 0 + 32
@@ -121,11 +118,6 @@ module _ (least : ℕ) (formats : List FormatValue) (most : ℕ) where
       let s = both_some (width_if least formats most t) (widths_if least formats most ts) ws e in
       let P : List ℕ → Type 0 = λ l. AllByRecursion (λ w. w ≤ most) l in
       subst P (sym s.4) (width_low t s.0 s.2, low_found ts s.1 s.3)
-
--- a term of a list that is formed
-pub formed_at : (has : Op → Bool) (ts : List Term) (i : ℕ) (t : Term) → i < length ts → t ≡ get_or ts i t → AreFormed has (trees_of (map tree_of (drop i ts)))
-    → IsFormed has (tree_of t) × AreFormed has (trees_of (map tree_of (drop (i + 1) ts)))
-formed_at has ts i t h e a = let P : List Tree → Type 0 = λ us. AreFormed has (trees_of us) in subst P (rest_at tree_of ts i t h e) a
 
 abbrev pub items_of : Vec ℕ Global → List ℕ
 items_of v = v.items

@@ -4,6 +4,7 @@ use Rattle.std.specs.Prelude.{◌≡◌, ℕ, ◌+◌, ◌==◌, ◌&&◌, not, 
 use Rattle.std.specs.Option.{option_map, option_or}
 use Rattle.std.specs.List.{list_any, sum_by, zip, starts_with}
 use Rattle.std.specs.Str.{bytes_eq}
+use Rattle.anb_index.specs.Places.{among}
 use Rattle.anb_format.specs.declared.pieces.FieldKind.TheVariants.{Rest}
 use Rattle.anb_format.specs.declared.pieces.FormatNo.{FormatNo}
 use Rattle.anb_format.specs.declared.pieces.FormatNo.TheVariants.{NoHead, RestNotLast}
@@ -21,7 +22,7 @@ use Rattle.anb_resolve.specs.declared.refusals.Item.TheVariants.{Know, Action}
 use Rattle.anb_resolve.specs.declared.refusals.ResolveNo.{ResolveNo}
 use Rattle.anb_resolve.specs.declared.refusals.ResolveNo.TheVariants.{Limit, Twice, Unknown, WrongSort, WrongCount, FormatShape, Overlap, SelfSend, KnowledgeTwice, Wide}
 use Rattle.anb_resolve.specs.Choices.{refuse_if, first, first_after}
-use Rattle.anb_resolve.specs.Names.{Use, as_role, as_atom, as_format, used_name, among, atoms, all_names, declared_names, line_names, uses, roles, terms}
+use Rattle.anb_resolve.specs.Names.{Use, as_role, as_atom, as_format, used_name, atoms, all_names, declared_names, line_names, uses, roles, terms}
 use Rattle.anb_resolve.specs.Protocols.{ActionValue, ProtocolValue, formats_of, protocol_of}
 use Rattle.anb_resolve.specs.Texts.{term_text}
 use Rattle.anb_resolve.specs.Widths.{fits_width, all_fit_width}

@@ -6,10 +6,6 @@ use Rattle.anb_syntax.specs.Grammar.{Tree, atom, apply, hash, mac, seal, wrap, T
 use Rattle.anb_resolve.specs.declared.parts.Atom.{Atom}
 use Rattle.anb_resolve.specs.Choices.{each_after}
 
--- a name is one of these
-abbrev pub among : List (List ℕ) → List ℕ → Bool
-among names x = list_any (λ y. bytes_eq y x) names
-
 -- each thing once, where it stands first
 abbrev pub first_new : {X : Type 0} → (X → X → Bool) → List X → X → List X
 first_new same before x = if list_any (λ y. same y x) before then [] else x ∷ []

@@ -1,5 +1,5 @@
 -- The protocol that a narration tells: its names by numbers.
-use Rattle.std.specs.Prelude.{ℕ, List, [], ◌∷◌, map, unwrap_or, slice_get, if◌then◌else◌}
+use Rattle.std.specs.Prelude.{ℕ, List, [], ◌∷◌, map, unwrap_or, slice_get, if◌then◌else◌, Option}
 use Rattle.std.specs.Option.{option_map_or}
 use Rattle.std.specs.Str.{bytes_eq}
 use Rattle.anb_base.specs.declared.content.Suite.{Suite}
@@ -7,6 +7,7 @@ use Rattle.anb_format.specs.Formats.{FormatValue, field_count}
 use Rattle.anb_term.specs.declared.term.Op.{Op}
 use Rattle.anb_term.specs.declared.term.Op.TheVariants.{Hash, Mac, Seal, Wrap, Format}
 use Rattle.anb_term.specs.Tree as term
+use Rattle.anb_index.specs.Places.{place_of}
 use Rattle.anb_syntax.specs.Grammar.{Tree, atom, apply, hash, mac, seal, wrap, Trees, none, more, FormatItem, KnowItem, ActionItem, Narration}
 use Rattle.anb_resolve.specs.declared.parts.Atom.{Atom}
 use Rattle.std.specs.List.{position_from}
@@ -85,3 +86,11 @@ protocol_of n = record {
   knows = map (λ role. term.list_of (resolved_all (atoms n) (formats_of n) (line_of n.knows role))) (roles n);
   actions = map (action_of (atoms n) (formats_of n) (roles n)) n.actions;
 }
+
+-- the number of the role with this name
+abbrev pub role_named : ProtocolValue → List ℕ → Option ℕ
+role_named p name = place_of p.roles name
+
+-- the name of the role with this number
+abbrev pub role_name : ProtocolValue → ℕ → List ℕ
+role_name p role = option_map_or (λ name. name) (slice_get p.roles role) []

@@ -2,9 +2,8 @@
 use Rattle.std.specs.Prelude.{ℕ, ◌+◌, List, [], ◌∷◌, Bool, true, ◌&&◌, nat_le, Option, Some, None, if◌then◌else◌}
 use Rattle.std.specs.Option.{option_and_then}
 use Rattle.std.specs.List.{list_all}
-use Rattle.anb_format.specs.Formats.{FormatValue}
+use Rattle.anb_format.specs.Formats.{FormatValue, pieces_at}
 use Rattle.anb_format.specs.Widths.{format_width}
-use Rattle.anb_algebra.specs.ByteMeaning.{pieces_at}
 use Rattle.anb_term.specs.declared.term.Op.{Op}
 use Rattle.anb_term.specs.declared.term.Op.TheVariants.{Hash, Mac, Seal, Wrap, Format}
 use Rattle.anb_term.specs.Value.{cons_both}

@@ -2,12 +2,13 @@
 ghost use Rattle.std.specs.Prelude.{◌≡◌, ◌==◌, not, [], map, IfOk, IfNone};
 ghost use Rattle.std.specs.List.{list_any};
 ghost use Rattle.std.specs.Str.{bytes_eq};
+ghost use Rattle.anb_index.specs.Places.{among};
 ghost use Rattle.anb_format.specs.Formats.{field_count};
 ghost use Rattle.anb_syntax.specs.Grammar.{FormatItem as Item};
 ghost use Rattle.anb_syntax.specs.Views.{format_of, narration_of};
 ghost use Rattle.anb_resolve.specs.declared.refusals.ResolveNo.TheVariants.{Unknown, WrongSort, WrongCount};
 ghost use Rattle.anb_resolve.specs.Choices.{refuse_if, first};
-ghost use Rattle.anb_resolve.specs.Names.{used_name, among, declared_names, uses as uses_in, atoms as atoms_in};
+ghost use Rattle.anb_resolve.specs.Names.{used_name, declared_names, uses as uses_in, atoms as atoms_in};
 ghost use Rattle.anb_resolve.specs.Checks.{first_fault, name_checks, twice_among, names_format, is_missorted, has_count, is_miscounted};
 ghost use Rattle.anb_resolve.specs.Views.{pointed, use_of};
 

@@ -5,6 +5,7 @@ use Rattle.std.proofs.lemmas.List.{append_cancel_left, append_cancel_right}
 use Rattle.anb_base.specs.Bytes.{IsBytes}
 use Rattle.anb_base.specs.Wires.{WireState}
 use Rattle.anb_base.specs.declared.TheConstants.{ARRIVAL}
+use Rattle.anb_base.proofs.Strings.{bytes_right}
 use Rattle.anb_frame.specs.Frames.{frame, frames}
 use Rattle.anb_frame.specs.Cuts.{Tail, Cut, HasCut}
 use Rattle.anb_seal.specs.Streams.{draw_of}
@@ -22,7 +23,7 @@ use Rattle.anb_command.specs.Steps.{Answer, refused, given, HasOneAnswer}
 use Rattle.anb_command.specs.declared.status.Status.{Status}
 use Rattle.anb_command.specs.Fetches.{Files, IfTold}
 use Rattle.anb_command.specs.declared.status.Status.TheVariants.{Done, NoMemory}
-use Rattle.anb_command.proofs.Cutting.{bytes_right, cut_behind}
+use Rattle.anb_command.proofs.Cutting.{cut_behind}
 use Rattle.anb_command.proofs.Chains.{told_map}
 use Rattle.anb_command.proofs.Ones.{same_given, not_both}
 

@@ -1,10 +1,11 @@
 -- Which lists are bytes.
-use Rattle.std.proofs.Common.{◌≡◌, ◌<◌, ◌+◌, ◌*◌, ◌/◌, ◌%◌, ℕ, zero, suc, Bool, true, false, ◌&&◌, nat_lt, List, [], ◌∷◌, ◌++◌, length, take, drop, bit_xor, Some, refl, ap, sym, ◌∙◌, arith}
+use Rattle.std.proofs.Common.{◌≡◌, ◌<◌, ◌+◌, ◌*◌, ◌/◌, ◌%◌, ℕ, zero, suc, true, nat_lt, List, [], ◌∷◌, ◌++◌, length, take, drop, bit_xor, Some, refl, ap, sym, ◌∙◌, arith}
 use Rattle.std.specs.Int.{w32, w64, to_le_bytes, to_be_bytes}
 use Rattle.std.proofs.lemmas.List.Folds.{list_all-append}
 use Rattle.std.proofs.lemmas.Nat.{xor_lt}
 use Rattle.std.proofs.lemmas.Bool.Decides.{Decides-ltb}
 use Rattle.std.specs.Prelude.{slice_index}
+use Rattle.std.proofs.lemmas.Bool.{and_parts, and_from}
 use Rattle.rand_chacha.specs.ChaCha.{word_at, key_of}
 use Rattle.sha2.specs.Sha256 as one
 use Rattle.sha2.specs.Sha512 as two
@@ -21,40 +22,31 @@ below a h = (Decides-ltb a 256).1 h
 below_back : (a : ℕ) → nat_lt a 256 ≡ true → a < 256
 below_back a e = (Decides-ltb a 256).0 e
 
-both : (a b : Bool) → (a && b) ≡ true → (a ≡ true) × (b ≡ true)
-both true true e = (refl, refl)
-both true false e = absurd (cc)
-both false b e = absurd (cc)
-
-joined : (a b : Bool) → a ≡ true → b ≡ true → (a && b) ≡ true
-joined true b e f = f
-joined false b e f = absurd (cc)
-
 rest_of_byte : (y : ℕ) → nat_lt (y % 256) 256 ≡ true
 rest_of_byte y = below (y % 256) (omega arith)
 
 pub bytes-append : (xs ys : List ℕ) → is_bytes xs ≡ true → is_bytes ys ≡ true → is_bytes (xs ++ ys) ≡ true
-bytes-append xs ys e f = list_all-append (λ b. nat_lt b 256) xs ys ∙ joined (is_bytes xs) (is_bytes ys) e f
+bytes-append xs ys e f = list_all-append (λ b. nat_lt b 256) xs ys ∙ and_from (is_bytes xs) (is_bytes ys) e f
 
 pub bytes-take : (n : ℕ) (xs : List ℕ) → is_bytes xs ≡ true → is_bytes (take n xs) ≡ true
 bytes-take zero [] e = refl
 bytes-take (suc n) [] e = refl
 bytes-take zero (x ∷ xs) e = refl
-bytes-take (suc n) (x ∷ xs) e = let parts = both (nat_lt x 256) (is_bytes xs) e in joined (nat_lt x 256) (is_bytes (take n xs)) parts.0 (bytes-take n xs parts.1)
+bytes-take (suc n) (x ∷ xs) e = let parts = and_parts (nat_lt x 256) (is_bytes xs) e in and_from (nat_lt x 256) (is_bytes (take n xs)) parts.0 (bytes-take n xs parts.1)
 
 pub bytes-drop : (n : ℕ) (xs : List ℕ) → is_bytes xs ≡ true → is_bytes (drop n xs) ≡ true
 bytes-drop zero [] e = refl
 bytes-drop (suc n) [] e = refl
 bytes-drop zero (x ∷ xs) e = e
-bytes-drop (suc n) (x ∷ xs) e = bytes-drop n xs (both (nat_lt x 256) (is_bytes xs) e).1
+bytes-drop (suc n) (x ∷ xs) e = bytes-drop n xs (and_parts (nat_lt x 256) (is_bytes xs) e).1
 
 pub bytes-xored : (ms ss : List ℕ) → is_bytes ms ≡ true → is_bytes ss ≡ true → is_bytes (xored ms ss) ≡ true
 bytes-xored [] ss e f = refl
 bytes-xored (m ∷ ms) [] e f = e
 bytes-xored (m ∷ ms) (s ∷ ss) e f =
-    let one = both (nat_lt m 256) (is_bytes ms) e in
-    let other = both (nat_lt s 256) (is_bytes ss) f in
-    joined (nat_lt (bit_xor m s) 256) (is_bytes (xored ms ss)) (below (bit_xor m s) (xor_lt 8 m s (below_back m one.0) (below_back s other.0))) (bytes-xored ms ss one.1 other.1)
+    let one = and_parts (nat_lt m 256) (is_bytes ms) e in
+    let other = and_parts (nat_lt s 256) (is_bytes ss) f in
+    and_from (nat_lt (bit_xor m s) 256) (is_bytes (xored ms ss)) (below (bit_xor m s) (xor_lt 8 m s (below_back m one.0) (below_back s other.0))) (bytes-xored ms ss one.1 other.1)
 
 le_bytes : (n : ℕ) → is_bytes (to_le_bytes w32 n) ≡ true
 le_bytes n = rw (rest_of_byte n, rest_of_byte (n / 256), rest_of_byte (n / 65536), rest_of_byte (n / 16777216)) refl

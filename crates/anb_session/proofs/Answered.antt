@@ -1,5 +1,5 @@
 -- The error of a result, where there is one.
-use Rattle.std.proofs.Common.{◌≡◌, Option, Some, None, Result, Ok, Err, IfSome}
+use Rattle.std.proofs.Common.{◌≡◌, Option, Result, Ok, Err, IfSome}
 use Rattle.std.specs.Option.{IfNone}
 use Rattle.std.specs.Result.{OnOk, IfErr, result_err}
 
@@ -11,8 +11,3 @@ module _ {T E : Type 0} where
   pub an_error : (r : Result T E) (o : Option E) (P Q : E → Type 0) → o ≡ result_err r → IfErr r P → ((y : E) → P y → Q y) → IfSome o Q
   an_error (Ok x) o P Q e h f = rw e tt
   an_error (Err y) o P Q e h f = rw e (f y h)
-
--- what holds in any case holds where there is a value
-pub whatever : {E : Type 0} (o : Option E) (P : Type 0) → P → IfSome o (λ x. P)
-whatever None P h = tt
-whatever (Some x) P h = h

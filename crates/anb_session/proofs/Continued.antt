@@ -4,6 +4,7 @@ use Rattle.std.proofs.lemmas.List.Elements.{All-nil}
 use Rattle.anb_base.specs.Moves.{Took, Put, PutPrefix}
 use Rattle.anb_base.specs.declared.TheConstants.{ARRIVAL}
 use Rattle.anb_base.proofs.Joined.{Took-joined, Put-joined}
+use Rattle.anb_base.proofs.Moving.{put_nothing, took_nothing, put_further, put_within}
 use Rattle.anb_frame.specs.Frames.{frame, frames, length_bytes, IsPart}
 use Rattle.anb_frame.specs.Cuts.{Tail, Short, Long, CutLeft}
 use Rattle.anb_frame.specs.Cuts.{End as Whole}
@@ -17,7 +18,7 @@ use Rattle.anb_session.specs.declared.PlayEnd.{PlayEnd}
 use Rattle.anb_session.specs.declared.PlayEnd.TheVariants.{Done, Stopped, Waiting, Truncated, TooLarge, ReadFault, WriteFault, NoMemory}
 use Rattle.anb_session.specs.Sessions.{TookAll, Reads, Concludes, Runs}
 use Rattle.anb_session.specs.Turns.{Ends, EndsSending, EndsWaiting, Receives, Continues}
-use Rattle.anb_session.proofs.Written.{put_nothing, took_nothing, put_further, put_within, cut_further}
+use Rattle.anb_session.proofs.Written.{cut_further}
 
 -- ---- a message before it
 

@@ -2,10 +2,11 @@
 use Rattle.std.proofs.Common.{◌≡◌, ℕ, ◌+◌, ◌≤◌, List, [], ◌∷◌, ◌++◌, length, take, replicate, Option, Some, None, Result, Ok, Err, IfSome, refl, sym, ap, ◌∙◌, subst, arith, length-append, append_assoc}
 use Rattle.std.proofs.lemmas.List.{append-nil, length-take}
 use Rattle.std.proofs.lemmas.List.Elements.{All-nil, All-cons}
-use Rattle.anb_base.specs.Moves.{Took, Put, Stamped, count_written}
+use Rattle.anb_base.specs.Moves.{Took, Put, Stamped}
 use Rattle.anb_base.specs.Wires.{WireState}
 use Rattle.anb_base.specs.declared.TheConstants.{ARRIVAL}
 use Rattle.anb_base.proofs.Joined.{Took-joined, Put-joined}
+use Rattle.anb_base.proofs.Moving.{put_nothing, took_nothing}
 use Rattle.anb_frame.specs.Frames.{frame, frames, length_bytes, IsPart}
 use Rattle.anb_frame.specs.Cuts.{Tail, Short, Long, Ends}
 use Rattle.anb_frame.specs.Answers.{Takes}
@@ -18,7 +19,6 @@ use Rattle.anb_frame.specs.Cuts.{End as Whole}
 use Rattle.anb_plays.specs.Plays.{Played, says, ends, waiting}
 use Rattle.anb_session.specs.Sessions.{due, due_at, IsPrompt}
 use Rattle.anb_session.specs.Turns.{WaitsPromptly, GoesOnPromptly, ReceivesPromptly, SendsPromptly, TookNothing}
-use Rattle.anb_session.proofs.Written.{put_nothing, took_nothing}
 
 -- two runs with the same due from two points on have it at each byte
 due_at-same : (R R' : List (List ℕ) → Played (List ℕ)) (n m : ℕ) (used used' : List (List ℕ)) → ((xs : List (List ℕ)) → due R n (used ++ xs) ≡ due R' m (used' ++ xs))
@@ -143,12 +143,6 @@ nowhere_promptly R s = record { each = λ u p. p }
 
 pub joined_promptly : (R R' R'' : List (List ℕ) → Played (List ℕ)) (s t u : WireState) → GoesOnPromptly R R' s t → GoesOnPromptly R' R'' t u → GoesOnPromptly R R'' s u
 joined_promptly R R' R'' s t u first second = record { each = λ v p. first.each v (second.each v p) }
-
--- what stands first beside a source is what is written
-pub stamped_told : (kept others : List (Option (List ℕ) × ℕ)) (written taken_at now : Option (List ℕ)) (faults n : ℕ) → kept ≡ (written, faults) ∷ others → Stamped taken_at now (count_written kept) n
-    → IfSome written (λ w. Stamped taken_at now (length w) n)
-stamped_told kept others None taken_at now faults n is h = tt
-stamped_told kept others (Some w) taken_at now faults n is h = subst (λ k. Stamped taken_at now (count_written k) n) is h
 
 -- ---- what an answer of `take` says of a run that waits
 

@@ -6,13 +6,9 @@ use Rattle.anb_base.specs.declared.TheConstants.{ARRIVAL}
 use Rattle.anb_frame.specs.Frames.{frame, frames, length_bytes}
 use Rattle.anb_frame.specs.Cuts.{Tail, End, Short, Long, Ends, Cut}
 use Rattle.anb_plays.specs.Plays as plays
-use Rattle.anb_plays.specs.Plays.{Played}
+use Rattle.anb_plays.specs.Plays.{Played, Run}
 use Rattle.anb_session.specs.declared.PlayEnd.{PlayEnd}
 use Rattle.anb_session.specs.declared.PlayEnd.TheVariants.{Done, Stopped, Waiting, Truncated, TooLarge, ReadFault, WriteFault, NoMemory}
-
--- what comes over each list of arrivals
-abbrev pub Run : Type 0
-Run = List (List ℕ) → Played (List ℕ)
 
 -- how a run that ended so ends over an input with this tail
 abbrev pub end_at : plays.End → Tail → PlayEnd

@@ -5,9 +5,9 @@ use Rattle.anb_base.specs.Wires.{WireState}
 use Rattle.anb_base.specs.declared.TheConstants.{ARRIVAL}
 use Rattle.anb_frame.specs.Frames.{frame}
 use Rattle.anb_frame.specs.Cuts.{Tail, CutLeft}
-use Rattle.anb_plays.specs.Plays.{ends, says, waiting}
+use Rattle.anb_plays.specs.Plays.{ends, says, waiting, Run}
 use Rattle.anb_session.specs.declared.PlayEnd.{PlayEnd}
-use Rattle.anb_session.specs.Sessions.{Run, Runs, IsPrompt}
+use Rattle.anb_session.specs.Sessions.{Runs, IsPrompt}
 
 -- the run came to this end, whatever cut the input has
 abbrev pub Ends : Run → (left now written written_now : Option (List ℕ)) → PlayEnd → Type 0

@@ -1,6 +1,7 @@
 -- What a lent side keeps tells all else of the spawner.
-use Rattle.std.proofs.Common.{◌≡◌, ◌≢◌, ◌<◌, ◌==◌, ℕ, zero, suc, List, Option, Some, None, false, refl, sym, ap, ◌∙◌, arith, inl, inr}
-use Rattle.std.proofs.lemmas.Bool.{cases_lt, eq-eqb, eqb-true, cases_Bool}
+use Rattle.std.proofs.Common.{◌≡◌, ◌≢◌, ◌<◌, ℕ, zero, suc, List, Option, Some, None, refl, sym, ap, ◌∙◌, arith, inl, inr}
+use Rattle.std.proofs.lemmas.Bool.{cases_lt, eq-eqb}
+use Rattle.anb_lemmas.proofs.Numbers.{nat_eq-differs}
 use Rattle.anb_stage.specs.Children.{Child, KeptByRead, KeptByWrite}
 use Rattle.anb_stage.specs.Steps.{OthersStayBelow}
 use Rattle.anb_stage.specs.Sides.{number_of, with_parts, parts_below, replaced, without_output, without_input, kept_beside}
@@ -75,14 +76,8 @@ apart name now role role_now f old new e =
 replaced_here : (role : ℕ) (f : Child → Child) (g : ℕ → Child) → replaced role f g role ≡ f (g role)
 replaced_here role f g = rw (eq-eqb role role refl) refl
 
-differing : (a b : ℕ) → a ≢ b → (a == b) ≡ false
-differing a b differ = elim (cases_Bool (a == b)) [
-  | inl same ↦ absurd (differ (eqb-true a b same))
-  | inr other ↦ other
-]
-
 replaced_there : (role other : ℕ) (f : Child → Child) (g : ℕ → Child) → other ≢ role → replaced role f g other ≡ g other
-replaced_there role other f g differ = rw (differing other role differ) refl
+replaced_there role other f g differ = rw (nat_eq-differs other role differ) refl
 
 module _ {S : Type 0} (child : S → ℕ → Child) where
   -- what a lent output leaves of its role's child, where x is what the lent spawner ends as

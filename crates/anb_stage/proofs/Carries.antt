@@ -1,10 +1,11 @@
 -- One message more is carried, or isn't.
-use Rattle.std.proofs.Common.{◌≡◌, ◌≢◌, ◌<◌, ◌≤◌, ◌+◌, ◌==◌, ℕ, zero, suc, List, [], ◌∷◌, ◌++◌, length, map, filter, drop, Bool, Option, Some, None, false, refl, sym, ap, ◌∙◌, subst, arith, inl, inr, length-append}
+use Rattle.std.proofs.Common.{◌≡◌, ◌≢◌, ◌<◌, ◌≤◌, ◌+◌, ◌==◌, ℕ, zero, suc, List, [], ◌∷◌, ◌++◌, length, map, filter, drop, Bool, Option, Some, None, refl, sym, ap, ◌∙◌, subst, arith, inl, inr, length-append}
 use Rattle.std.specs.List.{slice_get}
-use Rattle.std.proofs.lemmas.Bool.{cases_Bool, eq-eqb, eqb-true}
+use Rattle.std.proofs.lemmas.Bool.{eq-eqb}
 use Rattle.std.proofs.lemmas.List.{append-nil, map-append}
 use Rattle.std.proofs.lemmas.List.Elements.{filter-append}
 use Rattle.std.proofs.lemmas.Grind.{flat_map-append}
+use Rattle.anb_lemmas.proofs.Numbers.{nat_eq-differs}
 use Rattle.anb_base.specs.Moves.{Put, PutPrefix}
 use Rattle.anb_base.specs.declared.TheConstants.{ARRIVAL}
 use Rattle.anb_base.proofs.Joined.{Put-joined}
@@ -13,7 +14,7 @@ use Rattle.anb_frame.specs.Frames.{frame, frames}
 use Rattle.anb_frame.specs.Cuts.{Tail, CutLeft}
 use Rattle.anb_resolve.specs.Choices.{each_after}
 use Rattle.anb_stage.specs.Children.{Child}
-use Rattle.anb_stage.specs.Relays.{Message, sends_of, bytes_of, message_of, messages, bytes_to, report, refusal_of, refusal_at, missing, AreCut, SomeWritten}
+use Rattle.anb_stage.specs.Relays.{Message, sends_of, bytes_of, message_of, messages, bytes_to, report, refusal_of, refusal_at, missing, SomeWritten}
 use Rattle.anb_stage.specs.Steps.{CarryKeeps, Carries, CarriesPart, FailsCarrying, Carried, FailsCarryingSome}
 use Rattle.anb_stage.specs.declared.ends.Ends.{Ends}
 use Rattle.anb_stage.specs.declared.refusal.RelayNo.{RelayNo}
@@ -34,12 +35,6 @@ drop_none [] (suc n) e = refl
 drop_none (y ∷ ys) zero e = absurd cc
 drop_none (y ∷ ys) (suc n) e = drop_none ys n e
 
-test_no : (a b : ℕ) → a ≢ b → (a == b) ≡ false
-test_no a b differ = elim (cases_Bool (a == b)) [
-  | inl same ↦ absurd (differ (eqb-true a b same))
-  | inr other ↦ other
-]
-
 -- a role's actions, where one comes more
 sends_more-own : (role : ℕ) (before : List Ends) (a : Ends) → a.from ≡ role → sends_of role (before ++ a ∷ []) ≡ suc (sends_of role before)
 sends_more-own role before a own =
@@ -50,7 +45,7 @@ sends_more-own role before a own =
 
 sends_more-other : (role : ℕ) (before : List Ends) (a : Ends) → a.from ≢ role → sends_of role (before ++ a ∷ []) ≡ sends_of role before
 sends_more-other role before a other =
-    let test = test_no a.from role other in
+    let test = nat_eq-differs a.from role other in
     let none : length (filter (λ (x : Ends). x.from == role) (a ∷ [])) ≡ 0 = rw test refl in
     let all = ap length (filter-append (λ (x : Ends). x.from == role) before (a ∷ [])) ∙ length-append (filter (λ (x : Ends). x.from == role) before) (filter (λ (x : Ends). x.from == role) (a ∷ [])) in
     all ∙ omega (arith, none)
@@ -94,19 +89,12 @@ module _ (outputs : ℕ → List (List ℕ)) (before : List Ends) (a : Ends) whe
     frames_own role own = rw (message_is, eq-eqb a.to role own) (append-nil (frame bytes))
 
     frames_other : (role : ℕ) → a.to ≢ role → frames_for role (message_of outputs before a) ≡ []
-    frames_other role other = rw (message_is, test_no a.to role other) refl
+    frames_other role other = rw (message_is, nat_eq-differs a.to role other) refl
 
     pub report_more : report outputs (before ++ a ∷ []) ≡ report outputs before ++ record { action = length before + 1; bytes = bytes } ∷ []
     report_more =
         let sent : Message → Sent = λ m. record { action = m.action; bytes = m.bytes } in
         ap (map sent) one_more ∙ map-append sent (messages outputs before) (message_of outputs before a) ∙ ap (λ t. map sent (messages outputs before) ++ map sent t) message_is
-
-pub put_none : (o : Option (List ℕ)) → Put o o []
-put_none None = refl
-put_none (Some x) = ap Some (sym (append-nil x))
-
-pub none_carried : (a : ℕ → Child) (roles : ℕ) (outputs : ℕ → List (List ℕ)) (tails : ℕ → Tail) → AreCut roles a outputs tails → Carried a a roles outputs tails []
-none_carried a roles outputs tails cut = record { none = refl; cuts = cut; written = λ role below. put_none (a role).written }
 
 module _ (a b c : ℕ → Child) (roles : ℕ) (few : roles ≤ 32) (outputs : ℕ → List (List ℕ)) (tails : ℕ → Tail)
     (before : List Ends) (e : Ends) (from : e.from < roles) (to : e.to < roles) (p : Carried a b roles outputs tails before)

@@ -2,11 +2,12 @@
 use Rattle.std.proofs.Common.{◌≡◌, ◌≢◌, ◌<◌, ◌≤◌, ◌+◌, ℕ, Option, Some, None, IfSome, refl, sym, ap, ◌∙◌, subst, arith, inl, inr}
 use Rattle.std.proofs.lemmas.Bool.{cases_lt, le-leb, lt-leb}
 use Rattle.anb_base.specs.Moves.{Rose}
+use Rattle.anb_base.proofs.Moving.{Rose-later}
 use Rattle.anb_stage.specs.Children.{Child, KeptByFinish, OthersStay}
 use Rattle.anb_stage.specs.Steps.{Finished, FailsFinishing}
 use Rattle.anb_stage.specs.Relays.{Stays}
 use Rattle.anb_stage.specs.declared.refusal.RelayNo.TheVariants as no
-use Rattle.anb_stage.proofs.Roles.{one_or_other, lower, stays_same, stays_by_call, rose_later}
+use Rattle.anb_stage.proofs.Roles.{one_or_other, lower, stays_same, stays_by_call}
 
 pub none_finished : (a : ℕ → Child) (roles : ℕ) → ((role : ℕ) → role < roles → (a role).phase ≡ 1) → Finished a a 0 roles
 none_finished a roles running = record {
@@ -68,7 +69,7 @@ module _ (a b c : ℕ → Child) (i roles : ℕ) (s : Finished a b i roles) (wit
   }
 
   pub one_unfinished : Rose (b i).faults (c i).faults → FailsFinishing a c roles (no.Fault i)
-  one_unfinished rose = (within, rose_later (a i).faults (b i).faults (c i).faults (s.stays.faults i (omega (arith, within, few))) rose, record { asked = asked_now; written = written_now; stays = stays_now })
+  one_unfinished rose = (within, Rose-later (a i).faults (b i).faults (c i).faults (s.stays.faults i (omega (arith, within, few))) rose, record { asked = asked_now; written = written_now; stays = stays_now })
 
   pub one_bad : (n : ℕ) → n ≢ 0 → IfSome (b i).status (λ t. n ≡ t) → (c i).phase ≡ 2 → FailsFinishing a c roles (no.Bad i n)
   one_bad n bad is done = (

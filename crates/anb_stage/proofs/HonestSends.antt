@@ -1,15 +1,16 @@
 -- What a role hears and sends in the first actions of a protocol.
-use Rattle.std.proofs.Common.{◌≡◌, ◌≢◌, ℕ, zero, suc, ◌+◌, ◌<◌, ◌==◌, ◌&&◌, not, List, [], ◌∷◌, ◌++◌, length, map, Bool, true, false, cond, Some, refl, sym, ap, ◌∙◌, subst, arith, inl, inr, append_assoc}
+use Rattle.std.proofs.Common.{◌≡◌, ℕ, zero, suc, ◌+◌, ◌==◌, List, [], ◌∷◌, ◌++◌, length, map, Bool, true, false, cond, Some, refl, sym, ap, ◌∙◌, subst, arith, inl, inr, append_assoc}
 use Rattle.std.specs.Prelude.{slice_get, filter, flat_map}
 use Rattle.std.specs.Option.{option_map_or}
 use Rattle.std.specs.List.{AllByRecursion}
-use Rattle.std.proofs.lemmas.Bool.{cases_Bool, eqb-true, eq-eqb}
+use Rattle.std.proofs.lemmas.Bool.{cases_Bool, eqb-true}
+use Rattle.std.proofs.lemmas.List.{map-append}
 use Rattle.anb_term.specs.declared.term.Op.{Op}
 use Rattle.anb_term.specs.Tree.{Tree, leaf, IsFormed}
 use Rattle.anb_lemmas.proofs.Each.{each_in_parts}
 use Rattle.anb_term.specs.Value.{Meaning}
 use Rattle.anb_plays.specs.Plans.{Event, know, fresh, send, recv, known}
-use Rattle.anb_plays.specs.Plays.{End, Played, stopped, done}
+use Rattle.anb_plays.specs.Plays.{Played, stopped, done}
 use Rattle.anb_plays.specs.Honest.{honest, honest_from, heard, LabelsAreFormed}
 use Rattle.anb_resolve.specs.Choices.{each_after}
 use Rattle.anb_resolve.specs.Protocols.{ActionValue, ProtocolValue}
@@ -61,10 +62,6 @@ module _ {A : Type 0} (m : Meaning A) (atoms : ℕ → A) where
   known_honest [] es e n = refl
   known_honest (t ∷ ts) es e n = known_honest ts es e n
 
-pub map_both : {A B : Type 0} (f : A → B) (xs ys : List A) → map f (xs ++ ys) ≡ map f xs ++ map f ys
-map_both f [] ys = refl
-map_both f (x ∷ xs) ys = ap (λ l. f x ∷ l) (map_both f xs ys)
-
 -- the events of one action, and what follows
 module _ (p : ProtocolValue) (role : ℕ) where
   told_events : (past : List ActionValue) (a : ActionValue) (rest : List PlanEvent) → (a.from == role) ≡ true
@@ -74,7 +71,7 @@ module _ (p : ProtocolValue) (role : ℕ) where
       let makes = map (λ x. to_make (leaf x)) (plans.made p past a.message) in
       ap (λ b. map event_of (cond b (makes ++ to_send (length past + 1) a.message ∷ []) (cond (a.to == role) (to_receive (length past + 1) a.message ∷ []) []) ++ rest)) sends
       ∙ ap (map event_of) (append_assoc makes (to_send (length past + 1) a.message ∷ []) rest)
-      ∙ map_both event_of makes (to_send (length past + 1) a.message ∷ rest)
+      ∙ map-append event_of makes (to_send (length past + 1) a.message ∷ rest)
 
   heard_events : (past : List ActionValue) (a : ActionValue) (rest : List PlanEvent) → (a.from == role) ≡ false → (a.to == role) ≡ true
       → map event_of (events_at p role past a ++ rest) ≡ recv a.message ∷ map event_of rest
@@ -114,7 +111,7 @@ module _ (p : ProtocolValue) (role : ℕ) where
   pub heard_all : AllByRecursion (IsActionOf p) p.actions → heard (events_of p role) ≡ map (λ (a : ActionValue). a.message) (filter (hears role) p.actions)
   unfolding plan_of
   heard_all all =
-      ap heard (map_both event_of (map to_know (known_by p role)) (each_after (events_at p role) [] p.actions))
+      ap heard (map-append event_of (map to_know (known_by p role)) (each_after (events_at p role) [] p.actions))
       ∙ known_heard (known_by p role) (map event_of (each_after (events_at p role) [] p.actions)) ∙ heard_in [] p.actions all
 
   -- ---- what is sent
@@ -160,7 +157,7 @@ module _ (p : ProtocolValue) (role : ℕ) where
     unfolding plan_of
     sent_next before after a split all sends =
         let events = each_after (events_at p role) [] p.actions in
-        ap (λ es. slice_get (honest_from m atoms es 0 (count_heard role before)).sent (count_told role before)) (map_both event_of (map to_know (known_by p role)) events)
+        ap (λ es. slice_get (honest_from m atoms es 0 (count_heard role before)).sent (count_told role before)) (map-append event_of (map to_know (known_by p role)) events)
         ∙ ap (λ (q : Played A). slice_get q.sent (count_told role before)) (known_honest m atoms (known_by p role) (map event_of events) 0 (count_heard role before))
         ∙ ap (λ l. slice_get (honest_from m atoms (map event_of (each_after (events_at p role) [] l)) 0 (count_heard role before)).sent (count_told role before)) split
         ∙ sent_in [] before after a 0 (subst (AllByRecursion (IsActionOf p)) split all) sends
@@ -216,7 +213,7 @@ module _ (p : ProtocolValue) (role : ℕ) where
   unfolding plan_of
   knows_all =
       let events = each_after (events_at p role) [] p.actions in
-      ap known (map_both event_of (map to_know (known_by p role)) events) ∙ known_first (known_by p role) (map event_of events)
+      ap known (map-append event_of (map to_know (known_by p role)) events) ∙ known_first (known_by p role) (map event_of events)
       ∙ ap (λ l. known_by p role ++ l) (known_none [] p.actions) ∙ nothing_more (known_by p role)
 
 module _ (has : Op → Bool) where
@@ -261,5 +258,5 @@ module _ (has : Op → Bool) where
   events_formed p role all =
       let parts = each_in_parts (IsFormed has) (known_terms p) (messages p.actions) all in
       let events = each_after (events_at p role) [] p.actions in
-      subst (LabelsAreFormed has) (sym (map_both event_of (map to_know (known_by p role)) events))
+      subst (LabelsAreFormed has) (sym (map-append event_of (map to_know (known_by p role)) events))
       (labels_both (map event_of (map to_know (known_by p role))) (map event_of events) (knows_formed (known_by p role) (known_part p.knows role parts.0)) (each_formed p role [] p.actions parts.1))

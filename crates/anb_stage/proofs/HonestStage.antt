@@ -1,10 +1,10 @@
 -- A stage of honest children.
-use Rattle.std.proofs.Common.{◌≡◌, ◌≢◌, ℕ, zero, suc, ◌+◌, ◌<◌, ◌≤◌, ◌==◌, List, [], ◌∷◌, ◌++◌, length, map, take, Bool, true, false, cond, Option, Some, None, refl, sym, ap, ◌∙◌, subst, arith, inl, inr, append_assoc, length-append, IsTrue}
-use Rattle.std.specs.Prelude.{slice_get, filter, is_none, All, IfSome}
+use Rattle.std.proofs.Common.{◌≡◌, ℕ, zero, suc, ◌+◌, ◌<◌, ◌==◌, List, [], ◌∷◌, ◌++◌, length, map, take, Bool, true, false, cond, Option, Some, None, refl, sym, ap, ◌∙◌, subst, append_assoc, IsTrue}
+use Rattle.std.specs.Prelude.{slice_get, filter, IfSome}
 use Rattle.std.specs.List.{AllByRecursion}
 use Rattle.std.specs.Option.{option_map_or}
 use Rattle.std.proofs.lemmas.Bool.{eq-eqb}
-use Rattle.std.proofs.lemmas.List.{append-nil, length-map}
+use Rattle.std.proofs.lemmas.List.{append-nil, length-map, map-append}
 use Rattle.std.proofs.lemmas.List.Elements.{filter-append}
 use Rattle.std.proofs.Math.Seq.{take-append_seam}
 use Rattle.anb_base.specs.Bytes.{IsBytes, is_bytes-IsBytes}
@@ -14,11 +14,10 @@ use Rattle.anb_frame.specs.Cuts.{Tail, End, Cut, CutLeft, HasOneCut}
 use Rattle.anb_term.specs.Tree.{Tree, IsFormed}
 use Rattle.anb_lemmas.proofs.Each.{each_in_front}
 use Rattle.anb_resolve.specs.Plans.{messages as term_list}
-use Rattle.anb_term.specs.Value.{Meaning}
 use Rattle.anb_plays.specs.Plays.{Played, Play, stopped, done}
-use Rattle.anb_plays.specs.Honest.{honest, honest_from, honest_play, heard, LabelsAreFormed}
+use Rattle.anb_plays.specs.Honest.{honest, honest_play, heard, LabelsAreFormed}
 use Rattle.anb_plays.specs.Statements.{HonestPlays, PlaysAreOne}
-use Rattle.anb_resolve.specs.Choices.{each_after, first_after}
+use Rattle.anb_resolve.specs.Choices.{each_after}
 use Rattle.anb_resolve.specs.Protocols.{ActionValue, ProtocolValue}
 use Rattle.anb_resolve.specs.Laws.{IsActionOf}
 use Rattle.anb_resolve.specs.Texts.{known_by, known_terms}
@@ -26,11 +25,11 @@ use Rattle.anb_plays.specs.Plans.{known}
 use Rattle.anb_resolve.specs.Plays.{IsSendable, events_of, honest_bytes, meaning_of}
 use Rattle.anb_stage.specs.Children.{Child}
 use Rattle.anb_stage.specs.Relays.{Message, AreCut, AreGood, bytes_of, bytes_to, ends_of, messages, message_of, missing, refusal_of, sends_of}
-use Rattle.anb_stage.specs.Honest.{AreHonestChildren, AreMade, IsHonestChild, IsPlayOf, StagesAreHonest, honest_message, honest_messages}
+use Rattle.anb_stage.specs.Honest.{AreHonestChildren, AreMade, IsPlayOf, honest_message, honest_messages}
 use Rattle.anb_stage.specs.declared.ends.Ends.{Ends}
-use Rattle.anb_stage.proofs.Messages.{each_after-at, first_after-none}
+use Rattle.anb_stage.proofs.Messages.{first_after-none}
 use Rattle.anb_stage.proofs.PlaysGrow.{Begins, play_grows}
-use Rattle.anb_stage.proofs.HonestSends.{count_heard, count_told, hears, tells, heard_all, sent_next, never_stops, ends_done, events_formed, knows_all, map_both}
+use Rattle.anb_stage.proofs.HonestSends.{count_heard, count_told, hears, tells, heard_all, sent_next, never_stops, ends_done, events_formed, knows_all}
 
 begins_get : {A : Type 0} (xs ys : List A) (n : ℕ) (x : A) → Begins xs ys → slice_get xs n ≡ Some x → slice_get ys n ≡ Some x
 begins_get xs ys n x more at = ap (λ l. slice_get l n) more.1 ∙ within xs n at where
@@ -64,7 +63,7 @@ bytes_among role ms = map (λ (m : Message). m.bytes) (filter (to_role role) ms)
 among_both : (role : ℕ) (ms ns : List Message) → bytes_among role (ms ++ ns) ≡ bytes_among role ms ++ bytes_among role ns
 among_both role ms ns =
     ap (map (λ (m : Message). m.bytes)) (filter-append (to_role role) ms ns)
-    ∙ map_both (λ (m : Message). m.bytes) (filter (to_role role) ms) (filter (to_role role) ns)
+    ∙ map-append (λ (m : Message). m.bytes) (filter (to_role role) ms) (filter (to_role role) ns)
 
 terms_of : List ActionValue → List Tree
 terms_of actions = map (λ (a : ActionValue). a.message) actions
@@ -97,7 +96,7 @@ module _ (p : ProtocolValue) (atoms : ℕ → List ℕ) where
       let is : heard (events_of p role) ≡ xs ++ ys =
       heard_all p role all ∙ ap (λ l. map (λ (a : ActionValue). a.message) (filter (hears role) l)) split
       ∙ ap (map (λ (a : ActionValue). a.message)) (filter-append (hears role) before rest)
-      ∙ map_both (λ (a : ActionValue). a.message) (filter (hears role) before) (filter (hears role) rest) in
+      ∙ map-append (λ (a : ActionValue). a.message) (filter (hears role) before) (filter (hears role) rest) in
       ap (take (count_heard role before)) is ∙ ap (λ n. take n (xs ++ ys)) (sym (length-map (filter (hears role) before) (λ (a : ActionValue). a.message))) ∙ take-append_seam xs ys
 
   -- what is relayed of the first actions is honest, and none is missing
@@ -148,7 +147,7 @@ module _ (p : ProtocolValue) (atoms : ℕ → List ℕ) where
         let child = given.are role is.from in
         let ys = bytes_among role (each_after (message_of outputs) (map ends_of before) (map ends_of more)) in
         let hears_more : bytes_to outputs role (map ends_of relayed) ≡ bytes_to outputs role (map ends_of before) ++ ys =
-        ap (λ l. bytes_among role (messages outputs (map ends_of l))) inside ∙ ap (λ l. bytes_among role (messages outputs l)) (map_both ends_of before more)
+        ap (λ l. bytes_among role (messages outputs (map ends_of l))) inside ∙ ap (λ l. bytes_among role (messages outputs l)) (map-append ends_of before more)
         ∙ ap (bytes_among role) (each_both (message_of outputs) [] (map ends_of before) (map ends_of more))
         ∙ among_both role (messages outputs (map ends_of before)) (each_after (message_of outputs) (map ends_of before) (map ends_of more)) in
         let plays = subst (λ xs. IsPlayOf p atoms (draws role) role xs child.play) hears_more child.plays in
@@ -164,7 +163,7 @@ module _ (p : ProtocolValue) (atoms : ℕ → List ℕ) where
         → SoFar outputs tails before → SoFar outputs tails (before ++ a ∷ [])
     so_far_next before more after a inside at is so =
         let there = next_bytes before more after a inside at is so.honest in
-        let both : map ends_of (before ++ a ∷ []) ≡ map ends_of before ++ ends_of a ∷ [] = map_both ends_of before (a ∷ []) in
+        let both : map ends_of (before ++ a ∷ []) ≡ map ends_of before ++ ends_of a ∷ [] = map-append ends_of before (a ∷ []) in
         let n : length (map ends_of before) ≡ length before = length-map before ends_of in
         record {
           honest =

@@ -1,14 +1,11 @@
 -- Messages of more actions.
 use Rattle.std.proofs.Common.{◌≡◌, ◌+◌, ℕ, List, [], ◌∷◌, ◌++◌, length, take, Option, Some, None, refl, sym, ap, ◌∙◌, subst, arith, append_assoc, length-append}
 use Rattle.std.proofs.Math.Seq.{take-append_seam, take-append-add}
-use Rattle.std.specs.Option.{option_or}
 use Rattle.std.proofs.lemmas.List.{append-nil, take-append-le}
+use Rattle.anb_lemmas.proofs.Options.{or_is_none}
 use Rattle.anb_base.specs.Moves.{Put, PutPrefix}
 use Rattle.anb_base.proofs.Joined.{Put-joined}
 use Rattle.anb_resolve.specs.Choices.{first_after, each_after}
-
-some_is_there : {R : Type 0} (r : R) → Some r ≡ None → ⊥
-some_is_there r e = cc
 
 module _ {X Y : Type 0} (f : List X → X → List Y) where
   -- what each thing gives, where one stands in the middle
@@ -20,10 +17,6 @@ module _ {X Y : Type 0} (f : List X → X → List Y) where
       let s : (before ++ x ∷ []) ++ xs ≡ before ++ (x ∷ xs) = append_assoc before (x ∷ []) xs in
       rw (e, s) (sym (append_assoc (f before x) (each_after f (before ++ x ∷ []) xs) _))
 
-option_or-none : {R : Type 0} (a b : Option R) → option_or a b ≡ None → (a ≡ None) × (b ≡ None)
-option_or-none None b e = (refl, e)
-option_or-none (Some r) b e = absurd (some_is_there r e)
-
 module _ {X R : Type 0} (f : List X → X → Option R) where
   -- the first answer, where nothing before a thing has one
   pub first_after-at : (before xs : List X) (y : X) (ys : List X) → first_after f before xs ≡ None
@@ -31,7 +24,7 @@ module _ {X R : Type 0} (f : List X → X → Option R) where
   first_after-at before [] y ys none r e =
       let s : f before y ≡ Some r = ap (λ b. f b y) (sym (append-nil before)) ∙ e in rw s refl
   first_after-at before (x ∷ xs) y ys none r e =
-      let parts = option_or-none (f before x) (first_after f (before ++ x ∷ []) xs) none in
+      let parts = or_is_none (f before x) (first_after f (before ++ x ∷ []) xs) none in
       let s : f ((before ++ x ∷ []) ++ xs) y ≡ Some r = ap (λ b. f b y) (append_assoc before (x ∷ []) xs) ∙ e in
       rw parts.0 (first_after-at (before ++ x ∷ []) xs y ys parts.1 r s)
 
@@ -40,7 +33,7 @@ module _ {X R : Type 0} (f : List X → X → Option R) where
   first_after-none before [] y none e =
       let s : f before y ≡ None = ap (λ b. f b y) (sym (append-nil before)) ∙ e in rw s refl
   first_after-none before (x ∷ xs) y none e =
-      let parts = option_or-none (f before x) (first_after f (before ++ x ∷ []) xs) none in
+      let parts = or_is_none (f before x) (first_after f (before ++ x ∷ []) xs) none in
       let s : f ((before ++ x ∷ []) ++ xs) y ≡ None = ap (λ b. f b y) (append_assoc before (x ∷ []) xs) ∙ e in
       rw parts.0 (first_after-none (before ++ x ∷ []) xs y parts.1 s)
 

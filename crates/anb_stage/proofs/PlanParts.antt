@@ -1,10 +1,13 @@
 -- Which plans have a part in an action.
-use Rattle.std.proofs.Common.{◌≡◌, ◌≢◌, ◌<◌, ◌≤◌, ◌+◌, ◌==◌, ◌&&◌, ◌||◌, not, ℕ, zero, suc, Bool, true, false, List, [], ◌∷◌, ◌++◌, length, map, take, drop, get_or, refl, sym, ap, ◌∙◌, subst, arith, inl, inr, length-append}
+use Rattle.std.proofs.Common.{◌≡◌, ◌≢◌, ◌<◌, ◌≤◌, ◌+◌, ◌==◌, ◌&&◌, ◌||◌, not, ℕ, suc, Bool, true, false, List, [], ◌∷◌, ◌++◌, length, map, take, drop, get_or, refl, sym, ap, ◌∙◌, subst, arith, inl, inr, length-append}
 use Rattle.std.specs.List.{list_any, range_with_len, AllByRecursion}
 use Rattle.std.proofs.lemmas.Bool.{cases_Bool, eq-eqb, eqb-true, and_right}
 use Rattle.std.proofs.lemmas.List.FromFn.{length-map-range_with_len, get_or-map-range_with_len}
 use Rattle.std.proofs.Math.Seq.{drop-cons, take-suc}
 use Rattle.std.proofs.lemmas.List.{take-append-drop, length-take-le, map-append}
+use Rattle.anb_lemmas.proofs.Bools.{or_false, never_both}
+use Rattle.anb_lemmas.proofs.Numbers.{nat_eq-differs}
+use Rattle.anb_lemmas.proofs.Each.{each_at}
 use Rattle.anb_term.specs.Tree.{Tree, leaf}
 use Rattle.anb_resolve.specs.Choices.{each_after}
 use Rattle.anb_resolve.specs.Protocols.{ActionValue, ProtocolValue}
@@ -35,19 +38,13 @@ any-made : (action : ℕ) (sends : Bool) (names : List ℕ) → list_any (is_par
 any-made action sends [] = refl
 any-made action sends (n ∷ names) = any-made action sends names
 
-test_no : (a b : ℕ) → a ≢ b → (a == b) ≡ false
-test_no a b differ = elim (cases_Bool (a == b)) [
-  | inl same ↦ absurd (differ (eqb-true a b same))
-  | inr other ↦ other
-]
-
 send_other : (number action : ℕ) (t : Tree) (sends : Bool) → number ≢ action → is_part action sends (to_send number t) ≡ false
-send_other number action t true differ = test_no number action differ
+send_other number action t true differ = nat_eq-differs number action differ
 send_other number action t false differ = refl
 
 receive_other : (number action : ℕ) (t : Tree) (sends : Bool) → number ≢ action → is_part action sends (to_receive number t) ≡ false
 receive_other number action t true differ = refl
-receive_other number action t false differ = test_no number action differ
+receive_other number action t false differ = nat_eq-differs number action differ
 
 -- the events of another action
 own-other : (role number : ℕ) (names : List ℕ) (a : ActionValue) (action : ℕ) (sends : Bool) → number ≢ action → list_any (is_part action sends) (own_events role number names a) ≡ false
@@ -79,10 +76,6 @@ receives_own role false a fails holds = rw (fails, holds) refl
 has_none : (role : ℕ) (sends : Bool) (a : ActionValue) → (a.from == role) ≡ false → (a.to == role) ≡ false → own_part role sends a ≡ false
 has_none role true a fails none = fails
 has_none role false a fails none = rw (fails, none) refl
-
-or_false : (b : Bool) → (b || false) ≡ b
-or_false true = refl
-or_false false = refl
 
 -- those of the action
 own-same : (role number : ℕ) (names : List ℕ) (a : ActionValue) (sends : Bool) → list_any (is_part number sends) (own_events role number names a) ≡ own_part role sends a
@@ -131,15 +124,11 @@ plan_has p role sends before a after is =
     any-append (is_part (length before + 1) sends) (map to_know (known_by p role)) (each_after (events_at p role) [] p.actions)
     ∙ rw (any-known (length before + 1) sends (known_by p role)) rest
 
-true_false : (b : Bool) → b ≡ true → b ≡ false → ⊥
-true_false true t f = cc
-true_false false t f = cc
-
 -- equality from the other side
 test_sym : (a b : ℕ) → (a == b) ≡ (b == a)
 test_sym a b = elim (cases_Bool (a == b)) [
   | inl same ↦ same ∙ sym (eq-eqb b a (sym (eqb-true a b same)))
-  | inr differ ↦ differ ∙ sym (test_no b a (λ e. absurd (true_false (a == b) (eq-eqb a b (sym e)) differ)))
+  | inr differ ↦ differ ∙ sym (nat_eq-differs b a (λ e. absurd (never_both (a == b) (eq-eqb a b (sym e)) differ)))
 ]
 
 module _ (p : ProtocolValue) (roles : ℕ) (before : List ActionValue) (a : ActionValue) (after : List ActionValue) (is : p.actions ≡ before ++ a ∷ after) where
@@ -157,7 +146,7 @@ module _ (p : ProtocolValue) (roles : ℕ) (before : List ActionValue) (a : Acti
 
   pub receiver_alone : a.to < roles → (a.from ≡ a.to → ⊥) → IsAlone (length before + 1) false (map (plan_of p) (range_with_len 0 roles)) a.to
   receiver_alone within apart = alone_with false a.to within (λ other. elim (cases_Bool (a.to == other)) [
-    | inl same ↦ rw (test_no a.from other (λ e. apart (e ∙ sym (eqb-true a.to other same))), same) (sym same ∙ test_sym a.to other)
+    | inl same ↦ rw (nat_eq-differs a.from other (λ e. apart (e ∙ sym (eqb-true a.to other same))), same) (sym same ∙ test_sym a.to other)
     | inr differ ↦ rw (and_right (not (a.from == other)) (a.to == other) differ) (sym differ ∙ test_sym a.to other)
   ])
 
@@ -168,17 +157,9 @@ ends_within p (a ∷ actions) all = ((all.0.from, all.0.to), ends_within p actio
 
 -- ---- the search for a role
 
-pub found_alone : (action : ℕ) (sends : Bool) (plans : List (List PlanEvent)) (i role : ℕ) → i < length plans → list_any (is_part action sends) (get_or plans i []) ≡ true → IsAlone action sends plans role → i ≡ role
-found_alone action sends plans i role below found alone = eqb-true i role (sym (alone.1 i below) ∙ found)
-
 pub none_alone : (action : ℕ) (sends : Bool) (plans : List (List PlanEvent)) (role any : ℕ) → ((i : ℕ) → i < length plans → list_any (is_part action sends) (get_or plans i []) ≡ false) → IsAlone action sends plans role → any ≡ role
 none_alone action sends plans role any none alone =
-    absurd (true_false (role == role) (eq-eqb role role refl) (sym (alone.1 role alone.0) ∙ none role alone.0))
-
-each_action : {X : Type 0} (P : X → Type 0) (xs : List X) (i : ℕ) (d : X) → AllByRecursion P xs → i < length xs → P (get_or xs i d)
-each_action P [] i d all below = absurd (omega (arith, below))
-each_action P (x ∷ xs) zero d all below = all.0
-each_action P (x ∷ xs) (suc i) d all below = each_action P xs i d all.1 (omega (arith, below))
+    absurd (never_both (role == role) (eq-eqb role role refl) (sym (alone.1 role alone.0) ∙ none role alone.0))
 
 -- the ends of one action more
 pub ends_next : (p : ProtocolValue) → HoldsOf p → (i : ℕ) → i < length p.actions → (from to : ℕ)
@@ -190,7 +171,7 @@ ends_next p holds i below from to sender receiver =
     let a : ActionValue = get_or p.actions i d in
     let is : p.actions ≡ take i p.actions ++ a ∷ drop (suc i) p.actions = sym (take-append-drop i p.actions) ∙ ap (λ t. take i p.actions ++ t) (drop-cons p.actions i d below) in
     let many : length (take i p.actions) ≡ i = length-take-le i p.actions (omega (arith, below)) in
-    let ends : IsActionOf p a = each_action (IsActionOf p) p.actions i d holds.ends below in
+    let ends : IsActionOf p a = each_at (IsActionOf p) p.actions i d holds.ends below in
     let one : from ≡ a.from = sender a.from (subst (λ (n : ℕ). IsAlone (n + 1) true (map (plan_of p) (range_with_len 0 (length p.roles))) a.from) many
     (sender_alone p (length p.roles) (take i p.actions) a (drop (suc i) p.actions) is ends.from)) in
     let other : to ≡ a.to = receiver a.to (subst (λ (n : ℕ). IsAlone (n + 1) false (map (plan_of p) (range_with_len 0 (length p.roles))) a.to) many

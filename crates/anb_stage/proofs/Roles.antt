@@ -1,7 +1,6 @@
 -- A role among others.
 use Rattle.std.proofs.Common.{◌≡◌, ◌≢◌, ◌<◌, ◌≤◌, ◌+◌, ℕ, refl, sym, ap, ◌∙◌, subst, arith, inl, inr, ◌⊎◌}
 use Rattle.std.proofs.lemmas.Bool.{cases_lt}
-use Rattle.anb_base.specs.Moves.{Rose}
 use Rattle.anb_stage.specs.Children.{Child}
 use Rattle.anb_stage.specs.Steps.{OthersStayBelow}
 use Rattle.anb_stage.specs.Relays.{Stays}
@@ -44,7 +43,3 @@ stays_joined a b c roles s t = record {
   statuses = λ role below. t.statuses role below ∙ s.statuses role below;
   others = λ role above below. t.others role above below ∙ s.others role above below;
 }
-
--- a count that rose after it didn't fall rose, and one that rose and doesn't fall did
-pub rose_later : (a b c : ℕ) → a ≤ b → Rose b c → Rose a c
-rose_later a b c s r = elim r [ inl more ↦ inl (omega (arith, s, more)) | inr last ↦ inr last ]

@@ -1,5 +1,5 @@
 -- One child more is started, or isn't.
-use Rattle.std.proofs.Common.{◌≡◌, ◌<◌, ◌≤◌, ◌+◌, ℕ, List, length, Option, Some, refl, sym, ap, ◌∙◌, subst, arith, inl, inr}
+use Rattle.std.proofs.Common.{◌≡◌, ◌<◌, ◌≤◌, ◌+◌, ℕ, List, length, Option, Some, sym, ap, ◌∙◌, subst, arith, inl, inr}
 use Rattle.std.specs.List.{slice_get}
 use Rattle.std.proofs.lemmas.Bool.{cases_lt}
 use Rattle.std.proofs.lemmas.Option.{slice_get_within}
@@ -7,16 +7,7 @@ use Rattle.anb_base.specs.Moves.{Put, Rose}
 use Rattle.anb_stage.specs.Children.{Child, lines, KeptByStart, IsUnstarted, OthersStay}
 use Rattle.anb_stage.specs.Relays.{Stays}
 use Rattle.anb_stage.specs.Steps.{Started, StartFailed}
-use Rattle.anb_stage.proofs.Roles.{one_or_other, lower, stays_same, stays_by_call}
-
-pub none_started : (a : ℕ → Child) (words : List (List (List ℕ))) → Started a a 0 words
-none_started a words = record {
-  asked = λ role own below at. absurd (omega (arith, below));
-  phases = λ role below. absurd (omega (arith, below));
-  left = λ role below. refl;
-  written = λ role below. refl;
-  stays = stays_same a 0;
-}
+use Rattle.anb_stage.proofs.Roles.{one_or_other, lower, stays_by_call}
 
 same_words : (a b : List (List ℕ)) (o : Option (List (List ℕ))) → o ≡ Some a → o ≡ Some b → a ≡ b
 same_words a b o e f = let s : Some a ≡ Some b = sym e ∙ f in cc

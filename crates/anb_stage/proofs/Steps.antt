@@ -1,10 +1,11 @@
 -- One step of carrying: a message is taken and put, or isn't.
-use Rattle.std.proofs.Common.{◌≡◌, ◌≢◌, ◌<◌, ◌≤◌, ◌+◌, ℕ, zero, suc, List, [], ◌∷◌, ◌++◌, length, take, drop, get_or, Option, refl, sym, ap, ◌∙◌, subst, arith, inl, inr}
-use Rattle.std.specs.List.{AllByRecursion}
+use Rattle.std.proofs.Common.{◌≡◌, ◌<◌, ◌≤◌, ◌+◌, ℕ, suc, List, [], ◌∷◌, ◌++◌, length, take, drop, get_or, Option, sym, ap, ◌∙◌, subst, arith, inl, inr}
 use Rattle.std.proofs.Math.Seq.{drop-cons, take-suc}
 use Rattle.std.proofs.lemmas.List.{take-append-drop, length-take-le, append-nil}
+use Rattle.anb_lemmas.proofs.Each.{each_at}
 use Rattle.anb_base.specs.Moves.{Put, PutPrefix}
 use Rattle.anb_base.specs.declared.TheConstants.{ARRIVAL}
+use Rattle.anb_base.proofs.Moving.{Rose-later}
 use Rattle.anb_frame.specs.Frames.{frame, frames}
 use Rattle.anb_frame.specs.Cuts.{Tail, CutLeft}
 use Rattle.anb_stage.specs.Children.{Child, KeptByRead, KeptByWrite}
@@ -16,82 +17,11 @@ use Rattle.anb_stage.specs.declared.refusal.RelayNo.{RelayNo}
 use Rattle.anb_stage.specs.declared.refusal.RelayNo.TheVariants as no
 use Rattle.anb_stage.proofs.Messages.{put_prefix}
 use Rattle.anb_stage.proofs.Carries.{frames_at, one_carried, one_uncarried}
-use Rattle.anb_stage.proofs.Roles.{one_or_other, stays_same, stays_joined, rose_later}
+use Rattle.anb_stage.proofs.Roles.{one_or_other, stays_joined}
 
 -- ---- taking alone
 
-pub taking_keeps : (a b : ℕ → Child) (from to : ℕ) → from < 32 → KeptByRead (a from) (b from) → (a from).faults ≤ (b from).faults
-    → OthersStayBelow from a b → CarryKeeps a b from to
-taking_keeps a b from to within kept faults others =
-    let each : (F : Child → Type 0) (role : ℕ) → role < 32 → F (b from) → (role ≢ from → F (a role)) → F (b role) =
-    λ F role below own other. elim (one_or_other role from) [
-      | inl e ↦ subst (λ (x : ℕ). F (b x)) (sym e) own
-      | inr d ↦ subst F (sym (others role below d)) (other d)
-    ] in
-    record {
-      left = λ role below d. ap (λ (x : Child). x.left) (others role below d);
-      written = λ role below d. elim (one_or_other role from) [
-        | inl e ↦ subst (λ (x : ℕ). (b x).written ≡ (a x).written) (sym e) kept.written
-        | inr other ↦ ap (λ (x : Child). x.written) (others role below other)
-      ];
-      asked = λ role below. elim (one_or_other role from) [
-        | inl e ↦ subst (λ (x : ℕ). (b x).asked ≡ (a x).asked) (sym e) kept.asked
-        | inr other ↦ ap (λ (x : Child). x.asked) (others role below other)
-      ];
-      phases = λ role below. elim (one_or_other role from) [
-        | inl e ↦ subst (λ (x : ℕ). (b x).phase ≡ (a x).phase) (sym e) kept.phase
-        | inr other ↦ ap (λ (x : Child). x.phase) (others role below other)
-      ];
-      faults = λ role below. elim (one_or_other role from) [
-        | inl e ↦ subst (λ (x : ℕ). (a x).faults ≤ (b x).faults) (sym e) faults
-        | inr other ↦ subst (λ (x : Child). (a role).faults ≤ x.faults) (sym (others role below other)) (omega arith)
-      ];
-      statuses = λ role below. elim (one_or_other role from) [
-        | inl e ↦ subst (λ (x : ℕ). (b x).status ≡ (a x).status) (sym e) kept.status
-        | inr other ↦ ap (λ (x : Child). x.status) (others role below other)
-      ];
-      others = λ role below d other. others role below d;
-    }
-
 -- ---- putting alone
-
-pub putting_keeps : (b c : ℕ → Child) (from to : ℕ) → to < 32 → KeptByWrite (b to) (c to) → (b to).faults ≤ (c to).faults
-    → OthersStayBelow to b c → CarryKeeps b c from to
-putting_keeps b c from to within kept faults others = record {
-  left = λ role below d. elim (one_or_other role to) [
-    | inl e ↦ subst (λ (x : ℕ). (c x).left ≡ (b x).left) (sym e) kept.left
-    | inr other ↦ ap (λ (x : Child). x.left) (others role below other)
-  ];
-  written = λ role below d. ap (λ (x : Child). x.written) (others role below d);
-  asked = λ role below. elim (one_or_other role to) [
-    | inl e ↦ subst (λ (x : ℕ). (c x).asked ≡ (b x).asked) (sym e) kept.asked
-    | inr other ↦ ap (λ (x : Child). x.asked) (others role below other)
-  ];
-  phases = λ role below. elim (one_or_other role to) [
-    | inl e ↦ subst (λ (x : ℕ). (c x).phase ≡ (b x).phase) (sym e) kept.phase
-    | inr other ↦ ap (λ (x : Child). x.phase) (others role below other)
-  ];
-  faults = λ role below. elim (one_or_other role to) [
-    | inl e ↦ subst (λ (x : ℕ). (b x).faults ≤ (c x).faults) (sym e) faults
-    | inr other ↦ subst (λ (x : Child). (b role).faults ≤ x.faults) (sym (others role below other)) (omega arith)
-  ];
-  statuses = λ role below. elim (one_or_other role to) [
-    | inl e ↦ subst (λ (x : ℕ). (c x).status ≡ (b x).status) (sym e) kept.status
-    | inr other ↦ ap (λ (x : Child). x.status) (others role below other)
-  ];
-  others = λ role below other d. others role below d;
-}
-
-pub keeps_joined : (a b c : ℕ → Child) (from to : ℕ) → CarryKeeps a b from to → CarryKeeps b c from to → CarryKeeps a c from to
-keeps_joined a b c from to p q = record {
-  left = λ role below d. q.left role below d ∙ p.left role below d;
-  written = λ role below d. q.written role below d ∙ p.written role below d;
-  asked = λ role below. q.asked role below ∙ p.asked role below;
-  phases = λ role below. q.phases role below ∙ p.phases role below;
-  faults = λ role below. omega (arith, p.faults role below, q.faults role below);
-  statuses = λ role below. q.statuses role below ∙ p.statuses role below;
-  others = λ role below d e. q.others role below d e ∙ p.others role below d e;
-}
 
 -- ---- a message that was taken and put
 
@@ -148,12 +78,6 @@ not_taken a b from to action below taken others bs tail refusal missing =
 
 -- ---- all actions
 
--- what holds of each holds of the one at a place
-pub each_at : {X : Type 0} (P : X → Type 0) (xs : List X) (i : ℕ) (d : X) → AllByRecursion P xs → i < length xs → P (get_or xs i d)
-each_at P [] i d all below = absurd (omega (arith, below))
-each_at P (x ∷ xs) zero d all below = all.0
-each_at P (x ∷ xs) (suc i) d all below = each_at P xs i d all.1 (omega (arith, below))
-
 -- a list at a place
 pub split_at : {X : Type 0} (xs : List X) (i : ℕ) (x : X) → i < length xs → x ≡ get_or xs i x → xs ≡ take i xs ++ x ∷ drop (suc i) xs
 split_at xs i x below is = sym (take-append-drop i xs) ∙ ap (λ t. take i xs ++ t) (drop-cons xs i x below ∙ ap (λ y. y ∷ drop (suc i) xs) (sym is))
@@ -161,9 +85,6 @@ split_at xs i x below is = sym (take-append-drop i xs) ∙ ap (λ t. take i xs +
 pub running_within : (children : ℕ → Child) (actions : List Ends) → AreRunning children actions → AreWithin 32 actions
 running_within children [] r = tt
 running_within children (a ∷ actions) r = ((r.0.0, r.0.1), running_within children actions r.1)
-
-pub nothing_keeps : (a : ℕ → Child) (roles : ℕ) → CarryingKeeps a a roles
-nothing_keeps a roles = record { asked = λ role below. refl; phases = λ role below. refl; stays = stays_same a roles }
 
 pub keeps_more : (a b c : ℕ → Child) (roles : ℕ) (e : Ends) → roles ≤ 32 → e.from < roles → e.to < roles → CarryingKeeps a b roles → CarryKeeps b c e.from e.to → CarryingKeeps a c roles
 keeps_more a b c roles e few from to p k = record {
@@ -179,7 +100,7 @@ keeps_more a b c roles e few from to p k = record {
 -- a cause in a later call
 pub caused_later : (a b c : ℕ → Child) (roles : ℕ) → roles ≤ 32 → Stays a b roles → (r : RelayNo) → IsCaused b c roles r → IsCaused a c roles r
 caused_later a b c roles few s (no.Fault role) caused =
-    (caused.0, rose_later (a role).faults (b role).faults (c role).faults (s.faults role (omega (arith, caused.0, few))) caused.1)
+    (caused.0, Rose-later (a role).faults (b role).faults (c role).faults (s.faults role (omega (arith, caused.0, few))) caused.1)
 caused_later a b c roles few s no.NoMemory caused = tt
 caused_later a b c roles few s (no.Ended n) caused = tt
 caused_later a b c roles few s (no.Cut n have need) caused = tt

@@ -3,6 +3,7 @@ use Rattle.std.proofs.Common.{◌≡◌, ◌<◌, ◌≤◌, ℕ, List, [], leng
 use Rattle.std.proofs.lemmas.Option.{slice_get_within}
 use Rattle.anb_base.specs.Moves.{Put, PutPrefix}
 use Rattle.anb_base.specs.declared.TheConstants.{ARRIVAL}
+use Rattle.anb_base.proofs.Moving.{Rose-later, put_nothing}
 use Rattle.anb_frame.specs.Frames.{frames}
 use Rattle.anb_frame.specs.Cuts.{Tail, CutLeft}
 use Rattle.anb_stage.specs.Children.{Child, lines}
@@ -11,11 +12,10 @@ use Rattle.anb_stage.specs.Steps.{SameWritten, Started, FailsStarting, Carried, 
 use Rattle.anb_stage.specs.declared.ends.Ends.{Ends}
 use Rattle.anb_stage.specs.declared.refusal.RelayNo.{RelayNo}
 use Rattle.anb_stage.specs.declared.refusal.RelayNo.TheVariants as no
-use Rattle.anb_stage.proofs.Carries.{put_none}
-use Rattle.anb_stage.proofs.Roles.{stays_same, stays_joined, rose_later}
+use Rattle.anb_stage.proofs.Roles.{stays_same, stays_joined}
 
 prefix_none : (old new : Option (List ℕ)) (bytes : List ℕ) → new ≡ old → PutPrefix old new bytes
-prefix_none old new bytes same = (0, omega arith, subst (λ n. Put old n []) (sym same) (put_none old))
+prefix_none old new bytes same = (0, omega arith, subst (λ n. Put old n []) (sym same) (put_nothing old))
 
 module _ (roles : ℕ) (few : roles ≤ 32) (words : List (List (List ℕ))) (many : length words ≡ roles) (actions : List Ends) where
   -- ---- before and within starting
@@ -75,7 +75,7 @@ module _ (roles : ℕ) (few : roles ≤ 32) (words : List (List (List ℕ))) (ma
           subst (λ (w : Option (List ℕ)). PutPrefix w (c role).written (frames (bytes_to outputs role actions))) (s.written role (omega (arith, below, few))) (some role below)
 
       cause_after : (role : ℕ) → IsCaused b c roles (no.Fault role) → IsFault roles a c (no.Fault role)
-      cause_after role caused = (caused.0, rose_later (a role).faults (b role).faults (c role).faults (s.stays.faults role (omega (arith, caused.0, few))) caused.1)
+      cause_after role caused = (caused.0, Rose-later (a role).faults (b role).faults (c role).faults (s.stays.faults role (omega (arith, caused.0, few))) caused.1)
 
       pub refused_carrying : (r : RelayNo) → ((outputs : ℕ → List (List ℕ)) (tails : ℕ → Tail) → AreCut roles b outputs tails → FailsCarryingSome b c roles outputs tails actions r)
           → IsCaused b c roles r → IsRefused roles a c words actions r
@@ -161,7 +161,7 @@ module _ (roles : ℕ) (few : roles ≤ 32) (words : List (List (List ℕ))) (ma
           asks = λ other own at. inl (asked_at_end f.2.asked other own at);
           phases = tt;
           bad = tt;
-          cause = (f.0, rose_later (a role).faults (c role).faults (d role).faults (stays_after.faults role (omega (arith, f.0, few))) f.1);
+          cause = (f.0, Rose-later (a role).faults (c role).faults (d role).faults (stays_after.faults role (omega (arith, f.0, few))) f.1);
           stays = stays_joined a c d roles stays_after f.2.stays;
         }
         refused_finishing (no.Bad role status) f = record {

@@ -1,6 +1,7 @@
 -- What is answered where the children are told is what is due.
 use Rattle.std.proofs.Common.{◌≡◌, ◌⊎◌, ℕ, true, List, [], length, Option, Some, None, refl, ap, sym, ◌∙◌, subst, inl, inr}
 use Rattle.std.specs.Prelude.{IfSome}
+use Rattle.anb_base.proofs.Moving.{put_nothing}
 use Rattle.anb_frame.specs.Cuts.{Tail}
 use Rattle.anb_read.specs.Laws.{NarrationsAreUnique, RefusalsAreUnique, NoneIsBoth}
 use Rattle.anb_resolve.specs.Protocols.{ProtocolValue}
@@ -20,7 +21,7 @@ use Rattle.anb_command.specs.Writing.{IsWriting, IsWritingOne, IsWritten, Writes
 use Rattle.anb_command.proofs.Chains.{told_map}
 use Rattle.anb_command.proofs.Failing.{IsFailure-map}
 use Rattle.anb_command.proofs.Ones.{IsQuiet, RefusesQuietly, is_quiet, narration_in_file_quiet, not_both, one_settled, protocol_quiet, quiet_as, same_refusal, send_quiet, sendable_one, then_one, then_quiet}
-use Rattle.anb_command.proofs.Written.{faulty, put_nothing, refusal, the_one, written}
+use Rattle.anb_command.proofs.Written.{faulty, refusal, the_one, written}
 use Rattle.anb_stage_commands.specs.Words.{Staged, words_for}
 use Rattle.anb_stage_commands.specs.StageCommand.{AreToldOf, DoesStage, StageOf, StageText, answer_of, status_of}
 use Rattle.anb_stage_commands.specs.Relaying.{FailsInFile, FailsRelaying, Relays, RelaysInFile, Stay}

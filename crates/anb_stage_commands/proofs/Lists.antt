@@ -1,19 +1,16 @@
 -- Lists that grow item by item.
-use Rattle.std.proofs.Common.{◌≡◌, ◌<◌, ◌+◌, ℕ, List, [], ◌∷◌, ◌++◌, length, map, take, get_or, refl, sym, ap, ◌∙◌, append_assoc}
+use Rattle.std.proofs.Common.{◌≡◌, ◌<◌, ◌+◌, ℕ, List, [], ◌∷◌, ◌++◌, length, map, take, get_or, refl, sym, ap, ◌∙◌}
 use Rattle.std.specs.List.{flat_map}
 use Rattle.std.proofs.lemmas.List.{map-append}
+use Rattle.std.proofs.lemmas.Grind.{flat_map-append}
 use Rattle.anb_lemmas.proofs.Each.{take_next}
-
-flat-append : {A B : Type 0} (f : A → List B) (xs ys : List A) → flat_map f (xs ++ ys) ≡ flat_map f xs ++ flat_map f ys
-flat-append f [] ys = refl
-flat-append f (x ∷ xs) ys = ap (λ l. f x ++ l) (flat-append f xs ys) ∙ sym (append_assoc (f x) (flat_map f xs) (flat_map f ys))
 
 -- what each of the first items gives, and one more
 pub flat_next : {A B : Type 0} (f : A → List B) (xs : List A) (i : ℕ) (x : A) (old new : List B) → i < length xs → x ≡ get_or xs i x
     → old ≡ flat_map f (take i xs) → new ≡ old ++ f x → new ≡ flat_map f (take (i + 1) xs)
 flat_next f xs i x old new h e before put =
     put ∙ ap (λ l. l ++ f x) before ∙ ap (λ l. flat_map f (take i xs) ++ l) (sym (nothing (f x)))
-    ∙ sym (ap (flat_map f) (take_next xs i x h e) ∙ flat-append f (take i xs) (x ∷ [])) where
+    ∙ sym (ap (flat_map f) (take_next xs i x h e) ∙ flat_map-append f (take i xs) (x ∷ [])) where
       nothing : {B : Type 0} (l : List B) → l ++ [] ≡ l
       nothing [] = refl
       nothing (y ∷ l) = ap (λ r. y ∷ r) (nothing l)

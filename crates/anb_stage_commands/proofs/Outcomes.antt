@@ -3,8 +3,7 @@ use Rattle.std.specs.Prelude.{Vec}
 use Rattle.std.specs.Global.{Global}
 use Rattle.std.proofs.lemmas.List.{length-map}
 use Rattle.anb_stage.specs.Words.{asked_lists, words_of}
-use Rattle.std.proofs.Common.{◌≡◌, ℕ, ◌<◌, ◌≤◌, ◌⊎◌, List, [], ◌∷◌, length, Option, Some, None, IfSome, refl, sym, ap, ◌∙◌, subst, inl, inr, arith}
-use Rattle.anb_base.specs.Moves.{Rose}
+use Rattle.std.proofs.Common.{◌≡◌, ℕ, ◌≤◌, ◌⊎◌, List, [], ◌∷◌, length, Option, Some, None, IfSome, refl, sym, ap, ◌∙◌, subst, inl, inr, arith}
 use Rattle.anb_base.specs.Wires.{WireState}
 use Rattle.anb_base.specs.declared.place.Place.TheVariants.{Stdio}
 use Rattle.anb_base.specs.declared.content.Sent.{Sent}
@@ -19,9 +18,7 @@ use Rattle.anb_command.specs.declared.status.Status.{Status}
 use Rattle.anb_command.specs.declared.status.Status.TheVariants.{Done, Usage, FileFault, Unreached, ReadFault, WriteFault, ChildFault, NoMemory}
 use Rattle.anb_command.specs.Causes.{HasWireCause, NoneRose}
 use Rattle.anb_command.specs.Fetches.{Files, IfTold}
-use Rattle.anb_command.specs.Reaches.{Reaches}
 use Rattle.anb_command.specs.Roles.{SendableInFile}
-use Rattle.anb_command.specs.Statuses.{Phase, phase_of}
 use Rattle.anb_command.specs.Steps.{IsFailure, given, refused}
 use Rattle.anb_command.specs.Writing.{IsWritten}
 use Rattle.anb_command.proofs.Chains.{told_map}
@@ -29,18 +26,9 @@ use Rattle.anb_command.proofs.Ones.{not_both, same_given, sendable_one}
 use Rattle.anb_stage_commands.specs.Reports.{report_text}
 use Rattle.anb_stage_commands.specs.Words.{Staged, child_words, words_for}
 use Rattle.anb_stage_commands.specs.StageCommand.{AllGoWell, CompletesStage, HasStageCause, IsIdle, IsRefusedAs, IsRelayedAs, IsReport, IsStaged, NoChildRose, status_of}
-use Rattle.anb_stage_commands.specs.Relaying.{FailsInFile, FailsRelaying, HasCauseBefore, HasChildCause, IsBefore, IsNamed, Relays, RelaysInFile, Stay}
+use Rattle.anb_stage_commands.specs.Relaying.{FailsInFile, FailsRelaying, HasCauseBefore, HasChildCause, IsBefore, Relays, RelaysInFile, Stay}
 
 -- ---- a refusal
-
-pub named_by : (p : ProtocolValue) (n : ℕ) (old new : ℕ → Child) (words : List (List (List ℕ))) (r : RelayNo) → n ≡ length p.roles
-    → IsRefused n old new words (ends_in p) r → IsNamed p r
-named_by p n old new words (no.Fault role) count is = subst (λ (m : ℕ). role < m) count is.cause.0
-named_by p n old new words (no.Bad role status) count is = subst (λ (m : ℕ). role < m) count is.bad.0
-named_by p n old new words (no.Ended action) count is = tt
-named_by p n old new words (no.Cut action have need) count is = tt
-named_by p n old new words (no.Long action len) count is = tt
-named_by p n old new words no.NoMemory count is = tt
 
 before_of : (p : ProtocolValue) (r : RelayNo) → IsBefore (status_of p r)
 before_of p (no.Fault role) = inl (refl, λ e. cc)
@@ -50,10 +38,6 @@ before_of p (no.Cut action have need) = inl (refl, λ e. cc)
 before_of p (no.Long action len) = inl (refl, λ e. cc)
 before_of p no.NoMemory = inr refl
 
-pub refusal_before : (p : ProtocolValue) (r : RelayNo) (status : Status) → (status ≡ status_of p r) ⊎ (status ≡ NoMemory) → IsBefore status
-refusal_before p r status (inl is) = subst IsBefore (sym is) (before_of p r)
-refusal_before p r status (inr is) = inr is
-
 cause_of : (p : ProtocolValue) (n : ℕ) (old new : ℕ → Child) (words : List (List (List ℕ))) (r : RelayNo) → n ≤ 32
     → IsRefused n old new words (ends_in p) r → HasChildCause old new (status_of p r)
 cause_of p n old new words (no.Fault role) few is = (role, omega (arith, is.cause.0, few), is.cause.1)
@@ -62,11 +46,6 @@ cause_of p n old new words (no.Ended action) few is = tt
 cause_of p n old new words (no.Cut action have need) few is = tt
 cause_of p n old new words (no.Long action len) few is = tt
 cause_of p n old new words no.NoMemory few is = tt
-
-pub refusal_cause : (p : ProtocolValue) (n : ℕ) (old new : ℕ → Child) (words : List (List (List ℕ))) (r : RelayNo) (status : Status) → n ≤ 32
-    → IsRefused n old new words (ends_in p) r → (status ≡ status_of p r) ⊎ (status ≡ NoMemory) → HasChildCause old new status
-refusal_cause p n old new words r status few is (inl same) = subst (HasChildCause old new) (sym same) (cause_of p n old new words r few is)
-refusal_cause p n old new words r status few is (inr same) = subst (HasChildCause old new) (sym same) tt
 
 module _ (s : Staged) (old new : ℕ → Child) (p : ProtocolValue) (n : ℕ) (words : List (List (List ℕ))) (count : n ≡ length p.roles) (asked : words ≡ words_for s p.roles) where
   pub refuses_as : (r : RelayNo) (status : Status) → IsRefused n old new words (ends_in p) r → (status ≡ status_of p r) ⊎ (status ≡ NoMemory) → FailsRelaying s old new p status
@@ -166,17 +145,6 @@ module _ (narration : List ℕ) (faults faults_now : List ℕ → ℕ) (old new 
   before_cause s named Usage (inl before) cause = absurd (before.1 refl)
   before_cause s named Usage (inr never) cause = absurd (cc)
   before_cause s named _ before cause = tt
-
-pub before_reaches : (status : Status) (r : Option (List ℕ)) → IsBefore status → Reaches (Some Stdio) (phase_of status) r r
-before_reaches status r (inl before) = subst (λ (p : Phase). Reaches (Some Stdio) p r r) (sym before.0) refl
-before_reaches status r (inr is) = subst (λ (t : Status). Reaches (Some Stdio) (phase_of t) r r) (sym is) (inl refl)
-
--- a cause in a file before the place is reached
-pub file_cause : (s : Staged) (old new : ℕ → Child) (faults faults_now : List ℕ → ℕ) (status : Status) (Refused : Type 0)
-    → IsFailure status (λ file. (file ≡ s.narration) × Rose (faults file) (faults_now file)) Refused → IsBefore status → HasChildCause old new status → HasCauseBefore s old new faults faults_now status
-file_cause s old new faults faults_now (FileFault file) Refused fails before cause = fails
-file_cause s old new faults faults_now (ChildFault name) Refused fails before cause = cause
-file_cause s old new faults faults_now _ Refused fails before cause = tt
 
 -- ---- where nothing failed
 

@@ -1,9 +1,11 @@
 -- Literals are tokens.
-use Rattle.std.proofs.Common.{◌≡◌, ℕ, suc, ◌+◌, ◌*◌, List, [], ◌∷◌, ◌++◌, length, map, true, false, Option, Some, None, IsSome, unwrap_or, nat_le, refl, sym, ap, ◌∙◌, arith, append_assoc, length-append, Bool, cond, ◌⊎◌, inl, inr, subst}
+use Rattle.std.proofs.Common.{◌≡◌, ℕ, suc, ◌+◌, ◌*◌, List, [], ◌∷◌, ◌++◌, length, map, true, false, Option, Some, None, IsSome, unwrap_or, nat_le, refl, sym, ap, ◌∙◌, arith, append_assoc, length-append, Bool, cond, inl, inr, subst}
 use Rattle.std.specs.Prelude.{◌==◌, ◌&&◌, ◌||◌}
 use Rattle.std.proofs.lemmas.Bool.{eqb-true}
 use Rattle.std.proofs.lemmas.Bool.Decides.{nat_tests}
 use Rattle.std.specs.List.{AllByRecursion, flat_map}
+use Rattle.std.proofs.lemmas.Option.{same_Some, none-some}
+use Rattle.anb_lemmas.proofs.Options.{side_taken}
 use Rattle.hex.specs.Hex.{hex_digit_value}
 use Rattle.anb_format.specs.Literals.{Character, Plain, Quote, Backslash, Hexadecimal, IsAllowed, IsLiteral, IsLiteralAt, byte_of, spelling_of}
 use Rattle.anb_syntax.specs.Words.{Word, name, literal, sign, is_letter}
@@ -70,12 +72,9 @@ one_more c text bytes n a r = record {
   size = omega (arith, r.size, length-append (spelling_of c) (flat_map spelling_of r.characters));
 }
 
-pair_of : {A : Type 0} (p q : A) → Some p ≡ Some q → p ≡ q
-pair_of p q e = cc
-
 before_of : (b n : ℕ) (o : Option (List ℕ × ℕ)) (bytes : List ℕ) (m : ℕ) → before b n o ≡ Some (bytes, m) → (s : List ℕ × ℕ) × (o ≡ Some s) × (b ∷ s.0 ≡ bytes) × (n + s.1 ≡ m)
 before_of b n None bytes m e = cc
-before_of b n (Some s) bytes m e = let f = pair_of (b ∷ s.0, n + s.1) (bytes, m) e in (s, refl, ap (λ (v : List ℕ × ℕ). v.0) f, ap (λ (v : List ℕ × ℕ). v.1) f)
+before_of b n (Some s) bytes m e = let f = same_Some (b ∷ s.0, n + s.1) (bytes, m) e in (s, refl, ap (λ (v : List ℕ × ℕ). v.0) f, ap (λ (v : List ℕ × ℕ). v.1) f)
 
 digits_of : (high low : Option ℕ) (o : Option (List ℕ × ℕ)) (bytes : List ℕ) (m : ℕ) → digits_before high low o ≡ Some (bytes, m)
     → IsSome high × IsSome low × (before (unwrap_or high 0 * 16 + unwrap_or low 0) 4 o ≡ Some (bytes, m))
@@ -86,18 +85,11 @@ digits_of (Some h) (Some l) o bytes m e = (refl, refl, e)
 plain_allowed : (b : ℕ) → (b == 34) ≡ false → (b == 92) ≡ false → (nat_le 0x20 b && nat_le b 0x7e) ≡ true → IsAllowed (Plain b)
 plain_allowed b e f g = (grind (arith, nat_tests), grind (arith, nat_tests), grind (arith, nat_tests), grind (arith, nat_tests))
 
-no_some : {A : Type 0} (v : A) → None ≡ Some v → ⊥
-no_some v e = cc
-
 no_literal_name : (b c : List ℕ) → name b ≡ literal c → ⊥
 no_literal_name b c e = cc
 
 no_literal_sign : (b : ℕ) (c : List ℕ) → sign b ≡ literal c → ⊥
 no_literal_sign b c e = cc
-
-split : {A : Type 0} (b : Bool) (x y z : A) → cond b x y ≡ z → ((b ≡ true) × (x ≡ z)) ⊎ ((b ≡ false) × (y ≡ z))
-split true x y z e = inl (refl, e)
-split false x y z e = inr (refl, e)
 
 or_cond : (a b : Bool) → (a || b) ≡ true → cond a true b ≡ true
 or_cond true b e = refl
@@ -114,20 +106,20 @@ mutual
   read_characters : (y bytes : List ℕ) (n : ℕ) → characters_here y ≡ Some (bytes, n) → Read y bytes n
   read_characters [] bytes n e = cc
   read_characters (b ∷ x) bytes n e =
-      elim (split (b == 34) _ _ _ e) [
+      elim (side_taken (b == 34) _ _ _ e) [
         | inl closed ↦
             let first : b ≡ 34 = eqb-true b 34 closed.0 in
-            let f = pair_of {A = List ℕ × ℕ} ([], 1) (bytes, n) closed.1 in
+            let f = same_Some {A = List ℕ × ℕ} ([], 1) (bytes, n) closed.1 in
             record { characters = []; allowed = tt; rest = x; stands = ap (λ c. c ∷ x) first; means = sym (ap (λ (v : List ℕ × ℕ). v.0) f); size = sym (ap (λ (v : List ℕ × ℕ). v.1) f) }
         | inr open_on ↦
-            elim (split (b == 92) _ _ _ open_on.1) [
+            elim (side_taken (b == 92) _ _ _ open_on.1) [
               | inl escape ↦ let first : b ≡ 92 = eqb-true b 92 escape.0 in subst (λ c. Read (c ∷ x) bytes n) (sym first) (read_escaped x bytes n escape.1)
               | inr no_escape ↦
-                  elim (split (nat_le 0x20 b && nat_le b 0x7e) _ _ _ no_escape.1) [
+                  elim (side_taken (nat_le 0x20 b && nat_le b 0x7e) _ _ _ no_escape.1) [
                     | inl shown ↦
                         let s = before_of b 1 (characters_here x) bytes n shown.1 in
                         one_found (Plain b) x bytes n s.0 (plain_allowed b open_on.0 no_escape.0 shown.0) (read_characters x s.0.0 s.0.1 s.1) s.2 s.3
-                    | inr hidden ↦ absurd (no_some (bytes, n) hidden.1)
+                    | inr hidden ↦ absurd (none-some (bytes, n) hidden.1)
                   ]
             ]
       ]
@@ -135,20 +127,20 @@ mutual
   read_escaped : (y bytes : List ℕ) (n : ℕ) → escaped_here y ≡ Some (bytes, n) → Read (92 ∷ y) bytes n
   read_escaped [] bytes n e = cc
   read_escaped (b ∷ x) bytes n e =
-      elim (split (b == 34 || b == 92) _ _ _ e) [
+      elim (side_taken (b == 34 || b == 92) _ _ _ e) [
         | inl itself ↦
             let s = before_of b 2 (characters_here x) bytes n itself.1 in
             let r = read_characters x s.0.0 s.0.1 s.1 in
-            elim (split (b == 34) true (b == 92) true (or_cond (b == 34) (b == 92) itself.0)) [
+            elim (side_taken (b == 34) true (b == 92) true (or_cond (b == 34) (b == 92) itself.0)) [
               | inl quote ↦ let first : b ≡ 34 = eqb-true b 34 quote.0 in
                   subst (λ c. Read (92 ∷ c ∷ x) bytes n) (sym first) (one_found Quote x bytes n s.0 tt r (ap (λ c. c ∷ s.0.0) (sym first) ∙ s.2) s.3)
               | inr backslash ↦ let first : b ≡ 92 = eqb-true b 92 backslash.1 in
                   subst (λ c. Read (92 ∷ c ∷ x) bytes n) (sym first) (one_found Backslash x bytes n s.0 tt r (ap (λ c. c ∷ s.0.0) (sym first) ∙ s.2) s.3)
             ]
         | inr other ↦
-            elim (split (b == 120) _ _ _ other.1) [
+            elim (side_taken (b == 120) _ _ _ other.1) [
               | inl hex ↦ let first : b ≡ 120 = eqb-true b 120 hex.0 in subst (λ c. Read (92 ∷ c ∷ x) bytes n) (sym first) (read_digits x bytes n hex.1)
-              | inr none ↦ absurd (no_some (bytes, n) none.1)
+              | inr none ↦ absurd (none-some (bytes, n) none.1)
             ]
       ]
 
@@ -163,22 +155,22 @@ mutual
 quoted_of : (o : Option (List ℕ × ℕ)) (bytes : List ℕ) (n : ℕ) → quoted o ≡ Some (literal bytes, n) → (m : ℕ) × (o ≡ Some (bytes, m)) × (suc m ≡ n)
 quoted_of None bytes n e = cc
 quoted_of (Some r) bytes n e =
-    let f = pair_of (literal r.0, suc r.1) (literal bytes, n) e in
+    let f = same_Some (literal r.0, suc r.1) (literal bytes, n) e in
     let g : literal r.0 ≡ literal bytes = ap (λ (v : Word × ℕ). v.0) f in
     let same : r.0 ≡ bytes = cc in
     (r.1, ap (λ (b : List ℕ). Some (b, r.1)) same, ap (λ (v : Word × ℕ). v.1) f)
 
 word_is : (w v : Word) (k n : ℕ) → ◌≡◌ {A = Option (Word × ℕ)} (Some (w, k)) (Some (v, n)) → w ≡ v
-word_is w v k n e = ap (λ (p : Word × ℕ). p.0) (pair_of (w, k) (v, n) e)
+word_is w v k n e = ap (λ (p : Word × ℕ). p.0) (same_Some (w, k) (v, n) e)
 
 -- a literal token is a literal
 literal_found : (x bytes : List ℕ) (n : ℕ) → token_here x ≡ Some (literal bytes, n) → IsLiteralAt x 0 bytes n
 literal_found [] bytes n e = cc
 literal_found (b ∷ x) bytes n e =
-    elim (split (is_letter b) _ _ _ e) [
+    elim (side_taken (is_letter b) _ _ _ e) [
       | inl letter ↦ let f = word_is _ _ _ _ letter.1 in absurd (no_literal_name _ bytes f)
       | inr other ↦
-          elim (split (b == 34) _ _ _ other.1) [
+          elim (side_taken (b == 34) _ _ _ other.1) [
             | inl quote ↦
                 let first : b ≡ 34 = eqb-true b 34 quote.0 in
                 let q = quoted_of (characters_here x) bytes n quote.1 in
@@ -192,12 +184,12 @@ literal_found (b ∷ x) bytes n e =
                   ends = omega (arith, r.size, q.2, length-append inner (34 ∷ []));
                 }
             | inr none ↦
-                elim (split (is_sign b) _ _ _ none.1) [
+                elim (side_taken (is_sign b) _ _ _ none.1) [
                   | inl signed ↦ let f = word_is _ _ _ _ signed.1 in absurd (no_literal_sign _ bytes f)
                   | inr no_sign ↦
-                      elim (split (b == 45 && begins_with 62 x) _ _ _ no_sign.1) [
+                      elim (side_taken (b == 45 && begins_with 62 x) _ _ _ no_sign.1) [
                         | inl arrow ↦ let f = word_is _ _ _ _ arrow.1 in absurd (no_literal_sign _ bytes f)
-                        | inr nothing ↦ absurd (no_some (literal bytes, n) nothing.1)
+                        | inr nothing ↦ absurd (none-some (literal bytes, n) nothing.1)
                       ]
                 ]
           ]

@@ -10,10 +10,11 @@ use Rattle.anb_base.specs.declared.content.Suite.TheVariants.{One, Two}
 use Rattle.anb_format.specs.declared.pieces.FieldKind.TheVariants.{Len, Net, Hex, Rest}
 use Rattle.anb_format.specs.declared.pieces.Piece.{Piece}
 use Rattle.anb_format.specs.declared.pieces.Piece.TheVariants.{Lit, Field}
+use Rattle.anb_format.specs.Formats.{IsBytesPiece}
 use Rattle.anb_syntax.specs.declared.narration.Sort.{Sort}
 use Rattle.anb_syntax.specs.declared.narration.Sort.TheVariants.{Agent, Number, Key}
 use Rattle.anb_syntax.specs.Words.{Word, name, literal, sign, end, Begins, is_spelled, is_name, reserved_words, colon, semicolon, comma, open_sign, close_sign, equals, arrow, protocol_word, suite_word, types_word, formats_word, knowledge_word, actions_word, hash_word, mac_word, seal_word, wrap_word, sort_word, hash_name, kind_word}
-use Rattle.anb_syntax.specs.Grammar.{Tree, atom, apply, hash, mac, seal, wrap, Trees, none, more, TypeItem, FormatItem, KnowItem, ActionItem, Narration, Written, told, IsName, IsTree, AreTrees, AreNames, IsPiece, IsTypeItem, IsFormatItem, IsKnowItem, IsActionItem, IsNarration, IsSpellable, spell_tree, spell_trees, spell_others, spell_names, comma_name, piece_word, spell_type, spell_format, spell_know, spell_action, spell_suite, spell_formats, spell_knows, spell}
+use Rattle.anb_syntax.specs.Grammar.{Tree, atom, apply, hash, mac, seal, wrap, Trees, none, more, TypeItem, FormatItem, KnowItem, ActionItem, Narration, Written, told, IsName, IsTree, AreTrees, AreNames, IsTypeItem, IsFormatItem, IsKnowItem, IsActionItem, IsNarration, IsSpellable, spell_tree, spell_trees, spell_others, spell_names, comma_name, piece_word, spell_type, spell_format, spell_know, spell_action, spell_suite, spell_formats, spell_knows, spell}
 use Rattle.anb_syntax.specs.Lexing.{is_blank}
 use Rattle.anb_syntax.specs.Text.{Text}
 use Rattle.anb_syntax.specs.Canon.{Laid, word_bytes, at_once, spaced, on_line, indented, spaced_first, lay_comma_name, lay_names, lay_type, lay_piece, lay_format, lay_others, lay_terms, lay_know, lay_action, lay_suite, lay_formats, lay_knows, lay, canon}
@@ -24,7 +25,7 @@ abbrev IsFree : List Laid → Type 0
 IsFree [] = ⊥
 IsFree (q ∷ ps) = (not (IsNameWord q.word) || not (is_none q.gap)) ≡ true
 
-name_spelled : (n : List ℕ) → IsName n → is_spelled n ≡ true
+pub name_spelled : (n : List ℕ) → IsName n → is_spelled n ≡ true
 unfolding is_name
 name_spelled n i = (and_parts (is_spelled n) (not (list_any (bytes_eq n) reserved_words)) i).0
 
@@ -159,7 +160,7 @@ pieces_free [] qs = refl
 pieces_free (Lit b ∷ ps) qs = refl
 pieces_free (Field k ∷ ps) qs = refl
 
-spaced_pieces : (ps : List Piece) (qs : List Laid) → AllByRecursion IsPiece ps → Good qs → Good (map lay_piece ps ++ (at_once semicolon ∷ qs))
+spaced_pieces : (ps : List Piece) (qs : List Laid) → AllByRecursion IsBytesPiece ps → Good qs → Good (map lay_piece ps ++ (at_once semicolon ∷ qs))
 spaced_pieces [] qs i h = put_end h
 spaced_pieces (Lit b ∷ ps) qs i h = put_literal (32 ∷ []) b refl i.0 (spaced_pieces ps qs i.1 h)
 spaced_pieces (Field Len ∷ ps) qs i h = put_name (32 ∷ []) (kind_word Len) refl refl (pieces_free ps qs) (spaced_pieces ps qs i.1 h)

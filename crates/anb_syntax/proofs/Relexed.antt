@@ -4,6 +4,7 @@ use Rattle.std.specs.Prelude.{◌==◌, ◌||◌, not}
 use Rattle.std.proofs.lemmas.Bool.{eqb-true, and_parts}
 use Rattle.std.proofs.lemmas.List.{append-nil}
 use Rattle.std.specs.List.{flat_map, list_all, prefix_len}
+use Rattle.anb_lemmas.proofs.Options.{side_taken}
 use Rattle.anb_base.specs.Bytes.{IsBytes}
 use Rattle.anb_format.specs.Literals.{canonical_literal}
 use Rattle.anb_format.proofs.Canonical.{canonical}
@@ -11,6 +12,7 @@ use Rattle.anb_syntax.specs.Words.{Word, name, literal, sign, end, bad, Tok, is_
 use Rattle.anb_syntax.specs.Lexing.{is_blank, is_sign, gap_len, token_here, Lexes, LexesHere}
 use Rattle.anb_syntax.specs.Canon.{Laid, word_bytes, laid_bytes}
 use Rattle.anb_syntax.proofs.LiteralTokens.{literal_read}
+use Rattle.anb_syntax.proofs.Names.{letter_is}
 
 abbrev pub IsNameWord : Word → Bool
 IsNameWord (name b) = true
@@ -47,10 +49,6 @@ abbrev pub toks_from : ℕ → List Laid → List Tok
 toks_from at [] = []
 toks_from at (p ∷ ps) = record { word = p.word; at = at + length p.gap } ∷ toks_from (at + length p.gap + length (word_bytes p.word)) ps
 
-split : {A : Type 0} (b : Bool) (x y z : A) → cond b x y ≡ z → ((b ≡ true) × (x ≡ z)) ⊎ ((b ≡ false) × (y ≡ z))
-split true x y z e = inl (refl, e)
-split false x y z e = inr (refl, e)
-
 gap_of : (g y : List ℕ) → list_all is_blank g ≡ true → gap_len y ≡ 0 → gap_len (g ++ y) ≡ length g
 gap_of [] y b e = e
 gap_of (c ∷ g) y b e = let k = and_parts (is_blank c) (list_all is_blank g) b in rw k.0 (ap suc (gap_of g y k.1 e))
@@ -60,7 +58,7 @@ whole true = refl
 whole false = refl
 
 other_byte : (T : ℕ → Bool) (c k : ℕ) → T c ≡ true → T k ≡ false → (c == k) ≡ false
-other_byte T c k t f = elim (split (c == k) true false (c == k) (whole (c == k))) [ inl h ↦ let s : c ≡ k = eqb-true c k h.0 in cc (t, f, ap T s) | inr h ↦ h.0 ]
+other_byte T c k t f = elim (side_taken (c == k) true false (c == k) (whole (c == k))) [ inl h ↦ let s : c ≡ k = eqb-true c k h.0 in cc (t, f, ap T s) | inr h ↦ h.0 ]
 
 letter_not_blank : (c : ℕ) → is_letter c ≡ true → is_blank c ≡ false
 letter_not_blank c t = rw (other_byte is_letter c 32 t refl, other_byte is_letter c 9 t refl, other_byte is_letter c 10 t refl, other_byte is_letter c 13 t refl) refl
@@ -76,9 +74,6 @@ no_gap (sign c) z (inl e) = rw e refl
 no_gap (sign c) z (inr h) = rw (h.4, h.2, h.3) refl
 no_gap end z h = absurd h
 no_gap bad z h = absurd h
-
-letter_is_byte : (c : ℕ) → is_letter c ≡ true → is_name_byte c ≡ true
-letter_is_byte c t = rw t refl
 
 name_len : (b z : List ℕ) → list_all is_name_byte b ≡ true → prefix_len is_name_byte z ≡ 0 → prefix_len is_name_byte (b ++ z) ≡ length b
 name_len [] z h e = e
@@ -102,7 +97,7 @@ again_here : (w : Word) (z : List ℕ) → IsProper w → (IsNameWord w ≡ true
 again_here (name []) z h e = cc
 again_here (name (c ∷ x)) z h e =
     let k = and_parts (is_letter c) (list_all is_name_byte x) h in
-    let all : list_all is_name_byte (c ∷ x) ≡ true = rw (letter_is_byte c k.0) k.1 in
+    let all : list_all is_name_byte (c ∷ x) ≡ true = rw (letter_is c k.0) k.1 in
     name_here c (x ++ z) (length (c ∷ x)) k.0 (name_len (c ∷ x) z all (e refl)) ∙ ap (λ b. Some (name b, length (c ∷ x))) (take_front (c ∷ x) z)
 again_here (literal b) z h e = literal_read (canonical_literal b) b z (canonical b h)
 again_here (sign c) z (inl i) e = rw i refl
@@ -110,7 +105,7 @@ again_here (sign c) z (inr h) e = rw (h.4, h.1, h.6, h.0) refl
 again_here end z h e = absurd h
 again_here bad z h e = absurd h
 
-here_some : (Others : ℕ → Type 0) (last : Type 0) (x : List ℕ) (o : Option (Word × ℕ)) (w : Word) (t : Word × ℕ) → o ≡ Some t → w ≡ t.0 → Others t.1 → LexesHere Others last x o w
+pub here_some : (Others : ℕ → Type 0) (last : Type 0) (x : List ℕ) (o : Option (Word × ℕ)) (w : Word) (t : Word × ℕ) → o ≡ Some t → w ≡ t.0 → Others t.1 → LexesHere Others last x o w
 here_some Others last [] None w t e h k = cc
 here_some Others last (b ∷ x) None w t e h k = cc
 here_some Others last [] (Some u) w t e h k = let s : t ≡ u = cc in (h ∙ ap (λ (v : Word × ℕ). v.0) s, subst (λ (v : Word × ℕ). Others v.1) s k)
@@ -129,12 +124,12 @@ lexes_word at x g y w n z ts e gap here rest h =
           (subst P (sym gap) (subst Q (sym (ap (drop n) same ∙ rest)) h)),
     )
 
-here_end : (Others : ℕ → Type 0) (last : Type 0) (x : List ℕ) (w : Word) → x ≡ [] → w ≡ end → last → LexesHere Others last x (token_here x) w
+pub here_end : (Others : ℕ → Type 0) (last : Type 0) (x : List ℕ) (w : Word) → x ≡ [] → w ≡ end → last → LexesHere Others last x (token_here x) w
 here_end Others last [] w e h k = (h, k)
 here_end Others last (b ∷ x) w e h k = cc
 
 blank_no_name : (c : ℕ) → is_blank c ≡ true → is_name_byte c ≡ false
-blank_no_name c t = elim (split (is_name_byte c) true false (is_name_byte c) (whole (is_name_byte c))) [
+blank_no_name c t = elim (side_taken (is_name_byte c) true false (is_name_byte c) (whole (is_name_byte c))) [
   | inl h ↦ let n : is_blank c ≡ false = rw (other_byte is_name_byte c 32 h.0 refl, other_byte is_name_byte c 9 h.0 refl, other_byte is_name_byte c 10 h.0 refl, other_byte is_name_byte c 13 h.0 refl) refl in cc (t, n)
   | inr h ↦ h.0
 ]

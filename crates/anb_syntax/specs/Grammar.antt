@@ -6,6 +6,7 @@ use Rattle.anb_base.specs.declared.content.Suite.{Suite}
 use Rattle.anb_base.specs.declared.content.Suite.TheVariants.{One}
 use Rattle.anb_format.specs.declared.pieces.Piece.{Piece}
 use Rattle.anb_format.specs.declared.pieces.Piece.TheVariants.{Lit, Field}
+use Rattle.anb_format.specs.Formats.{IsBytesPiece}
 use Rattle.anb_syntax.specs.declared.narration.Sort.{Sort}
 use Rattle.anb_syntax.specs.Words.{Word, name, literal, end, colon, semicolon, comma, open_sign, close_sign, equals, arrow, protocol_word, suite_word, types_word, formats_word, knowledge_word, actions_word, goals_word, hash_word, mac_word, seal_word, wrap_word, sort_word, hash_name, kind_word, is_name}
 
@@ -101,15 +102,11 @@ abbrev pub AreNames : List (List ℕ) → Type 0
 AreNames [] = ⊥
 AreNames (n ∷ ns) = IsName n × AllByRecursion IsName ns
 
-abbrev pub IsPiece : Piece → Type 0
-IsPiece (Lit b) = IsBytes b
-IsPiece (Field k) = Unit {0}
-
 abbrev pub IsTypeItem : TypeItem → Type 0
 IsTypeItem i = AreNames i.names
 
 abbrev pub IsFormatItem : FormatItem → Type 0
-IsFormatItem i = IsName i.title × AllByRecursion IsPiece i.pieces
+IsFormatItem i = IsName i.title × AllByRecursion IsBytesPiece i.pieces
 
 abbrev pub IsKnowItem : KnowItem → Type 0
 IsKnowItem i = IsName i.role × AreTrees i.terms

@@ -1,8 +1,9 @@
 -- Demands that hold go on holding, and those that hold of terms hold of values where labels agree.
 use Rattle.std.proofs.Common.{◌≡◌, suc, List, [], ◌∷◌, ◌++◌, length, true, IsTrue, Option, Some, None, refl, sym, ap, ◌∙◌}
 use Rattle.std.specs.Prelude.{slice_get, option_and_then, ◌==◌}
-use Rattle.std.proofs.lemmas.Bool.{eqb-true, eq-eqb}
+use Rattle.std.proofs.lemmas.Bool.{eqb-true, eq-eqb, and_parts}
 use Rattle.std.proofs.lemmas.List.Elements.{All-from_recursion, recursion_from_All}
+use Rattle.std.proofs.lemmas.List.{append-nil}
 use Rattle.anb_term.specs.declared.term.Op.{Op}
 use Rattle.anb_term.specs.Operator.{arity, keys}
 use Rattle.anb_term.specs.Tree.{Tree, node, trees_of}
@@ -12,19 +13,16 @@ use Rattle.anb_term.specs.Value.{Meaning, RecipeTree, build, part, RecipeTrees, 
 use Rattle.anb_term.specs.FreeAlgebra.{parts_of, terms_over}
 use Rattle.anb_term.specs.FreeLawful.{parts_are}
 use Rattle.anb_term.specs.Agree.{Agree}
-use Rattle.anb_term.specs.Demand.{Demand, opens, equals, holds, all_hold, is_there, alike, undoing, undone_if}
+use Rattle.anb_term.specs.Demand.{Demand, opens, equals, holds, all_hold, alike, undoing, undone_if}
 use Rattle.anb_term.specs.Statements.{AgreeHolds}
-use Rattle.anb_term.proofs.Steps.{both, bound, consed, guarded}
+use Rattle.anb_term.proofs.Steps.{bound, consed, guarded}
 use Rattle.anb_term.proofs.Values.{Valued, values_are}
 use Rattle.anb_term.proofs.Frames.{value_more, values_more}
+use Rattle.anb_term.proofs.Lists.{is_there_some}
 
 pub hold_both : {A : Type 0} (m : Meaning A) (vs : List A) (ds es : List Demand) → all_hold m vs ds ≡ true → all_hold m vs es ≡ true → all_hold m vs (ds ++ es) ≡ true
 hold_both m vs [] es h k = k
-hold_both m vs (d ∷ ds) es h k = let b = both (holds m vs d) (all_hold m vs ds) h in rw (b.0) (hold_both m vs ds es b.1 k)
-
-there : {A : Type 0} (o : Option A) → is_there o ≡ true → (x : A) × (o ≡ Some x)
-there None e = cc
-there (Some x) e = (x, refl)
+hold_both m vs (d ∷ ds) es h k = let b = and_parts (holds m vs d) (all_hold m vs ds) h in rw (b.0) (hold_both m vs ds es b.1 k)
 
 pub alike_are : {A : Type 0} (m : Meaning A) (x y : Option A) → alike m x y ≡ true → (v : A) × (w : A) × (x ≡ Some v) × (y ≡ Some w) × (m.same v w ≡ true)
 alike_are m None y e = cc
@@ -34,7 +32,7 @@ alike_are m (Some v) (Some w) e = (v, w, refl, refl, e)
 module _ {A : Type 0} (m : Meaning A) (vs ws : List A) where
   holds_more : (d : Demand) → holds m vs d ≡ true → holds m (vs ++ ws) d ≡ true
   holds_more (opens o ks r) e =
-      let x = there (undoing m vs o ks r) e in
+      let x = is_there_some (undoing m vs o ks r) e in
       let a = bound (λ kv. option_and_then (undone_if m o kv) (value m vs r)) (values m vs ks) x.0 x.1 in
       let b = bound (undone_if m o a.0) (value m vs r) x.0 a.2 in
       rw (values_more m vs ws ks a.0 a.1, value_more m vs ws r b.0 b.1, b.2)
@@ -44,14 +42,10 @@ module _ {A : Type 0} (m : Meaning A) (vs ws : List A) where
 
   pub all_hold_more : (ds : List Demand) → all_hold m vs ds ≡ true → all_hold m (vs ++ ws) ds ≡ true
   all_hold_more [] e = refl
-  all_hold_more (d ∷ ds) e = let b = both (holds m vs d) (all_hold m vs ds) e in rw (holds_more d b.0) (all_hold_more ds b.1)
+  all_hold_more (d ∷ ds) e = let b = and_parts (holds m vs d) (all_hold m vs ds) e in rw (holds_more d b.0) (all_hold_more ds b.1)
 
 pub undone_is : {A : Type 0} (m : Meaning A) (o : Op) (ks : List A) (v : A) (ps : List A) → undone_if m o ks v ≡ Some ps → (m.has o ≡ true) × (length ks ≡ keys o) × (m.undone o ks v ≡ Some ps)
 undone_is m o ks v ps e = let g = guarded (m.has o) (length ks == keys o) (m.undone o ks v) ps e in (g.0, eqb-true _ _ g.1, g.2)
-
-append_nil : {A : Type 0} (xs : List A) → xs ++ [] ≡ xs
-append_nil [] = refl
-append_nil (x ∷ xs) = ap (λ l. x ∷ l) (append_nil xs)
 
 -- labels that agree
 module _ {A : Type 0} (m : Meaning A) (lawful : Lawful m) (frame : List Tree) (vs : List A) (agree : Agree m frame vs) (valued : Valued m vs) where
@@ -71,7 +65,7 @@ module _ {A : Type 0} (m : Meaning A) (lawful : Lawful m) (frame : List Tree) (v
     undone_too [] e =
         let kv = agreed ks kts et in
         let p = parts_are o kts t [] e in
-        let nil : kts ++ [] ≡ kts = append_nil kts in
+        let nil : kts ++ [] ≡ kts = append-nil kts in
         let long : length kts ≡ arity o = sym (ap length nil) ∙ p.2 in
         let is : t ≡ node o (trees_of kts) = p.1 ∙ ap (λ l. node o (trees_of l)) nil in
         let built : value (terms_over m.has) frame (build o ks) ≡ Some t = rw (et, h, eq-eqb (length kts) (arity o) long) (ap Some (sym is)) in
@@ -81,9 +75,9 @@ module _ {A : Type 0} (m : Meaning A) (lawful : Lawful m) (frame : List Tree) (v
         let c = guarded (m.has o) (length g.0 == arity o) (Some (m.built o g.0)) b.0 g.2 in
         let is_built : m.built o g.0 ≡ b.0 = cc in
         let count : length g.0 ≡ keys o = sym (ap length same) ∙ kv.2 ∙ n in
-        let u = lawful.undone_of o g.0 [] p.0 h count (ap length (append_nil g.0) ∙ eqb-true _ _ c.1)
+        let u = lawful.undone_of o g.0 [] p.0 h count (ap length (append-nil g.0) ∙ eqb-true _ _ c.1)
         (All-from_recursion (λ x. IsTrue (m.is_value x)) g.0 (values_are m lawful vs valued ks g.0 g.1)) (All-from_recursion (λ x. IsTrue (m.is_value x)) [] tt) in
-        (g.0, b.0, [], g.1, b.2, count, ap (m.undone o g.0) (sym is_built ∙ ap (m.built o) (sym (append_nil g.0))) ∙ u)
+        (g.0, b.0, [], g.1, b.2, count, ap (m.undone o g.0) (sym is_built ∙ ap (m.built o) (sym (append-nil g.0))) ∙ u)
     undone_too (p ∷ ps) e =
         let first : value (terms_over m.has) frame (part o 0 ks r) ≡ Some p = rw (et, er, h, eq-eqb (length kts) (keys o) n, e) in
         let b = agree.one (part o 0 ks r) (part o 0 ks r) p first first in
@@ -96,7 +90,7 @@ module _ {A : Type 0} (m : Meaning A) (lawful : Lawful m) (frame : List Tree) (v
   -- a demand that is true in terms is true of values
   pub agree_holds : (d : Demand) → holds (terms_over m.has) frame d ≡ true → holds m vs d ≡ true
   agree_holds (opens o ks r) e =
-      let x = there (undoing (terms_over m.has) frame o ks r) e in
+      let x = is_there_some (undoing (terms_over m.has) frame o ks r) e in
       let a = bound (λ kv. option_and_then (undone_if (terms_over m.has) o kv) (value (terms_over m.has) frame r)) (values (terms_over m.has) frame ks) x.0 x.1 in
       let b = bound (undone_if (terms_over m.has) o a.0) (value (terms_over m.has) frame r) x.0 a.2 in
       let u = undone_is (terms_over m.has) o a.0 b.0 x.0 b.2 in
@@ -109,7 +103,7 @@ module _ {A : Type 0} (m : Meaning A) (lawful : Lawful m) (frame : List Tree) (v
 
   pub agree_all_hold : (ds : List Demand) → all_hold (terms_over m.has) frame ds ≡ true → all_hold m vs ds ≡ true
   agree_all_hold [] e = refl
-  agree_all_hold (d ∷ ds) e = let b = both (holds (terms_over m.has) frame d) (all_hold (terms_over m.has) frame ds) e in rw (agree_holds d b.0) (agree_all_hold ds b.1)
+  agree_all_hold (d ∷ ds) e = let b = and_parts (holds (terms_over m.has) frame d) (all_hold (terms_over m.has) frame ds) e in rw (agree_holds d b.0) (agree_all_hold ds b.1)
 
 pub agree_holds_all : {A : Type 0} (m : Meaning A) → Lawful m → AgreeHolds m
 agree_holds_all m lawful frame vs ds valued agree e = agree_all_hold m lawful frame vs agree (recursion_from_All (λ x. IsTrue (m.is_value x)) vs valued) ds e

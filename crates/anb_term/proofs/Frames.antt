@@ -1,15 +1,12 @@
 -- Values of recipes, and agreement, over more labels and over fewer.
-use Rattle.std.proofs.Common.{◌≡◌, ℕ, zero, suc, List, [], ◌∷◌, ◌++◌, length, Option, Some, refl, sym, ap, ◌∙◌, arith, length-append}
+use Rattle.std.proofs.Common.{◌≡◌, ℕ, zero, suc, List, [], ◌∷◌, ◌++◌, length, Some, refl, sym, ap, ◌∙◌, arith, length-append}
 use Rattle.std.specs.Prelude.{slice_get, option_and_then}
 use Rattle.anb_term.specs.Tree.{Tree}
 use Rattle.anb_term.specs.Value.{Meaning, RecipeTree, label, build, part, RecipeTrees, no_recipes, more_recipes, value, values, build_if, part_if, cons_both}
 use Rattle.anb_term.specs.FreeAlgebra.{terms_over}
 use Rattle.anb_term.specs.Agree.{Agree}
-use Rattle.anb_term.proofs.Lists.{slice_get-append}
+use Rattle.anb_term.proofs.Lists.{slice_get-append, cons_of_both}
 use Rattle.anb_term.proofs.Steps.{bound, consed}
-
-pair : {A : Type 0} (o : Option A) (os : Option (List A)) (x : A) (xs : List A) → o ≡ Some x → os ≡ Some xs → cons_both o os ≡ Some (x ∷ xs)
-pair o os x xs e f = rw (e, f)
 
 module _ {A : Type 0} (m : Meaning A) (xs ys : List A) where
   mutual
@@ -28,7 +25,7 @@ module _ {A : Type 0} (m : Meaning A) (xs ys : List A) where
     values_more no_recipes vs e = e
     values_more (more_recipes r rs) vs e =
         let c = consed (value m xs r) (values m xs rs) vs e in
-        pair (value m (xs ++ ys) r) (values m (xs ++ ys) rs) c.0 c.1 (value_more r c.0 c.2) (values_more rs c.1 c.3) ∙ ap Some (sym c.4)
+        cons_of_both (value m (xs ++ ys) r) (values m (xs ++ ys) rs) c.0 c.1 (value_more r c.0 c.2) (values_more rs c.1 c.3) ∙ ap Some (sym c.4)
 
 get_same : {A B : Type 0} (xs : List B) (vs ws : List A) (n : ℕ) (t : B) → length vs ≡ length xs → slice_get xs n ≡ Some t → slice_get (vs ++ ws) n ≡ slice_get vs n
 get_same [] vs ws n t l e = cc

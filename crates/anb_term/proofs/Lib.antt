@@ -7,7 +7,7 @@ pub mod Related
 pub mod Every
 mod NewAtom
 mod Translate
-mod Places
+pub mod Places
 mod RecipeViews
 mod Picking
 mod Parts

@@ -1,8 +1,22 @@
 -- Lemmas on lists: what stands at a place, after other lists, maps and writes; parts of lists; what holds of each.
-use Rattle.std.proofs.Common.{◌≡◌, ℕ, zero, suc, ◌<◌, ◌≤◌, List, [], ◌∷◌, ◌++◌, length, map, get_or, take, drop, set, Some, refl, ap, sym, subst, arith, inl, inr, ◌⊎◌}
+use Rattle.std.proofs.Common.{◌≡◌, ℕ, zero, suc, ◌<◌, ◌≤◌, List, [], ◌∷◌, ◌++◌, length, map, get_or, take, drop, set, Some, refl, ap, sym, subst, arith, inl, inr, ◌⊎◌, Option, true, None, ◌∙◌, ◌+◌, Bool, false}
 use Rattle.std.specs.Prelude.{slice_get}
 use Rattle.std.specs.List.{AllByRecursion}
+use Rattle.std.proofs.lemmas.List.{drop_more}
+use Rattle.std.proofs.lemmas.Bool.{and_parts}
+use Rattle.anb_lemmas.proofs.Lists.{map_drop_next}
 pub use Rattle.anb_term.specs.FreeLawful.{map-append}
+use Rattle.anb_term.specs.Value.{cons_both, Meaning, RecipeTree, recipe_trees, value, values}
+use Rattle.anb_term.specs.Demand.{is_there, Demand, all_hold, holds}
+use Rattle.anb_term.specs.declared.term.Term.{Term}
+use Rattle.anb_term.specs.View.{tree_of, term_of}
+use Rattle.anb_term.specs.TreeSame.{term_of-tree_of, tree_same}
+use Rattle.anb_term.specs.declared.term.Op.TheVariants.{Hash, Mac, Seal, Wrap, Format}
+use Rattle.anb_term.specs.declared.term.Op.{Op}
+use Rattle.anb_term.specs.Operator.{arity, keys}
+use Rattle.anb_term.specs.Tree.{Tree, leaf, node, tree_size, trees_size, trees_of, Trees, none, more, list_of, AreFormed, IsFormed, tree_eqb}
+use Rattle.anb_term.specs.Lawful.{picked}
+use Rattle.anb_term.proofs.Steps.{consed}
 
 pub slice_get-append : {A : Type 0} (xs ys : List A) (n : ℕ) (x : A) → slice_get xs n ≡ Some x → slice_get (xs ++ ys) n ≡ Some x
 slice_get-append [] ys n x e = cc
@@ -13,12 +27,6 @@ pub slice_get-map : {A B : Type 0} (f : A → B) (xs : List A) (j : ℕ) (x : A)
 slice_get-map f [] j x e = cc
 slice_get-map f (y ∷ ys) zero x e = let s : y ≡ x = cc in ap (λ z. Some (f z)) s
 slice_get-map f (y ∷ ys) (suc j) x e = slice_get-map f ys j x e
-
--- what stands somewhere stands within
-pub slice_get-within : {A : Type 0} (xs : List A) (i : ℕ) (x : A) → slice_get xs i ≡ Some x → i < length xs
-slice_get-within [] i x e = cc
-slice_get-within (y ∷ xs) zero x e = omega arith
-slice_get-within (y ∷ xs) (suc i) x e = omega (arith, slice_get-within xs i x e)
 
 -- something stands at each place within
 pub slice_get-there : {A : Type 0} (xs : List A) (i : ℕ) → i < length xs → (x : A) × (slice_get xs i ≡ Some x)
@@ -86,12 +94,6 @@ set-at (y ∷ xs) (suc i) (suc k) v x e = step (set-at xs i k v x e) where
   step (inl h) = inl (ap suc h.0, h.1)
   step (inr h) = inr h
 
--- what holds of each
-pub all_at : {A : Type 0} (P : A → Type 0) (xs : List A) (j : ℕ) (x : A) → AllByRecursion P xs → slice_get xs j ≡ Some x → P x
-all_at P [] j x h e = cc
-all_at P (y ∷ xs) zero x h e = let s : y ≡ x = cc in subst P s h.0
-all_at P (y ∷ xs) (suc j) x h e = all_at P xs j x h.1 e
-
 pub all_drop : {A : Type 0} (P : A → Type 0) (n : ℕ) (xs : List A) → AllByRecursion P xs → AllByRecursion P (drop n xs)
 all_drop P zero xs h = h
 all_drop P (suc n) [] h = h
@@ -102,6 +104,67 @@ all_take P zero xs h = tt
 all_take P (suc n) [] h = h
 all_take P (suc n) (x ∷ xs) h = (h.0, all_take P n xs h.1)
 
-pub all_append : {A : Type 0} (P : A → Type 0) (xs ys : List A) → AllByRecursion P xs → AllByRecursion P ys → AllByRecursion P (xs ++ ys)
-all_append P [] ys h k = k
-all_append P (x ∷ xs) ys h k = (h.0, all_append P xs ys h.1 k)
+pub cons_of_both : {A : Type 0} (a : Option A) (b : Option (List A)) (x : A) (xs : List A) → a ≡ Some x → b ≡ Some xs → cons_both a b ≡ Some (x ∷ xs)
+cons_of_both a b x xs e f = rw (e, f)
+
+pub is_there_some : {A : Type 0} (o : Option A) → is_there o ≡ true → (x : A) × (o ≡ Some x)
+is_there_some None e = cc
+is_there_some (Some x) e = (x, refl)
+
+pub one_term : (x y : Term) → tree_of x ≡ tree_of y → x ≡ y
+one_term x y e = sym (term_of-tree_of x) ∙ ap term_of e ∙ term_of-tree_of y
+
+pub keys_fit : (o : Op) → keys o ≤ arity o
+keys_fit Hash = omega arith
+keys_fit Mac = omega arith
+keys_fit Seal = omega arith
+keys_fit Wrap = omega arith
+keys_fit (Format i a) = omega arith
+
+pub size_some : (t : Tree) → 1 ≤ tree_size t
+size_some (leaf n) = omega arith
+size_some (node o ts) = omega arith
+
+pub one_size : (xs : List Term) (i : ℕ) (x : Term) → i < length xs → x ≡ get_or xs i x → tree_size (tree_of x) ≤ trees_size (trees_of (map tree_of xs))
+one_size [] i x h e = absurd (omega arith)
+one_size (y ∷ ys) zero x h e = let s = ap (λ z. tree_size (tree_of z)) e in omega arith
+one_size (y ∷ ys) (suc i) x h e = omega (arith, one_size ys i x (omega arith) e)
+
+pub split_at : (xs : List Term) (i : ℕ) (x : Term) → i < length xs → x ≡ get_or xs i x → map tree_of (drop i xs) ≡ tree_of x ∷ map tree_of (drop (i + 1) xs)
+split_at xs i x h e = ap (map tree_of) (drop_more xs i x h) ∙ ap (λ y. tree_of y ∷ map tree_of (drop (i + 1) xs)) (sym e)
+
+pub formed_items : (has : Op → Bool) (us : Trees) → AreFormed has us → AreFormed has (trees_of (list_of us))
+formed_items has none a = tt
+formed_items has (more u us) a = (a.0, formed_items has us a.1)
+
+pub formed_take : (has : Op → Bool) (n : ℕ) (xs : List Tree) → AreFormed has (trees_of xs) → AreFormed has (trees_of (take n xs))
+formed_take has zero xs a = tt
+formed_take has (suc n) [] a = a
+formed_take has (suc n) (x ∷ xs) a = (a.0, formed_take has n xs a.1)
+
+pub each_formed : (has : Op → Bool) (us : Trees) → AreFormed has us → AllByRecursion (IsFormed has) (list_of us)
+each_formed has none a = tt
+each_formed has (more u us) a = (a.0, each_formed has us a.1)
+
+pub formed_next : (has : Op → Bool) (ts : List Term) (i : ℕ) (t : Term) → i < length ts → t ≡ get_or ts i t → AreFormed has (trees_of (map tree_of (drop i ts)))
+    → IsFormed has (tree_of t) × AreFormed has (trees_of (map tree_of (drop (i + 1) ts)))
+formed_next has ts i t h e a = let P : List Tree → Type 0 = λ us. AreFormed has (trees_of us) in subst P (map_drop_next tree_of ts i t h e) a
+
+pub tree_differs : (b : Bool) (x y : Tree) → tree_eqb x y ≡ b → (x ≡ y → ⊥) → tree_eqb x y ≡ false
+tree_differs true x y e h = absurd (h (tree_same x y e))
+tree_differs false x y e h = e
+
+pub picked_length : {A : Type 0} (table : List A) (ns : List ℕ) → AllByRecursion (λ n. n < length table) ns → length (picked table ns) ≡ length ns
+picked_length table [] h = refl
+picked_length table (n ∷ ns) h = let x = slice_get-there table n h.0 in rw x.1 (ap suc (picked_length table ns h.1))
+
+pub values_length : {A : Type 0} (m : Meaning A) (frame : List A) (rs : List RecipeTree) (xs : List A) → values m frame (recipe_trees rs) ≡ Some xs → length xs ≡ length rs
+values_length m frame [] xs e = let s : [] ≡ xs = cc in ap length (sym s)
+values_length m frame (r ∷ rs) xs e = let c = consed (value m frame r) (values m frame (recipe_trees rs)) xs e in ap length c.4 ∙ ap suc (values_length m frame rs c.1 c.3)
+
+pub hold_split : {A : Type 0} (m : Meaning A) (vs : List A) (ds es : List Demand) → all_hold m vs (ds ++ es) ≡ true → (all_hold m vs ds ≡ true) × (all_hold m vs es ≡ true)
+hold_split m vs [] es h = (refl, h)
+hold_split m vs (d ∷ ds) es h =
+    let b = and_parts (holds m vs d) (all_hold m vs (ds ++ es)) h in
+    let c = hold_split m vs ds es b.1 in
+    (rw (b.0, c.0) refl, c.1)

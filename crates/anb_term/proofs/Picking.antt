@@ -7,12 +7,9 @@ use Rattle.std.proofs.lemmas.List.Elements.{recursion_from_All, filter_map-appen
 use Rattle.std.proofs.lemmas.Option.{slice_get-get_or}
 use Rattle.anb_term.specs.declared.term.Term.{Term}
 use Rattle.anb_term.specs.View.{tree_of, term_of}
-use Rattle.anb_term.specs.TreeSame.{term_of-tree_of, trees_terms}
-use Rattle.anb_term.proofs.Lists.{map-drop, map-take}
+use Rattle.anb_term.specs.TreeSame.{trees_terms}
+use Rattle.anb_term.proofs.Lists.{map-drop, map-take, one_term}
 use Rattle.anb_term.specs.Lawful.{picked}
-
-one_term : (x y : Term) → tree_of x ≡ tree_of y → x ≡ y
-one_term x y e = sym (term_of-tree_of x) ∙ ap term_of e ∙ term_of-tree_of y
 
 pub terms_at : (xs ys : List Term) (i : ℕ) (x y : Term) → i < length xs → x ≡ get_or xs i x → y ≡ get_or ys i y → map tree_of xs ≡ map tree_of ys → x ≡ y
 terms_at [] ys i x y h ex ey e = absurd (omega arith)

@@ -19,7 +19,7 @@ pub all_first : (n m : ℕ) → n ≤ m → All (λ i. i < m) (first_places n)
 all_first zero m h = All-nil (λ i. i < m)
 all_first (suc n) m h = All-push (λ i. i < m) (first_places n) n (all_first n m (omega arith)) (omega arith)
 
-one_more : {A : Type 0} (zs : List A) (n : ℕ) (d : A) → n < length zs → picked zs (first_places n) ≡ take n zs → picked zs (first_places (suc n)) ≡ take (suc n) zs
+pub one_more : {A : Type 0} (zs : List A) (n : ℕ) (d : A) → n < length zs → picked zs (first_places n) ≡ take n zs → picked zs (first_places (suc n)) ≡ take (suc n) zs
 one_more zs n d h before =
     filter_map-append (slice_get zs) (first_places n) (n ∷ []) ∙ rw (before, slice_get-get_or zs n d h, take-suc zs n d h)
 

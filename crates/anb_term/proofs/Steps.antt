@@ -6,19 +6,6 @@ use Rattle.anb_term.specs.declared.term.Op.{Op}
 use Rattle.anb_term.specs.Operator.{arity, keys}
 use Rattle.anb_term.specs.Value.{Meaning, build_if, part_if, cons_both}
 
-pub both : (a b : Bool) → (a && b) ≡ true → (a ≡ true) × (b ≡ true)
-both true true e = (refl, refl)
-both true false e = cc
-both false b e = cc
-
-pub chosen : {A : Type 0} (b : Bool) (x t : A) → cond b (Some x) None ≡ Some t → (b ≡ true) × (x ≡ t)
-chosen true x t e = (refl, cc)
-chosen false x t e = cc
-
-pub guard : {A : Type 0} (b : Bool) (o : Option A) (t : A) → cond b o None ≡ Some t → (b ≡ true) × (o ≡ Some t)
-guard true o t e = (refl, e)
-guard false o t e = cc
-
 pub guarded : {X : Type 0} (a b : Bool) (x : Option X) (y : X) → cond (a && b) x None ≡ Some y → (a ≡ true) × (b ≡ true) × (x ≡ Some y)
 guarded true true x y e = (refl, refl, e)
 guarded true false x y e = cc

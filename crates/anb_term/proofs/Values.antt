@@ -5,6 +5,7 @@ use Rattle.std.specs.List.{AllByRecursion}
 use Rattle.std.proofs.lemmas.Bool.{eqb-true}
 use Rattle.std.proofs.lemmas.List.Elements.{All-from_recursion, recursion_from_All}
 use Rattle.std.proofs.Math.Seq.{take-append_seam, drop-append_seam}
+use Rattle.anb_lemmas.proofs.Each.{each_got}
 use Rattle.anb_term.specs.declared.term.Op.{Op}
 use Rattle.anb_term.specs.Operator.{arity, keys, undoable}
 use Rattle.anb_term.specs.Lawful.{Lawful}
@@ -12,7 +13,6 @@ use Rattle.anb_term.specs.Value.{Meaning, RecipeTree, label, build, part, Recipe
 use Rattle.anb_term.specs.FreeAlgebra.{terms_over}
 use Rattle.anb_term.specs.FreeLawful.{parts_are}
 use Rattle.anb_term.specs.Statements.{PartInTerms, OneValue, BuildsByOwn, UndoesByOwn, GiveValues, GivesOne}
-use Rattle.anb_term.proofs.Lists.{all_at}
 use Rattle.anb_term.proofs.Steps.{guarded, bound, consed}
 
 -- the same as `AreValues`, by recursion
@@ -68,7 +68,7 @@ module _ {A : Type 0} (m : Meaning A) (lawful : Lawful m) where
   module _ (vs : List A) (valued : Valued m vs) where
     mutual
       pub value_is : (r : RecipeTree) (b : A) → value m vs r ≡ Some b → IsTrue (m.is_value b)
-      value_is (label n) b e = all_at (λ x. IsTrue (m.is_value x)) vs n b valued e
+      value_is (label n) b e = each_got (λ x. IsTrue (m.is_value x)) vs n b valued e
       value_is (build o rs) b e =
           let x = bound (build_if m o) (values m vs rs) b e in
           let g = guarded (m.has o) (length x.0 == arity o) (Some (m.built o x.0)) b x.2 in
@@ -80,7 +80,7 @@ module _ {A : Type 0} (m : Meaning A) (lawful : Lawful m) where
           let g = guarded (m.has o) (length x.0 == keys o) (option_and_then (λ ps. slice_get ps j) (m.undone o x.0 y.0)) b y.2 in
           let ps = bound (λ ps. slice_get ps j) (m.undone o x.0 y.0) b g.2 in
           let u = undone_parts o x.0 ps.0 y.0 g.0 (eqb-true _ _ g.1) (values_are ks x.0 x.1) (value_is r y.0 y.1) ps.1 in
-          all_at (λ z. IsTrue (m.is_value z)) ps.0 j b u.3 ps.2
+          each_got (λ z. IsTrue (m.is_value z)) ps.0 j b u.3 ps.2
 
       pub values_are : (rs : RecipeTrees) (bs : List A) → values m vs rs ≡ Some bs → Valued m bs
       values_are no_recipes bs e = let s : [] ≡ bs = cc in subst (Valued m) s tt

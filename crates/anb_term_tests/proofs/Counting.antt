@@ -11,10 +11,6 @@ use Rattle.anb_term.specs.TreeSame.{list_of-trees_of}
 use Rattle.anb_term.specs.View.{tree_of}
 use Rattle.anb_term.proofs.Lists.{map-append}
 
-pub if_any : {T : Type 0} (r : Option T) (Q : Type 0) → Q → IfSome r (λ n. Q)
-if_any None Q q = tt
-if_any (Some x) Q q = q
-
 pub one_more : (r : Option ℕ) (n k : ℕ) → SomeIff r (n + 1 < 2 ^ 64) (n + 1) → n + 1 ≡ k → IfSome r (λ m. m ≡ k)
 one_more None n k s e = tt
 one_more (Some x) n k s e = s.1 ∙ e

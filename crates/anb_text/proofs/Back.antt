@@ -15,11 +15,12 @@ use Rattle.anb_code.specs.RawValue.{RawInstrValue, RawValue}
 use Rattle.anb_code.specs.Registers as registers
 use Rattle.anb_code.specs.Spelling.{code_of, instr_of, is_named, name_at, name_of, place_of, raw_instr, raw_instrs, raw_of, spelled, what_of}
 use Rattle.anb_code.specs.Table.{CountsAre, IsAccepted, where_true, faults_from, format_faults, has_fields, has_its_format, instr_faults, is_late, is_taken, reads_unwritten, writes_next, writes_wide, written}
-use Rattle.anb_code.proofs.Accepted.{both_empty, holds_not}
+use Rattle.anb_code.proofs.Accepted.{holds_not}
 use Rattle.anb_code.proofs.Naming.{count_written-instr_of, has_fields_there, slice_get-place_of}
 use Rattle.anb_code.proofs.Steps.{written-push}
 use Rattle.anb_text.specs.Lines.{IsInstr, IsNameFor}
 use Rattle.anb_lemmas.proofs.Items.{no_items, one_item, two_items, three_items}
+use Rattle.anb_lemmas.proofs.Lists.{both_empty}
 
 -- ---- one instruction
 

@@ -4,25 +4,16 @@ use Rattle.std.specs.Prelude.{IfSome, IsSomeAnd, ◌==◌}
 use Rattle.std.specs.Str.{bytes_eq}
 use Rattle.std.proofs.lemmas.Bool.{eq-eqb}
 use Rattle.std.proofs.lemmas.Slice.Eq.{bytes_eq-Decides}
+use Rattle.anb_lemmas.proofs.Options.{guard_passed}
 use Rattle.anb_text.specs.Reading.{◌>>=◌}
-
-pub bytes_same : (a : List ℕ) → bytes_eq a a ≡ true
-bytes_same a = (bytes_eq-Decides a a).1 refl
 
 pub same_bytes : (a b : List ℕ) → bytes_eq a b ≡ true → b ≡ a
 same_bytes a b h = sym ((bytes_eq-Decides a b).0 h)
 
--- what passed a test, or what the rest gives
+-- what guard_passed a test, or what the rest gives
 pub chosen : {A : Type 0} (test : Bool) (this other : Option A) (a : A) → cond test this other ≡ Some a → ((test ≡ true) × (this ≡ Some a)) ⊎ (other ≡ Some a)
 chosen true this other a e = inl (refl, e)
 chosen false this other a e = inr e
-
-pub passed : {A : Type 0} (test : Bool) (this : Option A) (a : A) → cond test this None ≡ Some a → (test ≡ true) × (this ≡ Some a)
-passed true this a e = (refl, e)
-passed false this a e = cc
-
-pub same_some : {A : Type 0} (a b : A) → ◌≡◌ {A = Option A} (Some a) (Some b) → a ≡ b
-same_some a b e = cc
 
 -- the first of two steps
 pub record First {A B : Type 0} (first : Option A) (second : A → Option B) (b : B) : Type 0 where

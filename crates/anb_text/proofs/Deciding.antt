@@ -5,7 +5,7 @@ use Rattle.std.specs.List.{AllByRecursion, flat_map}
 use Rattle.std.specs.Str.{bytes_eq}
 use Rattle.std.proofs.Math.Seq.{take-append_seam}
 use Rattle.anb_base.specs.Bytes.{IsBytes}
-use Rattle.anb_format.specs.Formats.{FormatValue}
+use Rattle.anb_format.specs.Formats.{FormatValue, IsBytesPiece}
 use Rattle.anb_format.specs.Literals.{canonical_spelling}
 use Rattle.anb_format.specs.declared.pieces.FieldKind.TheVariants.{Len, Net, Hex, Rest}
 use Rattle.anb_format.specs.declared.pieces.Piece.{Piece}
@@ -13,7 +13,7 @@ use Rattle.anb_format.specs.declared.pieces.Piece.TheVariants.{Lit, Field}
 use Rattle.anb_syntax.specs.Words.{is_name}
 use Rattle.anb_text.specs.declared.lines.Line.{Line}
 use Rattle.anb_text.specs.declared.lines.Line.TheVariants as line
-use Rattle.anb_text.specs.Lines.{IsFormat, IsLine, IsPiece, line_bytes, spaced_piece}
+use Rattle.anb_text.specs.Lines.{IsFormat, IsLine, line_bytes, spaced_piece}
 use Rattle.anb_text.specs.Reading.{line_of, words_of}
 use Rattle.anb_text.proofs.ReadFacts.{a_prefix, line_found, no_format_line, no_line, no_prefix}
 use Rattle.anb_lemmas.proofs.Searching.{Decided, SomeList, Tries, below_decided, bytes_tried, decided_as, items_many, lists_decided, longer_decided, same_decided, three_decided, truth_decided}
@@ -56,11 +56,11 @@ pieces_tried : (m : ℕ) → Tries (IsSmallPiece m)
 pieces_tried m P each =
     first_piece m P (each (Field Len)) (each (Field Net)) (each (Field Hex)) (each (Field Rest)) (lists_decided (λ b. b < 256) bytes_tried m (λ text. P (Lit text)) (λ text. each (Lit text)))
 
-piece_is : (m : ℕ) (piece : Piece) → IsSmallPiece m piece → IsPiece piece
+piece_is : (m : ℕ) (piece : Piece) → IsSmallPiece m piece → IsBytesPiece piece
 piece_is m (Lit text) small = are_bytes text small.0
 piece_is m (Field kind) small = tt
 
-pieces_are : (m : ℕ) (pieces : List Piece) → AllByRecursion (IsSmallPiece m) pieces → AllByRecursion IsPiece pieces
+pieces_are : (m : ℕ) (pieces : List Piece) → AllByRecursion (IsSmallPiece m) pieces → AllByRecursion IsBytesPiece pieces
 pieces_are m [] all = tt
 pieces_are m (piece ∷ pieces) all = (piece_is m piece all.0, pieces_are m pieces all.1)
 
@@ -72,13 +72,13 @@ some_spelling : (b : ℕ) → 0 < length (canonical_spelling b)
 some_spelling b =
     either_some (b == 34) (92 ∷ 34 ∷ []) _ (omega arith) (either_some (b == 92) (92 ∷ 92 ∷ []) _ (omega arith) (either_some (nat_le 0x20 b && nat_le b 0x7e) (b ∷ []) _ (omega arith) (omega arith)))
 
-piece_small : (m : ℕ) (piece : Piece) → IsPiece piece → length (spaced_piece piece) ≤ m → IsSmallPiece m piece
+piece_small : (m : ℕ) (piece : Piece) → IsBytesPiece piece → length (spaced_piece piece) ≤ m → IsSmallPiece m piece
 piece_small m (Lit text) is within =
     let many = items_many canonical_spelling text some_spelling in
     (all_bytes text is, omega (arith, within, many, length-append (flat_map canonical_spelling text) (34 ∷ [])))
 piece_small m (Field kind) is within = tt
 
-pieces_small : (m : ℕ) (pieces : List Piece) → AllByRecursion IsPiece pieces → length (flat_map spaced_piece pieces) ≤ m → AllByRecursion (IsSmallPiece m) pieces
+pieces_small : (m : ℕ) (pieces : List Piece) → AllByRecursion IsBytesPiece pieces → length (flat_map spaced_piece pieces) ≤ m → AllByRecursion (IsSmallPiece m) pieces
 pieces_small m [] all within = tt
 pieces_small m (piece ∷ pieces) all within =
     let both = length-append (spaced_piece piece) (flat_map spaced_piece pieces) in

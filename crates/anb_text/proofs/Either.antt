@@ -15,7 +15,7 @@ use Rattle.anb_code.specs.Spelling.{code_of}
 use Rattle.anb_code.specs.Table.{code_faults, early_rests, faults_from, format_faults, instr_faults, is_empty, is_rest, shape_faults, where_true}
 use Rattle.anb_code.specs.Verified.{IsVerifiedCode}
 use Rattle.anb_code.specs.declared.refusal.CodeNo.{CodeNo}
-use Rattle.anb_code.proofs.Accepted.{both_empty, verified_code}
+use Rattle.anb_code.proofs.Accepted.{verified_code}
 use Rattle.anb_text.specs.declared.lines.Version.{Version}
 use Rattle.anb_text.specs.declared.lines.Line.{Line}
 use Rattle.anb_text.specs.declared.stages.Stage.{Stage}
@@ -23,7 +23,7 @@ use Rattle.anb_text.specs.declared.stages.Stage.TheVariants.{Start, Version as O
 use Rattle.anb_text.specs.declared.refusal.LoadNo.{LoadNo}
 use Rattle.anb_text.specs.declared.refusal.LoadNo.TheVariants.{Line as AtLine, Code, NoMemory}
 use Rattle.anb_text.specs.Laws.{EachIsEither}
-use Rattle.anb_text.specs.Lines.{IsFormat, IsLine, IsPiece, line_bytes}
+use Rattle.anb_text.specs.Lines.{IsFormat, IsLine, line_bytes}
 use Rattle.anb_text.specs.Refusals.{IsFirstFaulty, IsRefusal}
 use Rattle.anb_text.specs.RoleFiles.{IsTextOf}
 use Rattle.anb_text.specs.Stages.{HasRead, IsOneLine, IsSplit, IsStuck, ReadsOn, Spells, stage_after}
@@ -32,6 +32,7 @@ use Rattle.anb_text.proofs.LineLemmas.{lines_differ}
 use Rattle.anb_text.proofs.Loaded.{counts, faulty_code, fits, loaded}
 use Rattle.anb_text.proofs.Progress.{faulty_line, no_line, no_split, nothing_read, reads_more, split_at, whole_file}
 use Rattle.anb_lemmas.proofs.Searching.{Decided}
+use Rattle.anb_lemmas.proofs.Lists.{both_empty}
 
 -- ---- the next line
 
@@ -119,18 +120,10 @@ no_early k [] none i early = omega (arith, early.1)
 no_early k (piece ∷ pieces) none zero early = rest_there piece pieces (not_early _ _ (both_empty _ (early_rests (k + 1) pieces) none).0) early
 no_early k (piece ∷ pieces) none (suc i) early = no_early (k + 1) pieces (both_empty _ (early_rests (k + 1) pieces) none).1 i (early.0, omega (arith, early.1))
 
-bytes_piece : (piece : Piece) → IsPiece piece → IsBytesPiece piece
-bytes_piece (Lit text) is = is
-bytes_piece (Field kind) is = tt
-
-bytes_pieces : (pieces : List Piece) → AllByRecursion IsPiece pieces → AllByRecursion IsBytesPiece pieces
-bytes_pieces [] all = tt
-bytes_pieces (piece ∷ pieces) all = (bytes_piece piece all.0, bytes_pieces pieces all.1)
-
-sound : (pieces : List Piece) → AllByRecursion IsPiece pieces → shape_faults pieces ≡ [] → IsSound pieces
+sound : (pieces : List Piece) → AllByRecursion IsBytesPiece pieces → shape_faults pieces ≡ [] → IsSound pieces
 sound pieces all none =
     let parts = both_empty _ (early_rests 0 pieces) none in
-    record { head_stands = some_head (head pieces) (not_early _ _ parts.0); rest_is_last = no_early 0 pieces parts.1; literals = bytes_pieces pieces all }
+    record { head_stands = some_head (head pieces) (not_early _ _ parts.0); rest_is_last = no_early 0 pieces parts.1; literals = all }
 
 map_empty : {A B : Type 0} (f : A → B) (xs : List A) → map f xs ≡ [] → xs ≡ []
 map_empty f [] e = refl

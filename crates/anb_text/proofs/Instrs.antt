@@ -8,6 +8,8 @@ use Rattle.std.proofs.lemmas.Bool.Decides.{nat_tests}
 use Rattle.std.proofs.lemmas.List.Elements.{All-cons, All-head, All-nil, All-tail}
 use Rattle.std.proofs.lemmas.List.{append-nil}
 use Rattle.std.proofs.lemmas.List.Sums.{AllPass-from_list_all, list_all-from_AllPass}
+use Rattle.std.proofs.lemmas.Option.{same_Some}
+use Rattle.anb_lemmas.proofs.Options.{guard_passed}
 use Rattle.anb_values.specs.Lines.{IsLabel, is_label_byte}
 use Rattle.anb_syntax.specs.Words.{is_name}
 use Rattle.anb_code.specs.declared.raw.What.{What}
@@ -16,7 +18,7 @@ use Rattle.anb_code.specs.RawValue.{RawInstrValue}
 use Rattle.anb_code.specs.Table.{CountsAre}
 use Rattle.anb_text.specs.Lines.{IsInstr, IsNameFor, register, what_word}
 use Rattle.anb_text.specs.Reading.{◌>>=◌, Front, Named, after_equals, counted, counts_are, ended_front, front_of, instr_of, is_label, named, named_if, operation, what_of}
-use Rattle.anb_text.proofs.Choices.{bound, chosen, passed, same_bytes, same_some}
+use Rattle.anb_text.proofs.Choices.{bound, chosen, same_bytes}
 use Rattle.anb_text.proofs.Registers.{IsSmall, NoRegister, all_front, front_again, front_is}
 
 -- ---- facts of each item
@@ -49,7 +51,7 @@ what_again what.Send = refl
 -- a word that is this one, or one of the others
 one_of : (x : What) (word : List ℕ) (others : Option What) (w : What) → cond (bytes_eq (what_word x) word) (Some x) others ≡ Some w → (word ≡ what_word w) ⊎ (others ≡ Some w)
 one_of x word others w e = elim (chosen (bytes_eq (what_word x) word) (Some x) others w e) [
-  | inl this ↦ inl (same_bytes (what_word x) word this.0 ∙ ap what_word (same_some x w this.1))
+  | inl this ↦ inl (same_bytes (what_word x) word this.0 ∙ ap what_word (same_Some x w this.1))
   | inr other ↦ inr other
 ]
 
@@ -163,12 +165,12 @@ record IsFirst (test : List ℕ → Bool) (words : List (List ℕ)) (n : Named) 
 first_is : (test : List ℕ → Bool) (words : List (List ℕ)) (n : Named) → named_if test words ≡ Some n → IsFirst test words n
 first_is test [] n e = cc
 first_is test (word ∷ words) n e =
-    let k = passed (test word) (Some (record { name = word; rest = words })) n e in
-    let same : record { name = word; rest = words } ≡ n = same_some _ n k.1 in
+    let k = guard_passed (test word) (Some (record { name = word; rest = words })) n e in
+    let same : record { name = word; rest = words } ≡ n = same_Some _ n k.1 in
     subst (IsFirst test (word ∷ words)) same (record { stands = refl; name = k.0 })
 
 none_is : (words : List (List ℕ)) (n : Named) → ◌≡◌ {A = Option Named} (Some (record { name = []; rest = words })) (Some n) → (n.name ≡ []) × (words ≡ n.rest)
-none_is words n e = let same : record { name = []; rest = words } ≡ n = same_some _ n e in (sym (ap (λ (m : Named). m.name) same), ap (λ (m : Named). m.rest) same)
+none_is words n e = let same : record { name = []; rest = words } ≡ n = same_Some _ n e in (sym (ap (λ (m : Named). m.name) same), ap (λ (m : Named). m.rest) same)
 
 named_is : (w : What) (words : List (List ℕ)) (n : Named) → named w words ≡ Some n → IsNamed w words n
 named_is what.Take words n e = let k = first_is is_label words n e in record { stands = k.stands; name = label_is n.name k.name }
@@ -242,13 +244,13 @@ pub record IsRead (words : List (List ℕ)) (i : RawInstrValue) : Type 0 where
   pub is : IsInstr i
 
 counted_is : (i j : RawInstrValue) → counted i ≡ Some j → CountsAre i.what (length i.to) (length i.args) × (i ≡ j)
-counted_is i j e = let k = passed (counts_are i.what (length i.to) (length i.args)) (Some i) j e in (counts_hold i.what (length i.to) (length i.args) k.0, same_some i j k.1)
+counted_is i j e = let k = guard_passed (counts_are i.what (length i.to) (length i.args)) (Some i) j e in (counts_hold i.what (length i.to) (length i.args) k.0, same_Some i j k.1)
 
 ended_is : (front : Front) (args : List ℕ) → ended_front front ≡ Some args → (front.rest ≡ []) × (front.registers ≡ args)
 ended_is front args e = elim_rest front.registers front.rest e
   where
     elim_rest : (registers : List ℕ) (rest : List (List ℕ)) → ended_front (record { registers = registers; rest = rest }) ≡ Some args → (rest ≡ []) × (registers ≡ args)
-    elim_rest registers [] e = (refl, same_some registers args e)
+    elim_rest registers [] e = (refl, same_Some registers args e)
     elim_rest registers (w ∷ ws) e = cc
 
 record IsArgs (words : List (List ℕ)) (args : List ℕ) : Type 0 where
@@ -293,12 +295,12 @@ operation_is to (word ∷ words) i small e =
     parts_are to word words one.value two.value three.value i small one.is two.is three.is three.then
 
 after_is : (to : List ℕ) (words rest : List (List ℕ)) → after_equals to words ≡ Some rest → map register to ++ words ≡ target_words to rest
-after_is [] words rest e = same_some words rest e
+after_is [] words rest e = same_Some words rest e
 after_is (r ∷ rs) [] rest e = cc
 after_is (r ∷ rs) (word ∷ words) rest e =
-    let k = passed (bytes_eq (codes "=") word) (Some words) rest e in
+    let k = guard_passed (bytes_eq (codes "=") word) (Some words) rest e in
     ap (λ (x : List ℕ). register r ∷ (map register rs ++ x ∷ words)) (same_bytes (codes "=") word k.0)
-    ∙ ap (λ (xs : List (List ℕ)). register r ∷ (map register rs ++ codes "=" ∷ xs)) (same_some words rest k.1)
+    ∙ ap (λ (xs : List (List ℕ)). register r ∷ (map register rs ++ codes "=" ∷ xs)) (same_Some words rest k.1)
 
 pub instr_is : (words : List (List ℕ)) (i : RawInstrValue) → instr_of words ≡ Some i → IsRead words i
 unfolding instr_of

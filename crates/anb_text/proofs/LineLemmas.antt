@@ -4,12 +4,12 @@ use Rattle.std.specs.Prelude.{◌==◌, not, codes}
 use Rattle.std.specs.List.{AllPass, flat_map, list_all}
 use Rattle.std.proofs.lemmas.List.{append_cancel_left}
 use Rattle.std.proofs.lemmas.List.Sums.{AllPass-from_list_all}
+use Rattle.std.proofs.lemmas.Option.{same_Some}
 use Rattle.anb_format.specs.Formats.{FormatValue}
 use Rattle.anb_text.specs.declared.lines.Line.{Line}
 use Rattle.anb_text.specs.declared.lines.Line.TheVariants as line
 use Rattle.anb_text.specs.Lines.{IsFormat, IsLine, format_line, line_bytes, spaced_piece}
 use Rattle.anb_text.specs.Reading.{head_of, instr_of, line_of, operation, words_of}
-use Rattle.anb_text.proofs.Choices.{same_some}
 use Rattle.anb_text.proofs.Words.{both_all, is_within, joined_within, plain_within, words_again}
 use Rattle.anb_text.proofs.OtherLines.{IsOther, line_again, line_plain, line_text, line_words, name_plain, other_first}
 use Rattle.anb_text.proofs.Pieces.{pieces_end, pieces_once, pieces_within, plain_word, word_once}
@@ -36,7 +36,7 @@ other_again l h o =
     ap (λ x. line_of (words_of x)) (line_text l o) ∙ ap line_of (words_again (line_words l) some (line_plain l h o)) ∙ again
 
 others_differ : (one other : Line) → IsLine one → IsLine other → IsOther one → IsOther other → line_bytes one ≡ line_bytes other → one ≡ other
-others_differ one other h k o p e = same_some one other (sym (other_again one h o) ∙ ap (λ x. line_of (words_of x)) e ∙ other_again other k p)
+others_differ one other h k o p e = same_Some one other (sym (other_again one h o) ∙ ap (λ x. line_of (words_of x)) e ∙ other_again other k p)
 
 -- ---- all
 

@@ -9,6 +9,8 @@ use Rattle.std.proofs.lemmas.Grind.{flat_map-append}
 use Rattle.std.proofs.lemmas.List.{append-nil}
 use Rattle.std.proofs.lemmas.List.Folds.{flat_map-map}
 use Rattle.std.proofs.lemmas.List.Sums.{list_all-from_AllPass}
+use Rattle.std.proofs.lemmas.Option.{same_Some}
+use Rattle.anb_lemmas.proofs.Options.{guard_passed}
 use Rattle.anb_base.specs.declared.content.Suite.{Suite}
 use Rattle.anb_base.specs.declared.content.Suite.TheVariants as suite
 use Rattle.anb_values.specs.Lines.{IsLabel, is_label_byte}
@@ -23,7 +25,7 @@ use Rattle.anb_text.specs.declared.lines.Line.{Line}
 use Rattle.anb_text.specs.declared.lines.Line.TheVariants as line
 use Rattle.anb_text.specs.Lines.{IsInstr, IsLine, IsNameFor, destinations, instr_line, line_bytes, operands, register, spaced_name, version_digit, what_word}
 use Rattle.anb_text.specs.Reading.{◌>>=◌, head_of, instr_of, line_of, option_name, or_instr, version_of}
-use Rattle.anb_text.proofs.Choices.{bound, chosen, first_differs, passed, same_bytes, same_some}
+use Rattle.anb_text.proofs.Choices.{bound, chosen, first_differs, same_bytes}
 use Rattle.anb_text.proofs.Words.{IsPlain, behind, is_plain, joined}
 use Rattle.anb_text.proofs.Registers.{IsSmall, register_plain, registers_plain}
 use Rattle.anb_text.proofs.Instrs.{by_recursion, instr_again, instr_is, instr_words, name_words, operation_words, target_words}
@@ -128,14 +130,14 @@ pub record IsLineRead (words : List (List ℕ)) (l : Line) : Type 0 where
 
 version_is : (w : List ℕ) (v : Version) → version_of w ≡ Some v → w ≡ version_digit v
 version_is w v e = elim (chosen (bytes_eq (version_digit version.One) w) (Some version.One) _ v e) [
-  | inl one ↦ same_bytes (version_digit version.One) w one.0 ∙ ap version_digit (same_some version.One v one.1)
-  | inr other ↦ let two = passed (bytes_eq (version_digit version.Two) w) (Some version.Two) v other in same_bytes (version_digit version.Two) w two.0 ∙ ap version_digit (same_some version.Two v two.1)
+  | inl one ↦ same_bytes (version_digit version.One) w one.0 ∙ ap version_digit (same_Some version.One v one.1)
+  | inr other ↦ let two = guard_passed (bytes_eq (version_digit version.Two) w) (Some version.Two) v other in same_bytes (version_digit version.Two) w two.0 ∙ ap version_digit (same_Some version.Two v two.1)
 ]
 
 suite_is : (w : List ℕ) (s : Suite) → suite_of_word w ≡ Some s → w ≡ hash_name s
 suite_is w s e = elim (chosen (bytes_eq (hash_name suite.One) w) (Some suite.One) _ s e) [
-  | inl one ↦ same_bytes (hash_name suite.One) w one.0 ∙ ap hash_name (same_some suite.One s one.1)
-  | inr other ↦ let two = passed (bytes_eq (hash_name suite.Two) w) (Some suite.Two) s other in same_bytes (hash_name suite.Two) w two.0 ∙ ap hash_name (same_some suite.Two s two.1)
+  | inl one ↦ same_bytes (hash_name suite.One) w one.0 ∙ ap hash_name (same_Some suite.One s one.1)
+  | inr other ↦ let two = guard_passed (bytes_eq (hash_name suite.Two) w) (Some suite.Two) s other in same_bytes (hash_name suite.Two) w two.0 ∙ ap hash_name (same_Some suite.Two s two.1)
 ]
 
 -- two words, of which the first is this one and the second has a value
@@ -146,23 +148,23 @@ pair_is kind word value test make bytes l sound words same e =
     let k = bound (test value) (λ a. Some (make a)) l e in
     let a = k.value in
     let s = sound value a k.is in
-    subst (IsLineRead (word ∷ value ∷ [])) (same_some (make a) l k.then) (record {
+    subst (IsLineRead (word ∷ value ∷ [])) (same_Some (make a) l k.then) (record {
       stands = ap (λ (x : List ℕ). x ∷ value ∷ []) (same_bytes kind word same) ∙ ap (λ (x : List ℕ). kind ∷ x ∷ []) s.0 ∙ sym (words a);
       is = s.1.0;
       other = s.1.1;
     })
 
 name_is : (w name : List ℕ) → option_name w ≡ Some name → (w ≡ name) × (is_name name ≡ true)
-name_is w name e = let k = passed (is_name w) (Some w) name e in let same : w ≡ name = same_some w name k.1 in (same, subst (λ (x : List ℕ). is_name x ≡ true) same k.0)
+name_is w name e = let k = guard_passed (is_name w) (Some w) name e in let same : w ≡ name = same_Some w name k.1 in (same, subst (λ (x : List ℕ). is_name x ≡ true) same k.0)
 
 head_is : (words : List (List ℕ)) (l : Line) → head_of words ≡ Some l → IsLineRead words l
 unfolding head_of
 head_is [] l e = cc
 head_is (word ∷ []) l e = elim (chosen (bytes_eq (codes "code") word) (Some line.Code) _ l e) [
-  | inl code ↦ subst (IsLineRead (word ∷ [])) (same_some line.Code l code.1) (record { stands = ap (λ (x : List ℕ). x ∷ []) (same_bytes (codes "code") word code.0); is = tt; other = tt })
+  | inl code ↦ subst (IsLineRead (word ∷ [])) (same_Some line.Code l code.1) (record { stands = ap (λ (x : List ℕ). x ∷ []) (same_bytes (codes "code") word code.0); is = tt; other = tt })
   | inr others ↦
-      let end = passed (bytes_eq (codes "end") word) (Some line.End) l others in
-      subst (IsLineRead (word ∷ [])) (same_some line.End l end.1) (record { stands = ap (λ (x : List ℕ). x ∷ []) (same_bytes (codes "end") word end.0); is = tt; other = tt })
+      let end = guard_passed (bytes_eq (codes "end") word) (Some line.End) l others in
+      subst (IsLineRead (word ∷ [])) (same_Some line.End l end.1) (record { stands = ap (λ (x : List ℕ). x ∷ []) (same_bytes (codes "end") word end.0); is = tt; other = tt })
 ]
 head_is (word ∷ value ∷ []) l e = elim (chosen (bytes_eq (codes "anb-role") word) (version_of value >>= (λ v. Some (line.Version v))) _ l e) [
   | inl k ↦ pair_is (codes "anb-role") word value version_of line.Version version_digit l (λ w v h. (version_is w v h, (tt, tt))) (λ v. refl) k.0 k.1
@@ -173,7 +175,7 @@ head_is (word ∷ value ∷ []) l e = elim (chosen (bytes_eq (codes "anb-role") 
             elim (chosen (bytes_eq (codes "role") word) (option_name value >>= (λ n. Some (line.Role n))) _ l others) [
               | inl k ↦ pair_is (codes "role") word value option_name line.Role (λ n. n) l (λ w n h. let s = name_is w n h in (s.0, (s.1, tt))) (λ n. refl) k.0 k.1
               | inr others ↦
-                  let k = passed (bytes_eq (codes "suite") word) (suite_of_word value >>= (λ s. Some (line.Suite s))) l others in
+                  let k = guard_passed (bytes_eq (codes "suite") word) (suite_of_word value >>= (λ s. Some (line.Suite s))) l others in
                   pair_is (codes "suite") word value suite_of_word line.Suite hash_name l (λ w s h. (suite_is w s h, (tt, tt))) (λ s. refl) k.0 k.1
             ]
       ]
@@ -185,7 +187,7 @@ or_is words (Some m) l h e = head_is words l (h ∙ e)
 or_is words None l h e =
     let k = bound (instr_of words) (λ i. Some (line.Instr i)) l e in
     let r = instr_is words k.value k.is in
-    subst (IsLineRead words) (same_some (line.Instr k.value) l k.then) (record { stands = r.stands; is = r.is; other = tt })
+    subst (IsLineRead words) (same_Some (line.Instr k.value) l k.then) (record { stands = r.stands; is = r.is; other = tt })
 
 pub line_is : (words : List (List ℕ)) (l : Line) → line_of words ≡ Some l → IsLineRead words l
 line_is words l e = or_is words (head_of words) l refl e

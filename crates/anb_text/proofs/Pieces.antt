@@ -5,6 +5,7 @@ use Rattle.std.specs.List.{AllByRecursion, flat_map, list_all}
 use Rattle.std.proofs.lemmas.Bool.{and_parts}
 use Rattle.std.proofs.lemmas.Bool.Decides.{nat_tests}
 use Rattle.std.proofs.lemmas.List.{append_cancel_left}
+use Rattle.std.proofs.lemmas.Option.{same_Some}
 use Rattle.anb_base.specs.Bytes.{IsBytes}
 use Rattle.anb_format.specs.declared.pieces.FieldKind.{FieldKind}
 use Rattle.anb_format.specs.declared.pieces.FieldKind.TheVariants.{Len, Net, Hex, Rest}
@@ -12,12 +13,13 @@ use Rattle.anb_format.specs.declared.pieces.Piece.{Piece}
 use Rattle.anb_format.specs.declared.pieces.Piece.TheVariants.{Lit, Field}
 use Rattle.anb_format.specs.Literals.{Character, Plain, Quote, Backslash, Hexadecimal, IsAllowed, canonical_literal, spelling_of}
 use Rattle.anb_format.proofs.Canonical.{canonical}
+use Rattle.anb_format.specs.Formats.{IsBytesPiece}
 use Rattle.anb_syntax.specs.Words.{Word, literal, kind_word}
 use Rattle.anb_syntax.specs.Lexing.{token_here}
 use Rattle.anb_syntax.proofs.LiteralTokens.{literal_read}
-use Rattle.anb_text.specs.Lines.{IsPiece, spaced_piece}
+use Rattle.anb_text.specs.Lines.{spaced_piece}
 use Rattle.anb_text.specs.Reading.{IsEnd, IsWord}
-use Rattle.anb_text.proofs.Choices.{first_differs, same_some}
+use Rattle.anb_text.proofs.Choices.{first_differs}
 use Rattle.anb_text.proofs.Words.{IsPlain, both_all, is_plain, is_within}
 
 pub pieces_end : (ps : List Piece) → IsEnd (flat_map spaced_piece ps)
@@ -50,7 +52,7 @@ pub literal_once : (a b x y : List ℕ) → IsBytes a → IsBytes b → canonica
 literal_once a b x y h k e =
     let one = literal_read (canonical_literal a) a x (canonical a h) in
     let other = literal_read (canonical_literal b) b y (canonical b k) in
-    let both = same_some (literal a, length (canonical_literal a)) (literal b, length (canonical_literal b)) (sym one ∙ ap token_here e ∙ other) in
+    let both = same_Some (literal a, length (canonical_literal a)) (literal b, length (canonical_literal b)) (sym one ∙ ap token_here e ∙ other) in
     let words = ap (λ (t : Word × ℕ). t.0) both in
     let same : a ≡ b = cc (words) in
     (same, append_cancel_left (canonical_literal a) x y (e ∙ ap (λ (c : List ℕ). canonical_literal c ++ y) (sym same)))
@@ -83,13 +85,13 @@ behind_first : (b c : ℕ) (x y : List ℕ) → b ∷ x ≡ c ∷ y → x ≡ y
 behind_first b c x y e = cc
 
 -- texts that begin with pieces begin with the same one
-pub piece_once : (p q : Piece) (x y : List ℕ) → IsPiece p → IsPiece q → spaced_piece p ++ x ≡ spaced_piece q ++ y → (p ≡ q) × (x ≡ y)
+pub piece_once : (p q : Piece) (x y : List ℕ) → IsBytesPiece p → IsBytesPiece q → spaced_piece p ++ x ≡ spaced_piece q ++ y → (p ≡ q) × (x ≡ y)
 piece_once (Lit a) (Lit b) x y h k e = let inner : canonical_literal a ++ x ≡ canonical_literal b ++ y = behind_first 32 32 _ _ e in let both = literal_once a b x y h k inner in (ap Lit both.0, both.1)
 piece_once (Lit a) (Field k) x y h i e = absurd (no_quote k y _ (behind_first 32 32 _ _ (sym e)))
 piece_once (Field k) (Lit b) x y h i e = absurd (no_quote k x _ (behind_first 32 32 _ _ e))
 piece_once (Field k) (Field l) x y h i e = let inner : kind_word k ++ x ≡ kind_word l ++ y = behind_first 32 32 _ _ e in let both = kind_once k l x y inner in (ap Field both.0, both.1)
 
-pub pieces_once : (ps qs : List Piece) → AllByRecursion IsPiece ps → AllByRecursion IsPiece qs → flat_map spaced_piece ps ≡ flat_map spaced_piece qs → ps ≡ qs
+pub pieces_once : (ps qs : List Piece) → AllByRecursion IsBytesPiece ps → AllByRecursion IsBytesPiece qs → flat_map spaced_piece ps ≡ flat_map spaced_piece qs → ps ≡ qs
 pieces_once [] [] h k e = refl
 pieces_once [] (q ∷ qs) h k e = cc
 pieces_once (p ∷ ps) [] h k e = cc
@@ -125,10 +127,10 @@ kind_within Net = refl
 kind_within Hex = refl
 kind_within Rest = refl
 
-piece_within : (p : Piece) → IsPiece p → list_all is_within (spaced_piece p) ≡ true
+piece_within : (p : Piece) → IsBytesPiece p → list_all is_within (spaced_piece p) ≡ true
 piece_within (Lit b) h = literal_within b h
 piece_within (Field k) h = kind_within k
 
-pub pieces_within : (ps : List Piece) → AllByRecursion IsPiece ps → list_all is_within (flat_map spaced_piece ps) ≡ true
+pub pieces_within : (ps : List Piece) → AllByRecursion IsBytesPiece ps → list_all is_within (flat_map spaced_piece ps) ≡ true
 pieces_within [] h = refl
 pieces_within (p ∷ ps) h = both_all is_within (spaced_piece p) (flat_map spaced_piece ps) (piece_within p h.0) (pieces_within ps h.1)

@@ -1,6 +1,6 @@
 -- What is printed part by part is the role file.
 use Rattle.std.proofs.Common.{◌≡◌, ◌<◌, ◌≤◌, ◌+◌, ℕ, zero, suc, List, [], ◌∷◌, ◌++◌, length, map, get_or, ◌^◌, take, slice_get, Some, All, codes, refl, sym, ap, ◌∙◌, append_assoc, arith, add-zero}
-use Rattle.std.specs.List.{AllByRecursion, flat_map, range_with_len}
+use Rattle.std.specs.List.{flat_map, range_with_len}
 use Rattle.std.proofs.lemmas.List.{append-nil}
 use Rattle.std.proofs.lemmas.List.Elements.{All-from_recursion}
 use Rattle.std.proofs.lemmas.List.Sums.{sum_by-cons}
@@ -10,8 +10,9 @@ use Rattle.anb_code.specs.declared.instr.Instr.{Instr}
 use Rattle.anb_code.specs.CodeValue.{CodeValue}
 use Rattle.anb_code.specs.Registers.{count_written}
 use Rattle.anb_code.specs.Spelling.{raw_instr, raw_instrs, raw_of}
-use Rattle.anb_code.specs.Verified.{EachAfter, IsFormatAfter, IsVerifiedCode, count_registers}
+use Rattle.anb_code.specs.Verified.{IsVerifiedCode, count_registers}
 use Rattle.anb_code.proofs.Numbers.{range_more}
+use Rattle.anb_code.proofs.Accepted.{fields_after}
 use Rattle.anb_text.specs.declared.lines.Line.{Line}
 use Rattle.anb_text.specs.declared.lines.Line.TheVariants as line
 use Rattle.anb_text.specs.declared.lines.Version.TheVariants as version
@@ -48,12 +49,8 @@ put_registers new out old first count some e f =
 
 -- ---- what a verified code says of its fields and registers
 
-few_of : (before formats : List FormatValue) → EachAfter IsFormatAfter before formats → AllByRecursion (λ (format : FormatValue). field_count format.pieces ≤ 32) formats
-few_of before [] each = tt
-few_of before (format ∷ formats) each = (each.0.fields, few_of (before ++ format ∷ []) formats each.1)
-
 pub few_fields : (code : CodeValue) → IsVerifiedCode ARRIVAL WIDE code → All (λ (format : FormatValue). field_count format.pieces ≤ 32) code.formats
-few_fields code verified = All-from_recursion (λ (format : FormatValue). field_count format.pieces ≤ 32) code.formats (few_of [] code.formats verified.formats)
+few_fields code verified = All-from_recursion (λ (format : FormatValue). field_count format.pieces ≤ 32) code.formats (fields_after [] code.formats verified.formats)
 
 -- an instruction and those before it write no more than all
 few_at : (formats : List FormatValue) (instrs : List Instr) (i : ℕ) (instr : Instr) → slice_get instrs i ≡ Some instr → count_registers formats (take i instrs) + count_written formats instr ≤ count_registers formats instrs
@@ -73,7 +70,7 @@ line_at formats n (x ∷ instrs) (suc i) instr e =
     let place : n + count_written formats x + count_registers formats (take i instrs) ≡ n + count_registers formats (x ∷ take i instrs) = omega (arith, sum_by-cons (count_written formats) x (take i instrs)) in
     line_at formats (n + count_written formats x) instrs i instr e ∙ ap (λ m. Some (instr_line (raw_instr formats m instr))) place
 
-text_at : (code : CodeValue) (i : ℕ) (instr : Instr) → slice_get code.instrs i ≡ Some instr → slice_get (instr_lines code) i ≡ Some (instr_line (raw_instr code.formats (count_registers code.formats (take i code.instrs)) instr))
+pub text_at : (code : CodeValue) (i : ℕ) (instr : Instr) → slice_get code.instrs i ≡ Some instr → slice_get (instr_lines code) i ≡ Some (instr_line (raw_instr code.formats (count_registers code.formats (take i code.instrs)) instr))
 text_at code i instr e = line_at code.formats 0 code.instrs i instr e ∙ ap (λ m. Some (instr_line (raw_instr code.formats m instr))) (omega arith)
 
 there : (instrs : List Instr) (i : ℕ) (instr : Instr) → i < length instrs → instr ≡ get_or instrs i instr → slice_get instrs i ≡ Some instr

@@ -1,5 +1,5 @@
 -- Facts for the reader's functions.
-use Rattle.std.proofs.Common.{◌≡◌, ◌≤◌, ◌<◌, ◌^◌, ◌+◌, ℕ, zero, suc, List, [], ◌∷◌, ◌++◌, length, take, drop, Bool, true, false, Option, Some, None, nat_lt, refl, sym, ap, ◌∙◌, subst, cond, arith, inl, inr, append_assoc, length-append}
+use Rattle.std.proofs.Common.{◌≡◌, ◌≤◌, ◌<◌, ◌^◌, ◌+◌, ℕ, zero, suc, List, [], ◌∷◌, ◌++◌, length, take, drop, Bool, true, false, Option, Some, None, nat_lt, refl, sym, ap, ◌∙◌, subst, cond, arith, inl, inr, append_assoc}
 use Rattle.std.specs.Prelude.{◌==◌, not, codes, decimal, IfNone, IfOk, IfSome, MatchOption, Result, Ok, Err}
 use Rattle.std.specs.Borrow.{Bor}
 use Rattle.std.specs.List.{AllByRecursion, flat_map, list_all, position, prefix_len}
@@ -7,22 +7,27 @@ use Rattle.std.specs.Str.{IsAscii, IsUtf8, bytes_eq}
 use Rattle.std.proofs.Math.Seq.{take-append_seam, take-length}
 use Rattle.std.proofs.lemmas.Bool.{and_parts, cases_Bool, true≢false}
 use Rattle.std.proofs.lemmas.Bool.Decides.{nat_tests, same_from_decides}
-use Rattle.std.proofs.lemmas.List.{append-nil, append_cancel_left, flat_map_more, take-append-drop}
+use Rattle.std.proofs.lemmas.List.{append-nil, append_cancel_left, take-append-drop}
 use Rattle.std.proofs.lemmas.List.Sums.{prefix_len-le-length}
 use Rattle.std.proofs.lemmas.Str.{IsUtf8-from_ascii}
-use Rattle.anb_format.specs.Formats.{FormatValue}
+use Rattle.std.proofs.lemmas.Option.{same_Some}
+use Rattle.anb_lemmas.proofs.Options.{guard_passed}
+use Rattle.anb_lemmas.proofs.Items.{bytes_eq-same}
+use Rattle.anb_format.specs.Formats.{FormatValue, IsBytesPiece}
 use Rattle.anb_format.specs.declared.pieces.Piece.{Piece}
 use Rattle.anb_format.specs.declared.pieces.FieldKind.{FieldKind}
 use Rattle.anb_format.specs.declared.pieces.FieldKind.TheVariants.{Len, Net, Hex, Rest}
 use Rattle.anb_values.specs.Lines.{IsLabel, is_label_byte}
+use Rattle.anb_values.proofs.LineLemmas.{label_byte_is_ascii}
 use Rattle.anb_syntax.specs.Words.{kind_of_word, kind_word}
+use Rattle.anb_syntax.proofs.Names.{kind_again}
 use Rattle.anb_text.specs.declared.lines.Line.{Line}
-use Rattle.anb_text.specs.Lines.{IsFormat, IsLine, IsPiece, line_bytes, spaced_piece}
-use Rattle.anb_text.specs.Reading.{Front, IsEnd, IsWord, front_of, head_of, is_label, line_of, number_of, onto, option_name, register_of, words_of}
+use Rattle.anb_text.specs.Lines.{IsFormat, IsLine, line_bytes, spaced_piece}
+use Rattle.anb_text.specs.Reading.{Front, IsEnd, IsWord, front_of, head_of, is_label, line_of, number_of, option_name, words_of}
 use Rattle.anb_text.proofs.LineLemmas.{kinds, other_again}
 use Rattle.anb_text.proofs.OtherLines.{line_is, line_text, name_plain, other_first}
 use Rattle.anb_text.proofs.Words.{joined, text_again}
-use Rattle.anb_text.proofs.Choices.{bytes_same, chosen, passed, same_bytes, same_some}
+use Rattle.anb_text.proofs.Choices.{chosen, same_bytes}
 use Rattle.anb_text.proofs.Instrs.{label_again, label_is}
 use Rattle.anb_text.proofs.Pieces.{piece_once, pieces_end, plain_word, word_once}
 use Rattle.anb_text.proofs.Registers.{IsSmall, NoRegister, front_again, number_again, number_is}
@@ -31,7 +36,7 @@ use Rattle.anb_text.proofs.Registers.{IsSmall, NoRegister, front_again, number_a
 
 pub no_prefix : (prefix text rest : List ℕ) → bytes_eq (take (length prefix) text) prefix ≡ false → text ≡ prefix ++ rest → ⊥
 no_prefix prefix text rest differs e =
-    true≢false (sym (bytes_same prefix) ∙ ap (λ (x : List ℕ). bytes_eq x prefix) (sym (take-append_seam prefix rest) ∙ ap (take (length prefix)) (sym e)) ∙ differs)
+    true≢false (sym (bytes_eq-same prefix) ∙ ap (λ (x : List ℕ). bytes_eq x prefix) (sym (take-append_seam prefix rest) ∙ ap (take (length prefix)) (sym e)) ∙ differs)
 
 pub a_prefix : (prefix text rest : List ℕ) → bytes_eq (take (length prefix) text) prefix ≡ true → rest ≡ drop (length prefix) text → text ≡ prefix ++ rest
 a_prefix prefix text rest same e =
@@ -49,12 +54,9 @@ prefix_cases prefix text (Some x) h = a_prefix prefix text x.now h.0 h.1
 pub label_test : (r : Bool) (w : List ℕ) → (r ≡ true → IsLabel w) × (IsLabel w → r ≡ true) → r ≡ is_label w
 label_test r w h = same_from_decides r (is_label w) h (label_is w, label_again w)
 
-label_small : (b : ℕ) → is_label_byte b ≡ true → b < 128
-label_small b h = grind (arith, nat_tests)
-
 label_ascii : (w : List ℕ) → list_all is_label_byte w ≡ true → IsAscii w
 label_ascii [] h i = omega arith
-label_ascii (b ∷ w) h zero = label_small b (and_parts (is_label_byte b) (list_all is_label_byte w) h).0
+label_ascii (b ∷ w) h zero = label_byte_is_ascii b (and_parts (is_label_byte b) (list_all is_label_byte w) h).0
 label_ascii (b ∷ w) h (suc i) = label_ascii w (and_parts (is_label_byte b) (list_all is_label_byte w) h).1 i
 
 pub label_utf8 : (w : List ℕ) → is_label w ≡ true → IsUtf8 w
@@ -73,8 +75,8 @@ no_number digits found again e = absent digits (number_of digits) refl (λ n sma
 pub other_number : (digits : List ℕ) (found : Option ℕ) (n : ℕ) → ((m : ℕ) → m < 2 ^ 32 → digits ≡ decimal m → found ≡ Some m) → found ≡ Some n
     → bytes_eq (decimal n) digits ≡ false → None ≡ number_of digits
 other_number digits found n again e differs = absent digits (number_of digits) refl (λ m small h.
-    let same : n ≡ m = same_some n m (sym e ∙ again m small h) in
-    true≢false (sym (bytes_same (decimal n)) ∙ ap (bytes_eq (decimal n)) (ap decimal same ∙ sym h) ∙ differs))
+    let same : n ≡ m = same_Some n m (sym e ∙ again m small h) in
+    true≢false (sym (bytes_eq-same (decimal n)) ∙ ap (bytes_eq (decimal n)) (ap decimal same ∙ sym h) ∙ differs))
 
 pub this_number : (digits : List ℕ) (n : ℕ) → n < 2 ^ 32 → bytes_eq (decimal n) digits ≡ true → Some n ≡ number_of digits
 this_number digits n small same = sym (number_again n small) ∙ ap number_of (sym (same_bytes (decimal n) digits same))
@@ -100,8 +102,8 @@ first_cut (b ∷ x) = elim (cases_Bool (is_inside b)) [
 pub cut_some : (x : List ℕ) (at : ℕ) → position (λ b. b == 32) x ≡ Some at → IsWord (take at x) × IsEnd (drop at x)
 cut_some x at e =
     let n = prefix_len is_inside x in
-    let k = passed (nat_lt n (length x)) (Some n) at e in
-    subst (λ (m : ℕ). IsWord (take m x) × IsEnd (drop m x)) (same_some n at k.1) (first_cut x)
+    let k = guard_passed (nat_lt n (length x)) (Some n) at e in
+    subst (λ (m : ℕ). IsWord (take m x) × IsEnd (drop m x)) (same_Some n at k.1) (first_cut x)
 
 all_inside : (x : List ℕ) (n : ℕ) → cond (nat_lt n (length x)) (Some n) None ≡ None → n ≤ length x → IsWord (take n x) → IsWord x
 all_inside x n e within inside = elim (cases_Bool (nat_lt n (length x))) [
@@ -116,12 +118,6 @@ cut_none x e = all_inside x (prefix_len is_inside x) e (prefix_len-le-length is_
 
 -- ---- kinds of field
 
-pub kind_again : (k : FieldKind) → kind_of_word (kind_word k) ≡ Some k
-kind_again Len = refl
-kind_again Net = refl
-kind_again Hex = refl
-kind_again Rest = refl
-
 kind_plain : (k : FieldKind) → IsWord (kind_word k)
 kind_plain Len = refl
 kind_plain Net = refl
@@ -130,14 +126,14 @@ kind_plain Rest = refl
 
 pub kind_is : (w : List ℕ) (k : FieldKind) → kind_of_word w ≡ Some k → w ≡ kind_word k
 kind_is w k e = elim (chosen (bytes_eq (kind_word Len) w) (Some Len) _ k e) [
-  | inl one ↦ same_bytes (kind_word Len) w one.0 ∙ ap kind_word (same_some Len k one.1)
+  | inl one ↦ same_bytes (kind_word Len) w one.0 ∙ ap kind_word (same_Some Len k one.1)
   | inr e ↦
       elim (chosen (bytes_eq (kind_word Net) w) (Some Net) _ k e) [
-        | inl one ↦ same_bytes (kind_word Net) w one.0 ∙ ap kind_word (same_some Net k one.1)
+        | inl one ↦ same_bytes (kind_word Net) w one.0 ∙ ap kind_word (same_Some Net k one.1)
         | inr e ↦
             elim (chosen (bytes_eq (kind_word Hex) w) (Some Hex) _ k e) [
-              | inl one ↦ same_bytes (kind_word Hex) w one.0 ∙ ap kind_word (same_some Hex k one.1)
-              | inr e ↦ let one = passed (bytes_eq (kind_word Rest) w) (Some Rest) k e in same_bytes (kind_word Rest) w one.0 ∙ ap kind_word (same_some Rest k one.1)
+              | inl one ↦ same_bytes (kind_word Hex) w one.0 ∙ ap kind_word (same_Some Hex k one.1)
+              | inr e ↦ let one = guard_passed (bytes_eq (kind_word Rest) w) (Some Rest) k e in same_bytes (kind_word Rest) w one.0 ∙ ap kind_word (same_Some Rest k one.1)
             ]
       ]
 ]
@@ -151,20 +147,10 @@ no_kind text word behind stands inside end none kind rest stop e =
 
 -- ---- registers
 
--- these registers were passed, and this is left
+-- these registers were guard_passed, and this is left
 pub record IsPassed (words : List (List ℕ)) (got : List ℕ) (rest : List (List ℕ)) : Type 0 where
   pub registers : (front_of words).registers ≡ got ++ (front_of rest).registers
   pub others : (front_of words).rest ≡ (front_of rest).rest
-
-pub passed_none : (words : List (List ℕ)) → IsPassed words [] words
-passed_none words = record { registers = refl; others = refl }
-
-pub passed_more : (words : List (List ℕ)) (got : List ℕ) (w : List ℕ) (ws : List (List ℕ)) (r : ℕ) → Some r ≡ register_of w → IsPassed words got (w ∷ ws) → IsPassed words (got ++ r ∷ []) ws
-passed_more words got w ws r e h =
-    let step : front_of (w ∷ ws) ≡ record { registers = r ∷ (front_of ws).registers; rest = (front_of ws).rest } = ap (λ (o : Option ℕ). onto o w ws (front_of ws)) (sym e) in record {
-      registers = h.registers ∙ ap (λ (f : Front). got ++ f.registers) step ∙ sym (append_assoc got (r ∷ []) (front_of ws).registers);
-      others = h.others ∙ ap (λ (f : Front). f.rest) step;
-    }
 
 pub passed_all : (words : List (List ℕ)) (got : List ℕ) (rest : List (List ℕ)) → NoRegister rest → IsPassed words got rest → (got ≡ (front_of words).registers) × (rest ≡ (front_of words).rest)
 passed_all words got rest none h =
@@ -176,56 +162,30 @@ passed_all words got rest none h =
 -- these pieces were read, and this is left
 pub record IsCut (text : List ℕ) (got : List Piece) (rest : List ℕ) : Type 0 where
   pub stands : text ≡ flat_map spaced_piece got ++ rest
-  pub pieces : AllByRecursion IsPiece got
-
-pub cut_nothing : (text : List ℕ) → IsCut text [] text
-cut_nothing text = record { stands = refl; pieces = tt }
-
-all_more : (got : List Piece) (p : Piece) → AllByRecursion IsPiece got → IsPiece p → AllByRecursion IsPiece (got ++ p ∷ [])
-all_more [] p h k = (k, tt)
-all_more (q ∷ got) p h k = (h.0, all_more got p h.1 k)
-
-pub cut_more : (text : List ℕ) (got : List Piece) (rest : List ℕ) (p : Piece) (after : List ℕ) → IsPiece p → rest ≡ spaced_piece p ++ after → IsCut text got rest → IsCut text (got ++ p ∷ []) after
-cut_more text got rest p after k e h = record {
-  stands = h.stands ∙ ap (λ (x : List ℕ). flat_map spaced_piece got ++ x) e ∙ sym (append_assoc (flat_map spaced_piece got) (spaced_piece p) after)
-      ∙ ap (λ (x : List ℕ). x ++ after) (flat_map_more spaced_piece [] got p);
-  pieces = all_more got p h.pieces k;
-}
+  pub pieces : AllByRecursion IsBytesPiece got
 
 record Left (rest : List ℕ) : Type 0 where
   more : List Piece
-  pieces : AllByRecursion IsPiece more
+  pieces : AllByRecursion IsBytesPiece more
   stands : rest ≡ flat_map spaced_piece more
 
-left : (got ps : List Piece) (rest : List ℕ) → AllByRecursion IsPiece got → AllByRecursion IsPiece ps → flat_map spaced_piece got ++ rest ≡ flat_map spaced_piece ps → Left rest
+left : (got ps : List Piece) (rest : List ℕ) → AllByRecursion IsBytesPiece got → AllByRecursion IsBytesPiece ps → flat_map spaced_piece got ++ rest ≡ flat_map spaced_piece ps → Left rest
 left [] ps rest h k e = record { more = ps; pieces = k; stands = e }
 left (p ∷ got) [] rest h k e = cc
 left (p ∷ got) (q ∷ qs) rest h k e =
     let both = piece_once p q (flat_map spaced_piece got ++ rest) (flat_map spaced_piece qs) h.0 k.0 (sym (append_assoc (spaced_piece p) (flat_map spaced_piece got) rest) ∙ e) in
     left got qs rest h.1 k.1 both.1
 
-stuck : (rest : List ℕ) (more : List Piece) → AllByRecursion IsPiece more → rest ≡ flat_map spaced_piece more → (rest ≡ [] → ⊥)
-    → ((piece : Piece) (after : List ℕ) → IsPiece piece → IsEnd after → rest ≡ spaced_piece piece ++ after → ⊥) → ⊥
+stuck : (rest : List ℕ) (more : List Piece) → AllByRecursion IsBytesPiece more → rest ≡ flat_map spaced_piece more → (rest ≡ [] → ⊥)
+    → ((piece : Piece) (after : List ℕ) → IsBytesPiece piece → IsEnd after → rest ≡ spaced_piece piece ++ after → ⊥) → ⊥
 stuck rest [] pieces stands some none = some stands
 stuck rest (p ∷ ps) pieces stands some none = none p (flat_map spaced_piece ps) pieces.0 (pieces_end ps) stands
 
 -- where no piece begins what is left, the text isn't pieces
 pub no_pieces : (text : List ℕ) (got : List Piece) (rest : List ℕ) → IsCut text got rest → (rest ≡ [] → ⊥)
-    → ((piece : Piece) (after : List ℕ) → IsPiece piece → IsEnd after → rest ≡ spaced_piece piece ++ after → ⊥)
-    → (pieces : List Piece) → AllByRecursion IsPiece pieces → text ≡ flat_map spaced_piece pieces → ⊥
+    → ((piece : Piece) (after : List ℕ) → IsBytesPiece piece → IsEnd after → rest ≡ spaced_piece piece ++ after → ⊥)
+    → (pieces : List Piece) → AllByRecursion IsBytesPiece pieces → text ≡ flat_map spaced_piece pieces → ⊥
 no_pieces text got rest h some none ps k e = let l = left got ps rest h.pieces k (sym h.stands ∙ e) in stuck rest l.more l.pieces l.stands some none
-
-pub cut_all : (text : List ℕ) (got : List Piece) → IsCut text got [] → text ≡ flat_map spaced_piece got
-cut_all text got h = h.stands ∙ append-nil (flat_map spaced_piece got)
-
-pub cut_size : (text : List ℕ) (got : List Piece) (rest : List ℕ) → IsCut text got rest → length rest ≤ length text
-cut_size text got rest h = omega (arith, ap length h.stands, length-append (flat_map spaced_piece got) rest)
-
-pub piece_size : (rest : List ℕ) (p : Piece) (after : List ℕ) → rest ≡ spaced_piece p ++ after → length after < length rest
-piece_size rest p after e = omega (arith, ap length e, length-append (spaced_piece p) after, spaced_size p)
-  where
-    spaced_size : (p : Piece) → 0 < length (spaced_piece p)
-    spaced_size p = omega arith
 
 -- ---- format lines
 
@@ -247,7 +207,7 @@ no_format_name text word behind stands inside end none f h e =
     let off : ◌≡◌ {A = Option (List ℕ)} None (Some f.name) = none ∙ ap option_name both.name ∙ some in cc
 
 pub no_format_pieces : (text word behind : List ℕ) → text ≡ word ++ behind → IsWord word → IsEnd behind
-    → ((pieces : List Piece) → AllByRecursion IsPiece pieces → behind ≡ flat_map spaced_piece pieces → ⊥)
+    → ((pieces : List Piece) → AllByRecursion IsBytesPiece pieces → behind ≡ flat_map spaced_piece pieces → ⊥)
     → (f : FormatValue) → IsFormat f → text ≡ f.name ++ flat_map spaced_piece f.pieces → ⊥
 no_format_pieces text word behind stands inside end none f h e = none f.pieces h.pieces (same_format text word behind stands inside end f h e).pieces
 

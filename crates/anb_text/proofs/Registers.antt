@@ -8,9 +8,12 @@ use Rattle.std.proofs.lemmas.Bool.{and_parts, eqb-true}
 use Rattle.std.proofs.lemmas.Bool.Decides.{nat_tests}
 use Rattle.std.proofs.lemmas.Fmt.{decimal_by_steps, decimal_is_IsNumeral}
 use Rattle.std.proofs.lemmas.List.{append-nil}
+use Rattle.std.proofs.lemmas.Option.{same_Some}
+use Rattle.anb_lemmas.proofs.Options.{guard_passed}
+use Rattle.anb_lemmas.proofs.Items.{bytes_eq-same}
 use Rattle.anb_text.specs.Lines.{register}
 use Rattle.anb_text.specs.Reading.{Front, front_of, number_if, number_of, onto, register_of}
-use Rattle.anb_text.proofs.Choices.{bytes_same, passed, same_bytes, same_some}
+use Rattle.anb_text.proofs.Choices.{same_bytes}
 use Rattle.anb_text.proofs.Words.{IsPlain, both_all, is_plain}
 
 -- a number of 32 bits
@@ -34,15 +37,15 @@ unfolding number_of
 number_again n small =
     let value : digits_value 10 (decimal n) ≡ n = (decimal_is_IsNumeral n (omega arith)).1 in
     let within : nat_lt n (2 ^ 32) ≡ true = grind (arith, nat_tests) in
-    rw (value, within, bytes_same (decimal n)) refl
+    rw (value, within, bytes_eq-same (decimal n)) refl
 
 if_number : (n m : ℕ) (digits : List ℕ) → number_if n digits ≡ Some m → (digits ≡ decimal m) × IsSmall m
 if_number n m digits e =
-    let k = passed (nat_lt n (2 ^ 32) && bytes_eq (decimal n) digits) (Some n) m e in
+    let k = guard_passed (nat_lt n (2 ^ 32) && bytes_eq (decimal n) digits) (Some n) m e in
     let tests = and_parts (nat_lt n (2 ^ 32)) (bytes_eq (decimal n) digits) k.0 in
     let less = tests.0 in
     let small : n < 2 ^ 32 = grind (arith, nat_tests) in
-    let same : n ≡ m = same_some n m k.1 in
+    let same : n ≡ m = same_Some n m k.1 in
     (same_bytes (decimal n) digits tests.1 ∙ ap decimal same, subst IsSmall same small)
 
 pub number_is : (digits : List ℕ) (n : ℕ) → number_of digits ≡ Some n → (digits ≡ decimal n) × IsSmall n
@@ -55,7 +58,7 @@ register_again r small = number_again r small
 pub register_is : (w : List ℕ) (r : ℕ) → register_of w ≡ Some r → (w ≡ register r) × IsSmall r
 register_is [] r e = cc
 register_is (b ∷ digits) r e =
-    let k = passed (b == 114) (number_of digits) r e in
+    let k = guard_passed (b == 114) (number_of digits) r e in
     let n = number_is digits r k.1 in
     let first : b ≡ 114 = eqb-true b 114 k.0 in
     (cc (first, n.0), n.1)

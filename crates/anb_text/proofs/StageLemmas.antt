@@ -90,10 +90,6 @@ map_push : {A : Type 0} (f : A → Line) (xs : List A) (x : A) → map f (xs ++ 
 map_push f [] x = refl
 map_push f (y ∷ ys) x = ap (λ ls. f y ∷ ls) (map_push f ys x)
 
--- the lines of a stage, in which the formats and the instructions stand last
-at_formats : (v : Version) (raw : RawValue) (ls : List Line) → heading v raw ++ ls ≡ line.Version v ∷ line.Protocol raw.protocol ∷ line.Role raw.role ∷ (suite_lines v raw.suite ++ ls)
-at_formats v raw ls = refl
-
 at_code : (v : Version) (raw : RawValue) (ls more : List Line) → heading v raw ++ (map line.Format raw.formats ++ line.Code ∷ ls) ++ more ≡ heading v raw ++ (map line.Format raw.formats ++ line.Code ∷ (ls ++ more))
 at_code v raw ls more = append_assoc (heading v raw) (map line.Format raw.formats ++ line.Code ∷ ls) more ∙ ap (λ xs. heading v raw ++ xs) (append_assoc (map line.Format raw.formats) (line.Code ∷ ls) more)
 

@@ -1,15 +1,12 @@
 -- A text that is written part by part.
-use Rattle.std.proofs.Common.{◌≡◌, ℕ, ◌+◌, ◌≤◌, ◌<◌, List, [], ◌∷◌, ◌++◌, drop, get_or, length, take, Option, Some, None, Result, Ok, Err, refl, sym, ap, ◌∙◌, subst, append_assoc, arith, length-append, inl, inr}
+use Rattle.std.proofs.Common.{◌≡◌, ℕ, ◌+◌, ◌≤◌, List, [], ◌++◌, length, take, Option, Result, Ok, Err, sym, ap, ◌∙◌, subst, append_assoc, arith, length-append}
 use Rattle.std.proofs.Math.Seq.{take-append-add}
-use Rattle.std.proofs.lemmas.List.{append-nil, drop_more, take-append-le}
-use Rattle.anb_base.specs.Moves.{Put, Rose}
+use Rattle.std.proofs.lemmas.List.{append-nil, take-append-le}
+use Rattle.anb_base.specs.Moves.{Put}
 use Rattle.anb_base.proofs.Joined.{Put-joined}
+use Rattle.anb_base.proofs.Moving.{Rose-later, put_nothing}
 use Rattle.anb_text.specs.declared.writing.WriteNo.{WriteNo}
 use Rattle.anb_text.specs.Writing.{IsWritten}
-
-pub put_nothing : (w : Option (List ℕ)) → Put w w []
-put_nothing None = refl
-put_nothing (Some bytes) = ap Some (sym (append-nil bytes))
 
 -- of a text this is written, and this is due; no count of faults fell
 pub record Due (whole : List ℕ) (old now : Option (List ℕ)) (faults faults_now : ℕ) (due : List ℕ) : Type 0 where
@@ -17,10 +14,6 @@ pub record Due (whole : List ℕ) (old now : Option (List ℕ)) (faults faults_n
   pub put : Put old now done
   pub joined : done ++ due ≡ whole
   pub never_falls : faults ≤ faults_now
-
-rose_after : (f g h : ℕ) → f ≤ g → Rose g h → Rose f h
-rose_after f g h less (inl rose) = inl (omega (arith, less, rose))
-rose_after f g h less (inr last) = inr last
 
 module _ (whole : List ℕ) (a b c : Option (List ℕ)) (f g h : ℕ) (part rest : List ℕ) (due : Due whole a b f g (part ++ rest)) where
   -- a part more is written
@@ -49,7 +42,7 @@ module _ (whole : List ℕ) (a b c : Option (List ℕ)) (f g h : ℕ) (part rest
           omega (arith, size, length-append due.done (part ++ rest), length-append part rest, within),
           subst (Put a c) (front n within) (Put-joined a b c due.done (take n part) due.put is.part.2),
         );
-        cause = λ failed. rose_after f g h due.never_falls (is.cause failed);
+        cause = λ failed. Rose-later f g h due.never_falls (is.cause failed);
         never_falls = omega (arith, due.never_falls, is.never_falls);
       }
 
@@ -80,7 +73,3 @@ same_due whole x y a b f g is due = record { done = due.done; put = due.put; joi
 
 pub same_written : (x y : List ℕ) (r : Result (Unit {0}) WriteNo) (a b : Option (List ℕ)) (f g : ℕ) → x ≡ y → IsWritten x r a b f g → IsWritten y r a b f g
 same_written x y r a b f g is written = subst (λ t. IsWritten t r a b f g) is written
-
--- what is left of a list from a place on begins with what stands there
-pub from_item : {A : Type 0} (xs : List A) (i : ℕ) (x : A) → i < length xs → x ≡ get_or xs i x → drop i xs ≡ x ∷ drop (i + 1) xs
-from_item xs i x within is = drop_more xs i x within ∙ ap (λ y. y ∷ drop (i + 1) xs) (sym is)

@@ -2,7 +2,7 @@
 use Rattle.std.specs.Prelude.{◌≡◌, ℕ, ◌<◌, ◌^◌, List, [], ◌∷◌, ◌++◌, length, All, IsTrue, codes, decimal}
 use Rattle.std.specs.List.{AllByRecursion, flat_map}
 use Rattle.anb_base.specs.Bytes.{IsBytes}
-use Rattle.anb_format.specs.Formats.{FormatValue}
+use Rattle.anb_format.specs.Formats.{FormatValue, IsBytesPiece}
 use Rattle.anb_format.specs.declared.pieces.Piece.{Piece}
 use Rattle.anb_format.specs.declared.pieces.Piece.TheVariants.{Lit, Field}
 use Rattle.anb_values.specs.Lines.{IsLabel}
@@ -82,16 +82,11 @@ line_bytes line.End = codes "end"
 
 -- ---- what can be written so
 
--- a literal is of bytes
-abbrev pub IsPiece : Piece → Type 0
-IsPiece (Lit text) = IsBytes text
-IsPiece (Field kind) = Unit {0}
-
 -- a name of the grammar, and at least one piece
 pub record IsFormat (format : FormatValue) : Type 0 where
   pub name : IsTrue (is_name format.name)
   pub some : 0 < length format.pieces
-  pub pieces : AllByRecursion IsPiece format.pieces
+  pub pieces : AllByRecursion IsBytesPiece format.pieces
 
 -- a take has a label text, a build and a parse have the name of a format, and the others have none
 abbrev pub IsNameFor : What → List ℕ → Type 0

@@ -1,9 +1,9 @@
 //! A code as a role file, written to a sink or in memory.
 ghost use Rattle.std.specs.Prelude.{[], ◌≡◌, ◌≤◌, ◌<◌, ◌+◌, ◌-◌, ◌^◌, ◌++◌, ◌∷◌, All, decimal, length, map, slice_get, take, Some, IfOk, OnOk};
 ghost use Rattle.std.specs.List.{flat_map, range_with_len};
-ghost use Rattle.anb_format.specs.Formats.{field_count};
+ghost use Rattle.anb_format.specs.Formats.{field_count, pieces_at};
 ghost use Rattle.anb_syntax.specs.Words.{hash_name};
-ghost use Rattle.anb_code.specs.Registers.{count_written, pieces_at};
+ghost use Rattle.anb_code.specs.Registers.{count_written};
 ghost use Rattle.anb_code.specs.Spelling.{name_at, raw_instr, raw_instrs};
 ghost use Rattle.anb_code.specs.Verified.{count_registers};
 ghost use Rattle.anb_text.specs.declared.lines.Line.TheVariants as line;

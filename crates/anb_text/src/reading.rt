@@ -5,10 +5,10 @@ ghost use Rattle.std.specs.Option.{option_map};
 ghost use Rattle.std.specs.Str.{bytes_eq};
 ghost use Rattle.anb_base.specs.declared.TheConstants.{LARGE_FILE};
 ghost use Rattle.anb_base.specs.Bytes.{IsBytes};
-ghost use Rattle.anb_format.specs.Formats.{FormatValue};
+ghost use Rattle.anb_format.specs.Formats.{FormatValue, IsBytesPiece};
 ghost use Rattle.anb_format.specs.Literals.{canonical_literal};
 ghost use Rattle.anb_syntax.specs.Words.{is_name, kind_word};
-ghost use Rattle.anb_text.specs.Lines.{IsFormat, IsLine, IsPiece, line_bytes, spaced_piece};
+ghost use Rattle.anb_text.specs.Lines.{IsFormat, IsLine, line_bytes, spaced_piece};
 ghost use Rattle.anb_text.specs.Reading.{IsEnd, IsWord, after_equals, counts_are, ended_front, front_of, head_of, instr_of, is_label, line_of, named, named_if, number_of, operation, option_name, register_of, texts, version_of, what_of, words_of};
 
 use crate::lines::{Line, Version};
@@ -421,10 +421,10 @@ fn first_space(text: &[u8]) -> Option<usize>
 fn read_pieces(alloc: Global, text: &[u8]) -> Result<Option<Vec<Piece>>, NoMemory>
     requires size { length text.now ≤ LARGE_FILE }
     ensures some { IfOk result (λ r.
-        IfSome r (λ pieces. AllByRecursion IsPiece pieces.items
+        IfSome r (λ pieces. AllByRecursion IsBytesPiece pieces.items
         × (text.now ≡ flat_map spaced_piece pieces.items))) }
     ensures none { IfOk result (λ r.
-        IfNone r ((pieces : List Piece) → AllByRecursion IsPiece pieces
+        IfNone r ((pieces : List Piece) → AllByRecursion IsBytesPiece pieces
         → text.now ≡ flat_map spaced_piece pieces → ⊥)) }
 {
     let mut pieces = Vec::new(alloc);
@@ -443,9 +443,9 @@ fn read_pieces(alloc: Global, text: &[u8]) -> Result<Option<Vec<Piece>>, NoMemor
 fn read_piece(alloc: Global, text: &[u8]) -> Result<Option<(Piece, &[u8])>, NoMemory>
     requires size { length text.now ≤ LARGE_FILE }
     ensures some { IfOk result (λ r.
-        IfSome r (λ x. IsPiece x.0 × (text.now ≡ spaced_piece x.0 ++ x.1.now))) }
+        IfSome r (λ x. IsBytesPiece x.0 × (text.now ≡ spaced_piece x.0 ++ x.1.now))) }
     ensures none { IfOk result (λ r.
-        IfNone r ((piece : Piece) (rest : List ℕ) → IsPiece piece → IsEnd rest
+        IfNone r ((piece : Piece) (rest : List ℕ) → IsBytesPiece piece → IsEnd rest
         → text.now ≡ spaced_piece piece ++ rest → ⊥)) }
 {
     match text {
@@ -459,7 +459,7 @@ fn read_piece(alloc: Global, text: &[u8]) -> Result<Option<(Piece, &[u8])>, NoMe
 fn read_quoted(alloc: Global, text: &[u8]) -> Result<Option<(Piece, &[u8])>, NoMemory>
     requires size { length text.now ≤ LARGE_FILE }
     ensures some { IfOk result (λ r.
-        IfSome r (λ x. IsPiece x.0 × (32 ∷ text.now ≡ spaced_piece x.0 ++ x.1.now))) }
+        IfSome r (λ x. IsBytesPiece x.0 × (32 ∷ text.now ≡ spaced_piece x.0 ++ x.1.now))) }
     ensures none { IfOk result (λ r.
         IfNone r ((bytes rest : List ℕ) → IsBytes bytes → text.now ≡ canonical_literal bytes ++ rest
         → ⊥)) }
@@ -484,7 +484,7 @@ fn canonical(alloc: Global, bytes: &[u8]) -> Result<Bytes, NoMemory>
 
 /// The kind of field at the front, and what follows it.
 fn read_field(text: &[u8]) -> Option<(Piece, &[u8])>
-    ensures some { IfSome result (λ x. IsPiece x.0
+    ensures some { IfSome result (λ x. IsBytesPiece x.0
         × (32 ∷ text.now ≡ spaced_piece x.0 ++ x.1.now)) }
     ensures none { IfNone result ((kind : FieldKind) (rest : List ℕ) → IsEnd rest
         → text.now ≡ kind_word kind ++ rest → ⊥) }

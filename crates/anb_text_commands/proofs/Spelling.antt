@@ -9,6 +9,7 @@ use Rattle.std.proofs.lemmas.Bool.Decides.{nat_tests}
 use Rattle.std.proofs.lemmas.List.{length-append}
 use Rattle.std.proofs.lemmas.List.Elements.{All-from_recursion, recursion_from_All}
 use Rattle.std.proofs.lemmas.List.Sums.{sum_by_push, sum_by-cons}
+use Rattle.anb_lemmas.proofs.Each.{each_in_both, each_in_parts}
 use Rattle.anb_base.specs.declared.TheConstants.{ARRIVAL, WIDE}
 use Rattle.anb_format.specs.Formats.{FormatValue, IsBytesPiece, head}
 use Rattle.anb_format.specs.declared.pieces.Piece.{Piece}
@@ -40,10 +41,9 @@ use Rattle.anb_resolve.specs.Plans.{messages}
 use Rattle.anb_resolve.specs.WellFormed.{IsProtocol}
 use Rattle.anb_resolve.specs.declared.parts.Atom.{Atom}
 use Rattle.anb_resolve.proofs.Differing.{names_of}
-use Rattle.anb_resolve.proofs.Faultless.{all-append, all_parts}
 use Rattle.anb_resolve.proofs.Holding.{facts, known_ours}
 use Rattle.anb_resolve.proofs.ReadOnce.{HasNames}
-use Rattle.anb_text.specs.Lines.{IsFormat, IsInstr, IsNameFor, IsPiece}
+use Rattle.anb_text.specs.Lines.{IsFormat, IsInstr, IsNameFor}
 use Rattle.anb_text.specs.RoleFiles.{IsSpellable}
 
 -- ---- the text of a term is a label text
@@ -71,10 +71,10 @@ IsPlain w = AllByRecursion (λ b. is_label_byte b ≡ true) (word_bytes w)
 
 plain_bytes : (ws : List Word) → AllByRecursion IsPlain ws → AllByRecursion (λ b. is_label_byte b ≡ true) (words_bytes ws)
 plain_bytes [] all = tt
-plain_bytes (w ∷ ws) all = all-append (λ b. is_label_byte b ≡ true) (word_bytes w) (words_bytes ws) all.0 (plain_bytes ws all.1)
+plain_bytes (w ∷ ws) all = each_in_both (λ b. is_label_byte b ≡ true) (word_bytes w) (words_bytes ws) all.0 (plain_bytes ws all.1)
 
 both : (ws vs : List Word) → AllByRecursion IsPlain ws → AllByRecursion IsPlain vs → AllByRecursion IsPlain (ws ++ vs)
-both ws vs all also = all-append IsPlain ws vs all also
+both ws vs all also = each_in_both IsPlain ws vs all also
 
 mutual
   plain_tree : (t : Tree) → IsTree t → AllByRecursion IsPlain (spell_tree t)
@@ -167,7 +167,7 @@ module _ (p : ProtocolValue) (names : HasNames p) where
 
 known_labels : (p : ProtocolValue) → IsProtocol p → (role : ℕ) → AllByRecursion IsLabel (known_texts p role)
 known_labels p is role =
-    label_texts p (names_of p is) (known_by p role) (known_ours p role (all_parts (IsTermOf p) (known_terms p) (messages p.actions) (facts p is).terms).0)
+    label_texts p (names_of p is) (known_by p role) (known_ours p role (each_in_parts (IsTermOf p) (known_terms p) (messages p.actions) (facts p is).terms).0)
 
 -- ---- the names of a protocol and of its roles
 
@@ -179,7 +179,7 @@ first_named before x is = by (list_any (λ y. bytes_eq y x) before) refl where
 
 each_named : (before xs : List (List ℕ)) → AllByRecursion IsName xs → AllByRecursion IsName (each_after (first_new bytes_eq) before xs)
 each_named before [] all = tt
-each_named before (x ∷ xs) all = all-append IsName (first_new bytes_eq before x) (each_after (first_new bytes_eq) (before ++ x ∷ []) xs) (first_named before x all.0) (each_named (before ++ x ∷ []) xs all.1)
+each_named before (x ∷ xs) all = each_in_both IsName (first_new bytes_eq before x) (each_after (first_new bytes_eq) (before ++ x ∷ []) xs) (first_named before x all.0) (each_named (before ++ x ∷ []) xs all.1)
 
 named_lines : (knows : List KnowItem) → AllByRecursion IsKnowItem knows → AllByRecursion IsName (map (λ (k : KnowItem). k.role) knows)
 named_lines [] all = tt
@@ -197,7 +197,7 @@ named_narration : (n : Narration) → IsName n.title → AllByRecursion IsKnowIt
 unfolding protocol_of
 named_narration n title knows actions = record {
   protocol = title;
-  roles = each_named [] (line_names n ++ flat_map action_roles n.actions) (all-append IsName (line_names n) (flat_map action_roles n.actions) (named_lines n.knows knows) (named_ends n.actions actions));
+  roles = each_named [] (line_names n ++ flat_map action_roles n.actions) (each_in_both IsName (line_names n) (flat_map action_roles n.actions) (named_lines n.knows knows) (named_ends n.actions actions));
 }
 
 named : (p : ProtocolValue) → IsProtocol p → AreNamed p
@@ -215,14 +215,6 @@ is_true b e = e
 
 -- ---- the code
 
-piece_is : (piece : Piece) → IsBytesPiece piece → IsPiece piece
-piece_is (Lit text) is = is
-piece_is (Field kind) is = tt
-
-pieces_are : (pieces : List Piece) → AllByRecursion IsBytesPiece pieces → AllByRecursion IsPiece pieces
-pieces_are [] all = tt
-pieces_are (piece ∷ pieces) all = (piece_is piece all.0, pieces_are pieces all.1)
-
 some_pieces : (pieces : List Piece) → head pieces ≢ [] → 0 < length pieces
 some_pieces [] some = absurd (some refl)
 some_pieces (piece ∷ pieces) some = omega arith
@@ -230,7 +222,7 @@ some_pieces (piece ∷ pieces) some = omega arith
 formats_are : (before formats : List FormatValue) → EachAfter IsFormatAfter before formats → AllByRecursion (λ (f : FormatValue). IsName f.name) formats → AllByRecursion IsFormat formats
 formats_are before [] each names = tt
 formats_are before (f ∷ formats) each names = (
-  record { name = is_true (is_name f.name) names.0; some = some_pieces f.pieces each.0.sound.head_stands; pieces = pieces_are f.pieces each.0.sound.literals },
+  record { name = is_true (is_name f.name) names.0; some = some_pieces f.pieces each.0.sound.head_stands; pieces = each.0.sound.literals },
   formats_are (before ++ f ∷ []) formats each.1 names.1,
 )
 

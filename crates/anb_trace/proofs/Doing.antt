@@ -1,6 +1,7 @@
 -- A work on registers, as a trace tells it.
-use Rattle.std.proofs.Common.{◌≡◌, ℕ, ◌+◌, List, [], ◌++◌, length, Bool, true, false, cond, Option, Some, None, option_map, Result, Ok, Err, refl, sym, ap, ◌∙◌, subst, arith, length-append, append-nil}
+use Rattle.std.proofs.Common.{◌≡◌, ℕ, ◌+◌, List, [], ◌++◌, length, Bool, true, false, cond, Option, Some, None, Result, Ok, Err, refl, sym, ap, ◌∙◌, subst, arith, length-append, append-nil}
 use Rattle.std.specs.Prelude.{IfOk}
+use Rattle.anb_lemmas.proofs.Options.{none_mapped}
 use Rattle.anb_base.specs.declared.content.NoMemory.{NoMemory}
 use Rattle.anb_seal.specs.Streams.{draw_of}
 use Rattle.anb_algebra.specs.ByteMeaning.{has_operator}
@@ -85,16 +86,12 @@ work_ready has n (sends r) is ready = absurd is
 
 -- ---- one whose demand failed
 
-none_of : {A B : Type 0} (f : A → B) (o : Option A) → option_map f o ≡ None → o ≡ None
-none_of f None e = refl
-none_of f (Some x) e = cc
-
 module _ (s : SubjectValue) (instr : Instr) (first at : ℕ) (old : Standing) (part : Told) (new : Standing)
     (events : new.events ≡ old.events) (drawn : new.drawn ≡ old.drawn) (arrivals : new.arrivals.now ≡ old.arrivals.now) where
   pub work_failed : (act : Act) (table : List (List ℕ)) → IsWorkDone (meaning_of s.code) old.registers.items act false table → part.goes_on ≡ false
       → part.text.items ≡ instr_lines s instr first [] ++ end_line (stopped old.events (at + 1)) (why s old.registers.items instr) → TellsWork s act instr first at old part new
   work_failed (works w) table h off text =
-      let none = none_of (λ ws. old.registers.items ++ ws) (worked (meaning_of s.code) old.registers.items w) h in
+      let none = none_mapped (λ ws. old.registers.items ++ ws) (worked (meaning_of s.code) old.registers.items w) h in
       (events, drawn, arrivals, subst (TellsWritten s instr first at old part new) (sym none) (off, text))
   work_failed takes table h off text = absurd h
   work_failed draws table h off text = absurd h

@@ -1,5 +1,5 @@
 -- What is found at the front of bytes is what a literal or a field writes.
-use Rattle.std.proofs.Common.{◌≡◌, ◌==◌, ◌<◌, ◌≤◌, ◌+◌, ◌-◌, ◌*◌, ◌/◌, ◌%◌, ◌^◌, ◌⊎◌, ℕ, zero, suc, List, [], ◌∷◌, ◌++◌, length, take, drop, Bool, true, false, cond, nat_lt, Option, Some, None, refl, sym, ap, ◌∙◌, subst, arith, append-nil, append_assoc, length-append, length-take, take-append-drop, inl, inr}
+use Rattle.std.proofs.Common.{◌≡◌, ◌==◌, ◌<◌, ◌≤◌, ◌+◌, ◌-◌, ◌*◌, ◌/◌, ◌%◌, ◌^◌, ℕ, zero, suc, List, [], ◌∷◌, ◌++◌, length, take, drop, Bool, true, false, cond, nat_lt, Option, Some, None, refl, sym, ap, ◌∙◌, subst, arith, append-nil, append_assoc, length-append, length-take, take-append-drop, inl, inr}
 use Rattle.std.specs.Prelude.{◌&&◌, not, codes, decimal, max, slice_index}
 use Rattle.std.specs.Option.{option_map_or}
 use Rattle.std.specs.List.{AllByRecursion, position_or_len}
@@ -10,14 +10,18 @@ use Rattle.std.proofs.lemmas.Fmt.{decimal_by_steps}
 use Rattle.std.proofs.lemmas.List.{drop_at, take_at}
 use Rattle.std.proofs.lemmas.List.Sums.{prefix_len-le-length}
 use Rattle.std.proofs.lemmas.Slice.Eq.{bytes_eq-Decides}
+use Rattle.std.proofs.lemmas.Option.{same_Some}
+use Rattle.anb_lemmas.proofs.Options.{side_taken}
 use Rattle.hex.specs.Hex.{encode_lower, encode_with, lower_digits}
 use Rattle.anb_base.specs.Bytes.{IsBytes}
+use Rattle.anb_base.proofs.Strings.{bytes_left, bytes_right, with_byte}
 use Rattle.anb_format.specs.declared.pieces.FieldKind.{FieldKind}
 use Rattle.anb_format.specs.declared.pieces.FieldKind.TheVariants.{Len, Net, Hex, Rest}
 use Rattle.anb_format.specs.Fields.{field_bytes, leb128}
 use Rattle.anb_format.proofs.Decimals.{as_std}
 use Rattle.anb_format.proofs.Leb128.{fewer, leb128_large, leb128_small}
 use Rattle.anb_format.proofs.ReadingLemmas.{hex_regrouped, net_regrouped}
+use Rattle.anb_format.proofs.Narrow.{hex_long}
 use Rattle.anb_text.specs.Reading.{number_of}
 use Rattle.anb_text.proofs.Registers.{number_again, number_is}
 use Rattle.anb_trace.specs.Misfits.{Before, Found, Misfit, and_then, counted, due, field_found, hex_end, hex_found, is_digit, is_lower_digit, len_found, length_at, literal_found, longer_length, net_found, no_length, place_of, shown}
@@ -32,31 +36,15 @@ found_no : (t : Bool) (a rest : List ℕ) (p : ℕ) (w : List ℕ) → cond t (M
 found_no true a rest p w e = cc
 found_no false a rest p w e = (refl, cc)
 
-chosen_by : {A : Type 0} (t : Bool) (this other : A) (a : A) → cond t this other ≡ a → ((t ≡ true) × (this ≡ a)) ⊎ ((t ≡ false) × (other ≡ a))
-chosen_by true this other a e = inl (refl, e)
-chosen_by false this other a e = inr (refl, e)
-
 none_or : {A : Type 0} (t : Bool) (a b : A) → ◌≡◌ {A = Option A} (cond t None (Some a)) (Some b) → (t ≡ false) × (a ≡ b)
 none_or true a b e = cc
 none_or false a b e = (refl, cc)
-
-some_of : {A : Type 0} (a b : A) → ◌≡◌ {A = Option A} (Some a) (Some b) → a ≡ b
-some_of a b e = cc
 
 and_then_is : (f : Found) (next : List ℕ → Found) (rest : List ℕ) → and_then f next ≡ Before rest → (behind : List ℕ) × (f ≡ Before behind) × (next behind ≡ Before rest)
 and_then_is (Before behind) next rest e = (behind, refl, e)
 and_then_is (Misfit p w) next rest e = cc
 
 -- ---- strings of bytes
-
-pub bytes_front : (xs ys : List ℕ) → IsBytes (xs ++ ys) → IsBytes xs
-bytes_front [] ys h i = omega arith
-bytes_front (x ∷ xs) ys h zero = h 0
-bytes_front (x ∷ xs) ys h (suc i) = bytes_front xs ys (λ j. h (suc j)) i
-
-pub bytes_behind : (xs ys : List ℕ) → IsBytes (xs ++ ys) → IsBytes ys
-bytes_behind [] ys h = h
-bytes_behind (x ∷ xs) ys h = bytes_behind xs ys (λ j. h (suc j))
 
 -- ---- literals, and counted bytes
 
@@ -97,7 +85,7 @@ longer_is low n (Some (high, after)) rest e =
 
 one_byte_is : (b n : ℕ) (bytes rest : List ℕ) → nat_lt b 128 ≡ true → ◌≡◌ {A = Option (ℕ × List ℕ)} (Some (b, bytes)) (Some (n, rest)) → b ∷ bytes ≡ leb128 n ++ rest
 one_byte_is b n bytes rest below e =
-    let pair = some_of (b, bytes) (n, rest) e in
+    let pair = same_Some (b, bytes) (n, rest) e in
     let first : b ≡ n = ap (λ (x : ℕ × List ℕ). x.0) pair in
     let after : bytes ≡ rest = ap (λ (x : ℕ × List ℕ). x.1) pair in
     let small : n < 128 = grind (arith, nat_tests) in
@@ -106,11 +94,11 @@ one_byte_is b n bytes rest below e =
 length_is : (more n : ℕ) (bytes rest : List ℕ) → IsBytes bytes → length_at more bytes ≡ Some (n, rest) → bytes ≡ leb128 n ++ rest
 length_is zero n [] rest small e = cc
 length_is (suc more) n [] rest small e = cc
-length_is zero n (b ∷ bytes) rest small e = elim (chosen_by (nat_lt b 128) (Some (b, bytes)) None (Some (n, rest)) e) [
+length_is zero n (b ∷ bytes) rest small e = elim (side_taken (nat_lt b 128) (Some (b, bytes)) None (Some (n, rest)) e) [
   | inl k ↦ one_byte_is b n bytes rest k.0 k.1
   | inr k ↦ let off : ◌≡◌ {A = Option (ℕ × List ℕ)} None (Some (n, rest)) = k.1 in absurd (cc)
 ]
-length_is (suc more) n (b ∷ bytes) rest small e = elim (chosen_by (nat_lt b 128) (Some (b, bytes)) (longer_length (b - 128) (length_at more bytes)) (Some (n, rest)) e) [
+length_is (suc more) n (b ∷ bytes) rest small e = elim (side_taken (nat_lt b 128) (Some (b, bytes)) (longer_length (b - 128) (length_at more bytes)) (Some (n, rest)) e) [
   | inl k ↦ one_byte_is b n bytes rest k.0 k.1
   | inr k ↦
       let t : nat_lt b 128 ≡ false = k.0 in
@@ -201,10 +189,9 @@ hex_passes (x ∷ b) small =
     let first : x < 256 = small 0 in
     (lower_passes (x / 16) (omega arith), (lower_passes (x % 16) (omega arith), hex_passes b (λ i. small (suc i))))
 
-pub hex_length : (b : List ℕ) → length (encode_lower b) ≡ 2 * length b
 unfolding encode_with
-hex_length [] = refl
-hex_length (x ∷ b) = omega (arith, hex_length b)
+hex_long [] = refl
+hex_long (x ∷ b) = omega (arith, hex_long b)
 
 -- the value of a digit
 value_of : (d : ℕ) → is_lower_digit d ≡ true → (v : ℕ) × (v < 16) × (slice_index lower_digits v ≡ d)
@@ -225,10 +212,6 @@ record IsHexOf (ds : List ℕ) : Type 0 where
   bytes : List ℕ
   small : IsBytes bytes
   digits : encode_lower bytes ≡ ds
-
-with_byte : (x : ℕ) (b : List ℕ) → x < 256 → IsBytes b → IsBytes (x ∷ b)
-with_byte x b first small zero = first
-with_byte x b first small (suc i) = small i
 
 -- digits in pairs are some bytes
 pairs_are : (k : ℕ) (ds : List ℕ) → length ds ≡ 2 * k → AllByRecursion (λ d. is_lower_digit d ≡ true) ds → IsHexOf ds
@@ -277,7 +260,7 @@ len_is all field bytes rest small e = by (length_at 8 bytes) refl e where
       let whole : bytes ≡ leb128 n ++ (take n behind ++ rest) = front ∙ ap (λ (x : List ℕ). leb128 n ++ x) (sym cut) in
       record {
         argument = take n behind;
-        small = bytes_front (take n behind) rest (bytes_behind (leb128 n) (take n behind ++ rest) (subst IsBytes whole small));
+        small = bytes_left (take n behind) rest (bytes_right (leb128 n) (take n behind ++ rest) (subst IsBytes whole small));
         stands = rw (append_assoc, count) whole;
       }
 
@@ -307,10 +290,10 @@ net_is all field bytes rest small e = by (number_of (take d bytes)) refl e where
       sym (take-append-drop d bytes) ∙ ap (λ (x : List ℕ). x ++ drop d bytes) number.0 ∙ ap (λ (x : List ℕ). decimal n ++ x) (colon ∙ ap (λ (x : List ℕ). 58 ∷ x) cut) in
       let count : length (take n one.0) ≡ n = omega (arith, length-take n one.0, k.0) in
       let wide : n < 2 ^ 64 = omega (arith, number.1) in
-      let tail : IsBytes (58 ∷ (take n one.0 ++ 44 ∷ rest)) = bytes_behind (decimal n) (58 ∷ (take n one.0 ++ 44 ∷ rest)) (subst IsBytes whole small) in
+      let tail : IsBytes (58 ∷ (take n one.0 ++ 44 ∷ rest)) = bytes_right (decimal n) (58 ∷ (take n one.0 ++ 44 ∷ rest)) (subst IsBytes whole small) in
       record {
         argument = take n one.0;
-        small = bytes_front (take n one.0) (44 ∷ rest) (λ i. tail (suc i));
+        small = bytes_left (take n one.0) (44 ∷ rest) (λ i. tail (suc i));
         stands = whole ∙ sym (net_regrouped (take n one.0) rest ∙ rw (count, as_std n wide) refl);
       }
 
@@ -345,7 +328,7 @@ hex_is all bytes rest e = hex_is_at all (position_or_len (λ b. not (is_lower_di
 hex_again : (all : ℕ) (b rest : List ℕ) → IsBytes b → hex_found all (field_bytes Hex b ++ rest) ≡ Before rest
 hex_again all b rest small =
     let count = front_is is_lower_digit (encode_lower b) 59 rest (hex_passes b small) refl in
-    let even : length (encode_lower b) - length (encode_lower b) % 2 ≡ length (encode_lower b) = omega (arith, hex_length b) in
+    let even : length (encode_lower b) - length (encode_lower b) % 2 ≡ length (encode_lower b) = omega (arith, hex_long b) in
     let behind = drop_at (encode_lower b) (59 ∷ rest) (length (encode_lower b)) refl in
     rw (hex_regrouped b rest, count, even, behind) refl
 

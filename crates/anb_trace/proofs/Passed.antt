@@ -1,16 +1,11 @@
 -- What is told where a piece is looked for.
-use Rattle.std.proofs.Common.{◌≡◌, ◌≤◌, ℕ, List, [], ◌∷◌, ◌++◌, Some, None, Result, Ok, Err, sym, ap, append_assoc, ◌∙◌, ◌+◌, length, drop}
+use Rattle.std.proofs.Common.{◌≡◌, ◌≤◌, ℕ, List, [], ◌∷◌, ◌++◌, Some, None, sym, ap, append_assoc, ◌∙◌, ◌+◌, length, drop}
 use Rattle.std.specs.Borrow.{Bor}
-use Rattle.std.specs.Prelude.{OnOk}
 use Rattle.std.proofs.lemmas.List.{drop_all}
 use Rattle.anb_format.specs.Formats.{field_count}
 use Rattle.anb_format.specs.declared.pieces.Piece.{Piece}
 use Rattle.anb_trace.specs.Misfits.{Before, Found, Misfit, end_due, misfit_behind, misfit_from, piece_found}
 use Rattle.anb_trace.specs.Passing.{Passes}
-
-pub on_ok : {A E P Q : Type 0} (r : Result A E) → (P → Q) → OnOk r P → OnOk r Q
-on_ok (Ok a) f h = f h
-on_ok (Err e) f h = tt
 
 -- words in four parts, and more behind them
 pub four_and : (old middle new a b c d e : List ℕ) → middle ≡ old ++ (a ++ (b ++ (c ++ d))) → new ≡ middle ++ e → new ≡ old ++ (a ++ (b ++ (c ++ (d ++ e))))

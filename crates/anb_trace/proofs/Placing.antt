@@ -4,20 +4,21 @@ use Rattle.std.specs.Prelude.{IfOk, filter, slice_get}
 use Rattle.std.specs.List.{AllByRecursion}
 use Rattle.std.proofs.lemmas.List.{length-drop, take_all}
 use Rattle.std.proofs.lemmas.List.Sums.{sum_by-append, sum_by-cons}
+use Rattle.std.proofs.lemmas.Option.{same_Some}
+use Rattle.anb_lemmas.proofs.Lists.{take_got, drop_at_got}
 use Rattle.anb_base.specs.declared.content.NoMemory.{NoMemory}
 use Rattle.anb_format.specs.Formats.{FormatValue}
 use Rattle.anb_term.specs.Tree.{Tree}
 use Rattle.anb_term.specs.declared.term.Term.{Term}
-use Rattle.anb_term.proofs.Lists.{slice_get-map}
 use Rattle.anb_code.specs.declared.instr.Instr.{Instr}
 use Rattle.anb_code.specs.CodeValue.{CodeValue}
 use Rattle.anb_code.specs.Registers.{count_written}
-use Rattle.anb_code.specs.Spelling.{raw_instr, raw_instrs, raw_of}
+use Rattle.anb_code.specs.Spelling.{raw_instr, raw_instrs}
 use Rattle.anb_code.specs.Verified.{count_registers}
-use Rattle.anb_explain.proofs.Loops.{drop_item, take_item}
 use Rattle.anb_resolve.specs.Protocols.{ProtocolValue}
 use Rattle.anb_text.specs.Lines.{instr_line}
 use Rattle.anb_text.specs.RoleFiles.{instr_lines}
+use Rattle.anb_text.proofs.Printed.{text_at}
 use Rattle.anb_trace.specs.Words.{value_line, value_lines}
 
 module _ (formats : List FormatValue) where
@@ -40,27 +41,15 @@ module _ (formats : List FormatValue) where
   count_front (y ∷ ys) (suc i) = omega (arith, count_front ys i, sum_by-cons (count_written formats) y (take i ys), sum_by-cons (count_written formats) y ys)
 
   pub count_next : (instrs : List Instr) (i : ℕ) (x : Instr) → slice_get instrs i ≡ Some x → count_registers formats (take (i + 1) instrs) ≡ count_registers formats (take i instrs) + count_written formats x
-  count_next instrs i x e = ap (count_registers formats) (take_item instrs i x e) ∙ omega (arith, sum_by-append (count_written formats) (take i instrs) (x ∷ []), sum_by-cons (count_written formats) x [])
-
--- the line of an instruction
-pub line_at : (code : CodeValue) (i : ℕ) (x : Instr) → slice_get code.instrs i ≡ Some x
-    → slice_get (instr_lines code) i ≡ Some (instr_line (raw_instr code.formats (count_registers code.formats (take i code.instrs)) x))
-line_at code i x e =
-    let count = count_registers code.formats (take i code.instrs) in
-    let from : 0 + count ≡ count = omega arith in
-    let here = raw_at code.formats code.instrs 0 i x e ∙ ap (λ n. Some (raw_instr code.formats n x)) from in
-    slice_get-map instr_line (raw_of code).code i (raw_instr code.formats count x) here
-
-same_some : {A : Type 0} (x y : A) → Some x ≡ Some y → x ≡ y
-same_some x y e = cc
+  count_next instrs i x e = ap (count_registers formats) (take_got instrs i x e) ∙ omega (arith, sum_by-append (count_written formats) (take i instrs) (x ∷ []), sum_by-cons (count_written formats) x [])
 
 -- what is written there is its line
 pub said_there : (code : CodeValue) (i : ℕ) (x : Instr) (first : ℕ) → slice_get code.instrs i ≡ Some x → first ≡ count_registers code.formats (take i code.instrs)
     → (r : Result (List ℕ) NoMemory) → IfOk r (λ text. slice_get (instr_lines code) (i + 1 - 1) ≡ Some text) → IfOk r (λ text. text ≡ instr_line (raw_instr code.formats first x))
 said_there code i x first there counted (Ok text) is =
     let at : i + 1 - 1 ≡ i = omega arith in
-    let line : slice_get (instr_lines code) i ≡ Some (instr_line (raw_instr code.formats first x)) = line_at code i x there ∙ ap (λ n. Some (instr_line (raw_instr code.formats n x))) (sym counted) in
-    same_some text (instr_line (raw_instr code.formats first x)) (sym is ∙ ap (slice_get (instr_lines code)) at ∙ line)
+    let line : slice_get (instr_lines code) i ≡ Some (instr_line (raw_instr code.formats first x)) = text_at code i x there ∙ ap (λ n. Some (instr_line (raw_instr code.formats n x))) (sym counted) in
+    same_Some text (instr_line (raw_instr code.formats first x)) (sym is ∙ ap (slice_get (instr_lines code)) at ∙ line)
 said_there code i x first there counted (Err other) is = tt
 
 -- all terms from a place on
@@ -85,7 +74,7 @@ module _ (p : ProtocolValue) (ts : List Tree) (values : List (List ℕ)) (i : �
 
   pub one_line : (t : Tree) (x : List ℕ) → slice_get ts i ≡ Some t → slice_get values i ≡ Some x
       → value_lines p (drop i ts) (drop i values) ≡ value_line p t x ++ value_lines p (drop (i + 1) ts) (drop (i + 1) values)
-  one_line t x there also = rw (drop_item ts i t there, drop_item values i x also) refl
+  one_line t x there also = rw (drop_at_got ts i t there, drop_at_got values i x also) refl
 
 -- ---- what a list is filtered to
 

@@ -2,7 +2,9 @@
 use Rattle.std.proofs.Common.{◌≡◌, ℕ, ◌+◌, ◌≤◌, List, [], ◌∷◌, ◌++◌, length, map, drop, Bool, true, false, cond, Option, Some, Err, sym, ap, ◌∙◌, subst, arith, append-nil}
 use Rattle.std.specs.Prelude.{slice_get}
 use Rattle.std.proofs.lemmas.List.{drop_all}
+use Rattle.anb_lemmas.proofs.Lists.{drop_at_got}
 use Rattle.anb_base.specs.declared.TheConstants.{ARRIVAL, WIDE}
+use Rattle.anb_base.proofs.Moving.{put_nothing}
 use Rattle.anb_seal.specs.Streams.{draw_of}
 use Rattle.anb_algebra.specs.ByteMeaning.{has_operator}
 use Rattle.anb_plays.specs.Codes.{Act, takes, draws, receives, sends, works}
@@ -14,12 +16,11 @@ use Rattle.anb_code.specs.Meaning.{act_of, acts_of}
 use Rattle.anb_code.specs.Registers.{count_written}
 use Rattle.anb_code.specs.Taking.{take_texts}
 use Rattle.anb_code.specs.Verified.{IsVerifiedCode}
-use Rattle.anb_explain.proofs.Loops.{drop_item}
 use Rattle.anb_machine.proofs.Steps.{rest_verified}
 use Rattle.anb_machine.proofs.Verified.{has_takes}
 use Rattle.anb_text.specs.declared.writing.WriteNo.TheVariants as WriteNo
 use Rattle.anb_text.specs.Writing.{IsWritten}
-use Rattle.anb_text.proofs.Written.{Due, not_all, put_nothing}
+use Rattle.anb_text.proofs.Written.{Due, not_all}
 use Rattle.anb_trace.specs.declared.steps.Standing.{Standing}
 use Rattle.anb_trace.specs.declared.steps.Told.{Told}
 use Rattle.anb_trace.specs.Traces.{end_line, told_all}
@@ -40,7 +41,7 @@ module _ (s : SubjectValue) (seed : List ℕ) where
 
   module _ (at : ℕ) (x : Instr) (there : slice_get s.code.instrs at ≡ Some x) (first : ℕ) (old : Standing) where
     next : drop at s.code.instrs ≡ x ∷ drop (at + 1) s.code.instrs
-    next = drop_item s.code.instrs at x there
+    next = drop_at_got s.code.instrs at x there
 
     left_here : IsLeft old at → IsVerified (has_operator s.code.formats) (act_of s.code.formats x ∷ map (act_of s.code.formats) (drop (at + 1) s.code.instrs)) (length old.registers.items)
     left_here left = subst (λ (l : List Instr). IsVerified (has_operator s.code.formats) (map (act_of s.code.formats) l) (length old.registers.items)) next left

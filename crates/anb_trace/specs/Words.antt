@@ -3,15 +3,15 @@ use Rattle.std.specs.Prelude.{ℕ, ◌+◌, ◌-◌, ◌==◌, ◌&&◌, ◌||�
 use Rattle.std.specs.Option.{option_map_or}
 use Rattle.std.specs.List.{list_any}
 use Rattle.hex.specs.Hex.{encode_lower}
-use Rattle.anb_format.specs.Formats.{FormatValue}
+use Rattle.anb_format.specs.Formats.{FormatValue, pieces_at}
 use Rattle.anb_term.specs.Tree.{Tree}
 use Rattle.anb_code.specs.declared.instr.Instr.{Instr}
 use Rattle.anb_code.specs.declared.instr.Instr.TheVariants.{Take, Fresh, Recv, Unseal, Unwrap, Parse, Equal}
 use Rattle.anb_code.specs.CodeValue.{CodeValue}
-use Rattle.anb_code.specs.Registers.{count_written, pieces_at}
+use Rattle.anb_code.specs.Registers.{count_written}
 use Rattle.anb_code.specs.Spelling.{name_at, raw_instr}
 use Rattle.anb_resolve.specs.Plans.{PlanEvent, to_send, to_receive}
-use Rattle.anb_resolve.specs.Protocols.{ActionValue, ProtocolValue}
+use Rattle.anb_resolve.specs.Protocols.{ActionValue, ProtocolValue, role_name}
 use Rattle.anb_resolve.specs.Texts.{term_text}
 use Rattle.anb_text.specs.Lines.{instr_line}
 use Rattle.anb_explain.specs.Explained.{is_message, line}
@@ -31,16 +31,12 @@ subject_of p code e = record { protocol = p; plan = e.plan; code = code; terms =
 
 -- ---- events
 
--- a role, where it is there
-abbrev pub role_at : ProtocolValue → ℕ → List ℕ
-role_at p role = option_map_or (λ name. name) (slice_get p.roles role) []
-
 -- the two roles of an action, by its number
 abbrev pub receiver : ProtocolValue → ℕ → List ℕ
-receiver p action = option_map_or (λ (a : ActionValue). role_at p a.to) (slice_get p.actions (action - 1)) []
+receiver p action = option_map_or (λ (a : ActionValue). role_name p a.to) (slice_get p.actions (action - 1)) []
 
 abbrev pub sender : ProtocolValue → ℕ → List ℕ
-sender p action = option_map_or (λ (a : ActionValue). role_at p a.from) (slice_get p.actions (action - 1)) []
+sender p action = option_map_or (λ (a : ActionValue). role_name p a.from) (slice_get p.actions (action - 1)) []
 
 -- the number of an action, the partner, and the term of the message
 abbrev pub event_words : ProtocolValue → PlanEvent → List ℕ

@@ -5,8 +5,9 @@ ghost use Rattle.anb_term.specs.View.{tree_of};
 ghost use Rattle.anb_resolve.specs.Plans.{term_in};
 ghost use Rattle.anb_resolve.specs.Texts.{IsTermOf, term_text};
 ghost use Rattle.anb_resolve.specs.Views.{action_value, plan_event};
+ghost use Rattle.anb_resolve.specs.Protocols.{role_name};
 ghost use Rattle.anb_explain.specs.Explained.{is_message};
-ghost use Rattle.anb_trace.specs.Words.{event_line, event_words, receiver, role_at, sender};
+ghost use Rattle.anb_trace.specs.Words.{event_line, event_words, receiver, sender};
 
 use crate::subject::put_term;
 use anb_base::NoMemory;
@@ -151,7 +152,7 @@ fn action_at(protocol: &Protocol, action: u32) -> Option<&Action>
 
 /// Appends a role by its number.
 fn put_role(out: &mut Vec<u8>, protocol: &Protocol, role: u32) -> Result<(), NoMemory>
-    ensures { OnOk result (out.new.items ≡ out.old.items ++ role_at protocol.now role) }
+    ensures { OnOk result (out.new.items ≡ out.old.items ++ role_name protocol.now role) }
 {
     match protocol.roles().get(role as usize) {
         Some(name) => {

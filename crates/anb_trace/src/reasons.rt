@@ -1,8 +1,8 @@
 //! Why an instruction failed.
 ghost use Rattle.std.specs.Prelude.{◌≡◌, ◌++◌, ◌∷◌, [], OnOk, IfSome, IfNone, Some, None, codes};
-ghost use Rattle.anb_code.specs.Registers.{pieces_at};
 ghost use Rattle.anb_code.specs.Spelling.{name_at};
 ghost use Rattle.std.specs.Option.{option_map_or};
+ghost use Rattle.anb_format.specs.Formats.{pieces_at};
 ghost use Rattle.anb_trace.specs.Misfits.{count_text};
 ghost use Rattle.anb_trace.specs.Openers.{seal_key, wrap_key};
 ghost use Rattle.anb_trace.specs.Tracing.{IsOurs, subject_in};

@@ -1,8 +1,9 @@
 -- From what has come of a trace to what the command does.
-use Rattle.std.proofs.Common.{◌≡◌, ◌≢◌, ◌⊎◌, ℕ, Bool, true, false, List, [], ◌++◌, take, length, Option, Some, None, refl, ap, sym, ◌∙◌, subst, inl, inr}
+use Rattle.std.proofs.Common.{◌≡◌, ◌≢◌, ◌⊎◌, ℕ, Bool, true, false, List, [], take, length, Option, Some, None, refl, ap, sym, ◌∙◌, subst, inl, inr}
 use Rattle.anb_base.specs.Moves.{Put, PutPrefix}
 use Rattle.anb_base.specs.Wires.{WireState}
 use Rattle.anb_base.specs.declared.TheConstants.{ARRIVAL, WIDE}
+use Rattle.anb_base.proofs.Moving.{put_nothing}
 use Rattle.anb_code.specs.CodeValue.{CodeValue}
 use Rattle.anb_code.specs.Taking.{take_texts}
 use Rattle.anb_code.specs.Verified.{IsVerifiedCode}
@@ -11,29 +12,26 @@ use Rattle.anb_machine.specs.ByteRuns.{run_bytes}
 use Rattle.anb_plays.specs.Plays.{Played}
 use Rattle.anb_resolve.specs.Protocols.{ProtocolValue}
 use Rattle.anb_term.specs.Tree.{Tree}
-use Rattle.anb_trace.specs.Laws.{TracesEndAsRuns}
 use Rattle.anb_trace.specs.Traces.{trace}
-use Rattle.anb_transcript.specs.Replays.{Replays, ReplaysOne, arrivals_of}
+use Rattle.anb_transcript.specs.Replays.{ReplaysOne, arrivals_of}
 use Rattle.anb_transcript.specs.declared.following.ReplayEnd.{ReplayEnd}
 use Rattle.anb_transcript.specs.declared.following.ReplayEnd.TheVariants as replayed
 use Rattle.anb_transcript.specs.declared.transcript.TranscriptLine.{TranscriptLine}
 use Rattle.anb_command.specs.declared.status.Status.{Status}
 use Rattle.anb_command.specs.declared.status.Status.TheVariants.{FileFault, Unreached, ReadFault, WriteFault, ChildFault, NoMemory}
 use Rattle.anb_command.specs.Fetches.{Files, IfTold}
-use Rattle.anb_command.specs.Refusing.{IsRefusing}
 use Rattle.anb_command.specs.Statuses.{before_reach, is_fault, phase_of}
 use Rattle.anb_command.specs.Steps.{Answer, refused, given, HasOneAnswer, IsFailure}
 use Rattle.anb_command.proofs.Answering.{late, refusing}
 use Rattle.anb_command.proofs.Chains.{told_map}
 use Rattle.anb_command.proofs.Ones.{not_both, same_given, same_refusal}
-use Rattle.anb_command.proofs.Written.{faulty, put_nothing}
+use Rattle.anb_command.proofs.Written.{faulty}
 use Rattle.anb_role_commands.specs.Comparing.{IsComparable, IsReplayed}
-use Rattle.anb_role_commands.specs.Jobs.{Job}
 use Rattle.anb_role_commands.specs.PlayCommand.{PlayOf}
 use Rattle.anb_role_commands.specs.Playing.{play_by}
 use Rattle.anb_role_commands.specs.ReplayCommand.{Comparison, ComparisonIs, Compares, IsReadToCompare, ReplayOutcome, status_of}
 use Rattle.anb_role_commands.proofs.Replaying.{comparison_quiet, compares, only_one}
-use Rattle.anb_trace_commands.specs.TraceCommand.{CompletesTrace, DoesTrace, EndsAsPlayed, IsTraced, IsTracedTo, IsTracing, Outcome, WritesPart, differing_line, subject_by}
+use Rattle.anb_trace_commands.specs.TraceCommand.{CompletesTrace, DoesTrace, EndsAsPlayed, IsTracedTo, IsTracing, Outcome, WritesPart, subject_by}
 use Rattle.anb_trace_commands.specs.Tracing.{HasComeOf, IsDueAs, IsTraceable, job_by}
 use Rattle.anb_trace.proofs.Ending.{traces_end}
 

@@ -8,6 +8,7 @@ use Rattle.std.proofs.lemmas.List.Elements.{All-from_recursion, recursion_from_A
 use Rattle.hex.specs.Hex.{decode_of, hex_digit_value}
 use Rattle.hex.specs.declared.error.FromHexError.{FromHexError}
 use Rattle.anb_format.specs.Literals.{Character, Plain, Quote, Backslash, Hexadecimal, IsAllowed, IsLiteral, byte_of, spelling_of}
+use Rattle.anb_format.proofs.Characters.{takes_some}
 use Rattle.anb_values.specs.declared.lines.Entry.{Entry}
 use Rattle.anb_values.specs.Lines.{Gives, IsGiven, IsHex, IsLabel, IsValue, Says, content, is_label_byte, is_passed_over, label_text, seed_label, value_text}
 use Rattle.anb_lemmas.proofs.Searching.{Decided, Tries, below_decided, both_decided, decided_as, items_many, lists_decided, longer_decided, same_decided, truth_decided}
@@ -56,17 +57,11 @@ characters_tried P each =
     below_decided 128 (λ low. IsAllowed (Hexadecimal high low) × P (Hexadecimal high low)) (λ low.
     both_decided (both_decided (some_decided (hex_digit_value high)) (some_decided (hex_digit_value low))) (each (Hexadecimal high low)))))
 
-some_spelling : (c : Character) → 0 < length (spelling_of c)
-some_spelling (Plain b) = omega arith
-some_spelling Quote = omega arith
-some_spelling Backslash = omega arith
-some_spelling (Hexadecimal high low) = omega arith
-
 literal_decided : (text : List ℕ) → Decided ((bytes : List ℕ) × IsLiteral text bytes)
 literal_decided text =
     decided_as (λ w. (map byte_of w.0, record { characters = w.0; allowed = w.1; spelled = w.3; means = refl }))
     (λ w. let is = w.1 in let whole = ap length is.spelled in
-    (is.characters, is.allowed, omega (arith, whole, items_many spelling_of is.characters some_spelling, length-append (flat_map spelling_of is.characters) (34 ∷ [])), is.spelled))
+    (is.characters, is.allowed, omega (arith, whole, items_many spelling_of is.characters takes_some, length-append (flat_map spelling_of is.characters) (34 ∷ [])), is.spelled))
     (lists_decided IsAllowed characters_tried (length text) (λ cs. text ≡ 34 ∷ flat_map spelling_of cs ++ 34 ∷ []) (λ cs. same_decided text (34 ∷ flat_map spelling_of cs ++ 34 ∷ [])))
 
 -- ---- values

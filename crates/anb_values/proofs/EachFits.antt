@@ -4,7 +4,7 @@ use Rattle.std.specs.Prelude.{filter, nat_lt, not}
 use Rattle.std.specs.List.{AllByRecursion}
 use Rattle.std.proofs.lemmas.List.{append-nil}
 use Rattle.anb_base.specs.declared.TheConstants.{ARRIVAL}
-use Rattle.anb_index.specs.Places.{is_among}
+use Rattle.anb_index.specs.Places.{among}
 use Rattle.anb_values.specs.declared.lines.Entry.{Entry}
 use Rattle.anb_values.specs.declared.refusal.ValuesNo.{ValuesNo}
 use Rattle.anb_values.specs.declared.refusal.ValuesNo.TheVariants.{Line, Extra, Twice, Long, Missing, NoMemory}
@@ -53,14 +53,14 @@ both_other [] ys all also = also
 both_other (x ∷ xs) ys all also = (all.0, both_other xs ys all.1 also)
 
 extra_other : (asked : List (List ℕ)) (entry : Entry) → AllByRecursion IsOther (extra asked entry)
-extra_other asked entry = by (is_among asked entry.label) refl where
-  by : (b : Bool) → is_among asked entry.label ≡ b → AllByRecursion IsOther (extra asked entry)
+extra_other asked entry = by (among asked entry.label) refl where
+  by : (b : Bool) → among asked entry.label ≡ b → AllByRecursion IsOther (extra asked entry)
   by true e = rw e tt
   by false e = rw e (tt, tt)
 
 twice_other : (before : List (List ℕ)) (entry : Entry) → AllByRecursion IsOther (twice before entry)
-twice_other before entry = by (is_among before entry.label) refl where
-  by : (b : Bool) → is_among before entry.label ≡ b → AllByRecursion IsOther (twice before entry)
+twice_other before entry = by (among before entry.label) refl where
+  by : (b : Bool) → among before entry.label ≡ b → AllByRecursion IsOther (twice before entry)
   by true e = rw e (tt, tt)
   by false e = rw e tt
 

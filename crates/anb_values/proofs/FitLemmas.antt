@@ -7,8 +7,8 @@ use Rattle.std.specs.Str.{bytes_eq}
 use Rattle.std.proofs.lemmas.Bool.{cases_Bool}
 use Rattle.std.proofs.lemmas.List.{drop_more, map_push, map_more}
 use Rattle.std.proofs.lemmas.List.Elements.{All-head, All-tail}
-use Rattle.std.proofs.lemmas.Slice.Eq.{bytes_eq-Decides}
-use Rattle.anb_index.specs.Places.{is_among, place_of}
+use Rattle.anb_lemmas.proofs.Items.{bytes_are_one}
+use Rattle.anb_index.specs.Places.{among, place_of}
 use Rattle.anb_index.proofs.PlaceLemmas.{find-at, find-none}
 use Rattle.anb_values.specs.declared.lines.Entry.{Entry}
 use Rattle.anb_values.specs.declared.refusal.ValuesNo.{ValuesNo}
@@ -17,13 +17,10 @@ use Rattle.anb_values.specs.Lines.{seed_label, lines_of, AreSaid}
 use Rattle.anb_values.specs.Fit.{BeginsWith, has_line, labels_of, value_of, twice, long, line_faults, lines_faults, missing, faults, Fit, UnlessNoMemory}
 use Rattle.anb_values.specs.Reading.{IsFirst, IsFaulty}
 
-bytes_eq-true : (a b : List ℕ) → bytes_eq a b ≡ true → a ≡ b
-bytes_eq-true a b h = (bytes_eq-Decides a b).0 h
-
-pub extra_first : (asked before : List (List ℕ)) (entry : Entry) → is_among asked entry.label ≡ false → BeginsWith (line_faults asked before entry) (Extra entry.label)
+pub extra_first : (asked before : List (List ℕ)) (entry : Entry) → among asked entry.label ≡ false → BeginsWith (line_faults asked before entry) (Extra entry.label)
 extra_first asked before entry h = (twice before entry ++ long entry, rw h refl)
 
-pub twice_first : (asked before : List (List ℕ)) (entry : Entry) → is_among asked entry.label ≡ true → is_among before entry.label ≡ true → BeginsWith (line_faults asked before entry) (Twice entry.label)
+pub twice_first : (asked before : List (List ℕ)) (entry : Entry) → among asked entry.label ≡ true → among before entry.label ≡ true → BeginsWith (line_faults asked before entry) (Twice entry.label)
 twice_first asked before entry h k = (long entry, rw (h, k) refl)
 
 pub differs : (b : Bool) (P : Type 0) → Decides b P → (P → ⊥) → b ≡ false
@@ -66,7 +63,7 @@ seed_value (entry ∷ entries) value all some = elim (cases_Bool (bytes_eq entry
   | inl here ↦
       let found : Some entry.value ≡ Some value = rw here at some in
       let same : entry.value ≡ value = cc in
-      rw (sym same) (All-head (λ (e : Entry). e.label ≡ seed_label → length e.value ≡ 32) entry entries all (bytes_eq-true entry.label seed_label here))
+      rw (sym same) (All-head (λ (e : Entry). e.label ≡ seed_label → length e.value ≡ 32) entry entries all (bytes_are_one entry.label seed_label here))
   | inr other ↦ seed_value entries value (All-tail (λ (e : Entry). e.label ≡ seed_label → length e.value ≡ 32) entry entries all) (rw other at some)
 ]
 

@@ -8,6 +8,7 @@ use Rattle.hex.specs.Hex.{decode_of}
 use Rattle.std.proofs.lemmas.Bool.{cases_lt, cond_below, cond_above, or_cases, and_parts, leb-true, eqb-true}
 use Rattle.std.proofs.lemmas.List.{append-nil, get_or_past, drop_all, take-append-drop, drop_more, take_more, flat_map_more, length-take-le}
 use Rattle.std.proofs.lemmas.List.Elements.{All-nil, All-cons, All-get_or}
+use Rattle.anb_lemmas.proofs.Each.{zip_and_last}
 use Rattle.anb_format.specs.Literals.{IsLiteral, IsLiteralAt}
 use Rattle.anb_format.proofs.LiteralLemmas.{unique}
 use Rattle.hex.proofs.HexLemmas.{decode_of-ok}
@@ -33,7 +34,7 @@ range_small low high b small h = let top : b ≤ high = leb-true b high (and_par
 byte_small : (n b : ℕ) → n < 128 → (b == n) ≡ true → b < 128
 byte_small n b small h = let e : b ≡ n = eqb-true b n h in omega arith
 
-label_byte_is_ascii : (b : ℕ) → is_label_byte b ≡ true → b < 128
+pub label_byte_is_ascii : (b : ℕ) → is_label_byte b ≡ true → b < 128
 label_byte_is_ascii b = or_small _ _ b (or_small _ _ b (or_small _ _ b (or_small _ _ b (or_small _ _ b (or_small _ _ b (range_small 48 57 b (lit< tt)) (range_small 65 90 b (lit< tt))) (range_small 97 122 b (lit< tt))) (byte_small 95 b (lit< tt))) (byte_small 40 b (lit< tt))) (byte_small 41 b (lit< tt))) (byte_small 44 b (lit< tt))
 
 label_is_ascii : (label : List ℕ) → IsLabel label → IsAscii label
@@ -66,18 +67,12 @@ at_equals bytes r n e some = elim (cases_lt (position_or_len (λ b. b == 61) byt
   | inr h ↦ let none : None ≡ cond (ltb (position_or_len (λ b. b == 61) bytes) (length bytes)) (Some (position_or_len (λ b. b == 61) bytes)) None = cond_above _ _ _ None None h refl in cc
 ]
 
-zip_push : {X Y : Type 0} (R : X → Y → Type 0) (xs : List X) (ys : List Y) (x : X) (y : Y) → AllZip R xs ys → R x y → AllZip R (xs ++ x ∷ []) (ys ++ y ∷ [])
-zip_push R [] [] x y all r = (r, tt)
-zip_push R [] (b ∷ bs) x y all r = absurd all
-zip_push R (a ∷ as') [] x y all r = absurd all
-zip_push R (a ∷ as') (b ∷ bs) x y all r = (all.0, zip_push R as' bs x y all.1 r)
-
 -- one line more
 pub said_none : (lines : List (List ℕ)) (entries : List Entry) (line : List ℕ) → AreSaid lines entries → Says line None → AreSaid (lines ++ line ∷ []) entries
-said_none lines entries line s h = (s.0 ++ None ∷ [], zip_push Says lines s.0 line None s.1 h, s.2 ∙ sym (append-nil _) ∙ flat_map_more (option_to_list {X = Entry}) [] s.0 None)
+said_none lines entries line s h = (s.0 ++ None ∷ [], zip_and_last Says lines s.0 line None s.1 h, s.2 ∙ sym (append-nil _) ∙ flat_map_more (option_to_list {X = Entry}) [] s.0 None)
 
 pub said_some : (lines : List (List ℕ)) (entries : List Entry) (line : List ℕ) (entry : Entry) → AreSaid lines entries → Says line (Some entry) → AreSaid (lines ++ line ∷ []) (entries ++ entry ∷ [])
-said_some lines entries line entry s h = (s.0 ++ Some entry ∷ [], zip_push Says lines s.0 line (Some entry) s.1 h, ap (λ t. t ++ entry ∷ []) s.2 ∙ flat_map_more (option_to_list {X = Entry}) [] s.0 (Some entry))
+said_some lines entries line entry s h = (s.0 ++ Some entry ∷ [], zip_and_last Says lines s.0 line (Some entry) s.1 h, ap (λ t. t ++ entry ∷ []) s.2 ∙ flat_map_more (option_to_list {X = Entry}) [] s.0 (Some entry))
 
 pub next_line : (lines : List (List ℕ)) (n : ℕ) (line : List ℕ) → n < length lines → line ≡ get_or lines n line → take (n + 1) lines ≡ take n lines ++ line ∷ []
 next_line lines n line h e = take_more lines n line h ∙ ap (λ x. take n lines ++ x ∷ []) (sym e)

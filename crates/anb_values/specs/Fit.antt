@@ -4,7 +4,7 @@ use Rattle.std.specs.List.{list_any}
 use Rattle.std.specs.Option.{option_map}
 use Rattle.std.specs.Str.{bytes_eq}
 use Rattle.anb_base.specs.declared.TheConstants.{ARRIVAL}
-use Rattle.anb_index.specs.Places.{is_among}
+use Rattle.anb_index.specs.Places.{among}
 use Rattle.anb_values.specs.declared.lines.Entry.{Entry}
 use Rattle.anb_values.specs.declared.fitted.Fitted.{Fitted}
 use Rattle.anb_values.specs.declared.refusal.ValuesNo.{ValuesNo}
@@ -23,10 +23,10 @@ abbrev pub labels_of : List Entry → List (List ℕ)
 labels_of entries = map (λ entry. entry.label) entries
 
 abbrev pub extra : List (List ℕ) → Entry → List ValuesNo
-extra asked entry = if is_among asked entry.label then [] else Extra entry.label ∷ []
+extra asked entry = if among asked entry.label then [] else Extra entry.label ∷ []
 
 abbrev pub twice : List (List ℕ) → Entry → List ValuesNo
-twice before entry = if is_among before entry.label then Twice entry.label ∷ [] else []
+twice before entry = if among before entry.label then Twice entry.label ∷ [] else []
 
 abbrev pub long : Entry → List ValuesNo
 long entry = if nat_lt ARRIVAL (length entry.value) then Long entry.label ∷ [] else []

@@ -1,6 +1,7 @@
 use Rattle.std.proofs.Common.{map, arith}
+use Rattle.anb_lemmas.proofs.Each.{each_got}
 use Rattle.anb_term.specs.View.{tree_of}
-use Rattle.anb_term.proofs.Lists.{all_at, slice_get-map, slice_get-at}
+use Rattle.anb_term.proofs.Lists.{slice_get-map, slice_get-at}
 use Rattle.anb_resolve.specs.Texts.{IsTermOf}
 use Rattle.anb_reason_commands.proofs.put_terms.Goals as goal
 
@@ -9,4 +10,4 @@ text_of_term-requires c =
     let ts = c.args.terms.now in
     let i = c.loop-term.term-index in
     let x = c.term-item.result in
-    all_at (IsTermOf c.args.protocol.now) (map tree_of ts) i (tree_of x) c.requires (slice_get-map tree_of ts i x (slice_get-at ts i x (omega arith) c.term-item.is))
+    each_got (IsTermOf c.args.protocol.now) (map tree_of ts) i (tree_of x) c.requires (slice_get-map tree_of ts i x (slice_get-at ts i x (omega arith) c.term-item.is))

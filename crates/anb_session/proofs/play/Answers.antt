@@ -1,8 +1,9 @@
 use Rattle.std.proofs.Common.{arith, refl, ◌∙◌}
+use Rattle.anb_base.proofs.Moving.{Rose-later}
 use Rattle.anb_machine.specs.Machines.{gives}
 use Rattle.anb_session.proofs.Continued.{going_nowhere, continued, ending}
 use Rattle.anb_session.proofs.Prompt.{prompt_still, nowhere_promptly, joined_promptly}
-use Rattle.anb_session.proofs.Written.{written_back, rose_later}
+use Rattle.anb_session.proofs.Written.{written_back}
 use Rattle.anb_session.proofs.play.Goals as goal
 
 pub loop-end-init : goal.loop-end-init
@@ -39,8 +40,8 @@ returns-in-Some g c =
           (g.W.Source.left c.turn.new.wire) (g.W.Sink.written c.turn.new.wire) c.in-Some.end old.continues c.in-Some.ensures.ends;
       prompt = old.goes_on.each (g.W.Wire.state c.turn.new.wire) c.in-Some.ensures.prompt;
       waits = c.in-Some.ensures.waits;
-      read_fault = λ is. rose_later _ _ _ old.reading (c.in-Some.ensures.read_fault is);
-      write_fault = λ is. rose_later _ _ _ old.writing (c.in-Some.ensures.write_fault is);
+      read_fault = λ is. Rose-later _ _ _ old.reading (c.in-Some.ensures.read_fault is);
+      write_fault = λ is. Rose-later _ _ _ old.writing (c.in-Some.ensures.write_fault is);
       reading_never_falls = omega (arith, old.reading, c.in-Some.ensures.reading_never_falls);
       writing_never_falls = omega (arith, old.writing, c.in-Some.ensures.writing_never_falls);
       reached = c.in-Some.ensures.reached ∙ old.reached;

@@ -1,7 +1,7 @@
 use Rattle.std.proofs.Common.{Ok, ap, ◌∙◌}
+use Rattle.anb_base.proofs.Moving.{kept_first, stamped_told}
 use Rattle.anb_session.proofs.Continued.{read_fault}
-use Rattle.anb_session.proofs.Prompt.{stamped_told, received_in_time, waited_in_time}
-use Rattle.anb_session.proofs.Written.{kept_first}
+use Rattle.anb_session.proofs.Prompt.{received_in_time, waited_in_time}
 use Rattle.anb_session.proofs.receive.Goals as goal
 
 pub returns-in-Err-Failed-clause-ends : goal.returns-in-Err-Failed-clause-ends

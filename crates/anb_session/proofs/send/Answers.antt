@@ -1,8 +1,8 @@
 use Rattle.std.proofs.Common.{◌∙◌, subst}
 use Rattle.anb_base.specs.Moves.{Put, PutPrefix}
+use Rattle.anb_base.proofs.Moving.{kept_first, kept_third}
 use Rattle.anb_session.proofs.Continued.{write_fault}
 use Rattle.anb_session.proofs.Prompt.{saying_promptly}
-use Rattle.anb_session.proofs.Written.{kept_first, kept_third}
 use Rattle.anb_session.proofs.send.Goals as goal
 
 pub returns-in-Ok-write_whole-clause-goes_on : goal.returns-in-Ok-write_whole-clause-goes_on

@@ -1,7 +1,8 @@
 use Rattle.std.proofs.Common.{ℕ, List, [], ◌∷◌, sym, ap, ◌∙◌}
+use Rattle.anb_lemmas.proofs.Options.{if_some_any}
 use Rattle.anb_plays.specs.Plays.{Played, says}
 use Rattle.anb_machine.specs.Machines.{gives}
-use Rattle.anb_session.proofs.Answered.{no_error, an_error, whatever}
+use Rattle.anb_session.proofs.Answered.{no_error, an_error}
 use Rattle.anb_session.proofs.Continued.{saying, receiving, is_done, is_stopped}
 use Rattle.anb_session.proofs.Prompt.{prompt_nothing, prompt_still}
 use Rattle.anb_session.proofs.turn.Goals as goal
@@ -45,7 +46,7 @@ returns-in-Message-clause-goes_on g c =
 
 pub returns-in-Message-clause-prompt : goal.returns-in-Message-clause-prompt
 returns-in-Message-clause-prompt g c =
-    whatever c.err.result _ (prompt_nothing (gives c.args.machine.now) (g.W.Wire.state c.args.wire.now) (g.W.Wire.state c.send.new.wire) c.send.ensures.took_nothing)
+    if_some_any c.err.result _ (prompt_nothing (gives c.args.machine.now) (g.W.Wire.state c.args.wire.now) (g.W.Wire.state c.send.new.wire) c.send.ensures.took_nothing)
 
 pub returns-in-Ok-clause-goes_on : goal.returns-in-Ok-clause-goes_on
 returns-in-Ok-clause-goes_on g c =

@@ -1,6 +1,6 @@
 use Rattle.std.proofs.Common.{ℕ, arith, subst}
+use Rattle.anb_lemmas.proofs.Lists.{item_at}
 use Rattle.anb_compile.specs.Fitting.{FitsRole}
-use Rattle.anb_arms.proofs.Members.{item_at}
 use Rattle.anb_arms.proofs.compiling.code_of.Goals as goal
 
 pub returns-in-Ok-clause-fits : goal.returns-in-Ok-clause-fits

@@ -2,6 +2,7 @@ use Rattle.std.proofs.Common.{◌≡◌, ◌-◌, ◌<◌, ℕ, List, length, sy
 use Rattle.std.specs.Prelude.{Some, Option}
 use Rattle.std.specs.List.{AllByRecursion}
 use Rattle.std.proofs.lemmas.Slice.Zip.{AllZip-long}
+use Rattle.anb_lemmas.proofs.Lists.{item_at}
 use Rattle.anb_plays.specs.Runs.{without_place}
 use Rattle.anb_code.specs.CodeValue.{CodeValue}
 use Rattle.anb_code.specs.Taking.{take_texts}
@@ -13,7 +14,6 @@ use Rattle.anb_session.specs.Turns.{Ends}
 use Rattle.anb_branch.specs.Views.{branched_of}
 use Rattle.anb_arms.specs.Taken.{IsTold, run_taken}
 use Rattle.anb_arms.specs.Stems.{Closes}
-use Rattle.anb_arms.proofs.Members.{item_at}
 use Rattle.anb_arms.proofs.Turns.{by_told, closes_as}
 use Rattle.anb_arms.proofs.Deciding.{plays_taken, run_told}
 use Rattle.anb_arms.proofs.playing.branch_play.Goals as goal

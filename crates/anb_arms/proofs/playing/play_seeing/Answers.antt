@@ -1,10 +1,11 @@
 use Rattle.std.proofs.Common.{◌≡◌, ◌<◌, length, false, None, sym, ap, ◌∙◌, subst, arith}
+use Rattle.anb_lemmas.proofs.Lists.{item_at}
 use Rattle.anb_code.specs.CodeValue.{CodeValue}
 use Rattle.anb_code.specs.Taking.{take_texts}
 use Rattle.anb_branch.specs.Views.{branched_of}
 use Rattle.anb_arms.specs.declared.signs.Sign.{Sign}
 use Rattle.anb_arms.specs.Taken.{begins_arm, place_begun, run_taken}
-use Rattle.anb_arms.proofs.Members.{item_at, chosen_within}
+use Rattle.anb_arms.proofs.Members.{chosen_within}
 use Rattle.anb_arms.proofs.Seeing.{receives_so}
 use Rattle.anb_arms.proofs.Turns.{closes_wanting}
 use Rattle.anb_arms.proofs.Choosing.{ends_there, goes_on_here, waits_there, goes_on_there}

@@ -1,6 +1,7 @@
 use Rattle.std.proofs.Common.{ℕ, List, length, None, sym, ap, ◌∙◌, subst, arith}
 use Rattle.std.specs.List.{list_any}
 use Rattle.std.proofs.lemmas.Slice.Zip.{AllZip-long}
+use Rattle.anb_lemmas.proofs.Lists.{item_at}
 use Rattle.anb_plays.specs.Runs.{without_place}
 use Rattle.anb_code.specs.CodeValue.{CodeValue}
 use Rattle.anb_machine.specs.ByteRuns.{run_bytes}
@@ -10,7 +11,6 @@ use Rattle.anb_branch.specs.Views.{branched_of}
 use Rattle.anb_arms.specs.declared.signs.Sign.{Sign}
 use Rattle.anb_arms.specs.Taken.{run_taken}
 use Rattle.anb_arms.specs.Signs.{AreSigns, IsSign}
-use Rattle.anb_arms.proofs.Members.{item_at}
 use Rattle.anb_arms.proofs.Refusals.{have_role}
 use Rattle.anb_arms.proofs.Seeing.{any_free}
 use Rattle.anb_arms.proofs.Turns.{closes_as, closes_wanting}

@@ -1,7 +1,7 @@
 use Rattle.std.proofs.Common.{◌<◌, false, None, sym, ◌∙◌, arith, length}
+use Rattle.anb_lemmas.proofs.Lists.{item_at}
 use Rattle.anb_arms.specs.declared.signs.Sign.{Sign}
 use Rattle.anb_arms.specs.Taken.{begins_arm}
-use Rattle.anb_arms.proofs.Members.{item_at}
 use Rattle.anb_arms.proofs.Seeing.{begins_so, place_found, place_next}
 use Rattle.anb_arms.proofs.signs.place_begun.Goals as goal
 

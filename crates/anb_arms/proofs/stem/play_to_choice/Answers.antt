@@ -1,6 +1,7 @@
 use Rattle.std.proofs.Common.{◌≡◌, arith, refl, sym, ap, ◌∙◌, subst, length, List, ℕ}
+use Rattle.anb_base.proofs.Moving.{Rose-later}
 use Rattle.anb_session.specs.declared.PlayEnd.TheVariants.{ReadFault, WriteFault}
-use Rattle.anb_session.proofs.Written.{written_back, rose_later}
+use Rattle.anb_session.proofs.Written.{written_back}
 use Rattle.anb_arms.specs.Stems.{AreBytes, AreShort}
 use Rattle.anb_arms.specs.declared.stem.Step.TheVariants as step
 use Rattle.anb_arms.proofs.Turns.{closes_wanting}
@@ -57,7 +58,7 @@ returns-in-Over-clause-ends g c =
     (g.W.Wire.state c.args.wire.now) (g.W.Wire.state c.loop-arrival.wire) (g.W.Wire.state c.play_turn.new.wire) c.in-Over.end c.loop-arrival.invariant.along c.in-Over.ensures.steps
 
 pub returns-in-Over-clause-read_fault : goal.returns-in-Over-clause-read_fault
-returns-in-Over-clause-read_fault g c = λ is. rose_later _ _ _ c.loop-arrival.invariant.reading (c.in-Over.ensures.read_fault (let e : c.in-Over.end ≡ ReadFault = cc in ap step.Over e))
+returns-in-Over-clause-read_fault g c = λ is. Rose-later _ _ _ c.loop-arrival.invariant.reading (c.in-Over.ensures.read_fault (let e : c.in-Over.end ≡ ReadFault = cc in ap step.Over e))
 
 pub returns-in-Over-clause-write_fault : goal.returns-in-Over-clause-write_fault
-returns-in-Over-clause-write_fault g c = λ is. rose_later _ _ _ c.loop-arrival.invariant.writing (c.in-Over.ensures.write_fault (let e : c.in-Over.end ≡ WriteFault = cc in ap step.Over e))
+returns-in-Over-clause-write_fault g c = λ is. Rose-later _ _ _ c.loop-arrival.invariant.writing (c.in-Over.ensures.write_fault (let e : c.in-Over.end ≡ WriteFault = cc in ap step.Over e))

@@ -1,5 +1,5 @@
 use Rattle.std.proofs.Common.{ℕ, List, sym, ap, ◌∙◌, arith}
-use Rattle.anb_resolve.specs.Names.{among}
+use Rattle.anb_index.specs.Places.{among}
 use Rattle.anb_branch.proofs.Names.{among_itself, same_names_have}
 use Rattle.anb_branch.proofs.alike.have_same_stems.Goals as goal
 

@@ -1,5 +1,5 @@
 use Rattle.std.proofs.Common.{ℕ, List, sym, ap, ◌∙◌, arith}
-use Rattle.anb_resolve.specs.Names.{among}
+use Rattle.anb_index.specs.Places.{among}
 use Rattle.anb_resolve.specs.Protocols.{ProtocolValue}
 use Rattle.anb_branch.specs.Lawful.{roles_in}
 use Rattle.anb_branch.specs.Views.{branched_of}

@@ -1,6 +1,7 @@
 use Rattle.std.proofs.Common.{◌≡◌, ◌<◌, ◌≤◌, ◌+◌, ◌∷◌, ℕ, List, Option, Some, length, drop, sym, ap, subst, arith}
 use Rattle.std.specs.Prelude.{slice_get, MatchOption, false}
 use Rattle.std.specs.List.{AllByRecursion}
+use Rattle.anb_lemmas.proofs.Results.{on_ok_map}
 use Rattle.anb_base.specs.declared.TheConstants.{ARRIVAL, WIDE}
 use Rattle.anb_format.specs.Formats.{FormatValue, field_count}
 use Rattle.anb_term.proofs.Lists.{slice_get-at}
@@ -18,7 +19,7 @@ use Rattle.anb_certify.specs.Walking.{IsAt, Stands}
 use Rattle.anb_certify.specs.Works.{work_of}
 use Rattle.anb_certify.proofs.Ending.{at_act, events_at, next_there}
 use Rattle.anb_certify.proofs.Framing.{does_an_event}
-use Rattle.anb_certify.proofs.Results.{on_ok, if_err}
+use Rattle.anb_certify.proofs.Results.{if_err}
 use Rattle.anb_certify.proofs.certifying.step.Goals as goal
 
 pub job_of-requires-clause-fields : goal.job_of-requires-clause-fields
@@ -72,7 +73,7 @@ returns-in-Some-clause-at c =
     let F : List FormatValue → Type 0 = λ l. act_of l x ≡ works (work_of c.in-Some.job) in
     let W : Act → Type 0 = λ a. Stands p role code (a ∷ drop (i + 1) (acts_of code)) (drop next (events_of p role)) (i + 1) v in
     let s = subst W (subst F c.formats.ensures.formats act) (at_act p role code i next v x here c.requires.at) in
-    on_ok c.work.result (λ f. f p role code (drop (i + 1) (acts_of code)) (drop next (events_of p role)) s) c.work.ensures.stands
+    on_ok_map c.work.result (λ f. f p role code (drop (i + 1) (acts_of code)) (drop next (events_of p role)) s) c.work.ensures.stands
 
 pub returns-in-Some-clause-refused : goal.returns-in-Some-clause-refused
 returns-in-Some-clause-refused c =
@@ -157,7 +158,7 @@ returns-in-None-clause-at c =
     let E : List plays.Event → Type 0 = λ l. Stands p role code (act_of code.formats x ∷ drop (i + 1) (acts_of code)) l (i + 1) v in
     let t = subst E left s in
     let N : ℕ → Type 0 = λ k. IsAt p role code (i + 1) k (value_of c.meet.new.table) in
-    on_ok c.meet.result (λ f. subst N (sym c.next_event.ensures.next) (f p role code (drop (i + 1) (acts_of code)) (drop (next + 1) (events_of p role)) t)) c.meet.ensures.stands
+    on_ok_map c.meet.result (λ f. subst N (sym c.next_event.ensures.next) (f p role code (drop (i + 1) (acts_of code)) (drop (next + 1) (events_of p role)) t)) c.meet.ensures.stands
 
 pub returns-in-None-clause-refused : goal.returns-in-None-clause-refused
 returns-in-None-clause-refused c =

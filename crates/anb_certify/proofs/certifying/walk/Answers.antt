@@ -1,11 +1,12 @@
 use Rattle.std.proofs.Common.{◌≡◌, ◌+◌, ℕ, length, ap, subst, arith}
 use Rattle.anb_resolve.specs.Plays.{events_of}
 use Rattle.std.proofs.Common.{drop}
+use Rattle.anb_lemmas.proofs.Results.{on_ok_map}
 use Rattle.anb_certify.specs.declared.refusal.CertifyNo.TheVariants.{Loose}
 use Rattle.anb_certify.specs.Certified.{Refuses}
 use Rattle.anb_certify.specs.Numbered.{value_of, IsLoose}
 use Rattle.anb_certify.proofs.Ending.{starts, all_past, refused_by}
-use Rattle.anb_certify.proofs.Results.{on_ok, if_err}
+use Rattle.anb_certify.proofs.Results.{if_err}
 use Rattle.anb_certify.proofs.Walking.{ends_well, ends_loose}
 use Rattle.anb_certify.proofs.certifying.walk.Goals as goal
 
@@ -22,7 +23,7 @@ returns-clause-certified c =
     let code = c.args.code.now in
     let v = value_of c.loop-i.table in
     let s = all_past p role code c.loop-i.i c.loop-i.next v (omega (arith, ap length c.instrs-count.ensures.instrs, c.loop-i-test.false)) c.loop-i.invariant.at in
-    on_ok c.border.result (λ enough. (c.requires.framed, ends_well p role code (drop c.loop-i.next (events_of p role)) (c.loop-i.i + 1) v enough s)) c.border.ensures.enough
+    on_ok_map c.border.result (λ enough. (c.requires.framed, ends_well p role code (drop c.loop-i.next (events_of p role)) (c.loop-i.i + 1) v enough s)) c.border.ensures.enough
 
 pub returns-clause-refused : goal.returns-clause-refused
 returns-clause-refused c =

@@ -1,7 +1,7 @@
 use Rattle.std.proofs.Common.{arith, Some, ap, ◌∙◌}
-use Rattle.anb_term.proofs.Lists.{slice_get-there, slice_get-within}
+use Rattle.anb_lemmas.proofs.Lists.{got_within, lists_same}
+use Rattle.anb_term.proofs.Lists.{slice_get-there}
 use Rattle.anb_certify.proofs.Falling.{begun_low, begun_flat}
-use Rattle.anb_certify.proofs.Grouping.{lists_same}
 use Rattle.anb_certify.proofs.classes.begun.Goals as goal
 
 pub returns-clause-all : goal.returns-clause-all
@@ -10,7 +10,7 @@ returns-clause-all c all =
     let names = c.loop-i.names.items in
     lists_same names c.args.firsts.now (omega (arith, c.loop-i.invariant.count, c.loop-i.auto.i-end, c.loop-i-test.false))
     (λ i n e.
-    let x = slice_get-there flags i (omega (arith, slice_get-within names i n e, c.requires.long, c.loop-i.invariant.count, c.loop-i.auto.i-end, c.loop-i-test.false)) in
+    let x = slice_get-there flags i (omega (arith, got_within names i n e, c.requires.long, c.loop-i.invariant.count, c.loop-i.auto.i-end, c.loop-i-test.false)) in
     c.loop-i.invariant.begun.flagged i n e (x.1 ∙ ap Some (all i x.0 x.1)))
 
 pub returns-clause-low : goal.returns-clause-low

@@ -1,5 +1,5 @@
 use Rattle.std.proofs.Common.{◌<◌, length, get_or, ◌∙◌, arith}
-use Rattle.anb_term.proofs.Lists.{slice_get-within}
+use Rattle.anb_lemmas.proofs.Lists.{got_within}
 use Rattle.anb_certify.proofs.Falling.{follow_low, follow_less, follow_flat, named_set, on_tied}
 use Rattle.anb_certify.proofs.Grouping.{get_here, set_long}
 use Rattle.anb_certify.proofs.classes.flatten.Goals as goal
@@ -31,4 +31,4 @@ loop-i-preserved c =
     }
 
 pub returns-clause-flat : goal.returns-clause-flat
-returns-clause-flat c i x e = c.loop-i.invariant.flat i x (omega (arith, slice_get-within c.loop-i.names i x e, c.loop-i.auto.i-end, c.loop-i-test.false)) e
+returns-clause-flat c i x e = c.loop-i.invariant.flat i x (omega (arith, got_within c.loop-i.names i x e, c.loop-i.auto.i-end, c.loop-i-test.false)) e

@@ -1,7 +1,7 @@
 use Rattle.std.proofs.Common.{◌≡◌, ◌<◌, Some, sym, ◌∙◌, subst, arith, ⊎_elim}
 use Rattle.std.specs.Prelude.{slice_get}
+use Rattle.anb_lemmas.proofs.Numbers.{same_or_not}
 use Rattle.anb_certify.proofs.Falling.{falls, falls_or, set_low, named_set, roots_tied, back_tied}
-use Rattle.anb_certify.proofs.Ruling.{same_or_not}
 use Rattle.anb_certify.proofs.classes.tie.Goals as goal
 
 pub returns-then-a-b-clause-less : goal.returns-then-a-b-clause-less

@@ -1,5 +1,5 @@
 use Rattle.std.proofs.Common.{◌≡◌, refl, ◌<◌, ◌≤◌, [], ◌∷◌, ℕ, List, length, get_or, sym, ◌∙◌, subst, arith, inr, ⊎_elim}
-use Rattle.anb_term.proofs.Lists.{all_at}
+use Rattle.anb_lemmas.proofs.Each.{each_got}
 use Rattle.anb_certify.specs.declared.links.Pair.{Pair}
 use Rattle.anb_certify.specs.Falling.{weight, AreApart, AreFlat}
 use Rattle.anb_certify.specs.Links.{IsTiedLink}
@@ -21,12 +21,12 @@ loop-link-preserved c =
       low = c.tie.ensures.low;
       falls = ⊎_elim
           (λ s.
-          let apart = all_at (λ l. AreApart old l.0 l.1) links i link c.requires.apart here in
+          let apart = each_got (λ l. AreApart old l.0 l.1) links i link c.requires.apart here in
           let A : List ℕ → Type 0 = λ l. AreApart l link.0 link.1 in
           let f = c.tie.ensures.falls (subst AreFlat (sym s.1) c.requires.flat) (subst A (sym s.1) apart) in
           inr (subst (λ l. weight c.tie.new.names < weight l) s.1 f))
           (λ f. inr (omega (arith, f, c.tie.ensures.less))) inv.falls;
-      named = λ did h t. c.tie.ensures.named did (inv.named did h t) (all_at (IsTiedLink (length old) did) links i link t here).2;
+      named = λ did h t. c.tie.ensures.named did (inv.named did h t) (each_got (IsTiedLink (length old) did) links i link t here).2;
     }
 
 pub returns-clause-falls : goal.returns-clause-falls

@@ -1,5 +1,6 @@
 use Rattle.std.proofs.Common.{◌+◌, ◌<◌, ◌∷◌, length, map, drop, sym, ap, ◌∙◌, arith}
-use Rattle.anb_term.proofs.Lists.{all_at, slice_get-at, slice_get-map}
+use Rattle.anb_lemmas.proofs.Each.{each_got}
+use Rattle.anb_term.proofs.Lists.{slice_get-at, slice_get-map}
 use Rattle.anb_resolve.specs.Plans.{term_in}
 use Rattle.anb_resolve.specs.Texts.{IsTermOf}
 use Rattle.anb_resolve.specs.Views.{plan_event}
@@ -12,7 +13,7 @@ does_event-requires c =
     let events = c.args.events.now in
     let n = c.args.next in
     let x = c.index-events-next.result in
-    all_at (λ e. IsTermOf c.args.p.now (term_in e)) (map plan_event events) n (plan_event x) c.requires.terms
+    each_got (λ e. IsTermOf c.args.p.now (term_in e)) (map plan_event events) n (plan_event x) c.requires.terms
     (slice_get-map plan_event events n x (slice_get-at events n x (omega (arith, c.requires.within, c.if-next-events.false)) c.index-events-next.is))
 
 pub returns-then-branch : goal.returns-then-branch

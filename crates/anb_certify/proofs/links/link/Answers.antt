@@ -1,13 +1,13 @@
 use Rattle.std.proofs.Common.{◌≡◌, ◌<◌, ◌-◌, ◌++◌, ◌∷◌, [], ℕ, List, length, sym, ap, ◌∙◌, subst, arith}
 use Rattle.std.proofs.lemmas.List.Elements.{All-from_recursion}
 use Rattle.std.specs.List.{AllByRecursion}
+use Rattle.anb_lemmas.proofs.Results.{on_ok_map}
 use Rattle.anb_term.specs.Operator.{arity, keys}
 use Rattle.anb_certify.specs.declared.works.Job.{Job}
 use Rattle.anb_certify.specs.Works.{work_of}
 use Rattle.anb_certify.specs.Links.{AreLinked, HasLinked, IsToLink}
 use Rattle.anb_certify.specs.Signs.{sign_of, signs_in, classes_in, HasSigned}
 use Rattle.anb_certify.proofs.Linking.{equal_linked, make_linked, undo_linked, make_bounds, undo_within, undo_bounds}
-use Rattle.anb_certify.proofs.Results.{on_ok}
 use Rattle.anb_certify.proofs.links.link.Goals as goal
 
 pub link_all-requires-in-Make-clause-first : goal.link_all-requires-in-Make-clause-first
@@ -70,7 +70,7 @@ returns-in-Equal-clause-linked c =
     let cs = c.args.names.now in
     let made = signs_in c.args.made.now in
     let undone = signs_in c.args.undone.now in
-    on_ok c.link_all.result
+    on_ok_map c.link_all.result
     (λ l did seen g h.
     let G : Job → Type 0 = λ j. IsToLink did cs d.at (work_of j) in
     let R : Job → Type 0 = λ j. AreLinked did (seen ++ (d.at, work_of j) ∷ []) cs made undone c.link_all.new.links.items in
@@ -88,7 +88,7 @@ returns-in_ok-first-in-Make-clause-linked c =
     let new = c.link_all-in-Make.new.links.items in
     let S : List ℕ → Type 0 = λ l. HasSigned made (sign_of (classes_in c.args.made.now) c.in-Make.op l) d.at made2 x in
     let sg = subst S c.deref.ensures.value c.in_ok-first-in-Make.ensures.signed in
-    on_ok c.link_all-in-Make.result
+    on_ok_map c.link_all-in-Make.result
     (λ l did seen g h.
     let G : Job → Type 0 = λ j. IsToLink did cs d.at (work_of j) in
     let R : Job → Type 0 = λ j. AreLinked did (seen ++ (d.at, work_of j) ∷ []) cs made2 undone new in
@@ -111,7 +111,7 @@ returns-in_ok-first-in-Undo-clause-linked c =
     let sg = subst S are c.in_ok-first-in-Undo.ensures.signed in
     let count : c.arity.result - c.keys.result ≡ arity o - keys o = omega (arith, c.arity.ensures, c.keys.ensures) in
     let L : ℕ → Type 0 = λ n. HasLinked cs x d.at n old new in
-    on_ok c.link_all-in-Undo.result
+    on_ok_map c.link_all-in-Undo.result
     (λ l did seen g h.
     let G : Job → Type 0 = λ j. IsToLink did cs d.at (work_of j) in
     let R : Job → Type 0 = λ j. AreLinked did (seen ++ (d.at, work_of j) ∷ []) cs made undone2 new in

@@ -1,14 +1,15 @@
 use Rattle.std.proofs.Common.{◌≡◌, ◌<◌, false, Some, length, get_or, sym, ap, ◌∙◌, subst, arith, ⊎_elim}
 use Rattle.std.specs.Prelude.{slice_get}
 use Rattle.std.proofs.lemmas.List.{length-map}
-use Rattle.anb_term.proofs.Lists.{slice_get-within}
+use Rattle.anb_lemmas.proofs.Numbers.{below_or_it}
+use Rattle.anb_lemmas.proofs.Lists.{got_within}
 use Rattle.anb_intern.specs.declared.node.NodeId.{NodeId}
 use Rattle.anb_intern.specs.Nodes.{operands_at, tree_at}
 use Rattle.anb_intern.proofs.Nodes.{over_more}
 use Rattle.anb_intern.proofs.Putting.{under_at}
 use Rattle.anb_certify.specs.Decided.{composes}
 use Rattle.anb_certify.specs.Progress.{wanted_test}
-use Rattle.anb_certify.proofs.Grouping.{get_here, at_register, same_or}
+use Rattle.anb_certify.proofs.Grouping.{get_here, at_register}
 use Rattle.anb_certify.proofs.Ruling.{wanted_is}
 use Rattle.anb_certify.proofs.progress.are_quiet.Goals as goal
 
@@ -52,7 +53,7 @@ loop-r-preserved c k f t l e at =
     let same : r ≡ f = cc in
     let q : Some u ≡ Some t = sym term ∙ ap (slice_get ts) same ∙ at in
     let terms : u ≡ t = cc in
-    subst (λ z. wanted_test ts z ≡ false) terms off) (same_or k i l)
+    subst (λ z. wanted_test ts z ≡ false) terms off) (below_or_it k i l)
 
 pub returns : goal.returns
-returns c h k f t e at = c.loop-r.invariant k f t (omega (arith, slice_get-within c.args.pending.now k f e, c.loop-r.auto.r-index-end, c.loop-r-test.false)) e at
+returns c h k f t e at = c.loop-r.invariant k f t (omega (arith, got_within c.args.pending.now k f e, c.loop-r.auto.r-index-end, c.loop-r-test.false)) e at

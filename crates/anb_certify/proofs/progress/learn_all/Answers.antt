@@ -1,5 +1,6 @@
 use Rattle.std.proofs.Common.{map, sym, ◌∙◌, arith}
-use Rattle.anb_term.proofs.Lists.{slice_get-at, slice_get-within}
+use Rattle.anb_lemmas.proofs.Lists.{got_within}
+use Rattle.anb_term.proofs.Lists.{slice_get-at}
 use Rattle.anb_certify.specs.Works.{did_of, work_of}
 use Rattle.anb_certify.proofs.Grouping.{did_there}
 use Rattle.anb_certify.proofs.progress.learn_all.Goals as goal
@@ -12,7 +13,7 @@ learn-requires-clause-told c =
     (c.requires.told.0, sym g.long, g.told d.at (work_of d.job) there)
 
 pub learn-requires-clause-below : goal.learn-requires-clause-below
-learn-requires-clause-below c i f e = omega (arith, c.requires.told.1.least i f e, slice_get-within c.args.firsts.now i f e)
+learn-requires-clause-below c i f e = omega (arith, c.requires.told.1.least i f e, got_within c.args.firsts.now i f e)
 
 pub settle-requires : goal.settle-requires
 settle-requires c =

@@ -1,5 +1,6 @@
 use Rattle.std.proofs.Common.{map, arith}
-use Rattle.anb_term.proofs.Lists.{all_at, slice_get-at, slice_get-map}
+use Rattle.anb_lemmas.proofs.Each.{each_got}
+use Rattle.anb_term.proofs.Lists.{slice_get-at, slice_get-map}
 use Rattle.anb_close.specs.Entries as entries
 use Rattle.anb_resolve.specs.Plans.{term_in}
 use Rattle.anb_resolve.specs.Texts.{IsTermOf}
@@ -12,7 +13,7 @@ find_label-requires-clause-term c =
     let events = c.args.events.now in
     let i = c.loop-event.event-index in
     let x = c.event-item.result in
-    all_at (λ e. IsTermOf c.args.p.now (term_in e)) (map plan_event events) i (plan_event x) c.requires.terms (slice_get-map plan_event events i x (slice_get-at events i x (omega arith) c.event-item.is))
+    each_got (λ e. IsTermOf c.args.p.now (term_in e)) (map plan_event events) i (plan_event x) c.requires.terms (slice_get-map plan_event events i x (slice_get-at events i x (omega arith) c.event-item.is))
 
 pub loop-event-preserved : goal.loop-event-preserved
 loop-event-preserved c protocol =

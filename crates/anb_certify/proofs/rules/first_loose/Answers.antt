@@ -1,18 +1,18 @@
 use Rattle.std.proofs.Common.{◌≡◌, ℕ, List, Bool, length, map, sym, ap, ◌∙◌, subst, arith, ⊎_elim}
 use Rattle.std.specs.Prelude.{get_or}
 use Rattle.std.proofs.lemmas.List.{length-map}
-use Rattle.anb_term.proofs.Lists.{slice_get-within}
+use Rattle.anb_lemmas.proofs.Numbers.{below_or_it}
+use Rattle.anb_lemmas.proofs.Lists.{got_within}
 use Rattle.anb_intern.specs.declared.node.NodeId.{NodeId}
 use Rattle.anb_intern.specs.Nodes.{operands_at, tree_at}
-use Rattle.anb_intern.proofs.Nodes.{over_more}
+use Rattle.anb_intern.proofs.Nodes.{over_more, operands_long}
 use Rattle.anb_intern.proofs.Putting.{under_at}
 use Rattle.anb_certify.specs.Decided.{composes}
 use Rattle.anb_certify.specs.Numbered.{AreKnown, Passes}
 use Rattle.anb_certify.specs.Tied.{KeepsRules}
 use Rattle.anb_certify.specs.Progress.{wanted_test}
 use Rattle.anb_certify.specs.Works.{did_of}
-use Rattle.anb_certify.proofs.Flagging.{operands_long}
-use Rattle.anb_certify.proofs.Grouping.{get_here, at_register, same_or}
+use Rattle.anb_certify.proofs.Grouping.{get_here, at_register}
 use Rattle.anb_certify.proofs.Ruling.{wanted_is, passes_keeps, keeps_passes}
 use Rattle.anb_certify.proofs.rules.first_loose.Goals as goal
 
@@ -43,7 +43,7 @@ keeps-requires-clause-firsts c i f e =
     let ids = c.args.ids.now in
     let did = map did_of c.args.done.now in
     let g = c.requires.grouped in
-    omega (arith, g.least i f e, slice_get-within c.args.firsts.now i f e, c.in_ok-names.ensures.long, ap length c.deref-in-loop-i-2.ensures.value)
+    omega (arith, g.least i f e, got_within c.args.firsts.now i f e, c.in_ok-names.ensures.long, ap length c.deref-in-loop-i-2.ensures.value)
 
 pub returns-then-not-keeps : goal.returns-then-not-keeps
 returns-then-not-keeps c =
@@ -107,7 +107,7 @@ loop-i-preserved c k less =
     let Q : List Bool → Type 0 = λ l. Passes firsts names l c.is_wanted-wanted.result i in
     let p = subst Q c.deref-in-loop-i-3.ensures.value (subst N c.deref-in-loop-i-2.ensures.value (c.keeps.ensures.0 c.if-not-keeps.false)) in
     let own = passes_keeps did ts firsts names known g exact long i t here c.loop-i.invariant (λ d. (knows d).0) (subst W wanted p) in
-    ⊎_elim (λ a. c.loop-i.invariant k a) (λ s. subst (KeepsRules did ts) s own) (same_or k i less)
+    ⊎_elim (λ a. c.loop-i.invariant k a) (λ s. subst (KeepsRules did ts) s own) (below_or_it k i less)
 
 pub returns : goal.returns
 returns c k less = c.loop-i.invariant k (omega (arith, less, operands_long c.args.pool.now c.args.ids.now, c.loop-i.auto.i-end, c.loop-i-test.false))

@@ -3,7 +3,7 @@ use Rattle.std.specs.List.{list_all}
 use Rattle.anb_intern.specs.declared.node.NodeId.{NodeId}
 use Rattle.anb_intern.specs.Nodes.{operands_at, tree_at}
 use Rattle.anb_intern.proofs.Putting.{under_at}
-use Rattle.anb_close.proofs.Indexing.{over_more}
+use Rattle.anb_intern.proofs.Nodes.{over_more}
 use Rattle.anb_certify.specs.Decided.{parts_in}
 use Rattle.anb_certify.proofs.Flagging.{parted_is, test_step}
 use Rattle.anb_certify.proofs.shut_lists.are_parted.Goals as goal

@@ -2,8 +2,8 @@ use Rattle.std.proofs.Common.{◌≡◌, length, arith, sym, ap, ◌∙◌, map,
 use Rattle.std.specs.Prelude.{not}
 use Rattle.std.specs.List.{list_all}
 use Rattle.std.proofs.lemmas.List.{length-map}
+use Rattle.anb_lemmas.proofs.Lists.{got_within}
 use Rattle.anb_term.specs.View.{tree_of}
-use Rattle.anb_term.proofs.Lists.{slice_get-within}
 use Rattle.anb_intern.specs.Nodes.{operands_at, AreUnder}
 use Rattle.anb_certify.specs.Decided.{is_among, composes, parts_in}
 use Rattle.anb_certify.proofs.Deciding.{no_labels, no_parts, by_term}
@@ -88,7 +88,7 @@ index-requires c =
     let is = marks_are frame list p held labels q marks c.deref.result.now c.deref.ensures.value c.in_ok-marks.ensures in
     let composing = c.in_ok-composing.composing.items in
     let made : composing ≡ map (composes list) p = c.in_ok-composing.ensures list (c.deref-2.ensures.value ∙ is) in
-    omega (arith, slice_get-within p c.in_ok-target.target.0 (tree_of c.args.t.now) c.in_ok-target.ensures.stored, ap length made, length-map p (composes list), c.in_ok-composing.composing.ok.0)
+    omega (arith, got_within p c.in_ok-target.target.0 (tree_of c.args.t.now) c.in_ok-target.ensures.stored, ap length made, length-map p (composes list), c.in_ok-composing.composing.ok.0)
 
 pub returns : goal.returns
 returns c =

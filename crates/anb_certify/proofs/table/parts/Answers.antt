@@ -3,8 +3,9 @@ use Rattle.anb_term.specs.FreeAlgebra.{parts_of}
 use Rattle.anb_intern.specs.declared.node.NodeId.{NodeId}
 use Rattle.anb_intern.specs.declared.node.Node.{Node}
 use Rattle.anb_intern.specs.Nodes.{operands_at, tree_at, IsOver, AreUnder}
+use Rattle.anb_intern.proofs.Nodes.{under_drop}
 use Rattle.anb_certify.specs.Numbered.{Opens}
-use Rattle.anb_certify.proofs.Tabling.{parts_there, parts_not, under_rest}
+use Rattle.anb_certify.proofs.Tabling.{parts_there, parts_not}
 use Rattle.anb_certify.proofs.table.parts.Goals as goal
 
 pub returns-then-not-opens : goal.returns-then-not-opens
@@ -29,7 +30,7 @@ returns-clause-under c n u =
     let N : Node → Type 0 = λ k. IsOver n k in
     let P : List NodeId → Type 0 = λ l. AreUnder n l in
     let is = c.in_ok-extend_from_slice.ensures.items ∙ ap (λ l. l ++ c.back.result.now) c.new-parts.ensures.items ∙ c.back.ensures ∙ ap (drop (length c.args.keys.now)) c.deref-2.ensures.value in
-    subst P (sym is) (under_rest n (length c.args.keys.now) c.in-Apply.operands.items (subst N c.in-Apply.is u))
+    subst P (sym is) (under_drop n (length c.args.keys.now) c.in-Apply.operands.items (subst N c.in-Apply.is u))
 
 pub returns-clause-parts : goal.returns-clause-parts
 returns-clause-parts c ts d u v =

@@ -2,8 +2,8 @@ use Rattle.std.proofs.Common.{◌≡◌, ◌-◌, List, ℕ, [], ◌∷◌, ◌+
 use Rattle.std.specs.Prelude.{codes}
 use Rattle.std.specs.List.{flat_map}
 use Rattle.std.proofs.lemmas.List.{append-nil, drop_all, take_all}
+use Rattle.anb_lemmas.proofs.Lists.{drop_next}
 use Rattle.anb_resolve.specs.Views.{action_value}
-use Rattle.anb_text.proofs.Written.{from_item}
 use Rattle.anb_chart.specs.Charts.{note_line, participant}
 use Rattle.anb_chart.proofs.Lines.{further, note_put}
 use Rattle.anb_chart.proofs.charting.put_note.Goals as goal
@@ -18,7 +18,7 @@ returns c =
     let first : List ℕ = c.first-item.result in
     let rest : List (List ℕ) = take (length names - 1) (drop 1 names) in
     let all : rest ≡ drop 1 names = take_all (length names - 1) (drop 1 names) (omega (arith, length-drop 1 names)) in
-    let split : names ≡ first ∷ rest = from_item names 0 first (omega (arith, c.in-len1-up.len_at_least)) c.first-item.is ∙ ap (λ (l : List (List ℕ)). first ∷ l) (sym all) in
+    let split : names ≡ first ∷ rest = drop_next names 0 first (omega (arith, c.in-len1-up.len_at_least)) c.first-item.is ∙ ap (λ (l : List (List ℕ)). first ∷ l) (sym all) in
     let name : c.as_bytes.result.now ≡ first = c.as_bytes.ensures.value ∙ c.as_str.ensures in
     let done = drop_all c.loop-name.name-index rest (omega arith) in
     let start : c.extend_from_slice-3.new.self.items ≡ (((old ++ codes "    Note over ") ++ from) ++ codes ": new ") ++ first =

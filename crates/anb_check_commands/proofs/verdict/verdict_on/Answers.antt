@@ -1,4 +1,5 @@
-use Rattle.anb_check_commands.proofs.Verdicts.{if_ok_map, of_narration}
+use Rattle.anb_check_commands.proofs.Verdicts.{of_narration}
+use Rattle.anb_lemmas.proofs.Results.{if_ok_map}
 use Rattle.anb_syntax.specs.Views.{narration_of}
 use Rattle.anb_check_commands.proofs.verdict.verdict_on.Goals as goal
 

@@ -1,6 +1,7 @@
 use Rattle.std.proofs.Common.{arith}
+use Rattle.anb_lemmas.proofs.Results.{if_ok_map}
 use Rattle.anb_syntax.specs.Views.{narration_of}
-use Rattle.anb_check_commands.proofs.Verdicts.{if_ok_map, well}
+use Rattle.anb_check_commands.proofs.Verdicts.{well}
 use Rattle.anb_check_commands.proofs.verdict.verdict_on_narration.Goals as goal
 
 pub resolve-requires-clause-countable : goal.resolve-requires-clause-countable

@@ -1,7 +1,8 @@
 use Rattle.std.proofs.Common.{length, sym, ap, ◌∙◌, arith, None}
 use Rattle.std.proofs.Math.ListN.{length-set}
+use Rattle.anb_intern.proofs.Nodes.{over_more}
 use Rattle.anb_close.specs.Standings.{standing, is_ready}
-use Rattle.anb_close.proofs.Indexing.{settle_entry, settle_other, all_settled, over_more}
+use Rattle.anb_close.proofs.Indexing.{settle_entry, settle_other, all_settled}
 use Rattle.anb_close.proofs.index.settle.Goals as goal
 
 pub loop-n-preserved-then-is_entry : goal.loop-n-preserved-then-is_entry

@@ -1,5 +1,5 @@
 use Rattle.std.proofs.Common.{length, arith}
-use Rattle.anb_close.proofs.Indexing.{over_more}
+use Rattle.anb_intern.proofs.Nodes.{over_more}
 use Rattle.anb_close.proofs.Linking.{link_next, linked_stay}
 use Rattle.anb_close.proofs.parents.link.Goals as goal
 

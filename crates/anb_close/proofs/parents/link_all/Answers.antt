@@ -1,7 +1,7 @@
 use Rattle.std.proofs.Common.{length, arith}
+use Rattle.anb_lemmas.proofs.Lists.{got_within}
 use Rattle.anb_intern.specs.declared.node.NodeId.{NodeId}
 use Rattle.anb_intern.proofs.Putting.{under_at}
-use Rattle.anb_term.proofs.Lists.{slice_get-within}
 use Rattle.anb_close.proofs.Linking.{under_next}
 use Rattle.anb_close.proofs.parents.link_all.Goals as goal
 
@@ -22,4 +22,4 @@ loop-id-preserved c =
     }
 
 pub returns-clause-linked : goal.returns-clause-linked
-returns-clause-linked c j id at = c.loop-id.invariant.so_far j id (omega (arith, slice_get-within c.args.ids.now j id at)) at
+returns-clause-linked c j id at = c.loop-id.invariant.so_far j id (omega (arith, got_within c.args.ids.now j id at)) at

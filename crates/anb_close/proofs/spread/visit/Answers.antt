@@ -1,7 +1,7 @@
 use Rattle.std.proofs.Common.{arith, sym, ap, ◌∙◌, length, Some}
+use Rattle.anb_intern.proofs.Nodes.{over_more}
 use Rattle.anb_term.proofs.Lists.{slice_get-at}
 use Rattle.anb_close.specs.Standings.{is_ready}
-use Rattle.anb_close.proofs.Indexing.{over_more}
 use Rattle.anb_close.proofs.Spreading.{visit_past, visit_entry, visit_built, visit_unready, visit_new, places_set}
 use Rattle.anb_close.proofs.spread.visit.Goals as goal
 

@@ -1,5 +1,5 @@
 use Rattle.std.proofs.Common.{arith}
-use Rattle.anb_command.proofs.Preparing.{item_at}
+use Rattle.anb_lemmas.proofs.Lists.{item_at}
 use Rattle.anb_command.proofs.playable.code_of.Goals as goal
 
 pub returns-in-Ok-clause-fits : goal.returns-in-Ok-clause-fits

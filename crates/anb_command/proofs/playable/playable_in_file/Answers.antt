@@ -1,7 +1,8 @@
 use Rattle.std.proofs.Common.{refl, inl, inr}
+use Rattle.anb_lemmas.proofs.Results.{if_ok_map}
 use Rattle.anb_command.proofs.Chains.{told_map}
 use Rattle.anb_command.proofs.Failing.{IsFailure-map}
-use Rattle.anb_command.proofs.Preparing.{if_ok_map, if_err_map}
+use Rattle.anb_command.proofs.Preparing.{if_err_map}
 use Rattle.anb_command.proofs.playable.playable_in_file.Goals as goal
 
 pub returns-in-Ok-clause-given : goal.returns-in-Ok-clause-given

@@ -1,7 +1,7 @@
 use Rattle.std.proofs.Common.{◌≡◌, ℕ, ◌+◌, List, [], ◌∷◌, ◌++◌, drop, map, length, OnOk, Option, sym, ap, ◌∙◌, subst}
 use Rattle.std.specs.Option.{option_map_or}
 use Rattle.anb_base.specs.declared.content.Suite.{Suite}
-use Rattle.anb_format.specs.Formats.{FormatValue, field_count}
+use Rattle.anb_format.specs.Formats.{FormatValue, field_count, pieces_at}
 use Rattle.anb_term.specs.declared.term.Op.{Op}
 use Rattle.anb_term.specs.declared.term.Op.TheVariants.{Hash, Mac, Seal, Wrap, Format}
 use Rattle.anb_term.specs.Tree.{Tree}
@@ -10,7 +10,6 @@ use Rattle.anb_plays.specs.Plans as plays
 use Rattle.anb_plays.specs.Codes.{Act, make, undo}
 use Rattle.anb_code.specs.declared.instr.Instr.{Instr}
 use Rattle.anb_code.specs.Meaning.{act_of}
-use Rattle.anb_code.specs.Registers.{pieces_at}
 use Rattle.anb_code.specs.Verified.{HasItsFormat}
 use Rattle.anb_compile.specs.Valued.{HasWalked, Writes}
 use Rattle.anb_compile.proofs.Valuing.{work_writes, takes_on, draws_on, receives_on, sends_on, equal_on, made_on, parts_on}

@@ -2,9 +2,10 @@ use Rattle.std.proofs.Common.{◌≡◌, ◌∷◌, ◌++◌, ◌<◌, ℕ, List
 use Rattle.std.specs.Prelude.{codes}
 use Rattle.std.specs.List.{flat_map}
 use Rattle.std.proofs.lemmas.List.{append-nil, drop_all}
+use Rattle.anb_lemmas.proofs.Each.{each_got}
 use Rattle.anb_term.specs.declared.term.Term.{Term}
 use Rattle.anb_term.specs.View.{tree_of}
-use Rattle.anb_term.proofs.Lists.{all_at, slice_get-map, slice_get-at}
+use Rattle.anb_term.proofs.Lists.{slice_get-map, slice_get-at}
 use Rattle.anb_resolve.specs.Texts.{IsTermOf, term_text}
 use Rattle.anb_explain.proofs.Lines.{note_put}
 use Rattle.anb_explain.proofs.code.put_note.Goals as goal
@@ -14,7 +15,7 @@ put_term-requires c =
     let ts = c.args.terms.now in
     let i = c.loop-term.term-index in
     let x = c.term-item.result in
-    all_at (IsTermOf c.args.protocol.now) (map tree_of ts) i (tree_of x) c.requires (slice_get-map tree_of ts i x (slice_get-at ts i x (omega arith) c.term-item.is))
+    each_got (IsTermOf c.args.protocol.now) (map tree_of ts) i (tree_of x) c.requires (slice_get-map tree_of ts i x (slice_get-at ts i x (omega arith) c.term-item.is))
 
 pub returns : goal.returns
 returns c =

@@ -6,6 +6,7 @@ use Rattle.anb_term.specs.Tree.{Tree}
 use Rattle.anb_term.specs.Value.{values, recipe_trees}
 use Rattle.anb_term.specs.FreeAlgebra.{terms_over}
 use Rattle.anb_term.specs.View.{tree_of}
+use Rattle.anb_term.proofs.Lists.{values_length}
 use Rattle.anb_algebra.specs.ByteMeaning.{byte_meaning, has_operator}
 use Rattle.anb_plays.specs.Fits.{Along, AnySend, AnyBorder, IsSound, start}
 use Rattle.anb_code.specs.CodeValue.{CodeValue}
@@ -17,7 +18,7 @@ use Rattle.anb_resolve.specs.Texts.{IsTermOf}
 use Rattle.anb_compile.specs.Registers.{register_recipes, all_labels}
 use Rattle.anb_code.specs.Verified.{count_registers}
 use Rattle.anb_explain.specs.Explained.{explained_by, register_terms}
-use Rattle.anb_explain.proofs.Terms.{labels_are, registers_count, values_are_terms, values_count}
+use Rattle.anb_explain.proofs.Terms.{labels_are, registers_count, values_are_terms}
 use Rattle.anb_explain.proofs.explaining.explanation_of.Goals as goal
 use Rattle.anb_explain.proofs.explaining.explanation_of.Goals.{In_ok-terms}
 
@@ -60,7 +61,7 @@ counted c =
     let code = c.args.code.now in
     let ts = c.in_ok-terms.terms.items in
     let recipes = register_recipes (acts_of code) in
-    values_count (terms_over (has_operator code.formats)) (all_labels (map event_of c.in_ok-plan.plan)) recipes (map tree_of ts) c.in_ok-terms.ensures ∙ registers_count code.formats code.instrs
+    values_length (terms_over (has_operator code.formats)) (all_labels (map event_of c.in_ok-plan.plan)) recipes (map tree_of ts) c.in_ok-terms.ensures ∙ registers_count code.formats code.instrs
 
 pub returns-clause-is : goal.returns-clause-is
 returns-clause-is c =

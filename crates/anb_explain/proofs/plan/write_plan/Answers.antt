@@ -1,13 +1,14 @@
 use Rattle.std.proofs.Common.{◌≡◌, ◌+◌, [], ◌∷◌, ◌++◌, map, drop, sym, ap, ◌∙◌, arith}
 use Rattle.std.specs.Prelude.{count_by}
-use Rattle.anb_term.proofs.Lists.{all_at, slice_get-map, slice_get-at}
+use Rattle.anb_lemmas.proofs.Each.{each_got}
+use Rattle.anb_lemmas.proofs.Lists.{drop_at_got}
+use Rattle.anb_term.proofs.Lists.{slice_get-map, slice_get-at}
 use Rattle.anb_resolve.specs.Choices.{each_after}
 use Rattle.anb_resolve.specs.Plans.{term_in}
 use Rattle.anb_resolve.specs.Texts.{IsTermOf}
 use Rattle.anb_resolve.specs.Views.{plan_event}
 use Rattle.anb_explain.specs.Explained.{has_label, is_message, event_line, event_words, line, plan_text, spaced}
 use Rattle.anb_text.proofs.Written.{not_all, one_part, same_due}
-use Rattle.anb_explain.proofs.Loops.{drop_item}
 use Rattle.anb_explain.proofs.Lines.{counted_one, at_most_one, one_if, none_if, counted_on}
 use Rattle.anb_explain.proofs.plan.write_plan.Goals as goal
 use Rattle.anb_explain.proofs.plan.write_plan.Goals.{then-has_label, else-has_label, then-is_message, else-is_message}
@@ -17,7 +18,7 @@ event_text-requires-clause-term g c =
     let events = c.args.events.now in
     let i = c.loop-event.event-index in
     let x = c.event-item.result in
-    all_at (λ e. IsTermOf c.args.protocol.now (term_in e)) (map plan_event events) i (plan_event x) c.requires (slice_get-map plan_event events i x (slice_get-at events i x (omega arith) c.event-item.is))
+    each_got (λ e. IsTermOf c.args.protocol.now (term_in e)) (map plan_event events) i (plan_event x) c.requires (slice_get-map plan_event events i x (slice_get-at events i x (omega arith) c.event-item.is))
 
 pub returns-in-Err-clause-written : goal.returns-in-Err-clause-written
 returns-in-Err-clause-written g c =
@@ -28,7 +29,7 @@ returns-in-Err-clause-written g c =
     let v = c.loop-event.invariant in
     let p = c.args.protocol.now in
     let rest = map plan_event (drop (i + 1) events) in
-    let left : map plan_event (drop i events) ≡ e ∷ rest = ap (map plan_event) (drop_item events i x (slice_get-at events i x (omega arith) c.event-item.is)) in
+    let left : map plan_event (drop i events) ≡ e ∷ rest = ap (map plan_event) (drop_at_got events i x (slice_get-at events i x (omega arith) c.event-item.is)) in
     let part = line (spaced (event_words p c.loop-event.labels c.loop-event.messages e)) in
     let said : event_line p v.before e ≡ part = ap (λ n. line (spaced (event_words p n (count_by is_message v.before) e))) (sym v.labels) ∙ ap (λ n. line (spaced (event_words p c.loop-event.labels n e))) (sym v.messages) in
     let first : each_after (event_line p) v.before (map plan_event (drop i events)) ≡ part ++ each_after (event_line p) (v.before ++ e ∷ []) rest =
@@ -44,7 +45,7 @@ loop-event-preserved g c =
     let v = c.loop-event.invariant in
     let p = c.args.protocol.now in
     let rest = map plan_event (drop (i + 1) events) in
-    let left : map plan_event (drop i events) ≡ e ∷ rest = ap (map plan_event) (drop_item events i x (slice_get-at events i x (omega arith) c.event-item.is)) in
+    let left : map plan_event (drop i events) ≡ e ∷ rest = ap (map plan_event) (drop_at_got events i x (slice_get-at events i x (omega arith) c.event-item.is)) in
     let labels : c.if-has_label.labels ≡ c.loop-event.labels + counted_one (has_label e) = elim c.if-has_label.branch [
       | then-has_label w ↦ omega (arith, w.labels-is, one_if (has_label e) (sym c.has_label.ensures ∙ w.if-has_label.true))
       | else-has_label w ↦ omega (arith, w.labels-is, none_if (has_label e) (sym c.has_label.ensures ∙ w.if-has_label.false))

@@ -1,5 +1,5 @@
 use Rattle.anb_resolve.specs.Plans.{plan_of}
-use Rattle.anb_honest.proofs.Valuing.{ranged_next}
+use Rattle.anb_lemmas.proofs.Lists.{ranged_next}
 use Rattle.anb_honest.proofs.beginning.plans.Goals as goal
 
 pub loop-role-preserved : goal.loop-role-preserved

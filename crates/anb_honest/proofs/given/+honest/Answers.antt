@@ -4,14 +4,15 @@ use Rattle.anb_algebra.specs.ByteMeaning.{byte_meaning, has_operator}
 use Rattle.anb_term.specs.Lawful.{picked}
 use Rattle.anb_term.specs.RecipeView.{first_places}
 use Rattle.anb_plays.specs.Honest.{honest, honest_all}
-use Rattle.anb_resolve.proofs.Sizes.{one_of}
 use Rattle.anb_term.specs.Tree.{trees_of}
-use Rattle.anb_honest.proofs.Valuing.{formed_next, values_next, node_count, node_value, all_first, count_first}
+use Rattle.anb_term.proofs.Lists.{one_size, formed_next}
+use Rattle.anb_term.proofs.Places.{length_first, all_first}
+use Rattle.anb_honest.proofs.Valuing.{values_next, node_count, node_value}
 use Rattle.anb_honest.proofs.given.+honest.Goals as goal
 
 pub all_honest_bytes-honest_bytes-requires : goal.all_honest_bytes-honest_bytes-requires
 all_honest_bytes-honest_bytes-requires t c =
-    let one = one_of c.args.terms.now c.loop-t.t-index c.t-item.result (omega arith) c.t-item.is in
+    let one = one_size c.args.terms.now c.loop-t.t-index c.t-item.result (omega arith) c.t-item.is in
     (omega (arith, one, c.decreases), (formed_next (has_operator c.args.algebra.now.formats) c.args.terms.now c.loop-t.t-index c.t-item.result (omega arith) c.t-item.is c.loop-t.invariant.formed).0)
 
 pub all_honest_bytes-loop-t-preserved : goal.all_honest_bytes-loop-t-preserved
@@ -34,7 +35,7 @@ honest_bytes-build-requires-clause-within t c =
     rw (c.deref-in-Node.ensures.value, c.in_ok-at-in-Node.ensures) (all_first c.arity.result _ (omega (arith, count, h, c.arity.ensures)))
 
 pub honest_bytes-build-requires-clause-count : goal.honest_bytes-build-requires-clause-count
-honest_bytes-build-requires-clause-count t c = ap length (c.deref-in-Node.ensures.value ∙ c.in_ok-at-in-Node.ensures) ∙ count_first c.arity.result ∙ c.arity.ensures
+honest_bytes-build-requires-clause-count t c = ap length (c.deref-in-Node.ensures.value ∙ c.in_ok-at-in-Node.ensures) ∙ length_first c.arity.result ∙ c.arity.ensures
 
 pub honest_bytes-returns-in-Ok : goal.honest_bytes-returns-in-Ok
 honest_bytes-returns-in-Ok t c = λ atoms g.

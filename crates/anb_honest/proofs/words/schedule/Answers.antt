@@ -5,7 +5,8 @@ use Rattle.std.specs.List.{slice_split}
 use Rattle.std.proofs.lemmas.Iterator.Consumers.{YieldsList-at, YieldsList-turn, YieldsList-end}
 use Rattle.std.proofs.lemmas.Iterator.Splits.{YieldsList-from_slice_split}
 use Rattle.std.proofs.lemmas.List.{length_push, take_all}
-use Rattle.anb_honest.specs.Words.{is_blank, is_word, role_of}
+use Rattle.anb_resolve.specs.Protocols.{role_named}
+use Rattle.anb_honest.specs.Words.{is_blank, is_word}
 use Rattle.anb_honest.proofs.Naming.{named_next, few_named, named_roles, refused_at}
 use Rattle.anb_honest.proofs.words.schedule.Goals as goal
 use Rattle.anb_honest.proofs.words.schedule.Goals.{In-Some}
@@ -28,7 +29,7 @@ loop-word-preserved c =
     let parts = slice_split is_blank c.args.text.now in
     let n = length_push c.loop-word.yielded c.in-Some.word in
     let on = named_next c.args.p.now parts (length c.loop-word.yielded) c.in-Some.word.now c.loop-word.turns.items c.put_turn.new.turns.items here.0 here.1 c.loop-word.invariant c.in_default.ensures.turns in
-    on ∙ ap (λ k. map (role_of c.args.p.now) (filter is_word (take k parts))) (sym n)
+    on ∙ ap (λ k. map (role_named c.args.p.now) (filter is_word (take k parts))) (sym n)
 
 pub returns-in-Err-clause-refused : goal.returns-in-Err-clause-refused
 returns-in-Err-clause-refused c = λ n e.
@@ -41,7 +42,7 @@ returns-clause-turns c =
     let parts = slice_split is_blank c.args.text.now in
     let end =
     YieldsList-end (YieldsList-at c.into_iter-word-iterator.ensures.into_iter_gives (YieldsList-from_slice_split _ is_blank c.args.text.now c.split-word-items.ensures.rest c.split-word-items.ensures.done c.split-word-items.ensures.closure (λ x b q k. search (rules, tests)))) c.loop-word.yielded _ c.loop-word.yielded_by _ _ c.in-None.is c.next.ensures.steps in
-    c.loop-word.invariant ∙ ap (λ l. map (role_of c.args.p.now) (filter is_word l)) (take_all (length c.loop-word.yielded) parts (omega (arith, end.1)))
+    c.loop-word.invariant ∙ ap (λ l. map (role_named c.args.p.now) (filter is_word l)) (take_all (length c.loop-word.yielded) parts (omega (arith, end.1)))
 
 pub returns-clause-roles : goal.returns-clause-roles
 returns-clause-roles c = named_roles c.args.p.now c.loop-word.turns.items (filter is_word (take (length c.loop-word.yielded) (slice_split is_blank c.args.text.now))) c.loop-word.invariant

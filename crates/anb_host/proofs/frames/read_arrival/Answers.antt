@@ -2,8 +2,9 @@ use Rattle.std.proofs.Common.{inl, inr, refl, arith, ◌≡◌, ◌++◌, ◌∷
 use Rattle.std.proofs.lemmas.List.{take_all}
 use Rattle.anb_base.specs.Moves.{count_written}
 use Rattle.anb_frame.specs.Answers.{TookAt}
+use Rattle.anb_frame.proofs.Takings.{took_front}
 use Rattle.anb_host.specs.HostFrames.{number}
-use Rattle.anb_host.proofs.Pieces.{took_front, further, reads_while}
+use Rattle.anb_host.proofs.Pieces.{further, reads_while}
 use Rattle.anb_host.proofs.frames.read_arrival.Goals as goal
 
 pub returns-in_default-clause-reads : goal.returns-in_default-clause-reads

@@ -1,7 +1,8 @@
 use Rattle.std.proofs.Common.{arith, take, [], ◌≡◌, ◌<◌, length}
 use Rattle.std.proofs.lemmas.List.{length-take-le}
+use Rattle.anb_frame.proofs.Takings.{took_front}
 use Rattle.anb_base.specs.Moves.{count_written}
-use Rattle.anb_host.proofs.Pieces.{took_none, took_front, header_long, part_body, begun_body, no_room}
+use Rattle.anb_host.proofs.Pieces.{took_none, header_long, part_body, begun_body, no_room}
 use Rattle.anb_host.proofs.frames.read_body.Goals as goal
 
 pub returns-in_default-clause-reads : goal.returns-in_default-clause-reads

@@ -1,7 +1,8 @@
 use Rattle.std.proofs.Common.{arith, ◌≡◌, ◌∷◌, [], take, subst}
 use Rattle.anb_base.specs.Moves.{count_written}
 use Rattle.anb_frame.specs.Answers.{TookAt}
-use Rattle.anb_host.proofs.Pieces.{took_front, further, reads_while, one_byte}
+use Rattle.anb_frame.proofs.Takings.{took_front}
+use Rattle.anb_host.proofs.Pieces.{further, reads_while, one_byte}
 use Rattle.anb_host.proofs.frames.read_event.Goals as goal
 
 pub returns-in-0-clause-reads : goal.returns-in-0-clause-reads

@@ -1,8 +1,9 @@
 use Rattle.std.proofs.Common.{inr, subst}
 use Rattle.anb_base.specs.Moves.{Put, PutPrefix, count_written}
 use Rattle.anb_base.specs.Wires.{WireState}
+use Rattle.anb_base.proofs.Moving.{kept_first, kept_third, stamped_told}
 use Rattle.anb_host.specs.HostFrames.{out}
-use Rattle.anb_host.proofs.Turning.{kept_first, kept_third, stamped_told, unanswered, read_ended, answered_whole, answered_in_part, same_plays, no_error, failed_so}
+use Rattle.anb_host.proofs.Turning.{unanswered, read_ended, answered_whole, answered_in_part, same_plays, no_error, failed_so}
 use Rattle.anb_host.proofs.serving.handle.Goals as goal
 
 pub returns-in-Err-clause-ends : goal.returns-in-Err-clause-ends

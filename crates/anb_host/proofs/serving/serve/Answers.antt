@@ -1,8 +1,9 @@
 use Rattle.std.proofs.Common.{arith, refl, sym, ap, ◌∙◌, subst, ◌≡◌}
 use Rattle.anb_base.specs.Wires.{WireState}
+use Rattle.anb_base.proofs.Moving.{Rose-later}
 use Rattle.anb_host.specs.HostFrames.{FramesLeft}
 use Rattle.anb_host.specs.Runs.{Handled}
-use Rattle.anb_host.proofs.Served.{handled_none, handled_further, served, spent, rose_later}
+use Rattle.anb_host.proofs.Served.{handled_none, handled_further, served, spent}
 use Rattle.anb_host.proofs.serving.serve.Goals as goal
 
 pub loop-init : goal.loop-init
@@ -34,8 +35,8 @@ returns-in-Some g c =
       serves = λ past events tail st left.
           served c.args.host.now c.loop.host (g.W.Wire.state c.args.wire.now) (g.W.Wire.state c.loop.wire) (g.W.Wire.state c.handle.new.wire) c.loop.counter was.handled c.args.budget c.loop-test.true past events tail st
           (subst (λ l. FramesLeft l events tail) (sym (ap (λ (s : WireState). s.left) (g.met.W.Wire.state_tells c.args.wire.now))) left) c.in-Some.end now.ends;
-      read_fault = λ is. rose_later _ _ _ was.reading (now.read_fault is);
-      write_fault = λ is. rose_later _ _ _ was.writing (now.write_fault is);
+      read_fault = λ is. Rose-later _ _ _ was.reading (now.read_fault is);
+      write_fault = λ is. Rose-later _ _ _ was.writing (now.write_fault is);
       reading_never_falls = omega (arith, was.reading, now.reading_never_falls);
       writing_never_falls = omega (arith, was.writing, now.writing_never_falls);
       reached = now.reached ∙ was.reached;

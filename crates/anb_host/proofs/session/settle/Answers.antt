@@ -1,12 +1,13 @@
 use Rattle.std.proofs.Common.{ℕ, List, [], ◌∷◌, ◌++◌, false, true, refl, sym, ap, ◌∙◌, subst}
 use Rattle.std.proofs.lemmas.List.{append-nil}
 use Rattle.std.proofs.lemmas.List.Elements.{All-nil}
-use Rattle.anb_plays.specs.Plays.{stopped, waiting, done, ends}
+use Rattle.anb_plays.specs.Plays.{stopped, waiting, done, ends, SendsFirst}
+use Rattle.anb_plays.proofs.Grows.{sends_saying, sends_on}
 use Rattle.anb_machine.specs.Machines.{gives}
 use Rattle.anb_host.specs.declared.event.Notice.{Notice}
 use Rattle.anb_host.specs.declared.event.Notice.TheVariants.{Message, Stopped, Finished}
-use Rattle.anb_host.specs.Hosts.{Follows, IsNarrow}
-use Rattle.anb_host.proofs.Settling.{follows_saying, told_further, follows_on, all_sent, over_so, told_all, narrow_further}
+use Rattle.anb_host.specs.Hosts.{IsNarrow}
+use Rattle.anb_host.proofs.Settling.{told_further, all_sent, over_so, told_all, narrow_further}
 use Rattle.anb_host.proofs.session.settle.Goals as goal
 
 pub turns-init : goal.turns-init
@@ -19,7 +20,7 @@ turns-preserved c =
       was.0 ++ b ∷ [],
       c.in_ok-push-in-Message.ensures.items ∙ told_further c.args.s c.turns.told.items was.0 b was.1,
       rw c.in_ok-push-in-Message.ensures.items (narrow_further c.turns.told.items (Message c.args.s b) was.2 (c.in-Message.ensures.narrow b refl)),
-      λ more. follows_saying (gives c.args.machine more) (gives c.turns.machine more) (gives c.advance.new.self more) was.0 b (was.3 more) (c.in-Message.ensures.turned.0 more),
+      λ more. sends_saying (gives c.args.machine more) (gives c.turns.machine more) (gives c.advance.new.self more) was.0 b (was.3 more) (c.in-Message.ensures.turned.0 more),
     )
 
 pub returns-in-Wants-clause-told : goal.returns-in-Wants-clause-told
@@ -27,7 +28,7 @@ returns-in-Wants-clause-told c =
     let was = c.turns.invariant in
     let p = gives c.args.machine [] in
     let end = ends (waiting c.in-Wants.field-0) [] in
-    let f : Follows p was.0 end = follows_on p (gives c.turns.machine []) end was.0 (was.3 []) (c.in-Wants.ensures.turned.0 [] ∙ c.in-Wants.ensures.turned.1) in
+    let f : SendsFirst p was.0 end = sends_on p (gives c.turns.machine []) end was.0 (was.3 []) (c.in-Wants.ensures.turned.0 [] ∙ c.in-Wants.ensures.turned.1) in
     told_all c.args.s p was.0 (waiting c.in-Wants.field-0) f c.turns.told.items (was.1 ∙ sym (append-nil _))
 
 pub returns-in-Wants-clause-settled : goal.returns-in-Wants-clause-settled
@@ -35,25 +36,25 @@ returns-in-Wants-clause-settled c =
     let was = c.turns.invariant in
     let p = gives c.args.machine [] in
     let end = ends (waiting c.in-Wants.field-0) [] in
-    let f : Follows p was.0 end = follows_on p (gives c.turns.machine []) end was.0 (was.3 []) (c.in-Wants.ensures.turned.0 [] ∙ c.in-Wants.ensures.turned.1) in (
+    let f : SendsFirst p was.0 end = sends_on p (gives c.turns.machine []) end was.0 (was.3 []) (c.in-Wants.ensures.turned.0 [] ∙ c.in-Wants.ensures.turned.1) in (
       over_so c.args.s p was.0 (waiting c.in-Wants.field-0) f false refl,
       λ more.
-          subst (λ (l : List (List ℕ)). Follows (gives c.args.machine more) l (gives c.advance.new.self more)) (sym (all_sent c.args.s p was.0 (waiting c.in-Wants.field-0) f))
-          (follows_on (gives c.args.machine more) (gives c.turns.machine more) (gives c.advance.new.self more) was.0 (was.3 more) (c.in-Wants.ensures.turned.0 more)),
+          subst (λ (l : List (List ℕ)). SendsFirst (gives c.args.machine more) l (gives c.advance.new.self more)) (sym (all_sent c.args.s p was.0 (waiting c.in-Wants.field-0) f))
+          (sends_on (gives c.args.machine more) (gives c.turns.machine more) (gives c.advance.new.self more) was.0 (was.3 more) (c.in-Wants.ensures.turned.0 more)),
     )
 
 pub returns-in-Done-clause-told : goal.returns-in-Done-clause-told
 returns-in-Done-clause-told c =
     let was = c.turns.invariant in
     let p = gives c.args.machine [] in
-    let f : Follows p was.0 (ends done []) = follows_on p (gives c.turns.machine []) (ends done []) was.0 (was.3 []) (c.in-Done.ensures.turned.1 []) in
+    let f : SendsFirst p was.0 (ends done []) = sends_on p (gives c.turns.machine []) (ends done []) was.0 (was.3 []) (c.in-Done.ensures.turned.1 []) in
     told_all c.args.s p was.0 done f c.push-in-Done.new.self.items (c.in_ok-push-in-Done.ensures.items ∙ ap (λ (l : List Notice). l ++ Finished c.args.s ∷ []) was.1)
 
 pub returns-in-Done-clause-settled : goal.returns-in-Done-clause-settled
 returns-in-Done-clause-settled c =
     let was = c.turns.invariant in
     let p = gives c.args.machine [] in
-    let f : Follows p was.0 (ends done []) = follows_on p (gives c.turns.machine []) (ends done []) was.0 (was.3 []) (c.in-Done.ensures.turned.1 []) in
+    let f : SendsFirst p was.0 (ends done []) = sends_on p (gives c.turns.machine []) (ends done []) was.0 (was.3 []) (c.in-Done.ensures.turned.1 []) in
     over_so c.args.s p was.0 done f true refl
 
 pub returns-in-Stopped-clause-told : goal.returns-in-Stopped-clause-told
@@ -61,7 +62,7 @@ returns-in-Stopped-clause-told c =
     let was = c.turns.invariant in
     let p = gives c.args.machine [] in
     let x = stopped c.in-Stopped.halt.event c.in-Stopped.halt.at in
-    let f : Follows p was.0 (ends x []) = follows_on p (gives c.turns.machine []) (ends x []) was.0 (was.3 []) (c.in-Stopped.ensures.turned.1 []) in
+    let f : SendsFirst p was.0 (ends x []) = sends_on p (gives c.turns.machine []) (ends x []) was.0 (was.3 []) (c.in-Stopped.ensures.turned.1 []) in
     told_all c.args.s p was.0 x f c.push-in-Stopped.new.self.items (c.in_ok-push-in-Stopped.ensures.items ∙ ap (λ (l : List Notice). l ++ Stopped c.args.s c.in-Stopped.halt.event ∷ []) was.1)
 
 pub returns-in-Stopped-clause-settled : goal.returns-in-Stopped-clause-settled
@@ -69,7 +70,7 @@ returns-in-Stopped-clause-settled c =
     let was = c.turns.invariant in
     let p = gives c.args.machine [] in
     let x = stopped c.in-Stopped.halt.event c.in-Stopped.halt.at in
-    let f : Follows p was.0 (ends x []) = follows_on p (gives c.turns.machine []) (ends x []) was.0 (was.3 []) (c.in-Stopped.ensures.turned.1 []) in
+    let f : SendsFirst p was.0 (ends x []) = sends_on p (gives c.turns.machine []) (ends x []) was.0 (was.3 []) (c.in-Stopped.ensures.turned.1 []) in
     over_so c.args.s p was.0 x f true refl
 
 pub returns-in-Done-clause-narrow : goal.returns-in-Done-clause-narrow

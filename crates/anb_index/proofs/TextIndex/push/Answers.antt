@@ -7,13 +7,13 @@ use Rattle.std.specs.Str.{bytes_eq}
 use Rattle.std.proofs.lemmas.List.{map_push, length-map}
 use Rattle.std.proofs.lemmas.Map.Text.{btree_map_updates_str}
 use denote.Ref.{Bor}
-use Rattle.anb_index.specs.Places.{is_among, place_of}
+use Rattle.anb_index.specs.Places.{among, place_of}
 use Rattle.anb_index.proofs.PlaceLemmas.{is_some-position_from, place_of-found, place_of-new}
 use Rattle.anb_index.proofs.TextIndex.push.Goals as goal
 use Rattle.anb_index.proofs.TextIndex.push.Goals.{In_ok-push}
 
 -- whether the text stands there already
-found : (c : In_ok-push) → c.contains_key-found.result ≡ is_among (map (λ (t : Bor (List ℕ)). t.now) c.self.inside.texts.items) c.args.text.now
+found : (c : In_ok-push) → c.contains_key-found.result ≡ among (map (λ (t : Bor (List ℕ)). t.now) c.self.inside.texts.items) c.args.text.now
 found c =
     c.contains_key-found.ensures ∙ ap is_some (c.self.invariant c.args.text.now)
     ∙ is_some-position_from (λ y. bytes_eq y c.args.text.now) 0 _
@@ -26,7 +26,7 @@ pub invariant_of-self-in-Ok : goal.invariant_of-self-in-Ok
 invariant_of-self-in-Ok c q =
     let step = (goal.at.invariant_of-self-in-Ok c).In_ok-push in
     let texts = map (λ (t : Bor (List ℕ)). t.now) c.self.inside.texts.items in
-    let new : is_among texts c.args.text.now ≡ false = sym (found step) ∙ c.if-not-found.true in
+    let new : among texts c.args.text.now ≡ false = sym (found step) ∙ c.if-not-found.true in
     let last : c.len-place.result ≡ length texts = c.len-place.ensures ∙ c.self.inside.texts.ok.0 ∙ sym (length-map c.self.inside.texts.items (λ (t : Bor (List ℕ)). t.now)) in
     btree_map_updates_str c.args.text.now c.self.inside.places c.insert.new.self _ c.in-Ok.ensures.updates q
     ∙ ap (λ n. cond (bytes_eq c.args.text.now q) (Some n) (get_by (λ k. slice_cmp nat_cmp q k.now) c.self.inside.places)) last
@@ -37,11 +37,11 @@ pub invariant_of-self-else-not-found : goal.invariant_of-self-else-not-found
 invariant_of-self-else-not-found c q =
     let step = (goal.at.invariant_of-self-else-not-found c).In_ok-push in
     let texts = map (λ (t : Bor (List ℕ)). t.now) c.self.inside.texts.items in
-    let there : is_among texts c.args.text.now ≡ true = sym (found step) ∙ c.if-not-found.false in
+    let there : among texts c.args.text.now ≡ true = sym (found step) ∙ c.if-not-found.false in
     c.self.invariant q ∙ sym (place_of-found texts c.args.text.now q there) ∙ ap (λ ts. place_of ts q) (sym (pushed step))
 
 pub returns-in-Ok-clause-found : goal.returns-in-Ok-clause-found
-returns-in-Ok-clause-found c = found (goal.at.returns-in-Ok-clause-found c).In_ok-push ∙ ap (λ ts. is_among ts c.args.text.now) c.self.view_is
+returns-in-Ok-clause-found c = found (goal.at.returns-in-Ok-clause-found c).In_ok-push ∙ ap (λ ts. among ts c.args.text.now) c.self.view_is
 
 pub returns-else-not-found-clause-found : goal.returns-else-not-found-clause-found
-returns-else-not-found-clause-found c = found (goal.at.returns-else-not-found-clause-found c).In_ok-push ∙ ap (λ ts. is_among ts c.args.text.now) c.self.view_is
+returns-else-not-found-clause-found c = found (goal.at.returns-else-not-found-clause-found c).In_ok-push ∙ ap (λ ts. among ts c.args.text.now) c.self.view_is

@@ -1,6 +1,7 @@
 use Rattle.std.proofs.Common.{map, arith}
+use Rattle.anb_lemmas.proofs.Each.{each_got}
 use Rattle.anb_term.specs.View.{tree_of}
-use Rattle.anb_term.proofs.Lists.{all_at, slice_get-at, slice_get-map}
+use Rattle.anb_term.proofs.Lists.{slice_get-at, slice_get-map}
 use Rattle.anb_resolve.specs.Texts.{IsTermOf}
 use Rattle.anb_lack.proofs.Written.{had_next}
 use Rattle.anb_lack.proofs.lines.put_had_lines.Goals as goal
@@ -10,7 +11,7 @@ put_had_line-requires c =
     let ts = c.args.terms.now in
     let i = c.loop-i.i in
     let x = c.index-terms-i.result in
-    all_at (IsTermOf c.args.protocol.now) (map tree_of ts) i (tree_of x) c.requires.terms (slice_get-map tree_of ts i x (slice_get-at ts i x (omega arith) c.index-terms-i.is))
+    each_got (IsTermOf c.args.protocol.now) (map tree_of ts) i (tree_of x) c.requires.terms (slice_get-map tree_of ts i x (slice_get-at ts i x (omega arith) c.index-terms-i.is))
 
 pub loop-i-preserved : goal.loop-i-preserved
 loop-i-preserved c events is =

@@ -1,8 +1,8 @@
 use Rattle.std.proofs.Common.{◌≡◌, ◌++◌, ap, ◌∙◌, sym, subst, map, length}
 use Rattle.std.specs.Prelude.{filter}
+use Rattle.anb_lemmas.proofs.Lists.{got_within}
 use Rattle.anb_term.specs.Tree.{tree_eqb}
 use Rattle.anb_term.specs.View.{tree_of}
-use Rattle.anb_term.proofs.Lists.{slice_get-within}
 use Rattle.anb_intern.specs.Nodes.{AreUnder, operands_at}
 use Rattle.anb_resolve.specs.Names.{distinct}
 use Rattle.anb_certify.specs.Decided.{is_among}
@@ -17,7 +17,7 @@ marks-requires c =
     subst (AreUnder (length p)) (sym c.deref.ensures.value) k.0
 
 pub put_parts-requires-clause-within : goal.put_parts-requires-clause-within
-put_parts-requires-clause-within c = slice_get-within c.put_term.new.self c.in_ok-whole.whole.0 (tree_of c.args.t.now) c.in_ok-whole.ensures.stored
+put_parts-requires-clause-within c = got_within c.put_term.new.self c.in_ok-whole.whole.0 (tree_of c.args.t.now) c.in_ok-whole.ensures.stored
 
 pub returns : goal.returns
 returns c =

@@ -1,8 +1,9 @@
 use Rattle.std.proofs.Common.{arith, refl, ◌∙◌}
+use Rattle.anb_base.proofs.Moving.{Rose-later}
 use Rattle.anb_machine.specs.Machines.{gives}
 use Rattle.anb_session.proofs.Continued.{going_nowhere, continued, ending}
 use Rattle.anb_session.proofs.Prompt.{prompt_still, nowhere_promptly, joined_promptly}
-use Rattle.anb_session.proofs.Written.{written_back, rose_later}
+use Rattle.anb_session.proofs.Written.{written_back}
 use Rattle.anb_park.proofs.Standing.{on_nowhere, on_joined, parked_at_last}
 use Rattle.anb_park.proofs.playing.play_on.Goals as goal
 
@@ -44,8 +45,8 @@ returns-in-Some g c =
       waits = c.in-Some.ensures.waits;
       parked = λ e code p sent arrivals tail is s cut.
           parked_at_last c.args.live.now c.loop-end.live c.turn.new.live (g.W.Source.left c.args.wire.now) (g.W.Source.left c.loop-end.wire) c.in-Some.end e old.stands_on c.in-Some.ensures.stands_still is code p sent arrivals tail s cut;
-      read_fault = λ is. rose_later _ _ _ old.reading (c.in-Some.ensures.read_fault is);
-      write_fault = λ is. rose_later _ _ _ old.writing (c.in-Some.ensures.write_fault is);
+      read_fault = λ is. Rose-later _ _ _ old.reading (c.in-Some.ensures.read_fault is);
+      write_fault = λ is. Rose-later _ _ _ old.writing (c.in-Some.ensures.write_fault is);
       reading_never_falls = omega (arith, old.reading, c.in-Some.ensures.reading_never_falls);
       writing_never_falls = omega (arith, old.writing, c.in-Some.ensures.writing_never_falls);
       reached = c.in-Some.ensures.reached ∙ old.reached;

@@ -1,7 +1,8 @@
 use Rattle.std.proofs.Common.{ℕ, List, [], ◌∷◌, sym, ap, ◌∙◌}
+use Rattle.anb_lemmas.proofs.Options.{if_some_any}
 use Rattle.anb_plays.specs.Plays.{Played, says}
 use Rattle.anb_machine.specs.Machines.{gives}
-use Rattle.anb_session.proofs.Answered.{no_error, an_error, whatever}
+use Rattle.anb_session.proofs.Answered.{no_error, an_error}
 use Rattle.anb_session.proofs.Continued.{saying, receiving, is_done, is_stopped}
 use Rattle.anb_session.proofs.Prompt.{prompt_nothing, prompt_still, prompt_whole}
 use Rattle.anb_park.proofs.Standing.{on_saying, on_receiving, still_waiting, no_room}
@@ -77,7 +78,7 @@ returns-in-Message-clause-goes_on g c =
 
 pub returns-in-Message-clause-prompt : goal.returns-in-Message-clause-prompt
 returns-in-Message-clause-prompt g c =
-    whatever c.err.result _ (prompt_nothing (gives c.args.live.now.machine) (g.W.Wire.state c.args.wire.now) (g.W.Wire.state c.send.new.wire) c.send.ensures.took_nothing)
+    if_some_any c.err.result _ (prompt_nothing (gives c.args.live.now.machine) (g.W.Wire.state c.args.wire.now) (g.W.Wire.state c.send.new.wire) c.send.ensures.took_nothing)
 
 pub returns-in-Done-clause-prompt : goal.returns-in-Done-clause-prompt
 returns-in-Done-clause-prompt g c = prompt_still (gives c.args.live.now.machine) (g.W.Wire.state c.args.wire.now)

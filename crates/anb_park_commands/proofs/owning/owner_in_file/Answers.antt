@@ -1,5 +1,6 @@
 use Rattle.anb_command.proofs.Failing.{IsFailure-map}
-use Rattle.anb_command.proofs.Preparing.{if_err_map, if_ok_map}
+use Rattle.anb_lemmas.proofs.Results.{if_ok_map}
+use Rattle.anb_command.proofs.Preparing.{if_err_map}
 use Rattle.anb_command.specs.Steps.{given, refused}
 use Rattle.anb_syntax.specs.Views.{narration_of}
 use Rattle.anb_park_commands.proofs.Chains.{identity_of, narration_refused, part_of}

@@ -1,8 +1,9 @@
 use Rattle.std.proofs.Common.{ℕ, List, [], refl, subst, true}
+use Rattle.anb_role_commands.specs.Playing.{play_by}
 use Rattle.anb_park.specs.Lives.{Stands, started}
 use Rattle.anb_command.proofs.OverWire.{no_memory}
 use Rattle.anb_command.proofs.Prompt.{prompt_nowhere}
-use Rattle.anb_park_commands.specs.Going.{begun, begun_by, saved}
+use Rattle.anb_park_commands.specs.Going.{begun, saved}
 use Rattle.anb_park_commands.proofs.Reached.{parks_begun, parks_nowhere, prompt_begun}
 use Rattle.anb_park_commands.proofs.parking.begin_over.Goals as goal
 
@@ -38,7 +39,7 @@ pub returns-in-Err-clause-parks : goal.returns-in-Err-clause-parks
 returns-in-Err-clause-parks g c =
     let b = c.args.beginning.now in
     let p = b.prepared in
-    parks_nowhere (begun_by p.code p.initial p.seed) (saved b.key (begun b.id p.seed p.initial)) (g.W.Wire.state c.args.wire.now)
+    parks_nowhere (play_by p.code p.initial p.seed) (saved b.key (begun b.id p.seed p.initial)) (g.W.Wire.state c.args.wire.now)
 
 pub returns-in-Err-clause-kept : goal.returns-in-Err-clause-kept
 returns-in-Err-clause-kept g c = λ e arrivals tail is cut. absurd (cc)
@@ -46,7 +47,7 @@ returns-in-Err-clause-kept g c = λ e arrivals tail is cut. absurd (cc)
 pub returns-in-Err-clause-prompt : goal.returns-in-Err-clause-prompt
 returns-in-Err-clause-prompt g c =
     let p = c.args.beginning.now.prepared in
-    prompt_nowhere (begun_by p.code p.initial p.seed) (g.W.Wire.state c.args.wire.now) (g.W.Wire.state c.args.wire.now) refl refl
+    prompt_nowhere (play_by p.code p.initial p.seed) (g.W.Wire.state c.args.wire.now) (g.W.Wire.state c.args.wire.now) refl refl
 
 pub returns-in-Err-clause-wire : goal.returns-in-Err-clause-wire
 returns-in-Err-clause-wire g c = no_memory _ true (g.W.Wire.state c.args.wire.now)

@@ -1,10 +1,11 @@
 use Rattle.std.proofs.Common.{[], ◌∷◌}
+use Rattle.anb_role_commands.specs.Playing.{play_by}
 use Rattle.anb_command.specs.Commands.{place_by}
 use Rattle.anb_command.proofs.Causes.{early_cause, early_reaches, only_memory, wire_cause}
 use Rattle.anb_command.proofs.Chains.{told_map}
 use Rattle.anb_command.proofs.Failing.{IsFailure-map}
 use Rattle.anb_command.proofs.OverWire.{untouched}
-use Rattle.anb_park_commands.specs.Going.{begun, begun_by, saved}
+use Rattle.anb_park_commands.specs.Going.{begun, saved}
 use Rattle.anb_park_commands.specs.ParkCommand.{IsReadToPark, NewSessionIs}
 use Rattle.anb_park_commands.specs.Sessions.{Begins}
 use Rattle.anb_park_commands.proofs.Answering.{parks_over, refuses_over}
@@ -22,7 +23,7 @@ returns-in-Ok-clause-does g c =
     parks_over Begins (NewSessionIs play.narration.now play.name.now play.values.now key c.args.host_seed) (IsReadToPark play.narration.now play.name.now play.values.now key c.args.host_seed)
     (λ files. new_session_one c.narrations_are_unique.ensures c.refusals_are_unique.ensures c.none_is_both.ensures files play.narration.now play.name.now c.one_fit.ensures play.values.now key c.args.host_seed)
     (λ files. new_session_quiet files play.narration.now play.name.now play.values.now key c.args.host_seed)
-    c.begin_over.result (begun_by p.code p.initial p.seed) (saved b.key (begun b.id p.seed p.initial)) (Keeps p.code (begun b.id p.seed p.initial)) c.begin_over.ensures.late
+    c.begin_over.result (play_by p.code p.initial p.seed) (saved b.key (begun b.id p.seed p.initial)) (Keeps p.code (begun b.id p.seed p.initial)) c.begin_over.ensures.late
     (g.F.Shelf.files c.args.shelf.now) (g.W.Wire.state c.args.wire.now) (g.W.Wire.state c.begin_over.new.wire)
     (told_map (g.F.Shelf.files c.args.shelf.now) (λ files has. begins_ready (NewSessionIs play.narration.now play.name.now play.values.now key c.args.host_seed files) p.code b.id p.seed p.initial b.key has c.in-Ok.ensures.takes) c.in-Ok.ensures.ready)
     c.begin_over.ensures.parks c.begin_over.ensures.prompt c.begin_over.ensures.kept
@@ -41,7 +42,7 @@ returns-in-Ok-clause-completes g c = λ none.
     completes_played Begins (NewSessionIs play.narration.now play.name.now play.values.now key c.args.host_seed) (IsReadToPark play.narration.now play.name.now play.values.now key c.args.host_seed)
     (λ files. new_session_one c.narrations_are_unique.ensures c.refusals_are_unique.ensures c.none_is_both.ensures files play.narration.now play.name.now c.one_fit.ensures play.values.now key c.args.host_seed)
     (g.F.Shelf.files c.args.shelf.now) (g.W.Wire.state c.args.wire.now) (g.W.Wire.state c.begin_over.new.wire) c.begin_over.result
-    (begun_by p.code p.initial p.seed) (saved b.key (begun b.id p.seed p.initial)) (Keeps p.code (begun b.id p.seed p.initial))
+    (play_by p.code p.initial p.seed) (saved b.key (begun b.id p.seed p.initial)) (Keeps p.code (begun b.id p.seed p.initial))
     (told_map (g.F.Shelf.files c.args.shelf.now) (λ files has. begins_ready (NewSessionIs play.narration.now play.name.now play.values.now key c.args.host_seed files) p.code b.id p.seed p.initial b.key has c.in-Ok.ensures.takes) c.in-Ok.ensures.ready)
     (returns-in-Ok-clause-does g c)
     (only_memory (play.narration.now ∷ play.values.now ∷ key ∷ []) (place_by play.endpoint) (g.F.Shelf.faults c.args.shelf.now) (g.F.Shelf.faults c.prepare.new.shelf) (g.W.Wire.state c.args.wire.now) (g.W.Wire.state c.begin_over.new.wire) none c.begin_over.result (returns-in-Ok-clause-faults g c))

@@ -1,10 +1,11 @@
 use Rattle.std.proofs.Common.{Option, ◌∙◌, subst, inl, inr}
+use Rattle.anb_base.proofs.Moving.{Rose-later}
 use Rattle.anb_command.specs.declared.limits.TheConstants.{KEY_LIMIT}
 use Rattle.anb_command.specs.Errands.{ErrandOf}
 use Rattle.anb_command.specs.Fetches.{Files, IfTold}
 use Rattle.anb_command.specs.Files.{HasFile}
 use Rattle.anb_command.specs.Steps.{given}
-use Rattle.anb_command.proofs.Failing.{IsFailure-map, Rose-later}
+use Rattle.anb_command.proofs.Failing.{IsFailure-map}
 use Rattle.anb_park_commands.proofs.Chains.{begun_given, begun_no_key, begun_no_part, begun_no_values, file_refused, key_read, narration_read, values_read}
 use Rattle.anb_park_commands.proofs.parking.prepare.Goals as goal
 

@@ -1,8 +1,9 @@
 use Rattle.std.proofs.Common.{[], ◌∷◌, inl, inr}
+use Rattle.anb_base.proofs.Moving.{Rose-later}
 use Rattle.anb_command.specs.Commands.{place_by}
 use Rattle.anb_command.proofs.Chains.{told_map}
 use Rattle.anb_command.proofs.Causes.{early_cause, early_reaches, only_memory, wire_cause}
-use Rattle.anb_command.proofs.Failing.{IsFailure-map, Rose-later}
+use Rattle.anb_command.proofs.Failing.{IsFailure-map}
 use Rattle.anb_command.proofs.OverWire.{untouched}
 use Rattle.anb_park_commands.specs.Going.{plays_on, saved}
 use Rattle.anb_park_commands.specs.ResumeCommand.{IsReadToResume, ResumedIs}

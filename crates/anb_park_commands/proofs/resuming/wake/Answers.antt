@@ -1,10 +1,11 @@
 use Rattle.std.proofs.Common.{Option, refl, subst, inl, inr}
+use Rattle.anb_base.proofs.Moving.{Rose-later}
 use Rattle.anb_command.specs.declared.limits.TheConstants.{KEY_LIMIT}
 use Rattle.anb_command.specs.Fetches.{Files, IfTold}
 use Rattle.anb_command.specs.Files.{HasFile}
 use Rattle.anb_command.specs.Steps.{refused}
 use Rattle.anb_park_commands.specs.Records.{RecordIs}
-use Rattle.anb_command.proofs.Failing.{IsFailure-map, Rose-later}
+use Rattle.anb_command.proofs.Failing.{IsFailure-map}
 use Rattle.anb_command.proofs.Chains.{told_map}
 use Rattle.anb_command.proofs.Preparing.{told_both}
 use Rattle.anb_park_commands.proofs.Chains.{file_refused}

@@ -1,5 +1,5 @@
 use Rattle.std.proofs.Common.{◌≡◌, drop}
-use Rattle.anb_resolve.specs.Names.{among}
+use Rattle.anb_index.specs.Places.{among}
 use Rattle.anb_point.proofs.items.among.Given as goal
 
 abbrev pub invariant-loop-each : goal.invariant-loop-each

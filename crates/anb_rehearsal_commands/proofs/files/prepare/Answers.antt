@@ -1,5 +1,5 @@
-use Rattle.anb_command.proofs.Failing.{IsFailure-map, Rose-later}
-use Rattle.anb_command.proofs.Chains.{told_map}
+use Rattle.anb_command.proofs.Failing.{IsFailure-map}
+use Rattle.anb_base.proofs.Moving.{Rose-later}
 use Rattle.anb_rehearsal_commands.specs.Telling.{setting_by}
 use Rattle.anb_rehearsal_commands.proofs.Asking.{earlier_read, rehearsal_given, schedule_read, schedule_refused, setting_refused, third_of_three, two_of_three}
 use Rattle.anb_rehearsal_commands.proofs.files.prepare.Goals as goal

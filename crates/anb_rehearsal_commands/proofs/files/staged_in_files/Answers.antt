@@ -1,5 +1,5 @@
-use Rattle.std.proofs.Common.{refl}
-use Rattle.anb_command.proofs.Failing.{IsFailure-map, Rose-later}
+use Rattle.anb_base.proofs.Moving.{Rose-later}
+use Rattle.anb_command.proofs.Failing.{IsFailure-map}
 use Rattle.anb_rehearsal_commands.proofs.Asking.{company_refused, narration_read, one_of_two, other_of_two, seed_refused, setting_given, values_read, values_refused}
 use Rattle.anb_rehearsal_commands.proofs.files.staged_in_files.Goals as goal
 

@@ -1,11 +1,11 @@
 use Rattle.std.proofs.Common.{sym, ◌∙◌}
 use Rattle.anb_command.proofs.States.{only_writes}
-use Rattle.anb_rehearsal_commands.proofs.Over.{told_written}
+use Rattle.anb_command.proofs.Written.{told_written_by}
 use Rattle.anb_rehearsal_commands.proofs.rehearsing.write_report_now.Goals as goal
 
 pub returns-clause-writes : goal.returns-clause-writes
 returns-clause-writes g c =
-    told_written _ _ _ _ _ _ _ _ _ _ _ _ _ _ _ _ (g.met.W.Wire.state_tells c.args.wire.now) (g.met.W.Wire.state_tells c.write_report.new.snk) _ c.write_report.result c.write_report.ensures.written
+    told_written_by _ _ _ _ _ _ _ _ _ _ _ _ _ _ _ _ (g.met.W.Wire.state_tells c.args.wire.now) (g.met.W.Wire.state_tells c.write_report.new.snk) _ c.write_report.result c.write_report.ensures.written
 
 pub returns-clause-only : goal.returns-clause-only
 returns-clause-only g c =

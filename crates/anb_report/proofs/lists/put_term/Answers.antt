@@ -1,14 +1,14 @@
 use Rattle.std.proofs.Common.{[], ◌++◌, map, sym, ap, ◌∙◌}
 use Rattle.std.specs.Option.{option_map_or}
 use Rattle.std.proofs.lemmas.List.{append-nil}
+use Rattle.anb_lemmas.proofs.Each.{each_got}
 use Rattle.anb_term.specs.View.{tree_of}
-use Rattle.anb_term.proofs.Lists.{all_at}
 use Rattle.anb_resolve.specs.Texts.{IsTermOf, term_text}
 use Rattle.anb_report.proofs.lists.put_term.Goals as goal
 
 pub text_of_term-requires : goal.text_of_term-requires
 text_of_term-requires c =
-    all_at (IsTermOf c.args.protocol.now) (map tree_of c.args.terms.now) c.args.r (tree_of c.in-Some.term.now) c.requires c.in-Some.ensures.some
+    each_got (IsTermOf c.args.protocol.now) (map tree_of c.args.terms.now) c.args.r (tree_of c.in-Some.term.now) c.requires c.in-Some.ensures.some
 
 pub returns-in_ok-extend_from_slice : goal.returns-in_ok-extend_from_slice
 returns-in_ok-extend_from_slice c =

@@ -1,7 +1,7 @@
 use Rattle.std.proofs.Common.{◌+◌, drop, map, sym, ap, ◌∙◌, arith}
 use Rattle.std.specs.List.{flat_map}
+use Rattle.anb_lemmas.proofs.Lists.{drop_at_got}
 use Rattle.anb_term.proofs.Lists.{slice_get-at}
-use Rattle.anb_explain.proofs.Loops.{drop_item}
 use Rattle.anb_resolve.specs.Plans.{term_in}
 use Rattle.anb_resolve.specs.Seen.{marked}
 use Rattle.anb_resolve.specs.Texts.{atoms_in}
@@ -18,4 +18,4 @@ loop-event-preserved c =
     let marks = c.loop-event.marks.items in
     let later = flat_map (λ e. atoms_in (term_in e)) (map plan_event (drop (i + 1) events)) in
     ap (λ m. marked m later) c.mark_event.ensures ∙ sym (marked_both marks (atoms_in (term_in (plan_event x))) later)
-    ∙ ap (λ l. marked marks (flat_map (λ e. atoms_in (term_in e)) (map plan_event l))) (sym (drop_item events i x here)) ∙ c.loop-event.invariant
+    ∙ ap (λ l. marked marks (flat_map (λ e. atoms_in (term_in e)) (map plan_event l))) (sym (drop_at_got events i x here)) ∙ c.loop-event.invariant

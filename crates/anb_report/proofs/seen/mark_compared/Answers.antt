@@ -1,7 +1,7 @@
 use Rattle.std.proofs.Common.{◌+◌, drop, sym, ap, ◌∙◌, arith}
 use Rattle.std.specs.List.{flat_map}
+use Rattle.anb_lemmas.proofs.Lists.{drop_at_got}
 use Rattle.anb_term.proofs.Lists.{slice_get-at}
-use Rattle.anb_explain.proofs.Loops.{drop_item}
 use Rattle.anb_resolve.specs.Seen.{marked}
 use Rattle.anb_report.specs.Looking.{compared}
 use Rattle.anb_report.proofs.Marking.{marked_both}
@@ -16,4 +16,4 @@ loop-instr-preserved c =
     let marks = c.loop-instr.marks.items in
     let later = flat_map compared (drop (i + 1) instrs) in
     ap (λ m. marked m later) c.mark_compared_by.ensures ∙ sym (marked_both marks (compared x) later)
-    ∙ ap (λ l. marked marks (flat_map compared l)) (sym (drop_item instrs i x here)) ∙ c.loop-instr.invariant
+    ∙ ap (λ l. marked marks (flat_map compared l)) (sym (drop_at_got instrs i x here)) ∙ c.loop-instr.invariant

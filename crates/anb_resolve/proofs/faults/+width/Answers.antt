@@ -6,10 +6,10 @@ use Rattle.anb_base.specs.declared.TheConstants.{ARRIVAL, WIDE}
 use Rattle.anb_term.specs.declared.term.Term.{Term}
 use Rattle.anb_term.specs.Tree.{Tree, trees_of, IsFormed}
 use Rattle.anb_term.specs.View.{tree_of}
+use Rattle.anb_term.proofs.Lists.{one_size, formed_next}
 use Rattle.anb_algebra.specs.ByteMeaning.{has_operator}
 use Rattle.anb_resolve.specs.Widths.{widths_if}
-use Rattle.anb_resolve.proofs.Sizes.{one_of}
-use Rattle.anb_resolve.proofs.WidthLemmas.{length_found, low_found, formed_at, items_of}
+use Rattle.anb_resolve.proofs.WidthLemmas.{length_found, low_found, items_of}
 use Rattle.anb_resolve.proofs.faults.+width.Goals as goal
 
 pub width_of-op_width-requires-clause-count : goal.width_of-op_width-requires-clause-count
@@ -32,5 +32,5 @@ width_of-op_width-requires-clause-within t c =
 pub widths_of-width_of-requires : goal.widths_of-width_of-requires
 widths_of-width_of-requires t c =
     let ts = c.args.terms.now in
-    let one = one_of ts c.loop-t.t-index c.t-item.result (omega arith) c.t-item.is in
-    (omega (arith, one, c.decreases), (formed_at (has_operator c.args.formats.now) ts c.loop-t.t-index c.t-item.result (omega arith) c.t-item.is c.loop-t.invariant.formed).0)
+    let one = one_size ts c.loop-t.t-index c.t-item.result (omega arith) c.t-item.is in
+    (omega (arith, one, c.decreases), (formed_next (has_operator c.args.formats.now) ts c.loop-t.t-index c.t-item.result (omega arith) c.t-item.is c.loop-t.invariant.formed).0)

@@ -1,5 +1,6 @@
 use Rattle.std.proofs.Common.{◌≡◌, List, map, ap, sym, ◌∙◌, Some, None}
 use Rattle.std.specs.List.{sum_by}
+use Rattle.anb_lemmas.proofs.Options.{or_none}
 use Rattle.anb_syntax.specs.Grammar.{Tree}
 use Rattle.anb_syntax.specs.declared.narration.Tree as code
 use Rattle.anb_syntax.specs.Views.{narration_of, tree_of}
@@ -8,7 +9,7 @@ use Rattle.anb_resolve.specs.declared.refusals.Kind.TheVariants.{TermNodes, AllN
 use Rattle.anb_resolve.specs.Choices.{first}
 use Rattle.anb_resolve.specs.Checks.{above, term_limit, all_limit, tree_nodes}
 use Rattle.anb_resolve.specs.Views.{pointed}
-use Rattle.anb_resolve.proofs.OrLemmas.{skip, stop, or-none}
+use Rattle.anb_resolve.proofs.OrLemmas.{skip, stop}
 use Rattle.anb_resolve.proofs.limits.node_limits.Goals as goal
 
 pub returns-in-Some : goal.returns-in-Some
@@ -25,4 +26,4 @@ returns c =
     let also = ap (λ (ts : List (Bor code.Tree)). map tree_of (pointed ts)) c.deref-2.ensures.value ∙ c.in_ok-terms.ensures in
     let e : term_limit n ≡ None = sym (c.in-None.ensures ∙ ap (λ (ts : List Tree). first (λ t. above 1024 TermNodes (tree_nodes t)) ts) are) in
     let all : c.above.result ≡ all_limit n = c.above.ensures ∙ ap (above 65536 AllNodes) (c.all_nodes.ensures ∙ ap (λ (ts : List Tree). sum_by tree_nodes ts) also) in
-    all ∙ sym (or-none (all_limit n)) ∙ sym (skip _ _ e)
+    all ∙ sym (or_none (all_limit n)) ∙ sym (skip _ _ e)

@@ -1,5 +1,7 @@
 use Rattle.std.proofs.Common.{◌≡◌, List, ℕ, map, ap, sym, ◌∙◌, subst, Option, Some, None}
 use Rattle.std.specs.Prelude.{IfNone, IfOk, not}
+use Rattle.anb_index.specs.Places.{among}
+use Rattle.anb_lemmas.proofs.Options.{or_none}
 use Rattle.anb_syntax.specs.declared.narration.FormatItem.{FormatItem}
 use Rattle.anb_syntax.specs.Views.{format_of, narration_of}
 use denote.Ref.{Bor}
@@ -7,10 +9,10 @@ use Rattle.anb_resolve.specs.declared.parts.Atom.{Atom}
 use Rattle.anb_resolve.specs.declared.refusals.ResolveNo.{ResolveNo}
 use Rattle.anb_resolve.specs.declared.refusals.ResolveNo.TheVariants.{Unknown, WrongSort, WrongCount}
 use Rattle.anb_resolve.specs.Choices.{first, refuse_if}
-use Rattle.anb_resolve.specs.Names.{Use, among, used_name, atoms, declared_names}
+use Rattle.anb_resolve.specs.Names.{Use, used_name, atoms, declared_names}
 use Rattle.anb_resolve.specs.Checks.{declared_twice, line_twice, unknown, wrong_sort, wrong_count, is_missorted, is_miscounted, twice_among}
 use Rattle.anb_resolve.specs.Views.{pointed, use_of}
-use Rattle.anb_resolve.proofs.OrLemmas.{skip, stop, or-none}
+use Rattle.anb_resolve.proofs.OrLemmas.{skip, stop}
 use Rattle.anb_resolve.proofs.names.name_fault.Goals as goal
 
 pub returns-in-Some-4 : goal.returns-in-Some-4
@@ -47,6 +49,6 @@ returns c =
     let e4 : wrong_sort n ≡ None = sym u2 ∙ sym c.in_ok-no-4.ensures ∙ c.in-None-4.is in
     let u3 = ap (λ (fs : List FormatItem). first (λ u. refuse_if (is_miscounted (map format_of fs) u) (WrongCount (used_name u))) (map use_of c.args.uses.now)) c.deref-3.ensures.value
     ∙ ap (λ (us : List Use). first (λ u. refuse_if (is_miscounted n.formats u) (WrongCount (used_name u))) us) c.requires.uses in
-    let total = skip _ _ e1 ∙ skip _ _ e2 ∙ skip _ _ e3 ∙ skip _ _ e4 ∙ or-none (wrong_count n) in
+    let total = skip _ _ e1 ∙ skip _ _ e2 ∙ skip _ _ e3 ∙ skip _ _ e4 ∙ or_none (wrong_count n) in
     let Q : Option ResolveNo → Type 0 = λ o. IfOk c.wrong_count.result (λ r. r ≡ o) in
     subst Q (u3 ∙ sym total) c.wrong_count.ensures

@@ -1,8 +1,8 @@
 use Rattle.std.proofs.Common.{ℕ, List, ◌++◌, ◌∷◌, [], ap, sym, ◌∙◌, arith, Some}
+use Rattle.anb_index.specs.Places.{among}
 use denote.Ref.{Bor}
 use Rattle.anb_resolve.specs.declared.refusals.ResolveNo.TheVariants.{Twice}
 use Rattle.anb_resolve.specs.Choices.{refuse_if}
-use Rattle.anb_resolve.specs.Names.{among}
 use Rattle.anb_resolve.specs.Checks.{twice_among}
 use Rattle.anb_resolve.specs.Views.{pointed}
 use Rattle.anb_resolve.proofs.Elements.{seen_as, within_map}

@@ -1,6 +1,6 @@
 use Rattle.std.proofs.Common.{◌≡◌, take, drop}
+use Rattle.anb_index.specs.Places.{among}
 use Rattle.anb_resolve.specs.Choices.{first_after, refuse_if}
-use Rattle.anb_resolve.specs.Names.{among}
 use Rattle.anb_resolve.specs.Checks.{twice_among}
 use Rattle.anb_resolve.specs.declared.refusals.ResolveNo.TheVariants.{Twice}
 use Rattle.anb_resolve.specs.Views.{pointed}

@@ -1,8 +1,8 @@
 use Rattle.std.proofs.Common.{◌≤◌, length, ap, sym, ◌∙◌, refl, arith}
 use Rattle.std.specs.Option.{option_map_or}
 use Rattle.std.proofs.lemmas.Option.{slice_get_read, slice_get_past}
+use Rattle.anb_lemmas.proofs.Each.{each_holds}
 use Rattle.anb_format.specs.Formats.{FormatValue, field_count}
-use Rattle.anb_resolve.proofs.PlaceLemmas.{each_holds}
 use Rattle.anb_resolve.proofs.terms.fields_at.Goals as goal
 
 pub arity-requires : goal.arity-requires

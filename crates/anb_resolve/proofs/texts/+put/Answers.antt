@@ -3,16 +3,16 @@ use Rattle.std.specs.Prelude.{string_bytes}
 use Rattle.anb_term.specs.declared.term.Term.{Term}
 use Rattle.anb_term.specs.Tree.{Tree, trees_of}
 use Rattle.anb_term.specs.View.{tree_of}
+use Rattle.anb_term.proofs.Lists.{one_size}
 use Rattle.anb_resolve.specs.Texts.{term_text, op_text, operands_text, IsTermOf}
 use Rattle.anb_resolve.specs.Views.{value_of}
-use Rattle.anb_resolve.proofs.Sizes.{one_of}
 use Rattle.anb_resolve.proofs.TextLemmas.{term_at, node_text}
 use Rattle.anb_resolve.proofs.texts.+put.Goals as goal
 
 pub put_operands-put_term-requires : goal.put_operands-put_term-requires
 put_operands-put_term-requires t c =
     let ts = c.args.operands.now in
-    let here = one_of ts c.loop-t.t-index c.t-item.result (omega arith) c.t-item.is in
+    let here = one_size ts c.loop-t.t-index c.t-item.result (omega arith) c.t-item.is in
     (omega (arith, here, c.decreases), term_at (value_of c.args.parts.now) ts c.loop-t.t-index c.t-item.result (omega arith) c.t-item.is c.requires)
 
 pub put_term-returns-in_ok-put_operands-in-Node : goal.put_term-returns-in_ok-put_operands-in-Node

@@ -1,7 +1,9 @@
 use Rattle.std.proofs.Common.{inl, inr}
+use Rattle.anb_base.proofs.Moving.{Rose-later}
+use Rattle.anb_lemmas.proofs.Results.{if_ok_map}
 use Rattle.anb_role_commands.proofs.Enacting.{code_read, code_refused, errand_answers, values_read}
-use Rattle.anb_command.proofs.Failing.{IsFailure-map, Rose-later}
-use Rattle.anb_command.proofs.Preparing.{if_ok_map, if_err_map}
+use Rattle.anb_command.proofs.Failing.{IsFailure-map}
+use Rattle.anb_command.proofs.Preparing.{if_err_map}
 use Rattle.anb_command.specs.Steps.{given, refused}
 use Rattle.anb_role_commands.proofs.role_file.load_prepared.Goals as goal
 

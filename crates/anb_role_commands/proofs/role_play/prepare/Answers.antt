@@ -1,7 +1,9 @@
 use Rattle.std.proofs.Common.{inl, inr}
+use Rattle.anb_base.proofs.Moving.{Rose-later}
+use Rattle.anb_lemmas.proofs.Results.{if_ok_map}
 use Rattle.anb_command.specs.Roles.{Part}
-use Rattle.anb_command.proofs.Failing.{IsFailure-map, Rose-later}
-use Rattle.anb_command.proofs.Preparing.{if_ok_map, if_err_map}
+use Rattle.anb_command.proofs.Failing.{IsFailure-map}
+use Rattle.anb_command.proofs.Preparing.{if_err_map}
 use Rattle.anb_role_commands.proofs.Preparing.{part_refused, job_refused, whole_ready, whole_ready_in_each, narration_read, values_read}
 use Rattle.anb_role_commands.proofs.role_play.prepare.Goals as goal
 

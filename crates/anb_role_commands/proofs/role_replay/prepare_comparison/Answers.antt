@@ -1,6 +1,7 @@
 use Rattle.std.proofs.Common.{inl}
+use Rattle.anb_base.proofs.Moving.{Rose-later}
 use Rattle.anb_command.proofs.Chains.{told_map}
-use Rattle.anb_command.proofs.Failing.{IsFailure-map, Rose-later}
+use Rattle.anb_command.proofs.Failing.{IsFailure-map}
 use Rattle.anb_role_commands.proofs.Replaying.{comparison_ready, play_refused, third_of_three, transcript_read, transcript_refused, two_of_three}
 use Rattle.anb_role_commands.proofs.role_replay.prepare_comparison.Goals as goal
 

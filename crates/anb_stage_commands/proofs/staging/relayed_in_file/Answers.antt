@@ -1,4 +1,5 @@
-use Rattle.anb_command.proofs.Preparing.{if_err_map, if_ok_map}
+use Rattle.anb_command.proofs.Preparing.{if_err_map}
+use Rattle.anb_lemmas.proofs.Results.{if_ok_map}
 use Rattle.anb_stage_commands.specs.Asking.{staged}
 use Rattle.anb_stage_commands.proofs.Outcomes.{fails_in_file, in_file}
 use Rattle.anb_stage_commands.proofs.staging.relayed_in_file.Goals as goal

@@ -1,13 +1,14 @@
 use Rattle.std.proofs.Common.{◌∷◌, [], map, take, true, arith, ap}
+use Rattle.anb_lemmas.proofs.Options.{if_some_any}
 use Rattle.anb_term.specs.Tree.{nodes}
 use Rattle.anb_term.specs.View.{tree_of}
 use Rattle.anb_close.proofs.Growing.{formed_append, nodes_append}
-use Rattle.anb_term_tests.proofs.Counting.{if_any, one_more, node_formed, node_sized, taken}
+use Rattle.anb_term_tests.proofs.Counting.{one_more, node_formed, node_sized, taken}
 use Rattle.anb_term_tests.proofs.checks.+count.Goals as goal
 
 pub node_count-returns-in-Some-clause-formed : goal.node_count-returns-in-Some-clause-formed
 node_count-returns-in-Some-clause-formed t c =
-    if_any c.checked_add.result _ (node_formed c.args.t.now c.in-Node.op c.in-Node.operands c.as_slice.result.now c.in-Node.is c.as_slice.ensures (omega arith) c.in-Some.ensures.formed)
+    if_some_any c.checked_add.result _ (node_formed c.args.t.now c.in-Node.op c.in-Node.operands c.as_slice.result.now c.in-Node.is c.as_slice.ensures (omega arith) c.in-Some.ensures.formed)
 
 pub node_count-returns-in-Some-clause-size : goal.node_count-returns-in-Some-clause-size
 node_count-returns-in-Some-clause-size t c =

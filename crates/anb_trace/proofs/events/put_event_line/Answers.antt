@@ -1,6 +1,6 @@
 use Rattle.std.proofs.Common.{map}
 use Rattle.std.specs.Prelude.{filter}
-use Rattle.anb_term.proofs.Lists.{all_at}
+use Rattle.anb_lemmas.proofs.Each.{each_got}
 use Rattle.anb_resolve.specs.Plans.{PlanEvent, term_in}
 use Rattle.anb_resolve.specs.Texts.{IsTermOf}
 use Rattle.anb_resolve.specs.Views.{plan_event}
@@ -12,4 +12,4 @@ pub put_event-requires : goal.put_event-requires
 put_event-requires c =
     let plan = map plan_event c.args.plan.now in
     let P : PlanEvent → Type 0 = λ e. IsTermOf c.args.protocol.now (term_in e) in
-    all_at P (filter is_message plan) c.args.events (plan_event c.in-Some.event.now) (all_kept P is_message plan c.requires) c.in-Some.ensures.some
+    each_got P (filter is_message plan) c.args.events (plan_event c.in-Some.event.now) (all_kept P is_message plan c.requires) c.in-Some.ensures.some

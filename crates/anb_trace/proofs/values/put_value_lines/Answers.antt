@@ -1,7 +1,8 @@
 use Rattle.std.proofs.Common.{◌≡◌, ◌+◌, ◌++◌, drop, map, sym, ap, ◌∙◌, append_assoc, arith}
 use Rattle.std.proofs.lemmas.List.{append-nil}
+use Rattle.anb_lemmas.proofs.Each.{each_got}
 use Rattle.anb_term.specs.View.{tree_of}
-use Rattle.anb_term.proofs.Lists.{all_at, slice_get-at}
+use Rattle.anb_term.proofs.Lists.{slice_get-at}
 use Rattle.anb_resolve.specs.Texts.{IsTermOf}
 use Rattle.anb_trace.specs.Words.{value_line, value_lines}
 use Rattle.anb_trace.proofs.Placing.{lines_over, one_line}
@@ -9,7 +10,7 @@ use Rattle.anb_trace.proofs.values.put_value_lines.Goals as goal
 
 pub put_value_line-requires : goal.put_value_line-requires
 put_value_line-requires c =
-    all_at (IsTermOf c.args.protocol.now) (map tree_of c.args.terms.now) c.loop-i.i (tree_of c.in-Some.term.now) c.requires c.in-Some.ensures.some
+    each_got (IsTermOf c.args.protocol.now) (map tree_of c.args.terms.now) c.loop-i.i (tree_of c.in-Some.term.now) c.requires c.in-Some.ensures.some
 
 pub returns-in_default : goal.returns-in_default
 returns-in_default c =

@@ -1,7 +1,8 @@
 use Rattle.std.proofs.Common.{inl, inr}
+use Rattle.anb_base.proofs.Moving.{Rose-later}
 use Rattle.anb_command.specs.Roles.{Part}
 use Rattle.anb_command.proofs.Chains.{told_map}
-use Rattle.anb_command.proofs.Failing.{IsFailure-map, Rose-later}
+use Rattle.anb_command.proofs.Failing.{IsFailure-map}
 use Rattle.anb_role_commands.proofs.Preparing.{job_refused, narration_read, part_refused, role_refused, values_read}
 use Rattle.anb_role_commands.proofs.Replaying.{play_refused, third_of_three}
 use Rattle.anb_trace_commands.proofs.Asking.{lines_read, lines_refused, traceable}

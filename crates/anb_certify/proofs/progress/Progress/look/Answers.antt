@@ -1,17 +1,18 @@
 use Rattle.std.proofs.Common.{◌≡◌, ◌≤◌, ℕ, List, Bool, true, Some, length, map, subst, arith}
 use Rattle.std.specs.Prelude.{slice_get}
+use Rattle.anb_lemmas.proofs.Results.{on_ok_any}
 use Rattle.anb_intern.specs.Nodes.{operands_at}
 use Rattle.anb_certify.specs.Progress.{AreQuiet}
 use Rattle.anb_certify.specs.Works.{did_of}
 use Rattle.anb_certify.proofs.Progressing.{enough, set_by_parts}
-use Rattle.anb_certify.proofs.Results.{if_ok, any_ok}
+use Rattle.anb_certify.proofs.Results.{if_ok}
 use Rattle.anb_certify.proofs.progress.Progress.look.Goals as goal
 
 pub returns-clause-found : goal.returns-clause-found
-returns-clause-found c = any_ok _ c.in_ok-take_in.ensures.found
+returns-clause-found c = on_ok_any _ c.in_ok-take_in.ensures.found
 
 pub returns-clause-grouped : goal.returns-clause-grouped
-returns-clause-grouped c = any_ok _ c.in_ok-take_in.ensures.grouped
+returns-clause-grouped c = on_ok_any _ c.in_ok-take_in.ensures.grouped
 
 pub returns-clause-enough : goal.returns-clause-enough
 returns-clause-enough c =

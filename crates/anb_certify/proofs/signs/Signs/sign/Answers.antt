@@ -1,10 +1,10 @@
 use Rattle.std.proofs.Common.{◌≡◌, List, length, sym, ap, ◌∙◌, subst, arith, ⊎_elim}
+use Rattle.anb_lemmas.proofs.Lists.{got_within}
 use Rattle.anb_term.specs.Lawful.{picked}
 use Rattle.anb_term.specs.Tree.{node, trees_of}
-use Rattle.anb_term.proofs.Lists.{slice_get-within}
 use Rattle.anb_intern.specs.declared.node.NodeId.{NodeId}
 use Rattle.anb_intern.specs.Nodes.{operands_at, AreUnder}
-use Rattle.anb_certify.proofs.Flagging.{operands_long}
+use Rattle.anb_intern.proofs.Nodes.{operands_long}
 use Rattle.anb_certify.proofs.Signing.{under_picked, signed, under_still, owners_long, sign_place}
 use Rattle.anb_certify.proofs.signs.Signs.sign.Goals as goal
 
@@ -22,7 +22,7 @@ pub owner-requires : goal.owner-requires
 owner-requires c =
     let s = c.args.self.now in
     let t = node c.args.op (trees_of (operands_at s.pool c.in_ok-operands.operands.items)) in
-    omega (arith, c.requires.signs.1, slice_get-within c.put.new.self c.in_ok-id.id.0 t c.in_ok-id.ensures.stored, owners_long s.pool c.put.new.self t c.in_ok-id.ensures.put)
+    omega (arith, c.requires.signs.1, got_within c.put.new.self c.in_ok-id.id.0 t c.in_ok-id.ensures.stored, owners_long s.pool c.put.new.self t c.in_ok-id.ensures.put)
 
 pub returns-clause-signs : goal.returns-clause-signs
 returns-clause-signs c =

@@ -3,7 +3,7 @@ use Rattle.std.specs.Prelude.{slice_get, MatchOption}
 use Rattle.anb_term.specs.View.{tree_of}
 use Rattle.anb_term.proofs.Lists.{slice_get-there}
 use Rattle.anb_intern.specs.declared.node.NodeId.{NodeId}
-use Rattle.anb_certify.proofs.Flagging.{operands_long}
+use Rattle.anb_intern.proofs.Nodes.{operands_long}
 use Rattle.anb_certify.proofs.Grouping.{get_here}
 use Rattle.anb_certify.proofs.Tabling.{has_term, no_term}
 use Rattle.anb_certify.proofs.table.Table.holds.Goals as goal

@@ -3,10 +3,10 @@ use Rattle.anb_term.specs.Lawful.{picked}
 use Rattle.anb_term.specs.Tree.{node, trees_of}
 use Rattle.anb_intern.specs.declared.node.NodeId.{NodeId}
 use Rattle.anb_intern.specs.Nodes.{operands_at, AreUnder}
+use Rattle.anb_intern.proofs.Nodes.{operands_long}
 use Rattle.anb_certify.specs.Numbered.{did_in}
 use Rattle.anb_certify.specs.Progress.{found_in}
 use Rattle.anb_certify.proofs.Progressing.{registers_come}
-use Rattle.anb_certify.proofs.Flagging.{operands_long}
 use Rattle.anb_certify.proofs.Signing.{under_picked, operands_picked}
 use Rattle.anb_certify.proofs.Tabling.{has_grown, one_more}
 use Rattle.anb_certify.proofs.table.Table.make.Goals as goal

@@ -2,17 +2,16 @@ use Rattle.std.proofs.Common.{◌≡◌, ◌<◌, ◌++◌, ℕ, List, Vec, Glob
 use Rattle.std.specs.Prelude.{option_map, option_and_then, IfSome}
 use Rattle.anb_term.specs.Lawful.{picked}
 use Rattle.anb_term.specs.FreeAlgebra.{parts_of}
+use Rattle.anb_term.proofs.Lists.{picked_length}
 use Rattle.anb_intern.specs.declared.node.NodeId.{NodeId}
 use Rattle.anb_intern.specs.Nodes.{operands_at, tree_at, AreUnder, IsOver}
-use Rattle.anb_intern.proofs.Nodes.{over_more}
+use Rattle.anb_intern.proofs.Nodes.{over_more, operands_long}
 use Rattle.std.specs.List.{AllByRecursion}
 use Rattle.std.proofs.lemmas.List.Elements.{recursion_from_All}
 use Rattle.anb_certify.specs.Numbered.{did_in}
 use Rattle.anb_certify.specs.Progress.{found_in}
 use Rattle.anb_certify.proofs.Progressing.{registers_come}
-use Rattle.anb_certify.proofs.Fitting.{picked_length}
 use Rattle.anb_certify.proofs.Tabling.{more_here}
-use Rattle.anb_certify.proofs.Flagging.{operands_long}
 use Rattle.anb_certify.proofs.Signing.{under_picked, operands_picked}
 use Rattle.anb_certify.proofs.Grouping.{get_here, at_register, under_there}
 use Rattle.anb_certify.proofs.table.Table.undo.Goals as goal

@@ -1,10 +1,10 @@
 use Rattle.std.proofs.Common.{◌≡◌, ◌++◌, ◌∷◌, [], ℕ, List, length, map, sym, ap, ◌∙◌, arith}
+use Rattle.anb_intern.proofs.Nodes.{operands_long}
 use Rattle.anb_plays.specs.Codes.{Work}
 use Rattle.anb_term.proofs.Lists.{map-append}
 use Rattle.anb_certify.specs.Works.{did_of, work_of}
 use Rattle.anb_certify.specs.Numbered.{did_in, terms_in}
 use Rattle.anb_certify.specs.Progress.{found_in}
-use Rattle.anb_certify.proofs.Flagging.{operands_long}
 use Rattle.anb_certify.proofs.Progressing.{work_comes}
 use Rattle.anb_certify.proofs.table.Table.work.Goals as goal
 

@@ -1,9 +1,9 @@
 use Rattle.std.proofs.Common.{◌<◌, length, true, false, Some, sym, ap, ◌∙◌, subst, arith}
+use Rattle.anb_intern.proofs.Nodes.{operands_long}
 use Rattle.anb_plays.specs.Exec.{IsReady}
 use Rattle.anb_certify.specs.declared.works.Job.{Job}
 use Rattle.anb_certify.specs.Numbered.{IsWritten, value_of, terms_in}
 use Rattle.anb_certify.specs.Works.{work_of}
-use Rattle.anb_certify.proofs.Flagging.{operands_long}
 use Rattle.anb_certify.proofs.Grouping.{get_here}
 use Rattle.anb_certify.proofs.Tabling.{equal_terms, same_written, other_written}
 use Rattle.anb_certify.proofs.table.Table.write.Goals as goal

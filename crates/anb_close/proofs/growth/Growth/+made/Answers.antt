@@ -2,11 +2,12 @@ use Rattle.std.proofs.Common.{◌≡◌, option_map, Some, None, ap, sym, ◌∙
 use Rattle.std.specs.Prelude.{List}
 use Rattle.anb_term.specs.declared.term.Term.{Term}
 use Rattle.anb_term.specs.View.{tree_of}
-use Rattle.anb_term.specs.Tree.{Tree, trees_of, tree_size, trees_size}
+use Rattle.anb_term.specs.Tree.{Tree, trees_of}
+use Rattle.anb_term.proofs.Lists.{one_size}
 use Rattle.anb_close.specs.Rows.{place, made_for, mades_for, rows_of}
 use Rattle.anb_close.specs.Entries.{rows}
 use Rattle.anb_close.specs.MadeView.{made_tree}
-use Rattle.anb_close.proofs.Finding.{place_none, built_none, built_from, one_of, mades_on, mades_all}
+use Rattle.anb_close.proofs.Finding.{place_none, built_none, built_from, mades_on, mades_all}
 use Rattle.anb_close.proofs.growth.Growth.+made.Goals as goal
 
 pub made-returns-then-len-arity : goal.made-returns-then-len-arity
@@ -24,7 +25,7 @@ made-returns-in-Some-2 t c =
 
 pub mades-made-requires : goal.mades-made-requires
 mades-made-requires t c =
-    let one = one_of c.args.ts.now c.loop-t.t-index c.t-item.result (omega arith) c.t-item.is in
+    let one = one_size c.args.ts.now c.loop-t.t-index c.t-item.result (omega arith) c.t-item.is in
     (omega (arith, one, c.decreases), c.requires.indexed)
 
 pub mades-loop-t-preserved : goal.mades-loop-t-preserved

@@ -1,8 +1,9 @@
 use Rattle.std.proofs.Common.{◌-◌, ◌++◌, ◌∷◌, [], arith, length-append}
+use Rattle.anb_lemmas.proofs.Results.{on_err_any}
 use Rattle.anb_close.specs.declared.entry.Entry.{Entry}
 use Rattle.anb_close.specs.declared.entry.Origin.TheVariants.{Part}
 use Rattle.anb_close.proofs.Pushing.{extends_more, extended_length, next_part}
-use Rattle.anb_close.proofs.Due.{touched_more, where_err}
+use Rattle.anb_close.proofs.Due.{touched_more}
 use Rattle.anb_close.proofs.growth.Growth.push_parts.Goals as goal
 
 pub push-requires-clause-few : goal.push-requires-clause-few
@@ -25,4 +26,4 @@ loop-j-preserved c =
 pub returns-in_err-push-clause-err : goal.returns-in_err-push-clause-err
 returns-in_err-push-clause-err c =
     let i = c.loop-j.invariant in
-    where_err c.from_residual-in_err-push.result (i.more ++ [], extends_more _ _ _ _ _ _ i.more [] i.extends c.in_err-push.ensures.err)
+    on_err_any c.from_residual-in_err-push.result (i.more ++ [], extends_more _ _ _ _ _ _ i.more [] i.extends c.in_err-push.ensures.err)

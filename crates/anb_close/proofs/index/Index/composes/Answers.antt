@@ -2,9 +2,10 @@ use Rattle.std.proofs.Common.{◌<◌, length, sym, ap, ◌∙◌, subst, arith,
 use Rattle.std.specs.Prelude.{slice_get}
 use Rattle.anb_term.specs.Tree.{trees_of, list_of}
 use Rattle.anb_intern.specs.Nodes.{AreUnder}
+use Rattle.anb_intern.proofs.Nodes.{operands_long}
 use Rattle.anb_close.specs.Rows.{mades_for, rows_of}
 use Rattle.anb_close.specs.Standings.{all_stand}
-use Rattle.anb_close.proofs.Indexing.{operands_long, number_under, no_operands, front_under, front_is}
+use Rattle.anb_close.proofs.Indexing.{number_under, no_operands, front_under, front_is}
 use Rattle.anb_close.proofs.index.Index.composes.Goals as goal
 
 pub index-requires : goal.index-requires

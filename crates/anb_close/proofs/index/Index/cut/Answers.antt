@@ -1,7 +1,8 @@
 use Rattle.std.proofs.Common.{◌≤◌, length, take, ap, ◌∙◌, arith}
 use Rattle.anb_intern.specs.Nodes.{operands_at}
+use Rattle.anb_intern.proofs.Nodes.{operands_long}
 use Rattle.anb_close.specs.Rows.{rows_of}
-use Rattle.anb_close.proofs.Indexing.{operands_long, right_places, cut_places, cut_under, cut_terms}
+use Rattle.anb_close.proofs.Indexing.{right_places, cut_places, cut_under, cut_terms}
 use Rattle.anb_close.proofs.index.Index.cut.Goals as goal
 
 pub invariant_of-self : goal.invariant_of-self

@@ -1,14 +1,15 @@
 use Rattle.std.proofs.Common.{◌≡◌, ◌≤◌, ◌++◌, ◌∷◌, [], length, true, false, sym, ap, ◌∙◌, subst, arith, inl, append_assoc, length-append}
 use Rattle.std.specs.Prelude.{slice_get}
+use Rattle.anb_lemmas.proofs.Lists.{got_within}
 use Rattle.anb_term.specs.View.{tree_of}
-use Rattle.anb_term.proofs.Lists.{slice_get-within}
 use Rattle.anb_intern.specs.Nodes.{operands_at}
+use Rattle.anb_intern.proofs.Nodes.{operands_long}
 use Rattle.anb_close.specs.Rows.{made_for, row_unless, rows_of}
 use Rattle.anb_close.specs.Entries.{is_double}
 use Rattle.anb_close.specs.Listed.{AreTouched}
 use Rattle.anb_close.specs.Standings.{IsIndexed}
 use Rattle.anb_close.specs.Parents.{AreLinked}
-use Rattle.anb_close.proofs.Indexing.{push_double, push_places, double_is, terms_next, standings_long, operands_long, cut_places, cut_under}
+use Rattle.anb_close.proofs.Indexing.{push_double, push_places, double_is, terms_next, standings_long, cut_places, cut_under}
 use Rattle.anb_close.proofs.Spreading.{starts, ends, told_of, touched_by}
 use Rattle.anb_close.proofs.index.Index.push.Goals as goal
 
@@ -20,7 +21,7 @@ pub index-requires : goal.index-requires
 index-requires c =
     let t = tree_of c.args.t.now in
     let at = ap (λ v. slice_get v.1 c.in_ok-id.id.0) c.self.view_is ∙ c.in_ok-id.ensures.ok in
-    omega (arith, slice_get-within c.self.inside.pool c.in_ok-id.id.0 t at, standings_long (rows_of (operands_at c.self.inside.pool c.self.inside.numbers.items)) c.self.inside.pool c.self.inside.standings.items c.self.invariant.0.right, c.self.inside.standings.ok.0)
+    omega (arith, got_within c.self.inside.pool c.in_ok-id.id.0 t at, standings_long (rows_of (operands_at c.self.inside.pool c.self.inside.numbers.items)) c.self.inside.pool c.self.inside.standings.items c.self.invariant.0.right, c.self.inside.standings.ok.0)
 
 pub invariant_of-self-then-is_found : goal.invariant_of-self-then-is_found
 invariant_of-self-then-is_found c =
@@ -66,7 +67,7 @@ pub index_mut-requires : goal.index_mut-requires
 index_mut-requires c =
     let t = tree_of c.args.t.now in
     let at = ap (λ v. slice_get v.1 c.in_ok-id.id.0) c.self.view_is ∙ c.in_ok-id.ensures.ok in
-    omega (arith, slice_get-within c.self.inside.pool c.in_ok-id.id.0 t at, standings_long (rows_of (operands_at c.self.inside.pool c.self.inside.numbers.items)) c.self.inside.pool c.self.inside.standings.items c.self.invariant.0.right, c.self.inside.standings.ok.0)
+    omega (arith, got_within c.self.inside.pool c.in_ok-id.id.0 t at, standings_long (rows_of (operands_at c.self.inside.pool c.self.inside.numbers.items)) c.self.inside.pool c.self.inside.standings.items c.self.invariant.0.right, c.self.inside.standings.ok.0)
 
 pub spread-requires-clause-linked : goal.spread-requires-clause-linked
 spread-requires-clause-linked c = subst (λ l. AreLinked c.self.inside.pool l (length c.self.inside.pool)) (sym c.deref.ensures.value) c.self.invariant.1

@@ -1,10 +1,11 @@
 use Rattle.std.proofs.Common.{◌≡◌, ◌+◌, List, [], map, take, drop, take_all, refl, sym, ap, ◌∙◌, subst, arith}
 use Rattle.std.proofs.lemmas.List.{drop_all}
+use Rattle.anb_lemmas.proofs.Lists.{map_drop_next}
 use Rattle.anb_resolve.specs.Plans.{PlanEvent}
 use Rattle.anb_resolve.specs.Views.{plan_event}
 use Rattle.anb_compile.specs.Emitting.{IsPlan, HasDone}
 use Rattle.anb_compile.proofs.Lists.{map_taken}
-use Rattle.anb_compile.proofs.Whole.{begun_done, event_here, events_parted, refused_by}
+use Rattle.anb_compile.proofs.Whole.{begun_done, events_parted, refused_by}
 use Rattle.anb_compile.proofs.emission.Emission.events.Goals as goal
 
 pub loop-event-init : goal.loop-event-init
@@ -20,7 +21,7 @@ event-requires c =
     let items = c.args.events.now in
     let p = c.requires.plan in
     let parted = events_parted plan_event items i x (omega arith) c.event-item.is in
-    let here = event_here plan_event items i x (omega arith) c.event-item.is in
+    let here = map_drop_next plan_event items i x (omega arith) c.event-item.is in
     let before = map plan_event (take i items) in
     let P : List PlanEvent → Type 0 = λ l. IsPlan p.0 l in
     let Q : List PlanEvent → Type 0 = λ l. HasDone p.0 before l c.loop-event.self in
@@ -34,7 +35,7 @@ loop-event-preserved c =
     let v = c.loop-event.invariant in
     let e = c.in-Ok.ensures in
     let parted = events_parted plan_event items i x (omega arith) c.event-item.is in
-    let here = event_here plan_event items i x (omega arith) c.event-item.is in
+    let here = map_drop_next plan_event items i x (omega arith) c.event-item.is in
     let on = map_taken plan_event items i x (omega arith) c.event-item.is in
     let before = map plan_event (take i items) in
     let after = map plan_event (drop (i + 1) items) in
@@ -63,7 +64,7 @@ returns-in-Err-clause-refused c =
     let i = c.loop-event.event-index in
     let items = c.args.events.now in
     let parted = events_parted plan_event items i x (omega arith) c.event-item.is in
-    let here = event_here plan_event items i x (omega arith) c.event-item.is in
+    let here = map_drop_next plan_event items i x (omega arith) c.event-item.is in
     let before = map plan_event (take i items) in
     refused_by (map plan_event items) before (map plan_event (drop (i + 1) items)) (plan_event x) c.loop-event.self c.args.role c.in-Err.no parted
     (λ k plan. let Q : List PlanEvent → Type 0 = λ l. HasDone k before l c.loop-event.self in subst Q here (c.loop-event.invariant.done k plan)) c.in-Err.ensures.blocks

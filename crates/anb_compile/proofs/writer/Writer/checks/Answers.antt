@@ -1,11 +1,11 @@
 use Rattle.std.proofs.Common.{◌≡◌, ℕ, ◌+◌, ◌*◌, ◌≤◌, List, length, take, take_all, refl, sym, ap, ◌∙◌, subst, arith}
-use Rattle.anb_term.proofs.Lists.{slice_get-at, all_at}
+use Rattle.anb_lemmas.proofs.Each.{take_next, each_got}
+use Rattle.anb_term.proofs.Lists.{slice_get-at}
 use Rattle.anb_basis.specs.declared.check.Check.{Check}
 use Rattle.anb_compile.specs.Writing.{IsCheckOf, Asks, count_all_opened}
 use Rattle.anb_compile.specs.Verifying.{GrowsBy, LaysChecks, room_for}
 use Rattle.anb_compile.specs.Once.{SharesChecks}
 use Rattle.anb_compile.proofs.Sharing.{none_shares_checks, more_share_checks}
-use Rattle.anb_compile.proofs.Lists.{taken}
 use Rattle.anb_compile.proofs.Laying.{none_lay_checks, more_lay_checks, grows_none, grows_on}
 use Rattle.anb_compile.proofs.Asking.{checks_at, count_more, none_asks, more_asks}
 use Rattle.anb_compile.proofs.writer.Writer.checks.Goals as goal
@@ -28,7 +28,7 @@ check-requires-clause-room c =
     let x = c.check-item.result in
     let i = c.loop-check.check-index in
     let items = c.args.checks.now in
-    let small = all_at (λ q. room_for q ≤ 1025) items i x c.requires.small (slice_get-at items i x (omega arith) c.check-item.is) in
+    let small = each_got (λ q. room_for q ≤ 1025) items i x c.requires.small (slice_get-at items i x (omega arith) c.check-item.is) in
     let grown = c.loop-check.invariant.grows.registers in
     let room = c.requires.room in
     omega (arith, small, grown, room)
@@ -42,10 +42,10 @@ loop-check-preserved c =
     let e = c.in_ok-check.ensures in
     let new = c.check.new.self in
     let first = c.args.self.now in
-    let on = taken items i x (omega arith) c.check-item.is in
+    let on = take_next items i x (omega arith) c.check-item.is in
     let P : List Check → Type 0 = λ l. Asks first new l in
     let Q : List Check → Type 0 = λ l. LaysChecks first new l in
-    let small = all_at (λ q. room_for q ≤ 1025) items i x c.requires.small (slice_get-at items i x (omega arith) c.check-item.is) in
+    let small = each_got (λ q. room_for q ≤ 1025) items i x c.requires.small (slice_get-at items i x (omega arith) c.check-item.is) in
     record {
       places = omega (arith, e.places, v.places, ap count_all_opened on, count_more (take i items) x);
       texts = e.texts ∙ v.texts;

@@ -2,17 +2,19 @@ use Rattle.std.proofs.Common.{arith, ◌≡◌, ◌≤◌, ◌<◌, ◌++◌, �
 use Rattle.std.specs.Prelude.{slice_get, slice_set}
 use Rattle.std.proofs.lemmas.Option.{slice_get-get_or}
 use Rattle.std.proofs.lemmas.List.Elements.{All-set}
+use Rattle.anb_lemmas.proofs.Results.{on_ok_any}
+use Rattle.anb_lemmas.proofs.Lists.{set_long}
 use Rattle.anb_machine.specs.ByteRuns.{run_bytes}
 use Rattle.anb_host.specs.declared.event.HostEvent.{HostEvent}
 use Rattle.anb_host.specs.Own.{session_of, own, answer}
 use Rattle.anb_host.specs.Hosts.{HostValue, plays_of, Stands, StandsFor}
 use Rattle.anb_host.specs.Inside.{host_of, IsWaiting}
-use Rattle.anb_host.proofs.Standing.{each_same, answered, on_ok, set_long, set_back, Each}
+use Rattle.anb_host.proofs.Standing.{each_same, answered, set_back, Each}
 use Rattle.anb_host.proofs.host.Host.answer.Goals as goal
 
 pub returns-then-s-len-clause-stands : goal.returns-then-s-len-clause-stands
 returns-then-s-len-clause-stands c =
-    on_ok c.refusal.result (λ past st.
+    on_ok_any c.refusal.result (λ past st.
     let P : HostValue → Type 0 = λ v. StandsFor v past → StandsFor v (past ++ c.args.event ∷ []) in
     let beyond : length c.self.inside.sessions.items ≤ session_of c.args.event = omega (arith, c.if-s-len.true, c.session-s.ensures, c.len.ensures, c.self.inside.sessions.ok.0) in
     subst P c.self.view_is (each_same (plays_of (host_of c.self.inside)) c.self.inside.sessions.items past c.args.event beyond) st)

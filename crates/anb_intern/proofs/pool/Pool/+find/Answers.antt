@@ -1,7 +1,7 @@
-use Rattle.std.proofs.Common.{◌≡◌, ℕ, length, arith, ap, sym, ◌∙◌, Some, subst}
-use Rattle.std.specs.Prelude.{slice_get}
+use Rattle.std.proofs.Common.{arith, ap, sym, ◌∙◌, Some}
 use Rattle.anb_term.specs.View.{tree_of}
-use Rattle.anb_intern.proofs.Putting.{IsFinding, one_size, find_next, find_none, node_not}
+use Rattle.anb_term.proofs.Lists.{one_size}
+use Rattle.anb_intern.proofs.Putting.{find_next, find_none, node_not}
 use Rattle.anb_intern.proofs.pool.Pool.+find.Goals as goal
 
 pub find_all-find_term-requires : goal.find_all-find_term-requires

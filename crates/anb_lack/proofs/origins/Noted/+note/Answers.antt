@@ -4,7 +4,7 @@ use Rattle.anb_term.specs.declared.term.Term.{Term}
 use Rattle.anb_term.specs.Composes.{Among}
 use Rattle.anb_term.specs.Tree.{Tree, node, trees_of}
 use Rattle.anb_term.specs.View.{tree_of}
-use Rattle.anb_intern.proofs.Putting.{one_size}
+use Rattle.anb_term.proofs.Lists.{one_size}
 use Rattle.anb_lack.specs.Parts.{parts, parts_of_all}
 use Rattle.anb_lack.proofs.Noting.{all_among, grows_on, noting_next, parts_at}
 use Rattle.anb_lack.proofs.origins.Noted.+note.Goals as goal

@@ -1,6 +1,6 @@
 use Rattle.std.proofs.Common.{◌≡◌, ◌<◌, ◌++◌, ◌∷◌, [], length, map, get_or, ap, ◌∙◌, arith}
 use Rattle.std.proofs.lemmas.List.{length-map}
-use Rattle.anb_index.specs.Places.{is_among}
+use Rattle.anb_index.specs.Places.{among}
 use Rattle.anb_term.specs.View.{tree_of}
 use Rattle.anb_resolve.specs.Texts.{term_text}
 use Rattle.anb_resolve.specs.Views.{value_of}
@@ -23,7 +23,7 @@ stands c = c.text-item.is ∙ ap (λ l. get_or l c.loop-i.i c.text-item.result) 
 told : (c : In_ok-push) → IsTold (value_of c.args.self.now) c.requires.apart (map tree_of c.args.terms.now) c.loop-i.i c.text-item.result c.in_ok-push.field-0
 told c =
     told_at (value_of c.args.self.now) c.requires.apart (map tree_of c.args.terms.now) c.loop-i.i c.text-item.result c.in_ok-push.field-0 c.requires.terms (within c) (stands c)
-    (c.in_ok-push.ensures.found ∙ ap (is_among c.loop-i.seen) c.as_str.ensures ∙ ap (λ l. is_among l c.text-item.result) c.loop-i.invariant.seen)
+    (c.in_ok-push.ensures.found ∙ ap (among c.loop-i.seen) c.as_str.ensures ∙ ap (λ l. among l c.text-item.result) c.loop-i.invariant.seen)
 
 pub returns-then-branch-clause-place : goal.returns-then-branch-clause-place
 returns-then-branch-clause-place c =

@@ -1,13 +1,13 @@
 use Rattle.std.proofs.Common.{◌≡◌, ◌<◌, ℕ, Option, subst, length, map, ap, sym, ◌∙◌, refl, Some}
 use Rattle.std.specs.Prelude.{IfSome}
 use Rattle.std.proofs.lemmas.Option.{slice_get_read}
+use Rattle.anb_lemmas.proofs.Each.{each_holds}
 use Rattle.anb_term.specs.View.{tree_of}
 use Rattle.anb_resolve.specs.declared.refusals.ResolveNo.TheVariants.{KnowledgeTwice}
 use Rattle.anb_resolve.specs.Texts.{IsTermOf}
 use Rattle.anb_resolve.specs.Views.{value_of}
 use Rattle.anb_resolve.proofs.Elements.{seen_as, within_map}
 use Rattle.anb_resolve.proofs.KnowLemmas.{known_once, known_more}
-use Rattle.anb_resolve.proofs.PlaceLemmas.{each_holds}
 use Rattle.anb_resolve.proofs.parts.Parts.knows_again.Goals as goal
 
 within_some : (n : ℕ) (place : Option ℕ) (k : ℕ) → place ≡ Some k → IfSome place (λ k. k < n) → k < n
