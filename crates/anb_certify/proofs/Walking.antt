@@ -103,7 +103,7 @@ module _ (p : ProtocolValue) (role : ℕ) (code : CodeValue) where
   take_on : (acts : List Act) (t : Tree) (es : List Event) (n : ℕ) (v : TableValue) → At (takes ∷ acts) (know t ∷ es) n v → At acts es (n + 1) (heard v t)
   take_on acts t es n v s =
       let regs : length v.terms ≡ length s.place.regs = values_length (terms_over has) s.place.frame s.place.regs v.terms s.have in
-      let next = drop_got s.place.frame (length v.terms) t (known es) (s.takes_next acts refl) in
+      let next = drop_got s.place.frame (known es) (length v.terms) t (s.takes_next acts refl) in
       let at : slice_get s.place.frame (length s.place.regs) ≡ Some t = ap (slice_get s.place.frame) (sym regs) ∙ next.0 in
       let one : values (terms_over has) s.place.frame (recipe_trees (label (length s.place.regs) ∷ [])) ≡ Some (t ∷ []) = rw at refl in
       let long : length (v.terms ++ t ∷ []) ≡ length v.terms + 1 = length-append v.terms (t ∷ []) in

@@ -97,7 +97,7 @@ module _ (formats : List FormatValue) (suite : Suite) (plan : List Event) (all :
   walked_take acts (to_know t) es ts w =
       let s = w.place in
       let long = values_long has s.frame s.regs ts w.have in
-      let next = drop_got s.frame (length ts) t (known es) (w.takes_next acts refl) in
+      let next = drop_got s.frame (known es) (length ts) t (w.takes_next acts refl) in
       let at : slice_get s.frame (length s.regs) ≡ Some t = ap (slice_get s.frame) (sym long) ∙ next.0 in
       let one : values (terms_over has) s.frame (recipe_trees (label (length s.regs) ∷ [])) ≡ Some (t ∷ []) = rw at refl in
       let n : length (ts ++ t ∷ []) ≡ length ts + 1 = length-append ts (t ∷ []) in

@@ -302,9 +302,6 @@ events_known : (ts : List Tree) (es : List PlanEvent) → map event_of (map to_k
 events_known [] es = refl
 events_known (t ∷ ts) es = ap (λ l. know t ∷ l) (events_known ts es)
 
-unfolding plan_of
-events_are p r = events_known (known_by p r) (each_after (events_at p r) [] p.actions)
-
 known_is : (n r : ℕ) → (r ≡ 0) ⊎ (r ≡ 1) → known_by (drilled n) r ≡ known_to_both n
 known_is n r (inl e) = ap (known_by (drilled n)) e ∙ ap (λ (k : List (List Tree)). option_map_or (λ (ts : List Tree). ts) (slice_get k 0) []) (knows_are n)
 known_is n r (inr e) = ap (known_by (drilled n)) e ∙ ap (λ (k : List (List Tree)). option_map_or (λ (ts : List Tree). ts) (slice_get k 1) []) (knows_are n)

@@ -54,9 +54,6 @@ head_bytes (b ∷ x) e =
     let P : Bool → Type 0 = λ v. (v && list_all is_name_byte x) ≡ true in
     subst P (sym (letter (is_letter b) (nat_le 48 b && nat_le b 57) (b == 95) h.0)) h.1
 
-unfolding is_name
-name_spelled x e = (and_parts (is_spelled x) _ e).0
-
 no_hash : IsName hash_word → ⊥
 unfolding is_name
 no_hash e = cc

@@ -189,10 +189,6 @@ hex_passes (x ∷ b) small =
     let first : x < 256 = small 0 in
     (lower_passes (x / 16) (omega arith), (lower_passes (x % 16) (omega arith), hex_passes b (λ i. small (suc i))))
 
-unfolding encode_with
-hex_long [] = refl
-hex_long (x ∷ b) = omega (arith, hex_long b)
-
 -- the value of a digit
 value_of : (d : ℕ) → is_lower_digit d ≡ true → (v : ℕ) × (v < 16) × (slice_index lower_digits v ≡ d)
 value_of d h = elim (cases_lt d 58) [
