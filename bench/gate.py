@@ -2,11 +2,12 @@
 
     python3 bench/gate.py [--log FILE] [NAME ..]
 
-Runs `rt ci` with a prover that notes the processor time of each of its calls, and then writes a row a
-crate: proof, tests, and edits. With names it does the same for these crates alone, one after another, over
-libraries that are built first. The tries of a crate's edits begin with one more proof of the crate and end
-with a check that it stands, which count among them. With --log the notes go to this file, behind those of
-earlier runs, and the table is that of all notes; of a part that was done again its last run counts.
+Runs `rt ci --anew` with a prover that notes the processor time of each of its calls, and then writes a row
+a crate: proof, tests, and edits, and the slowest edits. With names it does the same for these crates alone,
+one after another, over libraries that are built first. The tries of a crate's edits begin with one more
+proof of the crate and end with a check that it stands, which count among them. With --log the notes go to
+this file, behind those of earlier runs, and the table is that of all notes; of a part that was done again
+its last run counts, and an edit that is gone counts no more.
 """
 import collections
 import glob
@@ -25,6 +26,9 @@ SHIM = "import sys; sys.path.insert(0, {folder!r}); import gate; gate.noted({pro
 
 
 PARTS = ("proof", "tests", "edits")
+
+# How many of the slowest edits are listed.
+SLOWEST = 12
 
 
 def part_of(words, folder):
@@ -122,18 +126,35 @@ def minutes(seconds):
     return f"{seconds / 60:.1f}" if seconds else ""
 
 
-def table(log, names):
-    """The rows of a table, the longest first, of these crates or of all."""
-    sums, runs = collections.defaultdict(collections.Counter), {}
+def last_notes(log, names):
+    """The notes of each part's last run, of these crates or of all, without those of edits that are gone."""
+    last = {}
     with open(log) as file:
         for note in map(json.loads, file):
-            crate, part, run = note["crate"], note["part"], note.get("run")
-            if names and crate not in names:
+            key, run = (note["crate"], note["part"]), note.get("run")
+            if names and note["crate"] not in names:
                 continue
-            if runs.get((crate, part)) != run:
-                sums[crate][part] = 0
-            runs[crate, part] = run
-            sums[crate][part] += note["processor"]
+            if key not in last or last[key][0] != run:
+                last[key] = run, []
+            last[key][1].append(note)
+    is_gone = lambda it: it["edit"] and not os.path.exists(f"crates/{it['crate']}/must-fail/{it['edit']}.edit")
+    return [note for _, notes in last.values() for note in notes if not is_gone(note)]
+
+
+def slowest(notes):
+    """The edits that took longest, each with its seconds."""
+    sums = collections.Counter()
+    for note in notes:
+        if note["edit"]:
+            sums[f"{note['crate']}/{note['edit']}"] += note["processor"]
+    yield f"The slowest edits: {', '.join(f'{name} {seconds:.0f} s' for name, seconds in sums.most_common(SLOWEST))}"
+
+
+def table(notes):
+    """The rows of a table, the longest first."""
+    sums = collections.defaultdict(collections.Counter)
+    for note in notes:
+        sums[note["crate"]][note["part"]] += note["processor"]
     yield "| crate | proof | tests | edits |"
     yield "|---|---|---|---|"
     for crate, parts in sorted(sums.items(), key=lambda it: -it[1].total()):
@@ -143,6 +164,13 @@ def table(log, names):
     yield f"| all | {' | '.join(minutes(total[it]) for it in PARTS)} |"
 
 
+def processor_ticks():
+    """How long the processors were there, and how much of that others took, in ticks."""
+    with open("/proc/stat") as file:
+        ticks = [int(it) for it in file.readline().split()[1:9]]
+    return sum(ticks), ticks[7]
+
+
 def main(words):
     with tempfile.TemporaryDirectory() as room:
         log = f"{room}/log"
@@ -150,15 +178,18 @@ def main(words):
             log, words = os.path.abspath(words[1]), words[2:]
         shim = f"{room}/prover"
         module, prover = gate(shim)
-        folder, begun = os.path.dirname(os.path.abspath(__file__)), time.time()
+        folder, begun, before = os.path.dirname(os.path.abspath(__file__)), time.time(), processor_ticks()
         with open(shim, "w") as file:
             file.write(f"#!{sys.executable}\n{SHIM.format(folder=folder, prover=prover, log=log, root=os.getcwd(), run=begun)}\n")
         os.chmod(shim, 0o755)
         try:
-            status = (0 if some(module, words) else 1) if words else module.main(["ci"])
+            status = (0 if some(module, words) else 1) if words else module.main(["ci", "--anew"])
         except SystemExit as end:
             status = end.code
-        print(f"\n{(time.time() - begun) / 60:.0f} minutes\n", *table(log, words), sep="\n")
+        all_ticks, taken = (now - then for now, then in zip(processor_ticks(), before))
+        print(f"\n{(time.time() - begun) / 60:.0f} minutes; others took {100 * taken / all_ticks:.1f} % of the processors\n")
+        notes = last_notes(log, words)
+        print(*table(notes), "", *slowest(notes), sep="\n")
     return status
 
 

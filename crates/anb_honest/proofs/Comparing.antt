@@ -128,7 +128,7 @@ module _ (formats : List FormatValue) (instrs : List Instr) (events : List code.
     kinds_broken kind few before is other =
         let rest = map (act_of formats) (drop (i + 1) instrs) in
         let parts : filter_map kind_of (map (act_of formats) instrs) ≡ take next (kinds_of events) ++ (kind ∷ filter_map kind_of rest) =
-        ap (λ l. filter_map kind_of (map (act_of formats) l)) (sym (take-append-drop instrs i) ∙ ap (λ l. take i instrs ++ l) (drop_next instrs i x within at))
+        ap (λ l. filter_map kind_of (map (act_of formats) l)) (sym (take-append-drop i instrs) ∙ ap (λ l. take i instrs ++ l) (drop_next instrs i x within at))
         ∙ ap (filter_map kind_of) (map-append (act_of formats) (take i instrs) (x ∷ drop (i + 1) instrs)) ∙ filter_map-append kind_of (map (act_of formats) (take i instrs)) (act_of formats x ∷ rest)
         ∙ ap (λ l. l ++ filter_map kind_of (act_of formats x ∷ rest)) before ∙ ap (λ o. take next (kinds_of events) ++ cons_option o (filter_map kind_of rest)) is in
         (λ e. cc, λ e. absurd (other (cut_front (kinds_of events) next kind (filter_map kind_of rest) (let n = length_kinds events in omega arith) (sym parts ∙ e))))

@@ -31,7 +31,7 @@ told_sent [] action = refl
 told_sent (m ∷ moves) action = told_or_sent (m.turn.sends && (m.turn.action == action)) (told moves action) m.bytes (was_sent (turns_of moves) action) (told_sent moves action)
 
 pub turns_more : (moves : List Move) (m : Move) → turns_of (moves ++ m ∷ []) ≡ turns_of moves ++ m.turn ∷ []
-turns_more moves m = turns_more moves m
+turns_more moves m = map-append (λ (x : Move). x.turn) moves (m ∷ [])
 
 pub count_last : (p : Turn → Bool) (ts : List Turn) (t : Turn) → count_by p (ts ++ t ∷ []) ≡ count_by p ts + cond (p t) 1 0
 count_last p ts t = sum_by_push (λ x. cond (p x) 1 0) ts t

@@ -30,7 +30,7 @@ long_named p turns words e = sym (length-map turns Some) ∙ ap length e ∙ len
 pub few_named : (p : ProtocolValue) (text turns : List ℕ) (k : ℕ) → length text ≤ SMALL_FILE → AreNamed p turns (filter is_word (take k (slice_split is_blank text))) → length turns ≤ TURNS
 few_named p text turns k small named =
     let parts = slice_split is_blank text in
-    let whole : words_of text ≡ filter is_word (take k parts) ++ filter is_word (drop k parts) = ap (filter is_word) (sym (take-append-drop parts k)) ∙ filter-append is_word (take k parts) (drop k parts) in
+    let whole : words_of text ≡ filter is_word (take k parts) ++ filter is_word (drop k parts) = ap (filter is_word) (sym (take-append-drop k parts)) ∙ filter-append is_word (take k parts) (drop k parts) in
     let n = long_named p turns (filter is_word (take k parts)) named in
     let all = ap length whole ∙ length-append (filter is_word (take k parts)) (filter is_word (drop k parts)) in
     let few = few_words text in
@@ -77,7 +77,7 @@ refused_at p text turns k w n within at named why =
     let parts = slice_split is_blank text in
     let front = filter is_word (take k parts) in
     let whole : words_of text ≡ front ++ (w ∷ filter is_word (drop (k + 1) parts)) =
-    ap (filter is_word) (sym (take-append-drop parts k)) ∙ filter-append is_word (take k parts) (drop k parts) ∙ ap (λ l. front ++ filter is_word l) (drop_next parts k w within at)
+    ap (filter is_word) (sym (take-append-drop k parts)) ∙ filter-append is_word (take k parts) (drop k parts) ∙ ap (λ l. front ++ filter is_word l) (drop_next parts k w within at)
     ∙ ap (λ b. front ++ cond b (w ∷ filter is_word (drop (k + 1) parts)) (filter is_word (drop (k + 1) parts))) why.1 in
     let m : 1 + length turns ≡ n = omega (arith, why.0) in
     ap (position_from (names_none p) 1) whole ∙ first_none p turns front 1 w (filter is_word (drop (k + 1) parts)) named why.2 ∙ ap Some m
