@@ -13,11 +13,7 @@ use std::alloc::Global;
 
 /// The numbers of these terms, which are put in as far as they aren't there yet. Each node of the terms
 /// is looked up once.
-pub fn put_all(
-    alloc: Global,
-    pool: &mut Pool,
-    terms: &[Term],
-) -> Result<Vec<NodeId>, NoMemory>
+pub fn put_all(alloc: Global, pool: &mut Pool, terms: &[Term]) -> Result<Vec<NodeId>, NoMemory>
     ensures under { IfOk result (λ ids. AreUnder (length pool.new) ids.items) }
     ensures stored { IfOk result (λ ids. operands_at pool.new ids.items ≡ map tree_of terms.now) }
     ensures more { IfOk result (λ ids. (more : List Tree) × (pool.new ≡ pool.old ++ more)) }

@@ -5,6 +5,8 @@ use Rattle.anb_base.specs.Places.{line_of}
 use Rattle.anb_base.specs.Wires.{WireState}
 use Rattle.anb_base.specs.declared.content.Failed.{Failed}
 use Rattle.anb_base.specs.declared.place.Place.{Place}
+use Rattle.anb_text.specs.declared.writing.WriteNo.{WriteNo}
+use Rattle.anb_text.specs.Writing.{IsWritten}
 use Rattle.anb_command.specs.OverWire.{DidNotReach, HasReached, OnlyWrites}
 
 -- what stands beside a side of a wire
@@ -96,3 +98,12 @@ module _ (l m t u w x p q : Option (List ℕ)) (a b c d e f : ℕ) (S T : WireSt
   pub write_rose : (r : Result (Unit {0}) Failed) → OnErr r (Rose c d) → OnErr r (Rose S.write_faults T.write_faults)
   write_rose (Ok y) rose = tt
   write_rose (Err y) rose = subst (λ (n : ℕ). Rose n T.write_faults) (sym write_faults_is) (subst (λ (n : ℕ). Rose c n) (sym write_faults_now_is) rose)
+
+-- a text that is written, seen in all that the wire tells
+text_moved : (text : List ℕ) (r : Result (Unit {0}) WriteNo) (w x w' x' : Option (List ℕ)) (c d c' d' : ℕ) → w' ≡ w → x' ≡ x → c' ≡ c → d' ≡ d → IsWritten text r w x c d → IsWritten text r w' x' c' d'
+text_moved text r w x w' x' c d c' d' e1 e2 e3 e4 is = rw (e1, e2, e3, e4) is
+
+pub told_written_by : (l m t u w x p q : Option (List ℕ)) (a b c d e f : ℕ) (S T : WireState) → S ≡ telling l t a w c p e → T ≡ telling m u b x d q f
+    → (text : List ℕ) (r : Result (Unit {0}) WriteNo) → IsWritten text r w x c d → IsWritten text r S.written T.written S.write_faults T.write_faults
+told_written_by l m t u w x p q a b c d e f S T is js text r written =
+    text_moved text r w x S.written T.written c d S.write_faults T.write_faults (ap (λ (V : WireState). V.written) is) (ap (λ (V : WireState). V.written) js) (ap (λ (V : WireState). V.write_faults) is) (ap (λ (V : WireState). V.write_faults) js) written

@@ -1,10 +1,7 @@
 -- What is written of a text that is due.
-use Rattle.std.proofs.Common.{◌≡◌, ◌⊎◌, ℕ, Bool, true, false, List, [], take, Option, Some, None, refl, ap, sym, ◌∙◌, subst, inl, inr, Result}
-use Rattle.anb_text.specs.declared.writing.WriteNo.{WriteNo}
-use Rattle.anb_text.specs.Writing.{IsWritten}
+use Rattle.std.proofs.Common.{◌≡◌, ◌⊎◌, ℕ, Bool, true, false, List, [], take, Option, Some, None, refl, ap, sym, ◌∙◌, subst, inl, inr}
 use Rattle.anb_base.specs.Moves.{Put}
 use Rattle.anb_base.proofs.Moving.{put_nothing}
-use Rattle.anb_base.specs.Wires.{WireState}
 use Rattle.anb_command.specs.declared.status.Status.{Status}
 use Rattle.anb_command.specs.declared.status.Status.TheVariants.{Done, FileFault, Unreached, WriteFault, NoMemory}
 use Rattle.anb_command.specs.Fetches.{Files, IfTold}
@@ -13,7 +10,6 @@ use Rattle.anb_command.specs.Steps.{Answer, refused, given, HasOneAnswer, IsFail
 use Rattle.anb_command.specs.Writing.{CompletesText, Writes, IsWriting, IsWritingOne, IsWritten}
 use Rattle.anb_command.proofs.Chains.{told_map}
 use Rattle.anb_command.proofs.Ones.{IsSettled, RefusesQuietly, same_given, not_both}
-use Rattle.anb_command.proofs.States.{telling}
 
 -- no status is a fault and none
 pub faulty : {P : Type 0} → true ≡ false → P
@@ -79,11 +75,3 @@ module _ (Due : Files → Answer (List ℕ) → Type 0) (settled : (files : File
     by : (t : Option Files) → IsFailure s P (IfTold t (λ files. Due files (refused s))) → IfTold t (λ files. IsWriting (Due files) s w w)
     by None f = tt
     by (Some files) f = refusal (Due files) (settled files) w w s P (quiet files) f (put_nothing w)
-
-pub moved : (text : List ℕ) (r : Result (Unit {0}) WriteNo) (w x w' x' : Option (List ℕ)) (c d c' d' : ℕ) → w' ≡ w → x' ≡ x → c' ≡ c → d' ≡ d → IsWritten text r w x c d → IsWritten text r w' x' c' d'
-moved text r w x w' x' c d c' d' e1 e2 e3 e4 is = rw (e1, e2, e3, e4) is
-
-pub told_written_by : (l m t u w x p q : Option (List ℕ)) (a b c d e f : ℕ) (S T : WireState) → S ≡ telling l t a w c p e → T ≡ telling m u b x d q f
-    → (text : List ℕ) (r : Result (Unit {0}) WriteNo) → IsWritten text r w x c d → IsWritten text r S.written T.written S.write_faults T.write_faults
-told_written_by l m t u w x p q a b c d e f S T is js text r written =
-    moved text r w x S.written T.written c d S.write_faults T.write_faults (ap (λ (V : WireState). V.written) is) (ap (λ (V : WireState). V.written) js) (ap (λ (V : WireState). V.write_faults) is) (ap (λ (V : WireState). V.write_faults) js) written

@@ -1,6 +1,5 @@
 use Rattle.std.proofs.Common.{sym, ◌∙◌}
-use Rattle.anb_command.proofs.States.{only_writes}
-use Rattle.anb_command.proofs.Written.{told_written_by}
+use Rattle.anb_command.proofs.States.{only_writes, told_written_by}
 use Rattle.anb_text_commands.proofs.write_lines.Goals as goal
 
 pub returns-in-None-clause-writes : goal.returns-in-None-clause-writes

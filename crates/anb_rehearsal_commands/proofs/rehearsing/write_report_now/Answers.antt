@@ -1,6 +1,5 @@
 use Rattle.std.proofs.Common.{sym, ◌∙◌}
-use Rattle.anb_command.proofs.States.{only_writes}
-use Rattle.anb_command.proofs.Written.{told_written_by}
+use Rattle.anb_command.proofs.States.{only_writes, told_written_by}
 use Rattle.anb_rehearsal_commands.proofs.rehearsing.write_report_now.Goals as goal
 
 pub returns-clause-writes : goal.returns-clause-writes
