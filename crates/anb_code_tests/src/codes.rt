@@ -1,6 +1,6 @@
 //! What a code tells of itself, and why a raw code is refused where a role file doesn't say it.
 use crate::starting::code;
-use anb_base::{Bytes, Suite, Text};
+use anb_base::{Bytes, NoMemory, Suite, Text};
 use anb_code::*;
 use anb_format::{FieldKind, Piece};
 use std::alloc::Global;
@@ -14,7 +14,7 @@ const WHOLE: &str = "format g \"G\" len\nformat f \"F\" len len\ncode\nr0 = take
 
 /// The protocol, the role, the suite, how many formats, takes and fresh names there are, and the
 /// first take.
-fn heading(alloc: Global, code: &RoleCode) -> Result<String, Fail> {
+fn heading(alloc: Global, code: &RoleCode) -> Result<String, NoMemory> {
     let protocol = code.protocol().as_str();
     let role = code.role().as_str();
     let formats = code.formats().len();
@@ -45,16 +45,17 @@ fn a_code_tells_what_it_is(rt: HostRuntime) -> Result<(), Fail> {
 
 /// Why a code without instructions is refused, whose only format has this head and two fields of
 /// kind `rest`; `accepted` where it isn't.
-fn verdict(alloc: Global, head: &[u8]) -> Result<String, Fail> {
-    let mut pieces = Vec::new(alloc);
-    pieces.push(Piece::Lit(Bytes::new(Vec::from_slice(alloc, head)?)))?;
-    pieces.push(Piece::Field(FieldKind::Rest))?;
-    pieces.push(Piece::Field(FieldKind::Rest))?;
-    let mut formats = Vec::new(alloc);
-    formats.push(RawFormat {
+fn verdict(alloc: Global, head: &[u8]) -> Result<String, NoMemory> {
+    let head = Vec::from_slice(alloc, head)?;
+    let mut pieces = Vec::with_capacity(alloc, 3)?;
+    pieces.push_reserved(Piece::Lit(Bytes::new(head)));
+    pieces.push_reserved(Piece::Field(FieldKind::Rest));
+    pieces.push_reserved(Piece::Field(FieldKind::Rest));
+    let mut formats = Vec::with_capacity(alloc, 1)?;
+    formats.push_reserved(RawFormat {
         name: Text::new(String::new(alloc)),
         pieces,
-    })?;
+    });
     let raw = RawCode {
         protocol: Text::new(String::new(alloc)),
         role: Text::new(String::new(alloc)),
