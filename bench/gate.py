@@ -100,6 +100,8 @@ def gate(shim):
 
 def some(module, names):
     """The parts of these crates alone; whether all is well."""
+    # (its first call sets a signal's handler, which only the main thread may)
+    module.rtlib.guarded()
     module.rtlib.Crate = module.Crate
     module.Crate.allowed = module.handles_of(os.getcwd())
     is_well = True
