@@ -113,9 +113,23 @@ def some(module, names):
         os.makedirs(f"{crate.folder}/out", exist_ok=True)
         for tests in [False] + [True] * crate.has_tests():
             is_well &= not crate.ci(["--jobs", "1"], tests)
-        for refused, text in module.must_fail_all(crate, module.edits_of(crate)[0], ["--jobs", "1"]):
-            print(text, flush=True)
-            is_well &= refused
+        is_well &= all_refused(module, crate)
+    return is_well
+
+
+def all_refused(module, crate):
+    """Whether the prover refuses each edit of a crate, over what a check of the crate proved."""
+    edits, flags = module.edits_of(crate)[0], ["--jobs", "1"]
+    room = module.seeded(crate, flags) if edits else None
+    if not room:
+        return not edits
+    is_well = True
+    for number, edit in enumerate(edits):
+        module.linked(f"{room}/seed", f"{room}/{number}")
+        kind, text = module.must_fail(crate, edit, flags, f"{room}/{number}")[:2]
+        print(text, flush=True)
+        is_well &= kind in (module.REFUSED, module.AT_LIMIT)
+    shutil.rmtree(room, ignore_errors=True)
     return is_well
 
 
