@@ -1,8 +1,7 @@
-pub mod Lawful
-pub mod Views
-pub mod Order
-pub mod Branching
+pub mod Arms
+pub mod Taken
 pub mod Laws
 -- for proofs alone
-pub mod Headers
-pub mod Standing
+pub mod Signs
+pub mod Choices
+pub mod Stems

@@ -1,22 +1,13 @@
-//! Branched texts: narrations with a choice at their end.
-//!
-//! The common actions, which are called the stem, come first, then the role that chooses, then two
-//! to eight arms. Each arm behind the stem is a narration of its own.
+//! Texts with a choice at their end: their arms, as anb_choice splits them, compiled and played.
 #![tactic(auto)]
 
-mod alike;
-mod arms;
-mod blindness;
-mod branched;
+mod compiling;
 mod laws;
-mod marks;
-mod order;
-mod parts;
-mod plans;
-mod refusal;
-mod splitting;
+mod playing;
+mod signs;
+mod stem;
 
-pub use branched::Branched;
-pub use laws::{branch_refusals_are_unique, choices_are_unique, no_choice_is_refused};
-pub use refusal::BranchNo;
-pub use splitting::split;
+pub use anb_choice::{BranchNo, Branched, split};
+pub use compiling::{ArmNo, compile_arms};
+pub use laws::{arms_know_alike, arms_play_alike, fitting_arms_play};
+pub use playing::branch_play;

@@ -4,8 +4,8 @@ use Rattle.std.specs.Prelude.{All}
 use Rattle.anb_plays.specs.Plays.{Run}
 use Rattle.anb_index.specs.Places.{among}
 use Rattle.anb_resolve.specs.Plays.{IsSendable}
-use Rattle.anb_branch.specs.Lawful.{BranchedValue, IsLawful, roles_in}
-use Rattle.anb_arms.specs.Taken.{IsTold, PlaysTaken}
+use Rattle.anb_choice.specs.Lawful.{BranchedValue, IsLawful, roles_in}
+use Rattle.anb_branch.specs.Taken.{IsTold, PlaysTaken}
 use Rattle.anb_values.specs.declared.fitted.Fitted.{Fitted}
 use Rattle.anb_command.specs.declared.status.Status.{Status}
 use Rattle.anb_command.specs.Fetches.{Files, IfTold}

@@ -18,12 +18,12 @@ use Rattle.anb_resolve.specs.Texts.{known_texts}
 use Rattle.anb_resolve.proofs.Building.{role_below}
 use Rattle.anb_compile.specs.Fitting.{FitsRole}
 use Rattle.anb_compile.specs.Unsent.{IsFirstUnsentOfAll}
-use Rattle.anb_branch.specs.Lawful.{BranchedValue, IsLawful, roles_in}
-use Rattle.anb_arms.specs.Arms.{FitArms, RefusesArms}
-use Rattle.anb_arms.specs.Laws.{ArmsKnowAlike}
-use Rattle.anb_arms.specs.Taken.{IsTold, TakeAll}
-use Rattle.anb_arms.specs.declared.compiling.ArmNo.TheVariants.{CannotSend}
-use Rattle.anb_arms.proofs.Agreeing.{first_arm}
+use Rattle.anb_choice.specs.Lawful.{BranchedValue, IsLawful, roles_in}
+use Rattle.anb_branch.specs.Arms.{FitArms, RefusesArms}
+use Rattle.anb_branch.specs.Laws.{ArmsKnowAlike}
+use Rattle.anb_branch.specs.Taken.{IsTold, TakeAll}
+use Rattle.anb_branch.specs.declared.compiling.ArmNo.TheVariants.{CannotSend}
+use Rattle.anb_branch.proofs.Agreeing.{first_arm}
 use Rattle.anb_command.specs.declared.status.Status.TheVariants.{ArmCannotSend, BadArm}
 use Rattle.anb_command.specs.Errands.{draws}
 use Rattle.anb_command.specs.Steps.{refused, given, HasOneAnswer}

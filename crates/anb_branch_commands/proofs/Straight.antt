@@ -7,11 +7,11 @@ use Rattle.anb_index.specs.Places.{among}
 use Rattle.anb_lemmas.proofs.Each.{each_got}
 use Rattle.anb_resolve.specs.Plays.{IsSendable}
 use Rattle.anb_resolve.specs.Protocols.{ProtocolValue, role_number, role_named}
-use Rattle.anb_branch.specs.Branching.{BranchedText, Tells, straights}
-use Rattle.anb_branch.specs.Lawful.{BranchedValue}
-use Rattle.anb_arms.specs.Laws.{ArmsKnowAlike}
-use Rattle.anb_arms.proofs.Members.{named_place, zipped_at}
-use Rattle.anb_arms.proofs.Refusals.{roles_there}
+use Rattle.anb_choice.specs.Branching.{BranchedText, Tells, straights}
+use Rattle.anb_choice.specs.Lawful.{BranchedValue}
+use Rattle.anb_branch.specs.Laws.{ArmsKnowAlike}
+use Rattle.anb_branch.proofs.Members.{named_place, zipped_at}
+use Rattle.anb_branch.proofs.Refusals.{roles_there}
 use Rattle.anb_values.specs.declared.fitted.Fitted.{Fitted}
 use Rattle.anb_command.specs.declared.limits.TheConstants.{NARRATION_LIMIT}
 use Rattle.anb_command.specs.Fetches.{Files}

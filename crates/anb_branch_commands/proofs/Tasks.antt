@@ -1,7 +1,7 @@
 -- What is asked of `branch` is one, and its refusals come before the wire is reached.
 use Rattle.std.proofs.Common.{◌≡◌, ℕ, true, false, List, Option, refl, ap, sym, ◌∙◌}
-use Rattle.anb_branch.specs.Laws.{ChoicesAreUnique, NoneIsBoth, RefusalsAreUnique}
-use Rattle.anb_branch.specs.Lawful.{BranchedValue}
+use Rattle.anb_choice.specs.Laws.{ChoicesAreUnique, NoneIsBoth, RefusalsAreUnique}
+use Rattle.anb_choice.specs.Lawful.{BranchedValue}
 use Rattle.anb_values.specs.Fit.{FitIsUnique}
 use Rattle.anb_values.specs.declared.fitted.Fitted.{Fitted}
 use Rattle.anb_command.specs.declared.limits.TheConstants.{NARRATION_LIMIT}

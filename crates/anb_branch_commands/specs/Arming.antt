@@ -3,9 +3,9 @@ use Rattle.std.specs.Prelude.{◌≡◌, ◌≤◌, ℕ, List, length, true, All
 use Rattle.anb_index.specs.Places.{among}
 use Rattle.anb_base.specs.declared.TheConstants.{ARRIVAL}
 use Rattle.anb_code.specs.CodeValue.{CodeValue}
-use Rattle.anb_branch.specs.Lawful.{BranchedValue, IsLawful, roles_in}
-use Rattle.anb_arms.specs.Arms.{FitArms}
-use Rattle.anb_arms.specs.Taken.{IsTold, TakeAll}
+use Rattle.anb_choice.specs.Lawful.{BranchedValue, IsLawful, roles_in}
+use Rattle.anb_branch.specs.Arms.{FitArms}
+use Rattle.anb_branch.specs.Taken.{IsTold, TakeAll}
 
 -- a role of a lawful text has a code in each arm, and is told what it may be
 pub record IsSeated (b : BranchedValue) (role : List ℕ) (told : Option ℕ)

@@ -4,7 +4,7 @@ use Rattle.anb_base.specs.Bytes.{IsBytes}
 use Rattle.anb_base.specs.Wires.{WireState}
 use Rattle.anb_plays.specs.Plays.{Played}
 use Rattle.anb_resolve.specs.Protocols.{ProtocolValue, role_number}
-use Rattle.anb_arms.specs.Taken.{IsPlayTaken, place_taken}
+use Rattle.anb_branch.specs.Taken.{IsPlayTaken, place_taken}
 use Rattle.anb_command.specs.declared.status.Status.{Status}
 use Rattle.anb_command.specs.declared.status.Status.TheVariants.{Done, NoMemory}
 use Rattle.anb_command.specs.Fetches.{Files, IfTold}

@@ -8,12 +8,12 @@ use Rattle.anb_resolve.specs.Choices.{refuse_if}
 use Rattle.anb_resolve.specs.Plays.{IsSendable}
 use Rattle.anb_resolve.specs.Protocols.{ProtocolValue, role_number}
 use Rattle.anb_resolve.specs.Texts.{known_texts}
-use Rattle.anb_branch.specs.Branching.{BranchedText, IsRefusal}
-use Rattle.anb_branch.specs.Lawful.{BranchedValue, IsLawful, roles_in}
-use Rattle.anb_branch.specs.declared.refusal.BranchNo.{BranchNo}
-use Rattle.anb_arms.specs.Arms.{RefusesArms}
-use Rattle.anb_arms.specs.Taken.{IsTold}
-use Rattle.anb_arms.specs.declared.compiling.ArmNo.TheVariants.{CannotSend}
+use Rattle.anb_choice.specs.Branching.{BranchedText, IsRefusal}
+use Rattle.anb_choice.specs.Lawful.{BranchedValue, IsLawful, roles_in}
+use Rattle.anb_choice.specs.declared.refusal.BranchNo.{BranchNo}
+use Rattle.anb_branch.specs.Arms.{RefusesArms}
+use Rattle.anb_branch.specs.Taken.{IsTold}
+use Rattle.anb_branch.specs.declared.compiling.ArmNo.TheVariants.{CannotSend}
 use Rattle.anb_command.specs.declared.limits.TheConstants.{NARRATION_LIMIT}
 use Rattle.anb_command.specs.declared.status.Status.TheVariants.{ArmCannotSend, BadArm, BadBranch, NoRole}
 use Rattle.anb_command.specs.Fetches.{Files}

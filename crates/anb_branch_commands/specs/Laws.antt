@@ -1,7 +1,7 @@
 -- What `branch` plays is what `play` plays of the narration of an arm.
 use Rattle.std.specs.Prelude.{◌≡◌, ℕ, List, Option, Some, slice_get}
 use Rattle.anb_resolve.specs.Protocols.{ProtocolValue}
-use Rattle.anb_branch.specs.Branching.{BranchedText, straights}
+use Rattle.anb_choice.specs.Branching.{BranchedText, straights}
 use Rattle.anb_command.specs.declared.limits.TheConstants.{NARRATION_LIMIT}
 use Rattle.anb_command.specs.Fetches.{Files}
 use Rattle.anb_command.specs.Files.{HasFile}

@@ -3,8 +3,8 @@ ghost use Rattle.std.specs.Prelude.{◌≡◌, ◌⊎◌, [], ◌∷◌, IfOk, I
 ghost use Rattle.anb_base.specs.declared.place.Place.{Place};
 ghost use Rattle.anb_base.specs.Moves.{Rose};
 ghost use Rattle.anb_session.specs.Sessions.{IsPrompt};
-ghost use Rattle.anb_branch.specs.Views.{branched_of};
-ghost use Rattle.anb_arms.specs.Taken.{PlaysTaken, run_taken};
+ghost use Rattle.anb_choice.specs.Views.{branched_of};
+ghost use Rattle.anb_branch.specs.Taken.{PlaysTaken, run_taken};
 ghost use Rattle.anb_command.specs.Causes.{HasCause, HasWireCause, NoneRose};
 ghost use Rattle.anb_command.specs.Commands.{place_by};
 ghost use Rattle.anb_command.specs.Fetches.{Fetches, IfTold, IsOneOf};
@@ -21,9 +21,9 @@ ghost use Rattle.anb_branch_commands.specs.BranchJobs.{BranchJobIs, IsReadToBran
 
 use crate::seating::{branch_in_file, codes_for};
 use crate::valuing::{Means, means_in_file};
-use anb_arms::{branch_play, fitting_arms_play};
 use anb_base::{ARRIVAL, Failed, NoMemory, Shelf, Wire};
-use anb_branch::{Branched, branch_refusals_are_unique, choices_are_unique, no_choice_is_refused};
+use anb_branch::{branch_play, fitting_arms_play};
+use anb_choice::{Branched, branch_refusals_are_unique, choices_are_unique, no_choice_is_refused};
 use anb_code::RoleCode;
 use anb_command::{BranchWords, Status, reach, status_of};
 use anb_frame::one_cut;

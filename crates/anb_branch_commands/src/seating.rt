@@ -2,9 +2,9 @@
 ghost use Rattle.std.specs.Prelude.{◌≡◌, ◌≤◌, [], ◌∷◌, length, true, IfOk, IfErr, OnOk};
 ghost use Rattle.anb_index.specs.Places.{among};
 ghost use Rattle.anb_base.specs.Moves.{Rose};
-ghost use Rattle.anb_branch.specs.Lawful.{IsLawful, roles_in};
-ghost use Rattle.anb_branch.specs.Views.{branched_of};
-ghost use Rattle.anb_arms.specs.Arms.{FitArms};
+ghost use Rattle.anb_choice.specs.Lawful.{IsLawful, roles_in};
+ghost use Rattle.anb_choice.specs.Views.{branched_of};
+ghost use Rattle.anb_branch.specs.Arms.{FitArms};
 ghost use Rattle.anb_command.specs.declared.limits.TheConstants.{NARRATION_LIMIT};
 ghost use Rattle.anb_command.specs.Fetches.{Fetches, IfTold};
 ghost use Rattle.anb_command.specs.Statuses.{IsEarly};
@@ -12,9 +12,9 @@ ghost use Rattle.anb_command.specs.Steps.{IsFailure, refused, given};
 ghost use Rattle.anb_branch_commands.specs.Arming.{IsSeated};
 ghost use Rattle.anb_branch_commands.specs.BranchJobs.{ArmsSend, BranchInFile, BranchIs, SeatOf, misfit};
 
-use anb_arms::{ArmNo, compile_arms};
 use anb_base::{Shelf, Text};
-use anb_branch::{BranchNo, Branched, split};
+use anb_branch::{ArmNo, compile_arms};
+use anb_choice::{BranchNo, Branched, split};
 use anb_code::RoleCode;
 use anb_command::{NARRATION_LIMIT, Status, fetch_file, no_role};
 use std::alloc::Global;

@@ -2,13 +2,13 @@
 ghost use Rattle.std.specs.Prelude.{◌≡◌, ◌≤◌, length, All, true, IfOk};
 ghost use Rattle.anb_index.specs.Places.{among};
 ghost use Rattle.anb_base.specs.declared.TheConstants.{ARRIVAL};
-ghost use Rattle.anb_branch.specs.Lawful.{IsLawful, roles_in};
-ghost use Rattle.anb_branch.specs.Views.{branched_of};
-ghost use Rattle.anb_arms.specs.Taken.{IsTold, TakeAll};
+ghost use Rattle.anb_choice.specs.Lawful.{IsLawful, roles_in};
+ghost use Rattle.anb_choice.specs.Views.{branched_of};
+ghost use Rattle.anb_branch.specs.Taken.{IsTold, TakeAll};
 
-use anb_arms::{ArmNo, branch_play, compile_arms};
 use anb_base::{ARRIVAL, Bytes, MemWire, SMALL_FILE, Text, read_full};
-use anb_branch::{Branched, split};
+use anb_branch::{ArmNo, branch_play, compile_arms};
+use anb_choice::{Branched, split};
 use anb_code::RoleCode;
 use anb_machine::Halt;
 use anb_session::PlayEnd;

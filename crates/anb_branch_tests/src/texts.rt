@@ -1,6 +1,6 @@
 //! Branched texts, and each way in which a text is none.
 use anb_base::SMALL_FILE;
-use anb_branch::split;
+use anb_choice::split;
 use std::alloc::Global;
 use std::test::Fail;
 

@@ -8,8 +8,8 @@ use Rattle.anb_read.specs.declared.refusal.ReadNo.{ReadNo}
 use Rattle.anb_resolve.specs.Checks.{fault}
 use Rattle.anb_resolve.specs.Protocols.{ProtocolValue, protocol_of}
 use Rattle.anb_resolve.specs.declared.refusals.ResolveNo.{ResolveNo}
-use Rattle.anb_point.specs.Unread.{IsUnreadText}
-use Rattle.anb_point.specs.Unresolved.{IsUnresolvedText}
+use Rattle.anb_mistakes.specs.Unread.{IsUnreadText}
+use Rattle.anb_mistakes.specs.Unresolved.{IsUnresolvedText}
 use Rattle.anb_command.specs.declared.status.NarrationNo.TheVariants.{Read, Resolve}
 use Rattle.anb_command.specs.declared.status.Status.{Status}
 use Rattle.anb_command.specs.declared.status.Status.TheVariants.{BadNarration}

@@ -8,8 +8,8 @@ use Rattle.anb_resolve.specs.Protocols.{ProtocolValue, protocol_of}
 use Rattle.anb_code.specs.CodeValue.{CodeValue}
 use Rattle.anb_compile.specs.Fitting.{FitRoles}
 use Rattle.anb_lack.specs.Lacking.{IsLackText}
-use Rattle.anb_point.specs.Unread.{IsUnreadText}
-use Rattle.anb_point.specs.Unresolved.{IsUnresolvedText}
+use Rattle.anb_mistakes.specs.Unread.{IsUnreadText}
+use Rattle.anb_mistakes.specs.Unresolved.{IsUnresolvedText}
 use Rattle.anb_report.specs.Reporting.{report}
 use Rattle.anb_command.specs.declared.limits.TheConstants.{NARRATION_LIMIT}
 use Rattle.anb_command.specs.declared.status.NarrationNo.TheVariants.{Read, Resolve}

@@ -7,7 +7,7 @@ use Rattle.anb_resolve.specs.Plays.{IsSendable}
 use Rattle.anb_resolve.specs.Protocols.{ProtocolValue, protocol_of}
 use Rattle.anb_resolve.specs.declared.refusals.ResolveNo.{ResolveNo}
 use Rattle.anb_lack.specs.Lacking.{IsLackText}
-use Rattle.anb_point.specs.Unresolved.{IsUnresolvedText}
+use Rattle.anb_mistakes.specs.Unresolved.{IsUnresolvedText}
 use Rattle.anb_command.specs.declared.status.NarrationNo.TheVariants.{Resolve}
 use Rattle.anb_command.specs.declared.status.Status.{Status}
 use Rattle.anb_command.specs.declared.status.Status.TheVariants.{BadNarration, Done}

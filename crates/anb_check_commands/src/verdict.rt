@@ -12,7 +12,7 @@ ghost use Rattle.anb_check_commands.specs.Telling.{IsLast, IsVerdictOnNarration,
 use anb_base::{Bytes, NoMemory, Text};
 use anb_command::{NarrationNo, Status, codes_of, ill_formed};
 use anb_lack::lack_text;
-use anb_point::{unread_text, unresolved_text};
+use anb_mistakes::{unread_text, unresolved_text};
 use anb_read::{ReadNo, read};
 use anb_report::report;
 use anb_resolve::{Protocol, ResolveNo, resolve, small_is_countable};

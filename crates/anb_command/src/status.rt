@@ -3,8 +3,8 @@ ghost use Rattle.std.specs.Prelude.{◌≡◌, ◌++◌};
 ghost use Rattle.anb_command.specs.Statuses.{instruction_text, item_text, kind_text, uncertified_at, where_text, why_ill_formed, why_misshapen, why_unaccepted, why_unfit, why_unloaded, why_unread};
 
 use anb_base::{NoMemory, Place, Text};
-pub use anb_branch::BranchNo;
 pub use anb_certify::CertifyNo;
+pub use anb_choice::BranchNo;
 use anb_code::CodeNo;
 use anb_format::FormatNo;
 pub use anb_honest::Report;

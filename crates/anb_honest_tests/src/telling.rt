@@ -7,7 +7,7 @@ use anb_base::{ARRIVAL, Bytes, SMALL_FILE};
 use anb_code::RoleCode;
 use anb_honest::{RehearseEnd, Report, follows, rehearse, schedule};
 use anb_resolve::Protocol;
-use anb_rows::protocol_in;
+use anb_test_protocols::protocol_in;
 use anb_text::load;
 use std::alloc::Global;
 use std::process::Abort;

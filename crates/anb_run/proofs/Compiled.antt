@@ -34,7 +34,7 @@ use Rattle.anb_command.specs.Statuses.{before_reach, phase_of}
 use Rattle.anb_command.specs.Steps.{Answer, refused, given, InTurn, AnswersWith}
 use Rattle.anb_command.proofs.Cutting.{bytes_in_cut}
 use Rattle.anb_command.proofs.Ones.{as_given, as_refused, code_in_file_one, not_both, part_one, protocol_in_file_one, role_one, same_given}
-use Rattle.anb_reason_commands.specs.CertifyCommand.{IsCertificate}
+use Rattle.anb_certify_commands.specs.CertifyCommand.{IsCertificate}
 use Rattle.anb_role_commands.specs.EnactCommand.{ErrandIs, RunOf}
 use Rattle.anb_role_commands.specs.Jobs.{Job, JobIs, JobOf, makes_names}
 use Rattle.anb_role_commands.specs.PlayCommand.{PlayOf}

@@ -4,7 +4,7 @@ use Rattle.anb_base.specs.Bytes.{IsBytes}
 use Rattle.anb_command.specs.Fetches.{Files}
 use Rattle.anb_command.specs.Roles.{Part, PartInFile}
 use Rattle.anb_command.specs.Steps.{given}
-use Rattle.anb_reason_commands.specs.CertifyCommand.{CertifyText}
+use Rattle.anb_certify_commands.specs.CertifyCommand.{CertifyText}
 use Rattle.anb_run.specs.Compiled.{IsEnactedAsPlayed}
 
 -- Where all roles of the narration can send, a role file that is certified for one of them is enacted as

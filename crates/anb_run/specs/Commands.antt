@@ -7,14 +7,14 @@ use Rattle.anb_command.specs.Fetches.{Files}
 use Rattle.anb_command.specs.Words.{Asked, fmt, describe, play, enact, replay, host, rehearse, drill, help, branch, certify, why, park, resume, chart, role_chart, check, trace}
 use Rattle.anb_branch_commands.specs.BranchCommand.{CompletesBranch, DoesBranch}
 use Rattle.anb_check_commands.specs.CheckCommand.{CompletesCheck, DoesCheck}
-use Rattle.anb_many_commands.specs.HostCommand.{CompletesHost, DoesHost}
+use Rattle.anb_host_commands.specs.HostCommand.{CompletesHost, DoesHost}
 use Rattle.anb_park_commands.specs.ParkCommand.{CompletesPark, DoesPark}
 use Rattle.anb_park_commands.specs.ResumeCommand.{CompletesResume, DoesResume}
-use Rattle.anb_rehearsal_commands.specs.DrillCommand.{CompletesDrill, DoesDrill}
-use Rattle.anb_rehearsal_commands.specs.RehearseCommand.{CompletesRehearse, DoesRehearse}
-use Rattle.anb_reason_commands.specs.CertifyCommand.{CompletesCertify, DoesCertify}
-use Rattle.anb_reason_commands.specs.WhyCommand.{CompletesWhy, DoesWhy}
-use Rattle.anb_report_commands.specs.ReportCommands.{CompletesChart, CompletesRoleChart, DoesChart, DoesRoleChart}
+use Rattle.anb_rehearse_commands.specs.DrillCommand.{CompletesDrill, DoesDrill}
+use Rattle.anb_rehearse_commands.specs.RehearseCommand.{CompletesRehearse, DoesRehearse}
+use Rattle.anb_certify_commands.specs.CertifyCommand.{CompletesCertify, DoesCertify}
+use Rattle.anb_certify_commands.specs.WhyCommand.{CompletesWhy, DoesWhy}
+use Rattle.anb_chart_commands.specs.ReportCommands.{CompletesChart, CompletesRoleChart, DoesChart, DoesRoleChart}
 use Rattle.anb_role_commands.specs.EnactCommand.{CompletesEnact, DoesEnact}
 use Rattle.anb_role_commands.specs.PlayCommand.{CompletesPlay, DoesPlay}
 use Rattle.anb_role_commands.specs.ReplayCommand.{CompletesReplay, DoesReplay}

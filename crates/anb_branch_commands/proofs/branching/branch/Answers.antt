@@ -1,6 +1,6 @@
 use Rattle.std.proofs.Common.{[], ◌∷◌}
-use Rattle.anb_branch.specs.Views.{branched_of}
-use Rattle.anb_arms.specs.Taken.{run_taken}
+use Rattle.anb_choice.specs.Views.{branched_of}
+use Rattle.anb_branch.specs.Taken.{run_taken}
 use Rattle.anb_command.specs.Commands.{place_by}
 use Rattle.anb_command.proofs.Answering.{refuses_over, runs_over}
 use Rattle.anb_command.proofs.Causes.{early_cause, early_reaches, only_memory, wire_cause}

@@ -1,7 +1,7 @@
 use Rattle.std.proofs.Common.{Some, refl}
 use Rattle.anb_base.specs.Wires.{WireState}
-use Rattle.anb_branch.specs.Views.{branched_of}
-use Rattle.anb_arms.specs.Taken.{run_taken}
+use Rattle.anb_choice.specs.Views.{branched_of}
+use Rattle.anb_branch.specs.Taken.{run_taken}
 use Rattle.anb_command.specs.Causes.{HasWireCause}
 use Rattle.anb_command.specs.OverWire.{StaysReached}
 use Rattle.anb_command.specs.Prepared.{RunsOn}

@@ -1,6 +1,6 @@
 use Rattle.std.proofs.Common.{inl, inr}
 use Rattle.anb_base.proofs.Moving.{Rose-later}
-use Rattle.anb_branch.specs.Views.{branched_of}
+use Rattle.anb_choice.specs.Views.{branched_of}
 use Rattle.anb_command.proofs.Failing.{IsFailure-map}
 use Rattle.anb_branch_commands.proofs.Preparing.{job_answers, narration_read, no_branch, no_seat, values_read}
 use Rattle.anb_branch_commands.proofs.branching.prepare.Goals as goal

@@ -1,5 +1,5 @@
 use Rattle.std.proofs.Common.{refl, sym, ◌∙◌, inl, inr}
-use Rattle.anb_branch.specs.Views.{branched_of}
+use Rattle.anb_choice.specs.Views.{branched_of}
 use Rattle.anb_branch_commands.proofs.Seats.{may_be_told}
 use Rattle.anb_branch_commands.proofs.seating.codes_for.Goals as goal
 

@@ -1,5 +1,5 @@
 use Rattle.std.proofs.Common.{length, ap, ◌∙◌}
-use Rattle.anb_branch.specs.Views.{branched_of}
+use Rattle.anb_choice.specs.Views.{branched_of}
 use Rattle.anb_command.proofs.Failing.{IsFailure-map}
 use Rattle.anb_branch_commands.proofs.Preparing.{means_given, seed_refused, values_refused}
 use Rattle.anb_branch_commands.proofs.Seats.{draws_in, takes_all}

@@ -1,5 +1,0 @@
-use Rattle.anb_arms.proofs.Knowing.{know_alike}
-use Rattle.anb_arms.proofs.laws.arms_know_alike.Goals as goal
-
-pub returns : goal.returns
-returns c = know_alike

@@ -1,5 +1,0 @@
-use Rattle.anb_arms.proofs.Agreeing.{arms_alike}
-use Rattle.anb_arms.proofs.laws.arms_play_alike.Goals as goal
-
-pub returns : goal.returns
-returns c = arms_alike

@@ -1,5 +1,0 @@
-use Rattle.anb_arms.proofs.Heads.{Begins}
-use Rattle.anb_arms.proofs.signs.begins_with.Given as goal
-
-abbrev pub invariant-loop-piece : goal.invariant-loop-piece
-invariant-loop-piece l = Begins l.bytes l.pieces l.rest l.piece-index

@@ -1,0 +1,54 @@
+-- All turns up to the choice, and going on behind it.
+use Rattle.std.proofs.Common.{◌≡◌, ◌≤◌, ℕ, List, [], length, sym, ◌∙◌, subst}
+use Rattle.anb_plays.specs.Plays.{Run}
+use Rattle.anb_base.specs.Wires.{WireState}
+use Rattle.anb_machine.specs.Machines.{MachineValue, gives}
+use Rattle.anb_session.specs.declared.PlayEnd.{PlayEnd}
+use Rattle.anb_branch.specs.Stems.{AreBytes, AreShort, StandsBehind, AgreeUpTo, behind, Passes, GoesOn, Arrives, IsOver, Chooses, EndsBefore}
+use Rattle.anb_branch.proofs.Behind.{stands_same, behind_waiting}
+use Rattle.anb_branch.proofs.Turns.{passes_nowhere, passes_joined, closes_behind}
+
+-- the turns so far, from the machine `first` to `now`
+pub record Along (n : ℕ) (first now : MachineValue) (past : List (List ℕ)) (s t : WireState) : Type 0 where
+  pub each : (R G : Run) → AgreeUpTo n R G → ((more : List (List ℕ)) → G more ≡ gives first more)
+      → (sent : List (List ℕ)) × StandsBehind G past sent now × Passes R (behind R past (length sent)) s t
+
+pub along_nothing : (n : ℕ) (v : MachineValue) (s : WireState) → Along n v v [] s s
+along_nothing n v s = record {
+  each = λ R G agree is. ([], record { comes = is }, passes_nowhere R s);
+}
+
+pub along_further : (n : ℕ) (first old new : MachineValue) (past past' : List (List ℕ)) (s t u : WireState)
+    → Along n first old past s t → GoesOn n old new past past' t u → Along n first new past' s u
+along_further n first old new past past' s t u along goes = record {
+  each = λ R G agree is.
+      let w = along.each R G agree is in
+      let x = goes.each R G w.0 agree w.1 in
+      (x.0, x.1, passes_joined R (behind R past (length w.0)) (behind R past' (length x.0)) s t u w.2 x.2);
+}
+
+pub along_over : (n : ℕ) (first old new : MachineValue) (past past' : List (List ℕ)) (s t u : WireState) (end : PlayEnd)
+    → Along n first old past s t → IsOver n old new past past' t u end → EndsBefore n first new s u end
+along_over n first old new past past' s t u end along over R G agree is =
+    let w = along.each R G agree is in
+    closes_behind R (behind R past (length w.0)) s t u end w.2 (over.each R G w.0 agree w.1)
+
+pub along_arrived : (n : ℕ) (first old new : MachineValue) (past past' : List (List ℕ)) (s t u : WireState) (b : List ℕ) → length past ≤ n → AreBytes past → AreShort past
+    → Along n first old past s t → Arrives n old new past past' t u b → Chooses n first new s u past' b
+along_arrived n first old new past past' s t u b few bytes short along arrives = subst (λ p. Chooses n first new s u p b) (sym arrives.stays) (record {
+  waits = arrives.waits;
+  fits = arrives.fits;
+  bytes = arrives.bytes;
+  all = arrives.all;
+  past_bytes = bytes;
+  short = short;
+  each = λ R G agree is.
+      let w = along.each R G agree is in
+      let R1 = behind R past (length w.0) in
+      let waits = behind_waiting R G past w.0 old arrives.event (agree past few bytes) w.1 (arrives.same [] ∙ arrives.next) in (
+        w.0,
+        stands_same G past w.0 old new w.1 arrives.same,
+        (arrives.event, arrives.next),
+        λ R' comes. passes_joined R R1 R' s t u w.2 (arrives.hears R1 R' waits comes),
+      );
+})

@@ -1,5 +1,0 @@
-use Rattle.anb_branch.proofs.Uniqueness.{choice_one}
-use Rattle.anb_branch.proofs.laws.choices_are_unique.Goals as goal
-
-pub returns : goal.returns
-returns c = choice_one c.tokens_are_unique.ensures c.narrations_are_unique.ensures

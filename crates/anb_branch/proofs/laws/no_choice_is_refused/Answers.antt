@@ -1,6 +1,0 @@
-use Rattle.anb_branch.proofs.Faults.{lawful_fault}
-use Rattle.anb_branch.proofs.Uniqueness.{choice_unrefused}
-use Rattle.anb_branch.proofs.laws.no_choice_is_refused.Goals as goal
-
-pub returns : goal.returns
-returns c = λ x b why text lawful refused. choice_unrefused c.tokens_are_unique.ensures c.narrations_are_unique.ensures c.none_is_both.ensures x b why text (lawful_fault b lawful) refused

@@ -1,7 +1,0 @@
-use Rattle.std.proofs.Common.{◌≡◌, drop, map}
-use Rattle.anb_resolve.specs.Views.{plan_event}
-use Rattle.anb_branch.specs.Lawful.{is_of_stem}
-use Rattle.anb_branch.proofs.plans.is_of_stem.Given as goal
-
-abbrev pub invariant-loop-event : goal.invariant-loop-event
-invariant-loop-event l = is_of_stem l.stem (drop l.event-index (map plan_event l.events)) ≡ is_of_stem l.stem (map plan_event l.events)

@@ -1,0 +1,230 @@
+//! A role's play up to the arrival that tells the arm.
+//!
+//! Up to there the arms' plays are the same, so one machine does for all of them. A copy of each
+//! arrival is kept, from which the machine of another arm goes on.
+ghost use Rattle.std.specs.Prelude.{◌≡◌, ◌≤◌, ◌<◌, ℕ, List, [], ◌∷◌, ◌++◌, length, IsTrue, IfOk, IfErr, OnOk};
+ghost use Rattle.anb_base.specs.Bytes.{IsBytes};
+ghost use Rattle.anb_base.specs.Moves.{Rose};
+ghost use Rattle.anb_base.specs.declared.TheConstants.{ARRIVAL};
+ghost use Rattle.anb_plays.specs.Runs.{without_place};
+ghost use Rattle.anb_machine.specs.Machines.{gives, left, waits};
+ghost use Rattle.anb_branch.specs.Stems.{AreBytes, AreShort, Steps, Chooses, EndsBefore, WaitsAt, RunsTo, Closes, no_halt};
+ghost use Rattle.anb_branch.specs.declared.stem.Step.TheVariants as step;
+
+use anb_base::{ARRIVAL, Bytes, NoMemory, Wire};
+use anb_machine::{Halt, Machine, Turn};
+use anb_session::{PlayEnd, play, receive, send};
+use std::alloc::Global;
+
+/// What a turn comes to.
+#[derive(Drop)]
+pub(crate) enum Step {
+    /// The play goes on before the choice.
+    On,
+    /// This is the arrival that tells the arm.
+    Arrived(Bytes),
+    Over(PlayEnd),
+}
+
+/// Where a play stands at the choice: the arrivals so far, and the one that tells the arm.
+#[derive(Drop)]
+pub(crate) struct Choice {
+    pub(crate) past: Vec<Bytes>,
+    pub(crate) arrival: Bytes,
+}
+
+/// Plays a machine to the arrival behind so many. The buffer for arrivals is given back then.
+pub(crate) fn play_to_choice<W: Wire>(
+    alloc: Global,
+    machine: &mut Machine<'_>,
+    receives: usize,
+    wire: &mut W,
+) -> Result<Choice, PlayEnd>
+    ensures chooses { IfOk result (λ choice.
+        Chooses receives machine.old machine.new (W.state wire.old) (W.state wire.new)
+        choice.past.items choice.arrival) }
+    ensures ends { IfErr result (λ end.
+        EndsBefore receives machine.old machine.new (W.state wire.old) (W.state wire.new) end) }
+    ensures read_fault { result ≡ Err PlayEnd.ReadFault
+        → Rose (W.Source.faults wire.old) (W.Source.faults wire.new) }
+    ensures write_fault { result ≡ Err PlayEnd.WriteFault
+        → Rose (W.Sink.faults wire.old) (W.Sink.faults wire.new) }
+    ensures reading_never_falls { W.Source.faults wire.old ≤ W.Source.faults wire.new }
+    ensures writing_never_falls { W.Sink.faults wire.old ≤ W.Sink.faults wire.new }
+    ensures reached { W.reached wire.new ≡ W.reached wire.old }
+    ensures reach_faults { W.reach_faults wire.new ≡ W.reach_faults wire.old }
+{
+    let Ok(mut buffer) = vec![in alloc; 0u8; ARRIVAL as usize] else {
+        return Err(PlayEnd::NoMemory);
+    };
+    let mut past = Vec::new(alloc);
+    loop {
+        match play_turn(alloc, machine, &mut past, receives, wire, &mut buffer) {
+            Step::On => {}
+            Step::Arrived(arrival) => return Ok(Choice { past, arrival }),
+            Step::Over(end) => return Err(end),
+        }
+    }
+}
+
+/// Plays one turn of a machine before the choice, which comes behind so many arrivals.
+fn play_turn<W: Wire>(
+    alloc: Global,
+    machine: &mut Machine<'_>,
+    past: &mut Vec<Bytes>,
+    receives: usize,
+    wire: &mut W,
+    buffer: &mut [u8],
+) -> Step
+    requires room { length buffer.old ≡ ARRIVAL }
+    requires few { length past.old.items ≤ receives }
+    requires bytes { AreBytes past.old.items }
+    requires short { AreShort past.old.items }
+    ensures steps { Steps receives machine.old machine.new past.old.items past.new.items
+        (W.state wire.old) (W.state wire.new) result }
+    ensures read_fault { result ≡ step.Over PlayEnd.ReadFault
+        → Rose (W.Source.faults wire.old) (W.Source.faults wire.new) }
+    ensures write_fault { result ≡ step.Over PlayEnd.WriteFault
+        → Rose (W.Sink.faults wire.old) (W.Sink.faults wire.new) }
+    ensures reading_never_falls { W.Source.faults wire.old ≤ W.Source.faults wire.new }
+    ensures writing_never_falls { W.Sink.faults wire.old ≤ W.Sink.faults wire.new }
+    ensures reached { W.reached wire.new ≡ W.reached wire.old }
+    ensures reach_faults { W.reach_faults wire.new ≡ W.reach_faults wire.old }
+{
+    match machine.advance(alloc) {
+        Turn::Message(message) => match send(alloc, wire, message.as_slice()) {
+            Ok(()) => Step::On,
+            Err(end) => Step::Over(end),
+        },
+        Turn::Wants(event) => match receive(alloc, wire, buffer, event) {
+            Ok(arrival) => {
+                are_bytes(arrival.as_slice());
+                if past.len() == receives {
+                    return Step::Arrived(arrival);
+                }
+                match hand_in(alloc, machine, past, arrival) {
+                    Ok(()) => Step::On,
+                    Err(NoMemory) => Step::Over(PlayEnd::NoMemory),
+                }
+            }
+            Err(end) => Step::Over(end),
+        },
+        Turn::Done => Step::Over(PlayEnd::Done),
+        Turn::Stopped(halt) => Step::Over(PlayEnd::Stopped(placeless(halt))),
+        Turn::NoMemory => Step::Over(PlayEnd::NoMemory),
+    }
+}
+
+/// Hands an arrival to the machine that wants it, and keeps a copy of it.
+fn hand_in(
+    alloc: Global,
+    machine: &mut Machine<'_>,
+    past: &mut Vec<Bytes>,
+    arrival: Bytes,
+) -> Result<(), NoMemory>
+    requires waits { IsTrue (waits machine.old) }
+    requires fits { length arrival ≤ ARRIVAL }
+    ensures kept { OnOk result (past.new.items ≡ past.old.items ++ arrival ∷ []) }
+    ensures gives { OnOk result ((more : List (List ℕ))
+        → gives machine.old (arrival ∷ more) ≡ gives machine.new more) }
+    ensures further { OnOk result (left machine.new < left machine.old) }
+{
+    past.push(arrival.copy(alloc)?)?;
+    machine.arrive(arrival);
+    Ok(())
+}
+
+/// The same stop as a play tells it, which has no instruction.
+fn placeless(halt: Halt) -> Halt
+    ensures event { result.event ≡ halt.event }
+    ensures at { result.at ≡ 0 }
+{
+    Halt {
+        event: halt.event,
+        at: 0,
+    }
+}
+
+/// A law: a slice of bytes is a string of bytes.
+pub(crate) fn are_bytes(bytes: &[u8])
+    ensures { IsBytes bytes.now }
+{
+    let _ = bytes;
+}
+
+/// Runs a machine over these arrivals, behind which it waits, and drops its messages.
+pub(crate) fn run_again(
+    alloc: Global,
+    machine: &mut Machine<'_>,
+    past: Vec<Bytes>,
+) -> Result<(), NoMemory>
+    requires waits { WaitsAt (gives machine.old) past.items }
+    requires short { AreShort past.items }
+    ensures { OnOk result (RunsTo machine.old past.items machine.new) }
+{
+    let mut arrivals = past.into_iter();
+    'turns: loop {
+        match machine.advance(alloc) {
+            Turn::Message(_) => {}
+            Turn::Wants(_) => {
+                let Some(arrival) = arrivals.next() else {
+                    return Ok(());
+                };
+                machine.arrive(arrival);
+            }
+            Turn::Done => unreachable!(),
+            Turn::Stopped(_) => unreachable!(),
+            Turn::NoMemory => return Err(NoMemory),
+        }
+    }
+}
+
+/// Plays a machine from wherever it stands, with this arrival first.
+pub(crate) fn play_on<W: Wire>(
+    alloc: Global,
+    machine: &mut Machine<'_>,
+    arrival: Bytes,
+    wire: &mut W,
+) -> PlayEnd
+    requires waits { IsTrue (waits machine.old) }
+    requires fits { length arrival ≤ ARRIVAL }
+    ensures closes { Closes (λ more. without_place (gives machine.old (arrival ∷ more)))
+        (W.state wire.old) (W.state wire.new) result }
+    ensures read_fault { result ≡ PlayEnd.ReadFault
+        → Rose (W.Source.faults wire.old) (W.Source.faults wire.new) }
+    ensures write_fault { result ≡ PlayEnd.WriteFault
+        → Rose (W.Sink.faults wire.old) (W.Sink.faults wire.new) }
+    ensures reading_never_falls { W.Source.faults wire.old ≤ W.Source.faults wire.new }
+    ensures writing_never_falls { W.Sink.faults wire.old ≤ W.Sink.faults wire.new }
+    ensures reached { W.reached wire.new ≡ W.reached wire.old }
+    ensures reach_faults { W.reach_faults wire.new ≡ W.reach_faults wire.old }
+{
+    machine.arrive(arrival);
+    play_whole(alloc, machine, wire)
+}
+
+/// Plays a machine from wherever it stands, and tells no instruction.
+pub(crate) fn play_whole<W: Wire>(alloc: Global, machine: &mut Machine<'_>, wire: &mut W) -> PlayEnd
+    ensures closes { Closes (λ more. without_place (gives machine.old more))
+        (W.state wire.old) (W.state wire.new) result }
+    ensures read_fault { result ≡ PlayEnd.ReadFault
+        → Rose (W.Source.faults wire.old) (W.Source.faults wire.new) }
+    ensures write_fault { result ≡ PlayEnd.WriteFault
+        → Rose (W.Sink.faults wire.old) (W.Sink.faults wire.new) }
+    ensures reading_never_falls { W.Source.faults wire.old ≤ W.Source.faults wire.new }
+    ensures writing_never_falls { W.Sink.faults wire.old ≤ W.Sink.faults wire.new }
+    ensures reached { W.reached wire.new ≡ W.reached wire.old }
+    ensures reach_faults { W.reach_faults wire.new ≡ W.reach_faults wire.old }
+{
+    no_halt(play(alloc, machine, wire))
+}
+
+/// The same end as a play tells it.
+fn no_halt(end: PlayEnd) -> PlayEnd
+    ensures { result ≡ no_halt end }
+{
+    match end {
+        PlayEnd::Stopped(halt) => PlayEnd::Stopped(placeless(halt)),
+        end => end,
+    }
+}

@@ -1,0 +1,13 @@
+use Rattle.std.proofs.Common.{map, arith}
+use Rattle.anb_lemmas.proofs.Each.{each_got}
+use Rattle.anb_term.specs.View.{tree_of}
+use Rattle.anb_term.proofs.Lists.{slice_get-map, slice_get-at}
+use Rattle.anb_resolve.specs.Texts.{IsTermOf}
+use Rattle.anb_certify_commands.proofs.put_terms.Goals as goal
+
+pub text_of_term-requires : goal.text_of_term-requires
+text_of_term-requires c =
+    let ts = c.args.terms.now in
+    let i = c.loop-term.term-index in
+    let x = c.term-item.result in
+    each_got (IsTermOf c.args.protocol.now) (map tree_of ts) i (tree_of x) c.requires (slice_get-map tree_of ts i x (slice_get-at ts i x (omega arith) c.term-item.is))

@@ -1,0 +1,22 @@
+use Rattle.std.proofs.Common.{false}
+use Rattle.anb_base.specs.declared.place.Place.TheVariants.{Stdio}
+use Rattle.anb_chart.specs.Charts.{chart}
+use Rattle.anb_command.specs.declared.status.Status.TheVariants.{Done, Unreached}
+use Rattle.anb_command.proofs.OverWire.{not_reached, text_done, text_put, written_unreached}
+use Rattle.anb_chart_commands.proofs.Charted.{writes_one}
+use Rattle.anb_chart_commands.proofs.write_charted.Goals as goal
+
+pub returns-in-Err-clause-writes : goal.returns-in-Err-clause-writes
+returns-in-Err-clause-writes g c =
+    writes_one (chart c.args.protocol.now) (g.W.Wire.state c.args.wire.now).written _ (Unreached Stdio) (written_unreached Stdio _ _ c.in-Err.ensures.failed)
+
+pub returns-in-Err-clause-wire : goal.returns-in-Err-clause-wire
+returns-in-Err-clause-wire g c = not_reached Stdio _ _ c.in-Err.ensures.failed false
+
+pub returns-in-Ok-write_lines-clause-writes : goal.returns-in-Ok-write_lines-clause-writes
+returns-in-Ok-write_lines-clause-writes g c =
+    writes_one (chart c.args.protocol.now) (g.W.Wire.state c.args.wire.now).written _ Done
+    (text_put Stdio _ _ c.in-Ok.ensures.reached _ c.write_lines.ensures.only _ c.in-Ok-write_lines.ensures.writes.whole)
+
+pub returns-in-Ok-write_lines-clause-wire : goal.returns-in-Ok-write_lines-clause-wire
+returns-in-Ok-write_lines-clause-wire g c = text_done Stdio _ _ c.in-Ok.ensures.reached _ c.write_lines.ensures.only

@@ -1,0 +1,139 @@
+//! Commands that show a protocol to a person, and read nothing from the wire.
+#![tactic(auto)]
+
+ghost use Rattle.std.specs.Prelude.{◌≡◌, [], ◌∷◌, Some, false, IfErr, IfOk};
+ghost use Rattle.anb_base.specs.declared.place.Place.TheVariants as place;
+ghost use Rattle.anb_chart.specs.Charts.{chart};
+ghost use Rattle.anb_command.specs.Causes.{HasCause, NoneRose};
+ghost use Rattle.anb_base.specs.Moves.{Rose};
+ghost use Rattle.anb_command.specs.Fetches.{Fetches, IfTold};
+ghost use Rattle.anb_command.specs.OverWire.{OnlyWrites, OverWire};
+ghost use Rattle.anb_command.specs.Reaches.{Reaches};
+ghost use Rattle.anb_command.specs.Statuses.{IsEarly, phase_of};
+ghost use Rattle.anb_command.specs.Steps.{IsFailure, given, refused};
+ghost use Rattle.anb_command.specs.Touches.{Touches};
+ghost use Rattle.anb_command.specs.Writing.{IsWritingOne};
+ghost use Rattle.anb_chart_commands.specs.ReportCommands.{ChartOf, CompletesChart, CompletesRoleChart, DoesChart, DoesRoleChart, RoleChartText};
+ghost use Rattle.anb_text.specs.Writing.{IsWritten};
+
+use anb_base::{Bytes, Failed, NoMemory, Place, Shelf, Text, Wire};
+use anb_chart::write_chart;
+use anb_command::{Status, playable_in_file, protocol_in_file, reach_streams, write_text};
+use anb_read::{narrations_are_unique, none_is_both, refusals_are_unique};
+use anb_report::role_chart;
+use anb_resolve::Protocol;
+use anb_text::WriteNo;
+use std::alloc::Global;
+
+/// Writes the chart of the protocol in the file, in Mermaid's language.
+pub fn chart<F: Shelf, W: Wire>(
+    alloc: Global,
+    shelf: &mut F,
+    wire: &mut W,
+    narration: &Text,
+) -> Status
+    ensures does { DoesChart narration.now (F.files shelf.old)
+        (W.state wire.old) (W.state wire.new) result }
+    ensures completes { NoneRose (narration.now ∷ []) (F.faults shelf.old) (F.faults shelf.new)
+        (W.state wire.old) (W.state wire.new)
+        → CompletesChart narration.now (F.files shelf.old) result }
+    ensures faults { HasCause (narration.now ∷ []) (Some place.Stdio)
+        (F.faults shelf.old) (F.faults shelf.new) (W.state wire.old) (W.state wire.new) result }
+    ensures fetches { Fetches (narration.now ∷ [])
+        (F.files shelf.old) (F.files shelf.new) (F.faults shelf.old) (F.faults shelf.new) }
+    ensures reached { Reaches (Some place.Stdio) (phase_of result)
+        (W.state wire.old).reached (W.state wire.new).reached }
+    ensures touches { Touches false (phase_of result) (W.state wire.old) (W.state wire.new) }
+{
+    narrations_are_unique();
+    refusals_are_unique();
+    none_is_both();
+    match protocol_in_file(alloc, shelf, narration) {
+        Ok(protocol) => write_charted(alloc, wire, &protocol),
+        Err(status) => status,
+    }
+}
+
+/// Writes the chart of a protocol to the standard streams.
+fn write_charted<W: Wire>(alloc: Global, wire: &mut W, protocol: &Protocol) -> Status
+    ensures writes { IsWritingOne (ChartOf protocol.now) result
+        (W.state wire.old).written (W.state wire.new).written }
+    ensures wire { OverWire place.Stdio false result (W.state wire.old) (W.state wire.new) }
+{
+    match reach_streams(wire) {
+        Ok(()) => {}
+        Err(Failed) => return Status::Unreached(Place::Stdio),
+    }
+    match write_lines(alloc, wire, protocol) {
+        Ok(()) => Status::Done,
+        Err(WriteNo::Failed) => Status::WriteFault,
+        Err(WriteNo::NoMemory) => Status::NoMemory,
+    }
+}
+
+/// Writes it to a wire that was reached.
+fn write_lines<W: Wire>(alloc: Global, wire: &mut W, protocol: &Protocol) -> Result<(), WriteNo>
+    ensures writes { IsWritten (chart protocol.now) result
+        (W.state wire.old).written (W.state wire.new).written
+        (W.state wire.old).write_faults (W.state wire.new).write_faults }
+    ensures only { OnlyWrites (W.state wire.old) (W.state wire.new) }
+{
+    write_chart(alloc, wire, protocol)
+}
+
+/// Writes the chart of the protocol in the file, with what the role with this name checks and learns.
+pub fn chart_for<F: Shelf, W: Wire>(
+    alloc: Global,
+    shelf: &mut F,
+    wire: &mut W,
+    narration: &Text,
+    role: &Text,
+) -> Status
+    ensures does { DoesRoleChart narration.now role.now (F.files shelf.old)
+        (W.state wire.old) (W.state wire.new) result }
+    ensures completes { NoneRose (narration.now ∷ []) (F.faults shelf.old) (F.faults shelf.new)
+        (W.state wire.old) (W.state wire.new)
+        → CompletesRoleChart narration.now role.now (F.files shelf.old) result }
+    ensures faults { HasCause (narration.now ∷ []) (Some place.Stdio)
+        (F.faults shelf.old) (F.faults shelf.new) (W.state wire.old) (W.state wire.new) result }
+    ensures fetches { Fetches (narration.now ∷ [])
+        (F.files shelf.old) (F.files shelf.new) (F.faults shelf.old) (F.faults shelf.new) }
+    ensures reached { Reaches (Some place.Stdio) (phase_of result)
+        (W.state wire.old).reached (W.state wire.new).reached }
+    ensures touches { Touches false (phase_of result) (W.state wire.old) (W.state wire.new) }
+{
+    narrations_are_unique();
+    refusals_are_unique();
+    none_is_both();
+    match role_charted(alloc, shelf, narration, role) {
+        Ok(text) => write_text(wire, text.as_slice()),
+        Err(status) => status,
+    }
+}
+
+/// The chart for the role with this name in a narration's file.
+fn role_charted<F: Shelf>(
+    alloc: Global,
+    shelf: &mut F,
+    narration: &Text,
+    role: &Text,
+) -> Result<Bytes, Status>
+    ensures given { IfOk result (λ text. IfTold (F.files shelf.old) (λ files.
+        RoleChartText files narration.now role.now (given text))) }
+    ensures refused { IfErr result (λ status. IsFailure status
+        (λ file. (file ≡ narration.now) × Rose (F.faults shelf.old file) (F.faults shelf.new file))
+        (IfTold (F.files shelf.old) (λ files.
+        RoleChartText files narration.now role.now (refused status)))) }
+    ensures early { IfErr result IsEarly }
+    ensures fetches { Fetches (narration.now ∷ [])
+        (F.files shelf.old) (F.files shelf.new) (F.faults shelf.old) (F.faults shelf.new) }
+{
+    let playable = match playable_in_file(alloc, shelf, narration, role) {
+        Ok(playable) => playable,
+        Err(status) => return Err(status),
+    };
+    match role_chart(alloc, &playable.protocol, playable.role, &playable.code) {
+        Ok(text) => Ok(text),
+        Err(NoMemory) => Err(Status::NoMemory),
+    }
+}

@@ -1,0 +1,115 @@
+-- What the narrations of arms have in common, and the arms that were read.
+use Rattle.std.proofs.Common.{◌≡◌, ℕ, ◌+◌, ◌<◌, List, [], ◌∷◌, ◌++◌, length, map, take, drop, get_or, Bool, true, false, refl, sym, ap, subst, ◌∙◌, arith}
+use Rattle.std.specs.Prelude.{◌&&◌}
+use Rattle.std.specs.List.{AllZip, flat_map}
+use Rattle.std.proofs.lemmas.List.{drop_more, get_or_default, length-map, length-take-le, take-append-drop}
+use Rattle.std.proofs.Math.ListN.{get_or-map}
+use Rattle.anb_lemmas.proofs.Each.{take_next, zip_and_last}
+use Rattle.anb_syntax.specs.Grammar.{Narration, IsSpellable}
+use Rattle.anb_syntax.specs.Canon.{canon}
+use Rattle.anb_syntax.specs.Text.{Text}
+use Rattle.anb_syntax.specs.Laws.{CanonicalIsText}
+use Rattle.anb_read.specs.Laws.{NarrationsAreUnique}
+use Rattle.anb_resolve.specs.Names.{item_atoms}
+use Rattle.anb_resolve.specs.Protocols.{ProtocolValue, format_value, protocol_of}
+use Rattle.anb_choice.specs.declared.refusal.BranchNo.{BranchNo}
+use Rattle.anb_choice.specs.declared.refusal.BranchNo.TheVariants.{Token, Shape, ArmRead, ArmResolve, Roles, Chooser, Blind, NoMemory}
+use Rattle.anb_choice.specs.declared.marks.Mark.{Mark}
+use Rattle.anb_choice.specs.declared.order.Span.{Span}
+use Rattle.anb_choice.specs.Branching.{ArmIsRefused, Tells, straights}
+use Rattle.anb_choice.specs.Order.{bytes_between, stem_end, straight}
+use Rattle.anb_choice.specs.Headers.{HasHeader, IsRefusedAs, without_actions}
+
+fits_first : (a b : Bool) → (a && b) ≡ true → (a && true) ≡ true
+fits_first true b e = refl
+fits_first false b e = cc
+
+-- a narration can still be written without its actions
+pub spellable_without : (n : Narration) → IsSpellable n → IsSpellable (without_actions n)
+spellable_without n s = record {
+  valid = record { title = s.valid.title; types = s.valid.types; formats = s.valid.formats; knows = s.valid.knows; actions = tt };
+  fit = fits_first _ _ s.fit;
+}
+
+-- what protocols with one header have in common
+pub record HaveOneHeader (p q : ProtocolValue) : Type 0 where
+  pub suite : p.suite ≡ q.suite
+  pub formats : p.formats ≡ q.formats
+  pub atoms : p.atoms ≡ q.atoms
+
+of_narrations : (n m : Narration) → without_actions n ≡ without_actions m → HaveOneHeader (protocol_of n) (protocol_of m)
+unfolding protocol_of
+of_narrations n m e = record {
+  suite = ap (λ (k : Narration). k.suite) e;
+  formats = ap (λ (k : Narration). map format_value k.formats) e;
+  atoms = ap (λ (k : Narration). flat_map item_atoms k.types) e;
+}
+
+pub one_header : CanonicalIsText → NarrationsAreUnique → (p q : ProtocolValue) (h k : List ℕ) → h ≡ k → HasHeader p h → HasHeader q k → HaveOneHeader p q
+one_header texts unique p q h k e one other =
+    let n = without_actions one.narration in
+    let m = without_actions other.narration in
+    let same : canon n ≡ canon m = sym one.is ∙ e ∙ other.is in
+    let written = subst (λ (x : List ℕ). Text m x) (sym same) (texts m other.spellable) in
+    let are = unique (canon n) n m (texts n one.spellable) written in
+    subst (λ (r : ProtocolValue). HaveOneHeader r q) (sym one.protocol) (subst (λ (r : ProtocolValue). HaveOneHeader (protocol_of one.narration) r) (sym other.protocol)
+    (of_narrations one.narration other.narration are))
+
+-- ---- arms that were read
+
+-- an arm is refused behind others that weren't
+pub refused_at : (texts : List (List ℕ)) (i : ℕ) (text : List ℕ) (arms : List ProtocolValue) (why : BranchNo)
+    → i < length texts → text ≡ get_or texts i text → AllZip Tells (take i texts) arms → IsRefusedAs text (i + 1) why → ArmIsRefused texts why
+refused_at texts i text arms (Token at) h e told r = absurd r
+refused_at texts i text arms (Shape at) h e told r = absurd r
+refused_at texts i text arms (ArmRead arm why) h e told r = record {
+  before = take i texts;
+  text = text;
+  others = drop (i + 1) texts;
+  are = sym (take-append-drop i texts) ∙ ap (λ l. take i texts ++ l) (drop_more texts i text h ∙ ap (λ y. y ∷ drop (i + 1) texts) (sym e));
+  is = r.0 ∙ ap (λ n. n + 1) (sym (length_front texts i h));
+  arms = arms;
+  told = told;
+  refused = r.1;
+}
+  where
+    length_front : (xs : List (List ℕ)) (n : ℕ) → n < length xs → length (take n xs) ≡ n
+    length_front xs n k = length-take-le n xs (omega (arith, k))
+refused_at texts i text arms (ArmResolve arm why) h e told r = record {
+  before = take i texts;
+  text = text;
+  others = drop (i + 1) texts;
+  are = sym (take-append-drop i texts) ∙ ap (λ l. take i texts ++ l) (drop_more texts i text h ∙ ap (λ y. y ∷ drop (i + 1) texts) (sym e));
+  is = r.0 ∙ ap (λ n. n + 1) (sym (length_front texts i h));
+  arms = arms;
+  told = told;
+  refused = r.1;
+}
+  where
+    length_front : (xs : List (List ℕ)) (n : ℕ) → n < length xs → length (take n xs) ≡ n
+    length_front xs n k = length-take-le n xs (omega (arith, k))
+refused_at texts i text arms (Roles arm) h e told r = absurd r
+refused_at texts i text arms Chooser h e told r = absurd r
+refused_at texts i text arms (Blind role arm) h e told r = absurd r
+refused_at texts i text arms NoMemory h e told r = absurd r
+
+-- ---- the arms of a text, one after another
+
+module _ (x : List ℕ) (ms : List Mark) (spans : List Span) (i : ℕ) (d : Span) (n : ℕ) (text items : List ℕ) (h : i < length spans) (stem : n ≡ stem_end ms)
+    (made : items ≡ take n x ++ 10 ∷ bytes_between x (get_or spans i d).from (get_or spans i d).to) (same : text ≡ items) where
+  within : i < length (straights x ms spans)
+  within = omega (arith, h, length-map spans (straight x ms))
+
+  made_so : text ≡ straight x ms (get_or spans i d)
+  made_so = same ∙ made ∙ ap (λ k. take k x ++ 10 ∷ bytes_between x (get_or spans i d).from (get_or spans i d).to) stem
+
+  at_place : text ≡ get_or (straights x ms spans) i text
+  at_place = made_so ∙ sym (get_or-map (straight x ms) spans i d) ∙ get_or_default (straights x ms spans) i (straight x ms d) text within
+
+  pub next_arm : (p : ProtocolValue) (arms : List ProtocolValue) → Tells text p → AllZip Tells (take i (straights x ms spans)) arms → AllZip Tells (take (i + 1) (straights x ms spans)) (arms ++ p ∷ [])
+  next_arm p arms tells told =
+      subst (λ (l : List (List ℕ)). AllZip Tells l (arms ++ p ∷ [])) (sym (take_next (straights x ms spans) i text within at_place))
+      (zip_and_last Tells (take i (straights x ms spans)) arms text p told tells)
+
+  pub first_refused : (arms : List ProtocolValue) (why : BranchNo) → AllZip Tells (take i (straights x ms spans)) arms → IsRefusedAs text (i + 1) why → ArmIsRefused (straights x ms spans) why
+  first_refused arms why told r = refused_at (straights x ms spans) i text arms why within at_place told r

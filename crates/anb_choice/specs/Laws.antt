@@ -1,0 +1,17 @@
+-- What holds of branched texts, whatever they are.
+use Rattle.std.specs.Prelude.{◌≡◌, ℕ, List}
+use Rattle.anb_choice.specs.declared.refusal.BranchNo.{BranchNo}
+use Rattle.anb_choice.specs.Branching.{BranchedText, IsRefusal}
+use Rattle.anb_choice.specs.Lawful.{BranchedValue, IsLawful}
+
+-- a text tells one choice at most
+abbrev pub ChoicesAreUnique : Type 0
+ChoicesAreUnique = (x : List ℕ) (b c : BranchedValue) → BranchedText x b → BranchedText x c → b ≡ c
+
+-- a text has one refusal at most
+abbrev pub RefusalsAreUnique : Type 0
+RefusalsAreUnique = (x : List ℕ) (why other : BranchNo) → IsRefusal x why → IsRefusal x other → why ≡ other
+
+-- no text tells a lawful choice and is refused
+abbrev pub NoneIsBoth : Type 0
+NoneIsBoth = (x : List ℕ) (b : BranchedValue) (why : BranchNo) → BranchedText x b → IsLawful b → IsRefusal x why → ⊥

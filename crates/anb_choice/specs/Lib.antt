@@ -1,0 +1,8 @@
+pub mod Lawful
+pub mod Views
+pub mod Order
+pub mod Branching
+pub mod Laws
+-- for proofs alone
+pub mod Headers
+pub mod Standing

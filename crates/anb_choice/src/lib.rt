@@ -1,0 +1,22 @@
+//! Branched texts: narrations with a choice at their end.
+//!
+//! The common actions, which are called the stem, come first, then the role that chooses, then two
+//! to eight arms. Each arm behind the stem is a narration of its own.
+#![tactic(auto)]
+
+mod alike;
+mod arms;
+mod blindness;
+mod branched;
+mod laws;
+mod marks;
+mod order;
+mod parts;
+mod plans;
+mod refusal;
+mod splitting;
+
+pub use branched::Branched;
+pub use laws::{branch_refusals_are_unique, choices_are_unique, no_choice_is_refused};
+pub use refusal::BranchNo;
+pub use splitting::split;

@@ -1,0 +1,194 @@
+//! Reads branched texts.
+ghost use Rattle.std.specs.Prelude.{◌≡◌, ◌≢◌, ◌⊎◌, ◌≤◌, ◌+◌, ℕ, List, length, IfOk, IfErr, IfNone, MatchResult};
+ghost use Rattle.std.specs.List.{AllByRecursion, AllZip};
+ghost use Rattle.anb_base.specs.declared.TheConstants.{SMALL_FILE};
+ghost use Rattle.anb_choice.specs.declared.order.Span.{Span as SpanValue};
+ghost use Rattle.anb_choice.specs.declared.refusal.BranchNo.{BranchNo as No};
+ghost use Rattle.anb_choice.specs.Branching.{ArmIsRefused, BranchedText, IsOrdered, IsRefusal, Tells, choice_fault, straights};
+ghost use Rattle.anb_choice.specs.Headers.{HasHeader};
+ghost use Rattle.anb_choice.specs.Lawful.{BranchedValue, IsLawful};
+ghost use Rattle.anb_choice.specs.Order.{chooser_in, stem_end};
+ghost use Rattle.anb_choice.specs.Standing.{IsSpanOf, Stand};
+ghost use Rattle.anb_choice.specs.Views.{branched_of};
+
+use crate::alike::{among, are_alike, other_roles};
+use crate::arms::{Arm, arm_of};
+use crate::blindness::blind;
+use crate::branched::{Branched, roles_in};
+use crate::laws::{branch_refusals_are_unique, choices_are_unique, no_choice_is_refused};
+use crate::marks::{Mark, bad_at, marks};
+use crate::order::{Span, order, past_at, place_at, stem_actions, stem_size};
+use crate::parts::{bytes_between, straight};
+use crate::refusal::BranchNo;
+use anb_base::{Bytes, NoMemory, Text};
+use anb_resolve::Protocol;
+use anb_syntax::name_text;
+use std::alloc::Global;
+
+/// What the text tells: the role that chooses, the number of common actions, and each arm's
+/// protocol. Only what stands before the first `Goals` is looked at. Its time is that of reading
+/// and resolving each arm with the stem, and of comparing the roles' plans.
+pub fn split(alloc: Global, text: &[u8]) -> Result<Branched, BranchNo>
+    requires { length text.now ≤ SMALL_FILE }
+    // What is told is the text's choice, and lawful; each text of a lawful choice tells it.
+    ensures tells { IfOk result (λ b. BranchedText text.now (branched_of b)) }
+    ensures lawful { IfOk result (λ b. IsLawful (branched_of b)) }
+    ensures only { (b : BranchedValue) → BranchedText text.now b → IsLawful b
+        → MatchResult result (λ c. branched_of c ≡ b) (λ e. e ≡ BranchNo.NoMemory) }
+    // What is refused has the refusal, and each text with a refusal is refused so.
+    ensures refused { IfErr result (λ e. e ≢ BranchNo.NoMemory → IsRefusal text.now e) }
+    ensures exact { (e : No) → IsRefusal text.now e
+        → MatchResult result (λ b. ⊥) (λ f. (f ≡ e) ⊎ (f ≡ BranchNo.NoMemory)) }
+{
+    choices_are_unique();
+    branch_refusals_are_unique();
+    no_choice_is_refused();
+    match marked(alloc, text) {
+        Ok(b) => Ok(b),
+        Err(no) => Err(no),
+    }
+}
+
+/// What the text tells, or its refusal.
+fn marked(alloc: Global, text: &[u8]) -> Result<Branched, BranchNo>
+    requires { length text.now ≤ SMALL_FILE }
+    ensures tells { IfOk result (λ b. BranchedText text.now (branched_of b)) }
+    ensures lawful { IfOk result (λ b. IsLawful (branched_of b)) }
+    ensures refused { IfErr result (λ no. no ≢ BranchNo.NoMemory → IsRefusal text.now no) }
+{
+    let marks = match marks(alloc, text) {
+        Ok(marks) => marks,
+        Err(NoMemory) => return Err(BranchNo::NoMemory),
+    };
+    if let Some(at) = bad_at(&marks) {
+        return Err(BranchNo::Token(at));
+    }
+    match order(alloc, &marks) {
+        Ok(Ok(spans)) => branched_in(alloc, text, &marks, &spans),
+        Ok(Err(at)) => Err(BranchNo::Shape(at)),
+        Err(NoMemory) => Err(BranchNo::NoMemory),
+    }
+}
+
+/// What the text tells, whose tokens are in order.
+fn branched_in(
+    alloc: Global,
+    text: &[u8],
+    marks: &[Mark],
+    spans: &[Span],
+) -> Result<Branched, BranchNo>
+    requires size { length text.now ≤ SMALL_FILE }
+    requires ordered { IsOrdered text.now marks.now spans.now }
+    requires stand { (to : ℕ) × Stand text.now 0 marks.now to }
+    requires count { length marks.now ≤ length text.now + 1 }
+    ensures tells { IfOk result (λ b. BranchedText text.now (branched_of b)) }
+    ensures lawful { IfOk result (λ b. IsLawful (branched_of b)) }
+    ensures refused { IfErr result (λ no. no ≢ BranchNo.NoMemory → IsRefusal text.now no) }
+{
+    let Told { arms, headers } = match arms_in(alloc, text, marks, spans) {
+        Ok(told) => told,
+        Err(no) => return Err(no),
+    };
+    let chooser = match chooser_in(alloc, text, marks) {
+        Ok(chooser) => chooser,
+        Err(NoMemory) => return Err(BranchNo::NoMemory),
+    };
+    let branched = Branched {
+        chooser,
+        stem: stem_actions(marks),
+        arms,
+    };
+    match choice_fault(alloc, &branched, &headers) {
+        Ok(None) => Ok(branched),
+        Ok(Some(no)) => Err(no),
+        Err(NoMemory) => Err(BranchNo::NoMemory),
+    }
+}
+
+/// The protocols of arms, and for each the canonical text of its narration without the actions.
+#[derive(Drop)]
+struct Told {
+    arms: Vec<Protocol>,
+    headers: Vec<Bytes>,
+}
+
+/// The protocols of the arms.
+fn arms_in(alloc: Global, text: &[u8], marks: &[Mark], spans: &[Span]) -> Result<Told, BranchNo>
+    requires size { length text.now ≤ SMALL_FILE }
+    requires few { length spans.now ≤ 8 }
+    requires spans { AllByRecursion (IsSpanOf text.now (stem_end marks.now)) spans.now }
+    ensures told { IfOk result (λ told.
+        AllZip Tells (straights text.now marks.now spans.now) told.arms.items) }
+    ensures headers { IfOk result (λ told. AllZip HasHeader told.arms.items told.headers.items) }
+    ensures refused { IfErr result (λ no. no ≢ BranchNo.NoMemory
+        → ArmIsRefused (straights text.now marks.now spans.now) no) }
+{
+    let stem_end = stem_end(marks);
+    let mut arms = Vec::new(alloc);
+    let mut headers = Vec::new(alloc);
+    for (i, span) in spans.iter().enumerate() {
+        let straight = match straight(alloc, text, stem_end, *span) {
+            Ok(straight) => straight,
+            Err(NoMemory) => return Err(BranchNo::NoMemory),
+        };
+        let Arm { protocol, header } = match arm_of(alloc, i as u32 + 1, &straight) {
+            Ok(arm) => arm,
+            Err(no) => return Err(no),
+        };
+        arms.push(protocol)?;
+        headers.push(header)?;
+    }
+    Ok(Told { arms, headers })
+}
+
+/// The offset past the stem.
+fn stem_end(marks: &[Mark]) -> u32
+    ensures { result ≡ stem_end marks.now }
+{
+    match stem_size(marks) {
+        0 => past_at(marks, 0),
+        size => past_at(marks, size - 1),
+    }
+}
+
+/// The name of the role that chooses.
+fn chooser_in(alloc: Global, text: &[u8], marks: &[Mark]) -> Result<Text, NoMemory>
+    requires ordered { (spans : List SpanValue) × IsOrdered text.now marks.now spans }
+    requires stand { (to : ℕ) × Stand text.now 0 marks.now to }
+    ensures { IfOk result (λ name. name ≡ chooser_in text.now marks.now) }
+{
+    let at = stem_size(marks) + 2;
+    let span = Span {
+        from: place_at(marks, at),
+        to: past_at(marks, at),
+    };
+    name_text(alloc, bytes_between(text, span))
+}
+
+/// Why a choice isn't lawful, whose arms have these headers.
+fn choice_fault(
+    alloc: Global,
+    b: &Branched,
+    headers: &[Bytes],
+) -> Result<Option<BranchNo>, NoMemory>
+    requires headers { AllZip HasHeader b.now.arms.items headers.now }
+    requires few { 2 ≤ length b.now.arms.items }
+    requires most { length b.now.arms.items ≤ 8 }
+    ensures fault { IfOk result (λ r. r ≡ choice_fault (branched_of b.now)) }
+    ensures lawful { IfOk result (λ r. IfNone r (IsLawful (branched_of b.now))) }
+{
+    if let Some(arm) = other_roles(b) {
+        return Ok(Some(BranchNo::Roles(arm)));
+    }
+    if !among(roles_in(b), &b.chooser) {
+        return Ok(Some(BranchNo::Chooser));
+    }
+    if let Some((role, arm)) = blind(alloc, b)? {
+        return Ok(Some(BranchNo::Blind { role, arm }));
+    }
+    if are_alike(alloc, b, headers)? {
+        Ok(None)
+    } else {
+        Err(NoMemory)
+    }
+}

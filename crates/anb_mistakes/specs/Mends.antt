@@ -1,0 +1,111 @@
+-- What would mend a narration that isn't well formed.
+use Rattle.std.specs.Prelude.{◌≡◌, ℕ, List, [], ◌∷◌, ◌++◌, length, Bool, false, ◌==◌, ◌||◌, codes, decimal, Option, Some, None, if◌then◌else◌}
+use Rattle.std.specs.Str.{bytes_eq}
+use Rattle.anb_format.specs.Formats.{field_count}
+use Rattle.anb_format.specs.declared.pieces.FormatNo.{FormatNo}
+use Rattle.anb_format.specs.declared.pieces.FormatNo.TheVariants.{NoHead, RestNotLast}
+use Rattle.anb_format.specs.declared.pieces.Piece.{Piece}
+use Rattle.anb_format.specs.declared.pieces.Piece.TheVariants.{Lit, Field}
+use Rattle.anb_syntax.specs.Canon.{word_bytes}
+use Rattle.anb_syntax.specs.Grammar.{FormatItem, Narration, TypeItem}
+use Rattle.anb_syntax.specs.Words.{Tok, literal, sort_word, tail}
+use Rattle.anb_syntax.specs.declared.narration.Sort.{Sort}
+use Rattle.anb_resolve.specs.declared.refusals.Kind.{Kind}
+use Rattle.anb_resolve.specs.declared.refusals.Kind.TheVariants as kind
+use Rattle.anb_resolve.specs.declared.refusals.ResolveNo.{ResolveNo}
+use Rattle.anb_resolve.specs.declared.refusals.ResolveNo.TheVariants as resolving
+use Rattle.anb_mistakes.specs.Items.{is_format, pieces_of, sort_of}
+use Rattle.anb_mistakes.specs.Spots.{arguments}
+
+abbrev pub most : Kind → ℕ
+most kind.Name = 64
+most kind.Formats = 64
+most kind.Fields = 32
+most kind.Roles = 32
+most kind.Actions = 256
+most kind.TermNodes = 1024
+most kind.AllNodes = 65536
+
+abbrev pub fields_text : ℕ → List ℕ
+fields_text count = if count == 1 then codes "1 field" else decimal count ++ codes " fields"
+
+abbrev pub given_text : ℕ → List ℕ
+given_text count = if count == 1 then codes "1 is given" else decimal count ++ codes " are given"
+
+-- one byte is another one, or is missing in one of the two
+abbrev pub is_near : List ℕ → List ℕ → Bool
+is_near [] y = length y == 1
+is_near (b ∷ x) [] = length x == 0
+is_near (b ∷ x) (c ∷ y) = if b == c then is_near x y else bytes_eq x y || bytes_eq (b ∷ x) y || bytes_eq x (c ∷ y)
+
+-- the first bytes differ, where both have some
+abbrev pub IsForked : List ℕ → List ℕ → Type 0
+IsForked (b ∷ x) (c ∷ y) = (b == c) ≡ false
+IsForked _ _ = Unit {0}
+
+-- the first text, if it isn't empty
+abbrev pub first_text : List ℕ → List ℕ → List ℕ
+first_text [] other = other
+first_text (b ∷ x) other = b ∷ x
+
+-- the first name that is near, or none
+abbrev pub near_among : List (List ℕ) → List ℕ → List ℕ
+near_among [] x = []
+near_among (y ∷ ys) x = if is_near x y then y else near_among ys x
+
+abbrev pub near_type : List TypeItem → List ℕ → List ℕ
+near_type [] x = []
+near_type (i ∷ is) x = first_text (near_among i.names x) (near_type is x)
+
+abbrev pub near_format : List FormatItem → List ℕ → List ℕ
+near_format [] x = []
+near_format (f ∷ fs) x = if is_near x f.title then f.title else near_format fs x
+
+abbrev pub near : Narration → List ℕ → List ℕ
+near n x = first_text (near_type n.types x) (near_format n.formats x)
+
+abbrev pub near_text : List ℕ → List ℕ
+near_text [] = []
+near_text (b ∷ x) = codes "; near: " ++ b ∷ x
+
+abbrev pub sort_text : Option Sort → List ℕ
+sort_text None = []
+sort_text (Some s) = sort_word s
+
+abbrev pub unsorted : Narration → List ℕ → List ℕ
+unsorted n x =
+    if is_format n.formats x then (if field_count (pieces_of n.formats x) == 0
+    then x ++ (codes " is a format without fields: write " ++ (x ++ codes "()"))
+    else x ++ (codes " is a format with " ++ fields_text (field_count (pieces_of n.formats x))))
+    else x ++ (codes " is declared as " ++ sort_text (sort_of n.types x))
+
+abbrev pub miscounted : Narration → List ℕ → ℕ → List ℕ
+miscounted n x given = x ++ (codes " has " ++ (fields_text (field_count (pieces_of n.formats x)) ++ (codes ", " ++ given_text given)))
+
+abbrev pub shape_text : FormatNo → List ℕ
+shape_text NoHead = codes "it must begin with a literal that isn't empty"
+shape_text (RestNotLast i) = codes "rest must be the last field"
+
+-- the literals before the first field, each behind a space
+abbrev pub lead : List Piece → List ℕ
+lead [] = []
+lead (Lit b ∷ pieces) = 32 ∷ word_bytes (literal b) ++ lead pieces
+lead (Field k ∷ pieces) = []
+
+abbrev pub overlap : Narration → List ℕ → List ℕ → List ℕ
+overlap n f g =
+    f ++ (codes " begins with" ++ (lead (pieces_of n.formats f) ++ (codes ", " ++ (g ++ (codes " with" ++ lead (pieces_of n.formats g))))))
+
+-- where the tokens stand from the place on
+abbrev pub mend : Narration → ResolveNo → List Tok → List ℕ
+mend n (resolving.Limit k count) ts = codes "at most " ++ decimal (most k)
+mend n (resolving.Twice x) ts = codes "a name is declared once, and a role has one line of knowledge"
+mend n (resolving.Unknown x) ts = x ++ (codes " isn't declared" ++ near_text (near n x))
+mend n (resolving.WrongSort x) ts = unsorted n x
+mend n (resolving.WrongCount x) ts = miscounted n x (arguments (tail (tail ts)))
+mend n (resolving.FormatShape x why) ts = shape_text why
+mend n (resolving.Overlap f g) ts = overlap n f g
+mend n (resolving.SelfSend i) ts = codes "an action goes to another role"
+mend n (resolving.KnowledgeTwice role t) ts = codes "a term is listed once"
+mend n (resolving.Wide what) ts = codes "a term has at most 67108864 bytes"
+mend n resolving.NoMemory ts = []

@@ -1,0 +1,336 @@
+//! Where in a text stands what its narration is refused for.
+ghost use Rattle.std.specs.Prelude.{◌≡◌, ◌≤◌, List, ℕ, length, map};
+ghost use Rattle.anb_base.specs.declared.TheConstants.{SMALL_FILE};
+ghost use Rattle.anb_syntax.specs.Views.{narration_of, tok_of};
+ghost use Rattle.anb_syntax.specs.Words.{head};
+ghost use Rattle.anb_mistakes.specs.Spots.{a_format, a_line, a_sender, action as action_in, anything, applied, applied_but, before_uses, ends_types, behind as behind_in, behind_some, first_of, is_agent_sort, is_named, is_other, is_spot, limit_spot, misused, no_atom, not_applied, nth as nth_in, second as second_in, spot as spot_in, stands_behind, typed as typed_in, used as used_in};
+
+use crate::items::{field_count, is_format, pieces_of, sort_of};
+use crate::tokens::{arguments, begins, is_word, others};
+use anb_resolve::{Item, Kind, ResolveNo};
+use anb_syntax::{Narration, Sort, Token, TokenKind};
+
+/// What stands behind a name that is sought: a colon, an arrow, an opening sign, an equals sign, or
+/// anything else; and where a number is told, another number of arguments than that.
+#[derive(Clone, Copy, Drop)]
+pub(crate) struct Follower {
+    pub(crate) colon: bool,
+    pub(crate) arrow: bool,
+    pub(crate) paren: bool,
+    pub(crate) equals: bool,
+    pub(crate) other: bool,
+    pub(crate) but: Option<usize>,
+}
+
+const NOTHING: Follower = Follower {
+    colon: false,
+    arrow: false,
+    paren: false,
+    equals: false,
+    other: false,
+    but: None,
+};
+
+fn anything() -> Follower
+    ensures { result ≡ anything }
+{
+    Follower {
+        colon: true,
+        arrow: true,
+        paren: true,
+        equals: true,
+        other: true,
+        but: None,
+    }
+}
+
+fn a_line() -> Follower
+    ensures { result ≡ a_line }
+{
+    Follower {
+        colon: true,
+        ..NOTHING
+    }
+}
+
+fn a_sender() -> Follower
+    ensures { result ≡ a_sender }
+{
+    Follower {
+        arrow: true,
+        ..NOTHING
+    }
+}
+
+fn a_format() -> Follower
+    ensures { result ≡ a_format }
+{
+    Follower {
+        equals: true,
+        ..NOTHING
+    }
+}
+
+fn applied_but(fields: usize) -> Follower
+    ensures { result ≡ applied_but fields }
+{
+    Follower {
+        paren: true,
+        but: Some(fields),
+        ..NOTHING
+    }
+}
+
+/// Where a name of this sort is used as something else.
+fn misused(narration: &Narration, name: &[u8]) -> Follower
+    ensures { result ≡ misused (narration_of narration.now) name.now }
+{
+    if is_format(&narration.formats, name) {
+        Follower {
+            colon: true,
+            arrow: true,
+            other: true,
+            ..NOTHING
+        }
+    } else if is_agent(sort_of(&narration.types, name)) {
+        Follower {
+            paren: true,
+            ..NOTHING
+        }
+    } else {
+        Follower {
+            colon: true,
+            arrow: true,
+            paren: true,
+            ..NOTHING
+        }
+    }
+}
+
+fn is_agent(sort: Option<Sort>) -> bool
+    ensures { result ≡ is_agent_sort sort }
+{
+    match sort {
+        Some(Sort::Agent) => true,
+        _ => false,
+    }
+}
+
+/// Whether a number of arguments is another one than this.
+fn is_other(fields: Option<usize>, count: usize) -> bool
+    ensures { result ≡ is_other fields count }
+{
+    match fields {
+        None => true,
+        Some(fields) => count != fields,
+    }
+}
+
+/// Whether what is sought stands there.
+fn stands_behind(behind: Follower, tokens: &[Token]) -> bool
+    requires { length tokens.now ≤ SMALL_FILE }
+    ensures { (text : List ℕ) → result ≡ stands_behind behind (map (tok_of text) tokens.now) }
+{
+    if begins(b':', tokens) {
+        behind.colon
+    } else if begins(b'-', tokens) {
+        behind.arrow
+    } else if begins(b'(', tokens) {
+        behind.paren && is_other(behind.but, arguments(others(tokens)))
+    } else if begins(b'=', tokens) {
+        behind.equals
+    } else {
+        behind.other
+    }
+}
+
+/// Whether a token is this name, or any where none is told.
+fn is_named(name: &[u8], text: &[u8], token: Token) -> bool
+    ensures { result ≡ is_named name.now (tok_of text.now token).word }
+{
+    match name {
+        [] => match token.kind {
+            TokenKind::Name => true,
+            _ => false,
+        },
+        [_, ..] => is_word(name, text, token),
+    }
+}
+
+/// Whether the first token is such a name.
+fn is_spot(name: &[u8], behind: Follower, text: &[u8], tokens: &[Token]) -> bool
+    requires { length tokens.now ≤ SMALL_FILE }
+    ensures { result ≡ is_spot name.now behind (map (tok_of text.now) tokens.now) }
+{
+    match tokens {
+        [] => false,
+        [token, rest @ ..] => is_named(name, text, *token) && stands_behind(behind, rest),
+    }
+}
+
+/// The tokens from the k-th such place on, counted from 0.
+fn nth<'t>(name: &[u8], behind: Follower, k: u32, text: &[u8], tokens: &'t [Token]) -> &'t [Token]
+    requires { length tokens.now ≤ SMALL_FILE }
+    ensures tokens { map (tok_of text.now) result.now
+        ≡ nth_in name.now behind k (map (tok_of text.now) tokens.now) }
+    ensures most { length result.now ≤ length tokens.now }
+{
+    let mut left = k;
+    for i in 0..tokens.len() {
+        if is_spot(name, behind, text, &tokens[i..]) {
+            if left == 0 {
+                return &tokens[i..];
+            }
+            left -= 1;
+        }
+    }
+    &[]
+}
+
+/// The tokens behind the first of two words.
+fn behind<'t>(one: &[u8], other: &[u8], text: &[u8], tokens: &'t [Token]) -> &'t [Token]
+    ensures tokens { map (tok_of text.now) result.now
+        ≡ behind_in one.now other.now (map (tok_of text.now) tokens.now) }
+    ensures most { length result.now ≤ length tokens.now }
+{
+    for i in 0..tokens.len() {
+        if is_word(one, text, tokens[i]) || is_word(other, text, tokens[i]) {
+            return &tokens[i + 1..];
+        }
+    }
+    &[]
+}
+
+/// The tokens before formats, knowledge and actions.
+fn before_uses<'t>(text: &[u8], tokens: &'t [Token]) -> &'t [Token]
+    ensures tokens { map (tok_of text.now) result.now
+        ≡ before_uses (map (tok_of text.now) tokens.now) }
+    ensures most { length result.now ≤ length tokens.now }
+{
+    let mut n = 0;
+    'types: while n < tokens.len() && !ends_types(text, tokens[n]) {
+        n += 1;
+    }
+    &tokens[..n]
+}
+
+fn ends_types(text: &[u8], token: Token) -> bool
+    ensures { result ≡ ends_types (tok_of text.now token).word }
+{
+    is_word(b"Formats", text, token)
+        || is_word(b"Knowledge", text, token)
+        || is_word(b"Actions", text, token)
+}
+
+/// The tokens where names are declared with their sorts.
+fn typed<'t>(text: &[u8], tokens: &'t [Token]) -> &'t [Token]
+    ensures tokens { map (tok_of text.now) result.now ≡ typed_in (map (tok_of text.now) tokens.now) }
+    ensures most { length result.now ≤ length tokens.now }
+{
+    before_uses(text, behind(b"Types", b"Types", text, tokens))
+}
+
+/// The tokens where names are used.
+fn used<'t>(text: &[u8], tokens: &'t [Token]) -> &'t [Token]
+    ensures tokens { map (tok_of text.now) result.now ≡ used_in (map (tok_of text.now) tokens.now) }
+    ensures most { length result.now ≤ length tokens.now }
+{
+    behind(b"Knowledge", b"Actions", text, tokens)
+}
+
+/// A name a second time.
+fn second<'t>(name: &[u8], text: &[u8], tokens: &'t [Token]) -> &'t [Token]
+    requires { length tokens.now ≤ SMALL_FILE }
+    ensures tokens { map (tok_of text.now) result.now
+        ≡ second_in name.now (map (tok_of text.now) tokens.now) }
+    ensures most { length result.now ≤ length tokens.now }
+{
+    let types = typed(text, tokens);
+    let twice = nth(name, anything(), 1, text, types);
+    if !twice.is_empty() {
+        return twice;
+    }
+    let format = nth(name, a_format(), 0, text, tokens);
+    if !nth(name, anything(), 0, text, types).is_empty() && !format.is_empty() {
+        return format;
+    }
+    let again = nth(name, a_format(), 1, text, tokens);
+    if !again.is_empty() {
+        return again;
+    }
+    nth(name, a_line(), 1, text, used(text, tokens))
+}
+
+/// The action of a number that counts from 1, by its sender.
+fn action<'t>(number: u32, text: &[u8], tokens: &'t [Token]) -> &'t [Token]
+    requires { length tokens.now ≤ SMALL_FILE }
+    ensures tokens { map (tok_of text.now) result.now
+        ≡ action_in number (map (tok_of text.now) tokens.now) }
+    ensures most { length result.now ≤ length tokens.now }
+{
+    nth(
+        b"",
+        a_sender(),
+        number.saturating_sub(1),
+        text,
+        used(text, tokens),
+    )
+}
+
+/// The first format or action that is too much, or the whole text.
+fn limit_spot<'t>(kind: Kind, text: &[u8], tokens: &'t [Token]) -> &'t [Token]
+    requires { length tokens.now ≤ SMALL_FILE }
+    ensures tokens { map (tok_of text.now) result.now
+        ≡ limit_spot kind (map (tok_of text.now) tokens.now) }
+    ensures most { length result.now ≤ length tokens.now }
+{
+    match kind {
+        Kind::Formats => nth(b"", a_format(), 64, text, tokens),
+        Kind::Actions => nth(b"", a_sender(), 256, text, used(text, tokens)),
+        _ => tokens,
+    }
+}
+
+/// The tokens from where it stands on.
+pub(crate) fn spot<'t>(
+    narration: &Narration,
+    why: &ResolveNo,
+    text: &[u8],
+    tokens: &'t [Token],
+) -> &'t [Token]
+    requires { length tokens.now ≤ SMALL_FILE }
+    ensures tokens { map (tok_of text.now) result.now
+        ≡ spot_in (narration_of narration.now) why.now (map (tok_of text.now) tokens.now) }
+    ensures most { length result.now ≤ length tokens.now }
+{
+    let used = used(text, tokens);
+    match why {
+        ResolveNo::Limit(kind, _) => limit_spot(*kind, text, tokens),
+        ResolveNo::Twice(name) => second(name.as_str().as_bytes(), text, tokens),
+        ResolveNo::Unknown(name) => { nth(name.as_str().as_bytes(), anything(), 0, text, used) }
+        ResolveNo::WrongSort(name) => {
+            let name = name.as_str().as_bytes();
+            nth(name, misused(narration, name), 0, text, used)
+        }
+        ResolveNo::WrongCount(name) => {
+            let name = name.as_str().as_bytes();
+            let fields = field_count(pieces_of(&narration.formats, name));
+            nth(name, applied_but(fields), 0, text, used)
+        }
+        ResolveNo::FormatShape(name, _) => {
+            nth(name.as_str().as_bytes(), a_format(), 0, text, tokens)
+        }
+        ResolveNo::Overlap(_, name) => {
+            nth(name.as_str().as_bytes(), a_format(), 0, text, tokens)
+        }
+        ResolveNo::SelfSend(number) => action(*number, text, tokens),
+        ResolveNo::KnowledgeTwice(role, _) => {
+            nth(role.as_str().as_bytes(), a_line(), 0, text, used)
+        }
+        ResolveNo::Wide(Item::Know(role)) => {
+            nth(role.as_str().as_bytes(), a_line(), 0, text, used)
+        }
+        ResolveNo::Wide(Item::Action(number)) => action(*number, text, tokens),
+        ResolveNo::NoMemory => tokens,
+    }
+}

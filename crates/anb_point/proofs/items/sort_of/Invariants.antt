@@ -1,7 +1,0 @@
-use Rattle.std.proofs.Common.{◌≡◌, drop, map}
-use Rattle.anb_syntax.specs.Views.{type_of}
-use Rattle.anb_point.specs.Items.{sort_of}
-use Rattle.anb_point.proofs.items.sort_of.Given as goal
-
-abbrev pub invariant-loop-item : goal.invariant-loop-item
-invariant-loop-item l = sort_of (map type_of (drop l.item-index l.types)) l.name ≡ sort_of (map type_of l.types) l.name

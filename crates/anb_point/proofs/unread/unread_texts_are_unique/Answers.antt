@@ -1,5 +1,0 @@
-use Rattle.anb_point.proofs.Unreadable.{said_once}
-use Rattle.anb_point.proofs.unread.unread_texts_are_unique.Goals as goal
-
-pub returns : goal.returns
-returns c = said_once

@@ -1,0 +1,69 @@
+use Rattle.std.proofs.Common.{[], ◌∷◌}
+use Rattle.anb_base.specs.declared.place.Place.TheVariants.{Stdio}
+use Rattle.anb_command.proofs.Causes.{early_cause, early_reaches, only_memory, wire_cause}
+use Rattle.anb_command.proofs.Failing.{IsFailure-map}
+use Rattle.anb_command.proofs.OverWire.{untouched}
+use Rattle.anb_rehearse_commands.specs.Telling.{asked_by}
+use Rattle.anb_rehearse_commands.proofs.Asking.{rehearsal_one, rehearsal_quiet}
+use Rattle.anb_rehearse_commands.proofs.Coming.{completes, does_refused, does_rehearsed}
+use Rattle.anb_rehearse_commands.proofs.rehearsing.rehearse.Goals as goal
+
+pub returns-in-Ok-clause-does : goal.returns-in-Ok-clause-does
+returns-in-Ok-clause-does g c =
+    let words = c.args.words in
+    let p = c.in-Ok.prepared in
+    does_rehearsed words.narration.now words.values.now words.schedule.now c.args.host_seed
+    (λ files. rehearsal_one c.narrations_are_unique.ensures c.refusals_are_unique.ensures c.none_is_both.ensures c.one_fit.ensures files words.narration.now words.values.now words.schedule.now c.args.host_seed)
+    (λ files. rehearsal_quiet files words.narration.now words.values.now words.schedule.now c.args.host_seed)
+    (g.F.Shelf.files c.args.shelf.now) (g.W.Wire.state c.args.wire.now) (g.W.Wire.state c.rehearse_over.new.wire) c.rehearse_over.result
+    (asked_by p.staged.protocol p.staged.values p.staged.seed p.turns.items) c.rehearse_over.ensures.late c.in-Ok.ensures.given c.rehearse_over.ensures.comes
+
+pub returns-in-Ok-clause-faults : goal.returns-in-Ok-clause-faults
+returns-in-Ok-clause-faults g c =
+    let words = c.args.words in
+    wire_cause (words.narration.now ∷ words.values.now ∷ words.schedule.now ∷ []) Stdio (g.F.Shelf.faults c.args.shelf.now) (g.F.Shelf.faults c.prepare.new.shelf) (g.W.Wire.state c.args.wire.now) (g.W.Wire.state c.rehearse_over.new.wire) c.rehearse_over.result c.rehearse_over.ensures.wire.cause
+
+pub returns-in-Ok-clause-completes : goal.returns-in-Ok-clause-completes
+returns-in-Ok-clause-completes g c = λ none.
+    let words = c.args.words in
+    completes words.narration.now words.values.now words.schedule.now c.args.host_seed
+    (λ files. rehearsal_one c.narrations_are_unique.ensures c.refusals_are_unique.ensures c.none_is_both.ensures c.one_fit.ensures files words.narration.now words.values.now words.schedule.now c.args.host_seed)
+    (λ files. rehearsal_quiet files words.narration.now words.values.now words.schedule.now c.args.host_seed)
+    (g.F.Shelf.files c.args.shelf.now) (g.W.Wire.state c.args.wire.now) (g.W.Wire.state c.rehearse_over.new.wire) c.rehearse_over.result (returns-in-Ok-clause-does g c)
+    (only_memory (words.narration.now ∷ words.values.now ∷ words.schedule.now ∷ []) Stdio (g.F.Shelf.faults c.args.shelf.now) (g.F.Shelf.faults c.prepare.new.shelf) (g.W.Wire.state c.args.wire.now) (g.W.Wire.state c.rehearse_over.new.wire) none c.rehearse_over.result (returns-in-Ok-clause-faults g c))
+
+pub returns-in-Ok-clause-reached : goal.returns-in-Ok-clause-reached
+returns-in-Ok-clause-reached g c = c.rehearse_over.ensures.wire.reached
+
+pub returns-in-Ok-clause-touches : goal.returns-in-Ok-clause-touches
+returns-in-Ok-clause-touches g c = c.rehearse_over.ensures.wire.touches
+
+pub returns-in-Err-clause-does : goal.returns-in-Err-clause-does
+returns-in-Err-clause-does g c =
+    let words = c.args.words in
+    does_refused words.narration.now words.values.now words.schedule.now c.args.host_seed
+    (λ files. rehearsal_one c.narrations_are_unique.ensures c.refusals_are_unique.ensures c.none_is_both.ensures c.one_fit.ensures files words.narration.now words.values.now words.schedule.now c.args.host_seed)
+    (λ files. rehearsal_quiet files words.narration.now words.values.now words.schedule.now c.args.host_seed)
+    (g.F.Shelf.files c.args.shelf.now) (g.W.Wire.state c.args.wire.now) c.in-Err.status (IsFailure-map c.in-Err.status _ _ _ _ (λ file at. at.2) (λ is. is) c.in-Err.ensures.refused)
+
+pub returns-in-Err-clause-faults : goal.returns-in-Err-clause-faults
+returns-in-Err-clause-faults g c =
+    let words = c.args.words in
+    early_cause (words.narration.now ∷ words.values.now ∷ words.schedule.now ∷ []) Stdio (g.F.Shelf.faults c.args.shelf.now) (g.F.Shelf.faults c.prepare.new.shelf) (g.W.Wire.state c.args.wire.now) (g.W.Wire.state c.args.wire.now)
+    c.in-Err.status _ c.in-Err.ensures.early
+    (IsFailure-map c.in-Err.status _ _ _ _ (λ file at. (at.0, at.1)) (λ is. is) c.in-Err.ensures.refused)
+
+pub returns-in-Err-clause-completes : goal.returns-in-Err-clause-completes
+returns-in-Err-clause-completes g c = λ none.
+    let words = c.args.words in
+    completes words.narration.now words.values.now words.schedule.now c.args.host_seed
+    (λ files. rehearsal_one c.narrations_are_unique.ensures c.refusals_are_unique.ensures c.none_is_both.ensures c.one_fit.ensures files words.narration.now words.values.now words.schedule.now c.args.host_seed)
+    (λ files. rehearsal_quiet files words.narration.now words.values.now words.schedule.now c.args.host_seed)
+    (g.F.Shelf.files c.args.shelf.now) (g.W.Wire.state c.args.wire.now) (g.W.Wire.state c.args.wire.now) c.in-Err.status (returns-in-Err-clause-does g c)
+    (only_memory (words.narration.now ∷ words.values.now ∷ words.schedule.now ∷ []) Stdio (g.F.Shelf.faults c.args.shelf.now) (g.F.Shelf.faults c.prepare.new.shelf) (g.W.Wire.state c.args.wire.now) (g.W.Wire.state c.args.wire.now) none c.in-Err.status (returns-in-Err-clause-faults g c))
+
+pub returns-in-Err-clause-reached : goal.returns-in-Err-clause-reached
+returns-in-Err-clause-reached g c = early_reaches Stdio c.in-Err.status (g.W.Wire.state c.args.wire.now).reached c.in-Err.ensures.early
+
+pub returns-in-Err-clause-touches : goal.returns-in-Err-clause-touches
+returns-in-Err-clause-touches g c = untouched _ _ _
