@@ -1,3 +1,4 @@
 pub mod ByteMeaning
-pub mod AlgebraValue
 pub mod ByteLawful
+-- for proofs alone
+pub mod AlgebraValue

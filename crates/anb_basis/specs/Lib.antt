@@ -1,5 +1,5 @@
 pub mod Checks
 pub mod Statements
+pub mod Chosen
 -- for proofs alone
 pub mod Facts
-pub mod Chosen

@@ -2,7 +2,6 @@ pub mod Closed
 pub mod Rows
 pub mod MadeView
 pub mod MadeFalls
-pub mod Joined
 pub mod Entries
 pub mod Recipes
 pub mod Listed
@@ -10,3 +9,4 @@ pub mod Listed
 pub mod Standings
 pub mod Parents
 pub mod Spreading
+pub mod Joined

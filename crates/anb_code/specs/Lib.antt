@@ -7,5 +7,6 @@ pub mod Table
 pub mod Verified
 pub mod Taking
 pub mod Meaning
-pub mod Checking
 pub mod Laws
+-- for proofs alone
+pub mod Checking

@@ -14,8 +14,8 @@ pub mod Steps
 pub mod Touches
 pub mod Words
 pub mod Writing
--- for proofs alone
-pub mod Commands
 pub mod OverWire
-pub mod Pieces
+pub mod Commands
 pub mod Prepared
+-- for proofs alone
+pub mod Pieces

@@ -3,12 +3,12 @@ pub mod Unsent
 pub mod Counted
 pub mod Registers
 pub mod Laws
+pub mod Emitting
 -- for proofs alone
 pub mod Sharing
 pub mod Writing
 pub mod Verifying
 pub mod Once
 pub mod Valued
-pub mod Emitting
 pub mod RoleCodes
 pub mod Refusing

@@ -1,6 +1,7 @@
 pub mod ByteRuns
-pub mod Keeping
 pub mod Machines
 pub mod Standing
 pub mod Works
+-- for proofs alone
 pub mod Inside
+pub mod Keeping

@@ -11,5 +11,4 @@ pub mod Schedules
 pub mod Codes
 pub mod Laws
 pub mod Views
--- for proofs alone
 pub mod Seen

@@ -3,6 +3,5 @@ pub mod EnactCommand
 pub mod Jobs
 pub mod PlayCommand
 pub mod ReplayCommand
--- for proofs alone
 pub mod Comparing
 pub mod Playing

@@ -1,3 +1,2 @@
 pub mod Sessions
--- for proofs alone
 pub mod Turns

@@ -1,6 +1,6 @@
 pub mod Words
 pub mod Reports
 pub mod StageCommand
--- for proofs alone
 pub mod Asking
+-- for proofs alone
 pub mod Relaying

@@ -3,6 +3,5 @@ pub mod RoleFiles
 pub mod Refusals
 pub mod Laws
 pub mod Writing
--- for proofs alone
 pub mod Reading
 pub mod Stages

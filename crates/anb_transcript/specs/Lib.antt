@@ -1,3 +1,4 @@
 pub mod Replays
 pub mod Texts
+-- for proofs alone
 pub mod Turns
