@@ -1,13 +1,15 @@
 """Processor minutes of each part of the gate, crate by crate, as a table in Markdown.
 
-    python3 bench/gate.py [--log FILE] [NAME ..]
+    python3 bench/gate.py [--log FILE] [--kept] [--write] [NAME ..]
 
 Runs `rt ci --anew` with a prover that notes the processor time of each of its calls, and then writes a row
-a crate: proof, tests, and edits, and the slowest edits. With names it does the same for these crates alone,
-one after another, over libraries that are built first. The tries of a crate's edits begin with one more
-proof of the crate and end with a check that it stands, which count among them. With --log the notes go to
-this file, behind those of earlier runs, and the table is that of all notes; of a part that was done again
-its last run counts, and an edit that is gone counts no more.
+a crate: proof, tests, and edits, the slowest edits, and the longest chain of crates. With names it does the
+same for these crates alone, one after another, over libraries that are built first. The tries of a crate's
+edits begin with one more proof of the crate and end with a check that it stands, which count among them.
+With --log the notes go to this file, behind those of earlier runs, and the table is that of all notes; of a
+part that was done again its last run counts, and an edit that is gone counts no more. With --kept it runs
+`rt ci` with the names, which takes what earlier runs on this machine passed. With --write the table stands
+in docs/PROVING.md after, and its figures in bench/minutes.tsv, which build.py reads.
 """
 import collections
 import glob
@@ -21,6 +23,9 @@ import signal
 import sys
 import tempfile
 import time
+
+sys.path.append(os.path.dirname(os.path.dirname(os.path.abspath(__file__))))
+import build
 
 SHIM = "import sys; sys.path.insert(0, {folder!r}); import gate; gate.noted({prover!r}, {log!r}, {root!r}, {run!r})"
 
@@ -166,11 +171,16 @@ def slowest(notes):
     yield f"The slowest edits: {', '.join(f'{name} {seconds:.0f} s' for name, seconds in sums.most_common(SLOWEST))}"
 
 
-def table(notes):
-    """The rows of a table, the longest first."""
+def sums_of(notes):
+    """The processor seconds of each part of each crate."""
     sums = collections.defaultdict(collections.Counter)
     for note in notes:
         sums[note["crate"]][note["part"]] += note["processor"]
+    return sums
+
+
+def table(sums):
+    """The rows of a table, the longest first."""
     yield "| crate | proof | tests | edits |"
     yield "|---|---|---|---|"
     for crate, parts in sorted(sums.items(), key=lambda it: -it[1].total()):
@@ -178,6 +188,36 @@ def table(notes):
         yield f"| {crate} | {proof} | {tests} | {edits}{f' ({edits_in(crate)})' if edits else ''} |"
     total = sum(sums.values(), collections.Counter())
     yield f"| all | {' | '.join(minutes(total[it]) for it in PARTS)} |"
+
+
+def chain(sums):
+    """The longest chain of crates below the program, by the minutes of their proofs."""
+    crates = build.listed()
+    order = build.standing_on(crates, build.PROGRAM)
+    minutes_of = {name: sums[name]["proof"] / 60 for name in order}
+    longest = build.chains(crates, order, minutes_of)
+    found = [max(order, key=longest.get)]
+    while above := [it for it in order if found[-1] in crates[it]]:
+        found.append(max(above, key=longest.get))
+    named = ", ".join(f"{name} {minutes_of[name]:.1f}" for name in found)
+    yield f"The program's {len(order)} crates take {sum(minutes_of.values()):.0f} minutes of one processor to prove, and their longest chain {longest[found[0]]:.1f}: {named}."
+
+
+def write(sums):
+    """Puts the table and the chain into docs/PROVING.md, and the figures into bench/minutes.tsv."""
+    page, rows = "docs/PROVING.md", [*table(sums)]
+    with open(page) as file:
+        lines = file.read().split("\n")
+    first = lines.index(rows[0])
+    last = next(at for at in range(first, len(lines)) if not lines[at].startswith("|"))
+    lines[first:last] = rows
+    lines = [it if not it.startswith("The program's ") else "".join(chain(sums)) for it in lines]
+    with open(page, "w") as file:
+        file.write("\n".join(lines))
+    with open("bench/minutes.tsv", "w") as file:
+        print("crate", *PARTS, "tried", sep="\t", file=file)
+        for crate, parts in sums.items():
+            print(crate, *(minutes(parts[it]) for it in PARTS), edits_in(crate), sep="\t", file=file)
 
 
 def processor_ticks():
@@ -192,6 +232,8 @@ def main(words):
         log = f"{room}/log"
         if words[:1] == ["--log"]:
             log, words = os.path.abspath(words[1]), words[2:]
+        is_kept, is_written = "--kept" in words, "--write" in words
+        words = [it for it in words if it not in ("--kept", "--write")]
         shim = f"{room}/prover"
         module, prover = gate(shim)
         folder, begun, before = os.path.dirname(os.path.abspath(__file__)), time.time(), processor_ticks()
@@ -199,13 +241,19 @@ def main(words):
             file.write(f"#!{sys.executable}\n{SHIM.format(folder=folder, prover=prover, log=log, root=os.getcwd(), run=begun)}\n")
         os.chmod(shim, 0o755)
         try:
-            status = (0 if some(module, words) else 1) if words else module.main(["ci", "--anew"])
+            if words and not is_kept:
+                status = 0 if some(module, words) else 1
+            else:
+                status = module.main(["ci", *words] if is_kept else ["ci", "--anew"])
         except SystemExit as end:
             status = end.code
         all_ticks, taken = (now - then for now, then in zip(processor_ticks(), before))
         print(f"\n{(time.time() - begun) / 60:.0f} minutes; others took {100 * taken / all_ticks:.1f} % of the processors\n")
-        notes = last_notes(log, words)
-        print(*table(notes), "", *slowest(notes), sep="\n")
+        notes = last_notes(log, [] if is_kept else words)
+        sums = sums_of(notes)
+        print(*table(sums), "", *slowest(notes), "", *chain(sums), sep="\n")
+        if is_written:
+            write(sums)
     return status
 
 

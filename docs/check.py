@@ -32,6 +32,7 @@ import sys
 import tempfile
 
 import charts
+import house
 import narration
 
 ROOT = pathlib.Path(__file__).resolve().parent.parent
@@ -371,6 +372,13 @@ def check_lists(program):
     return len(gaps)
 
 
+def check_house():
+    """crates.txt and the pages agree with the sources."""
+    found = house.faults()
+    print(*found, sep="\n", end="\n" * bool(found))
+    return len(found)
+
+
 def check_index(program, write):
     """The index of the examples is as docs/charts.py writes it."""
     index = EXAMPLES / "README.md"
@@ -415,7 +423,7 @@ def main():
         sys.exit(__doc__)
     program, write = pathlib.Path(words[0]).resolve(), "--write" in sys.argv
     examples, faults = check_examples(program, write)
-    faults += check_lists(program) + check_index(program, write) + check_gate(write)
+    faults += check_lists(program) + check_index(program, write) + check_gate(write) + check_house()
     commands = 0
     for name in PAGES:
         if (ROOT / name).exists():
