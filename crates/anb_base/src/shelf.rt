@@ -42,6 +42,8 @@ pub trait Shelf {
             → HoldsLonger (files self.old) name.now limit }
         ensures cause { IsErrOf result ShelfNo.Failed
             → Rose (faults self.old name.now) (faults self.new name.now) }
+        ensures quiet { (IsErrOf result ShelfNo.Failed → ⊥)
+            → (each : List ℕ) → faults self.new each ≡ faults self.old each }
         ensures never_falls { (each : List ℕ) → faults self.old each ≤ faults self.new each }
         ensures files { files self.new ≡ files self.old }
         ensures others { IfSome (files self.old) (λ _. (other : List ℕ) → other ≢ name.now

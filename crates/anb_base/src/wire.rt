@@ -34,6 +34,7 @@ pub trait Source {
         ensures failed { OnErr result (left self.new ≡ left self.old) }
         ensures unstamped { OnErr result (taken_at self.new ≡ taken_at self.old) }
         ensures cause { OnErr result (Rose (faults self.old) (faults self.new)) }
+        ensures quiet { OnOk result (faults self.new ≡ faults self.old) }
         ensures never_falls { faults self.old ≤ faults self.new }
         ensures kept { kept self.new ≡ kept self.old };
 }
@@ -58,6 +59,7 @@ pub trait Sink {
             Put (written self.old) (written self.new) (take n piece.now)) }
         ensures failed { OnErr result (written self.new ≡ written self.old) }
         ensures cause { OnErr result (Rose (faults self.old) (faults self.new)) }
+        ensures quiet { OnOk result (faults self.new ≡ faults self.old) }
         ensures never_falls { faults self.old ≤ faults self.new }
         ensures kept { kept self.new ≡ kept self.old };
 }
@@ -79,6 +81,7 @@ pub trait Wire: Source + Sink {
             (Put (reached self.old) (reached self.new) (line_of place.now)) }
         ensures failed { OnErr result (reached self.new ≡ reached self.old) }
         ensures cause { OnErr result (Rose (reach_faults self.old) (reach_faults self.new)) }
+        ensures quiet { OnOk result (reach_faults self.new ≡ reach_faults self.old) }
         ensures never_falls { reach_faults self.old ≤ reach_faults self.new }
 
         // All else stays as it is.
@@ -126,6 +129,7 @@ pub fn read_full<S: Source>(src: &mut S, buf: &mut [u8]) -> Result<usize, Failed
         (TookLess (S.left src.old) (S.left src.new) (S.taken_at src.old) (S.taken_at src.new)
         (count_written (S.kept src.old)) (length buf.old)) }
     ensures cause { OnErr result (Rose (S.faults src.old) (S.faults src.new)) }
+    ensures quiet { OnOk result (S.faults src.new ≡ S.faults src.old) }
     ensures never_falls { S.faults src.old ≤ S.faults src.new }
     ensures kept { S.kept src.new ≡ S.kept src.old }
 {
@@ -146,6 +150,7 @@ pub fn write_whole<K: Sink>(snk: &mut K, bytes: &[u8]) -> Result<(), Failed>
     ensures failed { OnErr result
         (PutPrefix (K.written snk.old) (K.written snk.new) bytes.now) }
     ensures cause { OnErr result (Rose (K.faults snk.old) (K.faults snk.new)) }
+    ensures quiet { OnOk result (K.faults snk.new ≡ K.faults snk.old) }
     ensures never_falls { K.faults snk.old ≤ K.faults snk.new }
     ensures kept { K.kept snk.new ≡ K.kept snk.old }
 {

@@ -22,6 +22,8 @@ pub trait Spawner {
         ensures failed { OnErr result (IsUnstarted (child self.old role) (child self.new role)) }
         ensures cause { OnErr result
             (Rose (child self.old role).faults (child self.new role).faults) }
+        ensures quiet { OnOk result
+            ((child self.new role).faults ≡ (child self.old role).faults) }
         ensures never_falls { (child self.old role).faults ≤ (child self.new role).faults }
         ensures kept { KeptByStart (child self.old role) (child self.new role) }
         ensures others { OthersStay role (child self.old) (child self.new) };
@@ -39,6 +41,8 @@ pub trait Spawner {
         ensures failed { OnErr result ((child self.new role).left ≡ (child self.old role).left) }
         ensures cause { OnErr result
             (Rose (child self.old role).faults (child self.new role).faults) }
+        ensures quiet { OnOk result
+            ((child self.new role).faults ≡ (child self.old role).faults) }
         ensures never_falls { (child self.old role).faults ≤ (child self.new role).faults }
         ensures kept { KeptByRead (child self.old role) (child self.new role) }
         ensures others { OthersStay role (child self.old) (child self.new) };
@@ -56,6 +60,8 @@ pub trait Spawner {
             ((child self.new role).written ≡ (child self.old role).written) }
         ensures cause { OnErr result
             (Rose (child self.old role).faults (child self.new role).faults) }
+        ensures quiet { OnOk result
+            ((child self.new role).faults ≡ (child self.old role).faults) }
         ensures never_falls { (child self.old role).faults ≤ (child self.new role).faults }
         ensures kept { KeptByWrite (child self.old role) (child self.new role) }
         ensures others { OthersStay role (child self.old) (child self.new) };
@@ -69,6 +75,8 @@ pub trait Spawner {
         ensures failed { OnErr result ((child self.new role).phase ≡ (child self.old role).phase) }
         ensures cause { OnErr result
             (Rose (child self.old role).faults (child self.new role).faults) }
+        ensures quiet { OnOk result
+            ((child self.new role).faults ≡ (child self.old role).faults) }
         ensures never_falls { (child self.old role).faults ≤ (child self.new role).faults }
         ensures kept { KeptByFinish (child self.old role) (child self.new role) }
         ensures others { OthersStay role (child self.old) (child self.new) };

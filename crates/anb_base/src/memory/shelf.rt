@@ -95,6 +95,8 @@ impl Shelf for MemShelf {
             → self.new ≡ failed_for self.old name.now }
         ensures cause { IsErrOf result ShelfNo.Failed
             → Rose (faults_of self.old name.now) (faults_of self.new name.now) }
+        ensures quiet { (IsErrOf result ShelfNo.Failed → ⊥)
+            → (each : List ℕ) → faults_of self.new each ≡ faults_of self.old each }
         ensures never_falls { (each : List ℕ)
             → faults_of self.old each ≤ faults_of self.new each }
         ensures others { (other : List ℕ) → other ≢ name.now

@@ -1,4 +1,4 @@
-use Rattle.std.proofs.Common.{ℕ, arith, length-append}
+use Rattle.std.proofs.Common.{ℕ, arith, length-append, ◌∙◌}
 use Rattle.std.proofs.lemmas.List.{length-take}
 use Rattle.anb_base.proofs.Joined.{Took-joined, Stamped-joined, taken}
 use Rattle.anb_base.proofs.wire.read_full.Goals as goal
@@ -12,6 +12,6 @@ loop-have-preserved g c =
       stamped =
           let w = c.loop-have.invariant.kept in
           Stamped-joined _ _ _ _ c.loop-have.have c.in_ok-n.n c.loop-have.invariant.stamped (rw w at c.in_ok-n.ensures.stamped);
-      never_falls = omega (arith, c.loop-have.invariant.never_falls, c.read.ensures.never_falls);
+      quiet = c.in_ok-n.ensures.quiet ∙ c.loop-have.invariant.quiet;
       kept = cc;
     }

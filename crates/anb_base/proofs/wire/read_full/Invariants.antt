@@ -7,7 +7,7 @@ invariant-loop-have g l = record {
   within : l.have ≤ length l.buf;
   took : Took (g.S.Source.left l.fn.src) (g.S.Source.left l.src) (take l.have l.buf);
   stamped : Stamped (g.S.Source.taken_at l.fn.src) (g.S.Source.taken_at l.src) (count_written (g.S.Source.kept l.fn.src)) l.have;
-  never_falls : g.S.Source.faults l.fn.src ≤ g.S.Source.faults l.src;
+  quiet : g.S.Source.faults l.src ≡ g.S.Source.faults l.fn.src;
   kept : g.S.Source.kept l.src ≡ g.S.Source.kept l.fn.src;
 }
 

@@ -1,4 +1,4 @@
-use Rattle.std.proofs.Common.{ℕ, arith}
+use Rattle.std.proofs.Common.{ℕ, arith, ◌∙◌}
 use Rattle.anb_base.proofs.Joined.{Put-joined}
 use Rattle.std.proofs.Math.Seq.{take-add}
 use Rattle.std.proofs.lemmas.List.{take_rest, length-drop}
@@ -11,6 +11,6 @@ loop-done-preserved g c =
     let put = rw rest at c.in_ok-done.ensures.put in record {
       within = omega (arith, length-drop {A = ℕ}, within, c.loop-done-test.true);
       put = rw (take-add c.loop-done.done) (Put-joined _ _ _ _ _ c.loop-done.invariant.put put);
-      never_falls = omega (arith, c.loop-done.invariant.never_falls, c.write.ensures.never_falls);
+      quiet = c.in_ok-done.ensures.quiet ∙ c.loop-done.invariant.quiet;
       kept = cc;
     }

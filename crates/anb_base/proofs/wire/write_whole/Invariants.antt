@@ -6,7 +6,7 @@ abbrev pub invariant-loop-done : goal.invariant-loop-done
 invariant-loop-done g l = record {
   within : l.done ≤ length l.bytes;
   put : Put (g.K.Sink.written l.fn.snk) (g.K.Sink.written l.snk) (take l.done l.bytes);
-  never_falls : g.K.Sink.faults l.fn.snk ≤ g.K.Sink.faults l.snk;
+  quiet : g.K.Sink.faults l.snk ≡ g.K.Sink.faults l.fn.snk;
   kept : g.K.Sink.kept l.snk ≡ g.K.Sink.kept l.fn.snk;
 }
 
