@@ -41,3 +41,10 @@ OnFailed (Ok t) P = Unit {0}
 OnFailed (Err (Truncated have need)) P = Unit {0}
 OnFailed (Err (TooLarge len)) P = Unit {0}
 OnFailed (Err Failed) P = P
+
+-- a fact for every other answer
+abbrev pub UnlessFailed : Result Taken FrameNo → Type 0 → Type 0
+UnlessFailed (Ok t) P = P
+UnlessFailed (Err (Truncated have need)) P = P
+UnlessFailed (Err (TooLarge len)) P = P
+UnlessFailed (Err Failed) P = Unit {0}

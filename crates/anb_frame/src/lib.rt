@@ -5,7 +5,7 @@ ghost use Rattle.std.specs.Prelude.{◌≡◌, ◌≤◌, ◌<◌, ℕ, List, le
 ghost use Rattle.anb_base.specs.Moves.{Rose, Put, PutPrefix, count_written};
 ghost use Rattle.anb_frame.specs.Frames.{frame, length_bytes, IsFrameLength};
 ghost use Rattle.anb_frame.specs.Cuts.{Tail, CutLeft, HasCut, HasOneCut};
-ghost use Rattle.anb_frame.specs.Answers.{Takes, Follows, OnFailed};
+ghost use Rattle.anb_frame.specs.Answers.{Takes, Follows, OnFailed, UnlessFailed};
 
 use anb_base::{Bytes, Failed, NoMemory, Sink, Source, read_full, write_whole};
 use std::alloc::Global;
@@ -60,6 +60,7 @@ pub fn take<S: Source>(src: &mut S, buf: &mut [u8]) -> Result<Taken, FrameNo>
         → CutLeft (length buf.old) (S.left src.old) bs tail
         → Follows (length buf.old) bs tail (S.left src.new) buf.new result }
     ensures cause { OnFailed result (Rose (S.faults src.old) (S.faults src.new)) }
+    ensures quiet { UnlessFailed result (S.faults src.new ≡ S.faults src.old) }
     ensures never_falls { S.faults src.old ≤ S.faults src.new }
     ensures kept { S.kept src.new ≡ S.kept src.old }
 {
@@ -110,6 +111,7 @@ pub fn put<K: Sink>(snk: &mut K, bytes: &[u8]) -> Result<(), Failed>
     ensures failed { OnErr result
         (PutPrefix (K.written snk.old) (K.written snk.new) (frame bytes.now)) }
     ensures cause { OnErr result (Rose (K.faults snk.old) (K.faults snk.new)) }
+    ensures quiet { OnOk result (K.faults snk.new ≡ K.faults snk.old) }
     ensures never_falls { K.faults snk.old ≤ K.faults snk.new }
     ensures kept { K.kept snk.new ≡ K.kept snk.old }
 {
