@@ -9,9 +9,9 @@ ghost use Rattle.anb_algebra.specs.ByteMeaning.{StandsAt, byte_meaning, has_oper
 ghost use Rattle.anb_algebra.specs.ByteLawful.{bytes_are_lawful};
 
 use crate::suites::{hash_in, mac_in, seal_in, unseal_in, unwrap_in, wrap_in};
-use anb_base::{Bytes, Suite};
+use anb_base::{Bytes, NoMemory, Suite};
 use anb_format::Format;
-use anb_term::{Algebra, NoMemory, Op};
+use anb_term::{Algebra, Op};
 use std::alloc::Global;
 use std::marker::Model;
 
@@ -116,7 +116,7 @@ impl Algebra for ByteAlgebra<'_> {
     }
 
     fn copy(&self, alloc: Global, table: &[Bytes], at: u32) -> Result<Bytes, NoMemory> {
-        table[at as usize].copy(alloc).map_err(|_| NoMemory)
+        table[at as usize].copy(alloc)
     }
 }
 
@@ -140,14 +140,14 @@ fn build_format(
     ensures { IfOk result (λ bytes.
         bytes ≡ format_bytes format.now.pieces (picked table.now at.now)) }
 {
-    format.build(alloc, table, at).map_err(|_| NoMemory)
+    format.build(alloc, table, at)
 }
 
 fn undo_format(alloc: Global, format: &Format, bytes: &[u8]) -> Result<Option<Vec<Bytes>>, NoMemory>
     ensures { IfOk result (λ r.
         option_map (λ parts. parts.items) r ≡ parts_of format.now.pieces bytes.now) }
 {
-    format.parts(alloc, bytes).map_err(|_| NoMemory)
+    format.parts(alloc, bytes)
 }
 
 /// An opened message as the one part that it is.

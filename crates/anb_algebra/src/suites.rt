@@ -2,11 +2,10 @@
 ghost use Rattle.std.specs.Prelude.{◌≡◌, IfOk};
 ghost use Rattle.anb_seal.specs.Primitives.{hash_of, mac_of, sealed, unsealed, wrapped, unwrapped};
 
-use anb_base::{Bytes, Suite};
+use anb_base::{Bytes, NoMemory, Suite};
 use anb_seal::{
     hash, hash512, mac, mac512, seal, seal512, unseal, unseal512, unwrap, unwrap512, wrap, wrap512,
 };
-use anb_term::NoMemory;
 use std::alloc::Global;
 
 pub(crate) fn hash_in(alloc: Global, suite: Suite, m: &[u8]) -> Result<Bytes, NoMemory>
@@ -33,8 +32,8 @@ pub(crate) fn seal_in(alloc: Global, suite: Suite, k: &[u8], m: &[u8]) -> Result
     ensures { IfOk result (λ bytes. bytes ≡ sealed suite k.now m.now) }
 {
     match suite {
-        Suite::One => seal(alloc, k, m).map_err(|_| NoMemory),
-        Suite::Two => seal512(alloc, k, m).map_err(|_| NoMemory),
+        Suite::One => seal(alloc, k, m),
+        Suite::Two => seal512(alloc, k, m),
     }
 }
 
@@ -47,8 +46,8 @@ pub(crate) fn unseal_in(
     ensures { IfOk result (λ r. r ≡ unsealed suite k.now c.now) }
 {
     match suite {
-        Suite::One => unseal(alloc, k, c).map_err(|_| NoMemory),
-        Suite::Two => unseal512(alloc, k, c).map_err(|_| NoMemory),
+        Suite::One => unseal(alloc, k, c),
+        Suite::Two => unseal512(alloc, k, c),
     }
 }
 
@@ -62,8 +61,8 @@ pub(crate) fn wrap_in(
     ensures { IfOk result (λ bytes. bytes ≡ wrapped suite k.now d.now m.now) }
 {
     match suite {
-        Suite::One => wrap(alloc, k, d, m).map_err(|_| NoMemory),
-        Suite::Two => wrap512(alloc, k, d, m).map_err(|_| NoMemory),
+        Suite::One => wrap(alloc, k, d, m),
+        Suite::Two => wrap512(alloc, k, d, m),
     }
 }
 
@@ -77,7 +76,7 @@ pub(crate) fn unwrap_in(
     ensures { IfOk result (λ r. r ≡ unwrapped suite k.now d.now c.now) }
 {
     match suite {
-        Suite::One => unwrap(alloc, k, d, c).map_err(|_| NoMemory),
-        Suite::Two => unwrap512(alloc, k, d, c).map_err(|_| NoMemory),
+        Suite::One => unwrap(alloc, k, d, c),
+        Suite::Two => unwrap512(alloc, k, d, c),
     }
 }

@@ -15,8 +15,9 @@ ghost use Rattle.anb_basis.specs.Checks.{AfterEquals, InOrder, IsBasis, RestMark
 ghost use Rattle.anb_close.specs.Listed.{AreTouched};
 
 use crate::check::Check;
+use anb_base::NoMemory;
 use anb_close::{Closure, Entry, Made, Opening, Origin};
-use anb_term::{NoMemory, Term};
+use anb_term::Term;
 use std::alloc::Global;
 
 /// Gives a check of an entry that has none yet.

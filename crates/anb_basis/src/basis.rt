@@ -8,8 +8,9 @@ ghost use Rattle.anb_basis.specs.Checks.{AreAll, After, InOrder, IsOnce, AllFit}
 
 use crate::adding::{add_all, mark_again};
 use crate::check::Check;
+use anb_base::NoMemory;
 use anb_close::Closure;
-use anb_term::{NoMemory, Term};
+use anb_term::Term;
 use std::alloc::Global;
 use std::marker::Model;
 

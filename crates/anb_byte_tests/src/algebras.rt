@@ -14,7 +14,7 @@ const PAIR: Op = Op::Format { index: 0, arity: 2 };
 
 /// What an operator builds of a key, a message and a context: of the message a hash; and with the
 /// key, and the context where it takes one, the others.
-fn built(alloc: Global, suite: Suite, op: Op, table: &[Bytes]) -> Result<Bytes, anb_term::NoMemory>
+fn built(alloc: Global, suite: Suite, op: Op, table: &[Bytes]) -> Result<Bytes, NoMemory>
     requires { length table.now ≡ 3 }
 {
     let bytes = ByteAlgebra::new(&[], suite);
@@ -23,7 +23,7 @@ fn built(alloc: Global, suite: Suite, op: Op, table: &[Bytes]) -> Result<Bytes, 
         Op::Mac => bytes.build(alloc, Op::Mac, table, &[0, 1]),
         Op::Seal => bytes.build(alloc, Op::Seal, table, &[0, 1]),
         Op::Wrap => bytes.build(alloc, Op::Wrap, table, &[0, 2, 1]),
-        Op::Format { .. } => Err(anb_term::NoMemory),
+        Op::Format { .. } => Err(NoMemory),
     }
 }
 
@@ -97,7 +97,7 @@ fn undone(
     suite: Suite,
     op: Op,
     table: &[Bytes],
-) -> Result<Option<Vec<Bytes>>, anb_term::NoMemory>
+) -> Result<Option<Vec<Bytes>>, NoMemory>
     requires { length table.now ≡ 3 }
 {
     let bytes = ByteAlgebra::new(&[], suite);
@@ -105,7 +105,7 @@ fn undone(
         Op::Hash => bytes.undo(alloc, Op::Hash, table, &[], 2),
         Op::Seal => bytes.undo(alloc, Op::Seal, table, &[0], 2),
         Op::Wrap => bytes.undo(alloc, Op::Wrap, table, &[0, 1], 2),
-        Op::Mac | Op::Format { .. } => Err(anb_term::NoMemory),
+        Op::Mac | Op::Format { .. } => Err(NoMemory),
     }
 }
 

@@ -14,7 +14,7 @@ ghost use Rattle.anb_certify.specs.Works.{did_of, AreTold};
 use crate::laws::classes_are_tied;
 use crate::links::{Pair, links};
 use crate::works::Done;
-use anb_term::NoMemory;
+use anb_base::NoMemory;
 use std::alloc::Global;
 
 /// For each register, the register that its class is named by: two are tied exactly where these are

@@ -10,7 +10,7 @@ ghost use Rattle.anb_certify.specs.Works.{work_of, did_of, AreTold};
 
 use crate::signs::Signs;
 use crate::works::{Done, Job};
-use anb_term::NoMemory;
+use anb_base::NoMemory;
 use std::alloc::Global;
 
 /// Two registers.

@@ -7,8 +7,9 @@ ghost use Rattle.anb_intern.specs.Nodes.{operands_at, AreUnder, IsOver};
 ghost use Rattle.anb_certify.specs.Decided.{is_among, composes};
 ghost use Rattle.anb_certify.specs.Flags.{all_flagged, is_built, is_parted};
 
+use anb_base::NoMemory;
 use anb_intern::{Node, NodeId, Pool};
-use anb_term::{NoMemory, Term};
+use anb_term::Term;
 use std::alloc::Global;
 
 /// The numbers of these terms, which are put in as far as they aren't there yet. Each node of the terms

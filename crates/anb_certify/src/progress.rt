@@ -19,8 +19,8 @@ use crate::firsts::settle;
 use crate::numbers::{composing, marks, same_flags};
 use crate::rules::{is_wanted, learn};
 use crate::works::Done;
+use anb_base::NoMemory;
 use anb_intern::{Node, NodeId, Pool};
-use anb_term::NoMemory;
 use std::alloc::Global;
 
 /// What was found of the registers and the jobs so far.

@@ -2,6 +2,7 @@
 ghost use Rattle.std.specs.Prelude.{◌≡◌};
 ghost use Rattle.anb_certify.specs.declared.refusal.CertifyNo.TheVariants as refusal;
 
+use anb_base::NoMemory;
 use std::alloc::{AllocError, AllocFailed};
 
 /// Why a code is not certified. Instructions are numbered from 1, registers from 0.
@@ -21,18 +22,10 @@ pub enum CertifyNo {
     NoMemory,
 }
 
-impl From<anb_base::NoMemory> for CertifyNo {
+impl From<NoMemory> for CertifyNo {
     ghost from_gives = { λ _ refused. refused ≡ refusal.NoMemory };
 
-    fn from(_error: anb_base::NoMemory) -> Self {
-        CertifyNo::NoMemory
-    }
-}
-
-impl From<anb_term::NoMemory> for CertifyNo {
-    ghost from_gives = { λ _ refused. refused ≡ refusal.NoMemory };
-
-    fn from(_error: anb_term::NoMemory) -> Self {
+    fn from(_error: NoMemory) -> Self {
         CertifyNo::NoMemory
     }
 }

@@ -13,8 +13,8 @@ ghost use Rattle.anb_certify.specs.Works.{did_of, work_of, AreTold, TellsTerms};
 use crate::classes::classes;
 use crate::numbers::{all_flagged, composing, front, marks};
 use crate::works::{Done, Job};
+use anb_base::NoMemory;
 use anb_intern::{Node, NodeId, Pool};
-use anb_term::NoMemory;
 use std::alloc::Global;
 
 /// The first register that breaks a rule, if any, where the flagged ones are tied to the first of

@@ -8,8 +8,9 @@ ghost use Rattle.anb_certify.specs.Shut.{IsShut};
 ghost use Rattle.anb_certify.specs.Decided.{is_among, composes, parts_in};
 
 use crate::numbers::{all_flagged, composing, is_parted, marks, put_all};
+use anb_base::NoMemory;
 use anb_intern::{NodeId, Pool};
-use anb_term::{NoMemory, Term};
+use anb_term::Term;
 use std::alloc::Global;
 
 /// Whether a list is shut for labels and a term: it holds the labels' terms, and the parts of each of

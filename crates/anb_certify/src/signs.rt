@@ -5,8 +5,9 @@ ghost use Rattle.anb_certify.specs.Signs.{classes_in, sign_of, signs_in, HasSign
 
 use crate::numbers::put_all;
 use crate::table::numbers_at;
+use anb_base::NoMemory;
 use anb_intern::{Node, NodeId, Pool};
-use anb_term::{NoMemory, Op, Term};
+use anb_term::{Op, Term};
 use std::alloc::Global;
 
 /// Operators on classes, by number, and for each number the first register that such a work wrote.

@@ -21,8 +21,9 @@ use crate::numbers::{back, front};
 use crate::progress::Progress;
 use crate::rules::first_loose;
 use crate::works::{Done, Job};
+use anb_base::NoMemory;
 use anb_intern::{Node, NodeId, Pool};
-use anb_term::{NoMemory, Op, Term};
+use anb_term::{Op, Term};
 use std::alloc::Global;
 
 /// The terms of registers in the order of writing, the jobs that were done, and what the last border

@@ -20,7 +20,8 @@ use crate::growth::Growth;
 use crate::index::Index;
 use crate::made::{Compositions, Made};
 use crate::step::Step;
-use anb_term::{NoMemory, Term};
+use anb_base::NoMemory;
+use anb_term::Term;
 use std::alloc::Global;
 use std::marker::Model;
 

@@ -18,7 +18,8 @@ use crate::entry::{Entry, Opening, Origin};
 use crate::index::Index;
 use crate::made::{Compositions, Made};
 use crate::step::{Openings, Step};
-use anb_term::{NoMemory, Op, Term};
+use anb_base::NoMemory;
+use anb_term::{Op, Term};
 use std::alloc::Global;
 
 /// The entries, which of them are doubles, where each was opened, or 0, and where terms stand.

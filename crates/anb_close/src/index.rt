@@ -15,8 +15,9 @@ ghost use Rattle.anb_close.specs.Spreading.{HavePlaces};
 
 use crate::parents::link;
 use crate::spread::spread;
+use anb_base::NoMemory;
 use anb_intern::{Node, NodeId, Pool};
-use anb_term::{NoMemory, Term};
+use anb_term::Term;
 use std::alloc::Global;
 use std::marker::Model;
 

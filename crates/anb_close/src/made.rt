@@ -2,7 +2,8 @@
 
 ghost use Rattle.std.specs.Prelude.{◌≡◌, ◌↔◌, IsTrue, IfOk};
 
-use anb_term::{NoMemory, Op};
+use anb_base::NoMemory;
+use anb_term::Op;
 use std::alloc::Global;
 use std::marker::Model;
 

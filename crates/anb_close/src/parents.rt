@@ -9,8 +9,8 @@ ghost use Rattle.anb_intern.specs.Nodes.{AreUnder, IsOver};
 ghost use Rattle.anb_close.specs.Listed.{IsListed};
 ghost use Rattle.anb_close.specs.Parents.{list_at as the_list, ListsStay, IsUnderAll, IsLinked, AreLinked};
 
+use anb_base::NoMemory;
 use anb_intern::{Node, NodeId, Pool};
-use anb_term::NoMemory;
 use std::alloc::Global;
 
 /// The numbers of the terms that one is an operand of.

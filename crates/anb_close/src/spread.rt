@@ -13,8 +13,8 @@ ghost use Rattle.anb_close.specs.Spreading.{HavePlaces, IsSpreading, HasVisited,
 
 use crate::index::{Standing, is_ready};
 use crate::parents::list_at;
+use anb_base::NoMemory;
 use anb_intern::{NodeId, Pool};
-use anb_term::NoMemory;
 use std::alloc::Global;
 
 /// Finds what has come to compose since a number came to be found, and lists the entries of which

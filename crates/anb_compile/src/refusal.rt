@@ -2,6 +2,7 @@
 ghost use Rattle.std.specs.Prelude.{◌≡◌};
 ghost use Rattle.anb_compile.specs.declared.refusal.CompileNo.TheVariants as refusal;
 
+use anb_base::NoMemory;
 use std::alloc::{AllocError, AllocFailed};
 
 /// Why a role has no code.
@@ -13,18 +14,10 @@ pub enum CompileNo {
     NoMemory,
 }
 
-impl From<anb_base::NoMemory> for CompileNo {
+impl From<NoMemory> for CompileNo {
     ghost from_gives = { λ _ refused. refused ≡ refusal.NoMemory };
 
-    fn from(_error: anb_base::NoMemory) -> Self {
-        CompileNo::NoMemory
-    }
-}
-
-impl From<anb_term::NoMemory> for CompileNo {
-    ghost from_gives = { λ _ refused. refused ≡ refusal.NoMemory };
-
-    fn from(_error: anb_term::NoMemory) -> Self {
+    fn from(_error: NoMemory) -> Self {
         CompileNo::NoMemory
     }
 }

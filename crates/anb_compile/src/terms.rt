@@ -157,13 +157,9 @@ fn put_made(alloc: Global, terms: &mut Vec<Term>, op: Op, at: &[u32]) -> Result<
         × Writes formats (make op at.now) terms.old.items ts
         × (map tree_of terms.new.items ≡ map tree_of terms.old.items ++ ts)) }
 {
-    match TermAlgebra.build(alloc, op, terms, at) {
-        Ok(term) => {
-            terms.push(term)?;
-            Ok(())
-        }
-        Err(_) => Err(NoMemory),
-    }
+    let term = TermAlgebra.build(alloc, op, terms, at)?;
+    terms.push(term)?;
+    Ok(())
 }
 
 /// Appends the parts of a register that is undone with keys, which it has.
@@ -183,14 +179,11 @@ fn put_parts(
         → Writes formats (undo op keys.now of) terms.old.items ts
         → map tree_of terms.new.items ≡ map tree_of terms.old.items ++ ts) }
 {
-    match TermAlgebra.undo(alloc, op, terms, keys, of) {
-        Ok(undone) => match undone {
-            Some(mut parts) => {
-                terms.append(&mut parts)?;
-                Ok(())
-            }
-            None => unreachable!(),
-        },
-        Err(_) => Err(NoMemory),
+    match TermAlgebra.undo(alloc, op, terms, keys, of)? {
+        Some(mut parts) => {
+            terms.append(&mut parts)?;
+            Ok(())
+        }
+        None => unreachable!(),
     }
 }

@@ -10,7 +10,8 @@ ghost use Rattle.anb_intern.specs.declared.node.NodeId.{NodeId};
 ghost use Rattle.anb_intern.specs.Nodes.{tree_at, operands_at, AreUnder, IsOver, AreDistinct, AreBefore, HasPut, HasMore};
 
 use crate::node::{Node, NodeId};
-use anb_term::{NoMemory, Term, Terms};
+use anb_base::NoMemory;
+use anb_term::{Term, Terms};
 use indexmap::IndexSet;
 use std::alloc::Global;
 use std::marker::Model;

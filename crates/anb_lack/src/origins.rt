@@ -6,9 +6,10 @@ ghost use Rattle.anb_resolve.specs.Views.{plan_event};
 ghost use Rattle.anb_lack.specs.Lacking.{brought, first_from, first_origin};
 ghost use Rattle.anb_lack.specs.Noted.{IsNoted};
 
+use anb_base::NoMemory;
 use anb_intern::{Node, NodeId, Pool};
 use anb_resolve::Event;
-use anb_term::{NoMemory, Term};
+use anb_term::Term;
 use std::alloc::Global;
 
 /// Where a role has a term from: it knows it from the start, makes it, or receives it in the message of

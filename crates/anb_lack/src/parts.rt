@@ -8,9 +8,10 @@ ghost use Rattle.anb_certify.specs.Decided.{composes};
 ghost use Rattle.anb_lack.specs.Listing.{IsListing};
 ghost use Rattle.anb_lack.specs.Parts.{lacking, lacks, parts, parts_of_all};
 
+use anb_base::NoMemory;
 use anb_certify::{composing, marks, put_all};
 use anb_intern::{Node, NodeId, Pool};
-use anb_term::{NoMemory, Term};
+use anb_term::Term;
 use std::alloc::Global;
 
 /// The parts of a term that don't compose from these terms, each once, in the order in which they first

@@ -9,7 +9,6 @@ mod atoms;
 mod faults;
 mod laws;
 mod limits;
-mod memory;
 mod names;
 mod parts;
 mod plans;

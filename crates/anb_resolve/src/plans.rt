@@ -3,7 +3,6 @@ ghost use Rattle.std.specs.Prelude.{◌≡◌, ◌++◌, OnOk, map};
 ghost use Rattle.anb_resolve.specs.Plans.{own_events};
 ghost use Rattle.anb_resolve.specs.Views.{action_value, plan_event};
 
-use crate::memory::copied;
 use crate::parts::{Action, Parts};
 use crate::seen::{put_all_atoms, put_atoms, take_new};
 use anb_base::{NoMemory, Text};
@@ -132,7 +131,7 @@ impl Parts {
         let terms = self.known_terms(role);
         let mut events = Vec::new(alloc);
         for term in terms {
-            events.push(Event::Know(copied(alloc, term)?))?;
+            events.push(Event::Know(term.copy(alloc)?))?;
         }
         Ok(events)
     }
@@ -269,13 +268,13 @@ fn put_events(
         for a in names {
             events.push(Event::Fresh(Term::Atom(*a)))?;
         }
-        let term = copied(alloc, &action.message)?;
+        let term = action.message.copy(alloc)?;
         events.push(Event::Send {
             action: number,
             term,
         })?;
     } else if action.to == role {
-        let term = copied(alloc, &action.message)?;
+        let term = action.message.copy(alloc)?;
         events.push(Event::Recv {
             action: number,
             term,

@@ -6,8 +6,8 @@ ghost use Rattle.anb_term.specs.Operator.{arity, keys as keys_of};
 ghost use Rattle.anb_term.specs.Value.{Meaning};
 ghost use Rattle.anb_term.specs.Lawful.{Lawful, picked};
 
-use crate::memory::NoMemory;
 use crate::term::Op;
+use anb_base::NoMemory;
 use std::alloc::Global;
 
 /// What the operators do to values of one type. Values stand in a table and are named by their

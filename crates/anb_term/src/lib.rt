@@ -8,13 +8,11 @@
 
 pub mod algebra;
 pub mod laws;
-pub mod memory;
 pub mod recipe;
 pub mod term;
 pub mod trees;
 
 pub use algebra::Algebra;
-pub use memory::NoMemory;
 pub use recipe::{Recipe, eval};
 pub use term::{Op, Term, Terms};
 pub use trees::TermAlgebra;

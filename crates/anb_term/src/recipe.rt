@@ -5,8 +5,8 @@ ghost use Rattle.anb_term.specs.Value.{value, values, HasAll, HasEach, build_if,
 ghost use Rattle.anb_term.specs.RecipeView.{recipe_of, recipes_of, first_places};
 
 use crate::algebra::Algebra;
-use crate::memory::NoMemory;
 use crate::term::Op;
+use anb_base::NoMemory;
 use std::alloc::Global;
 
 /// What can be done with the values of labels: a label by its number, an operator on recipes, or

@@ -2,7 +2,7 @@
 
 ghost use Rattle.std.specs.Prelude.{◌≡◌, ◌↔◌, [], length, map, IsTrue, IfOk};
 
-use crate::memory::NoMemory;
+use anb_base::NoMemory;
 use std::alloc::Global;
 use std::marker::Model;
 

@@ -8,8 +8,8 @@ ghost use Rattle.anb_term.specs.FreeAlgebra.{term_meaning};
 ghost use Rattle.anb_term.specs.FreeLawful.{term_lawful};
 
 use crate::algebra::Algebra;
-use crate::memory::NoMemory;
 use crate::term::{Op, Term, Terms};
+use anb_base::NoMemory;
 use std::alloc::Global;
 
 /// The algebra whose values are terms, with all operators.

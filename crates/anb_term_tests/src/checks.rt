@@ -5,10 +5,11 @@ ghost use Rattle.anb_term.specs.Tree.{nodes, tree_size, trees_of, IsFormed, AreF
 ghost use Rattle.anb_term.specs.View.{tree_of};
 
 use crate::notation::{term_of, terms_of};
+use anb_base::NoMemory;
 use anb_basis::basis::{Basis, all_checks};
 use anb_basis::check::Check;
 use anb_close::Made;
-use anb_term::{NoMemory, Op, Term, Terms};
+use anb_term::{Op, Term, Terms};
 use std::alloc::Global;
 
 /// How many nodes a term has, where it is well formed and not deep.

@@ -5,10 +5,11 @@ ghost use Rattle.anb_term.specs.Tree.{nodes, tree_size, IsFormed};
 ghost use Rattle.anb_term.specs.View.{tree_of};
 ghost use Rattle.anb_close.specs.Entries.{labels_of};
 
+use anb_base::NoMemory;
 use anb_close::closure::Closure;
 use anb_close::entry::{Entry, Opening, Origin};
 use anb_close::made::Made;
-use anb_term::{NoMemory, Op, Term, Terms};
+use anb_term::{Op, Term, Terms};
 use std::alloc::Global;
 
 /// X, atom 0, sealed under K, atom 1.

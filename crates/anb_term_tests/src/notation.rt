@@ -1,5 +1,6 @@
 //! Terms in postfix notation, so that a test names a term by a short text.
-use anb_term::{NoMemory, Op, Term, Terms};
+use anb_base::NoMemory;
+use anb_term::{Op, Term, Terms};
 use std::alloc::Global;
 
 /// The operator that a letter stands for: `h` a hash, `s` a seal (key, body), `w` a wrap (key, context,

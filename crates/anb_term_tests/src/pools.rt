@@ -1,9 +1,10 @@
 //! A pool by example.
 
 use crate::notation::term_of;
+use anb_base::NoMemory;
 use anb_intern::node::{Node, NodeId};
 use anb_intern::pool::Pool;
-use anb_term::{NoMemory, Op, Term};
+use anb_term::{Op, Term};
 use std::alloc::Global;
 
 /// A pool of one atom, or none where its number isn't 0.

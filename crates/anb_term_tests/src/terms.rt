@@ -1,8 +1,8 @@
 //! Recipes and terms by example.
 
 use crate::notation::{term_of, terms_of};
+use anb_base::NoMemory;
 use anb_term::algebra::Algebra;
-use anb_term::memory::NoMemory;
 use anb_term::recipe::{Recipe, eval};
 use anb_term::term::{Op, Term, Terms};
 use anb_term::trees::TermAlgebra;
