@@ -134,7 +134,7 @@ fn refused(
     ensures terms { IfOk result (λ refusal.
         IsTermOf p.now (tree_of refusal.term) × AllByRecursion (IsTermOf p.now) refusal.terms) }
 {
-    let term = copied(alloc, message(&events[i]))?;
+    let term = events[i].term().copy(alloc)?;
     let terms = reach(alloc, p, closure, &events[..i])?;
     Ok(Refusal {
         action,
@@ -171,27 +171,6 @@ fn label(event: &Event) -> Option<&Term>
         Event::Fresh(term) => Some(term),
         Event::Send { .. } => None,
         Event::Recv { term, .. } => Some(term),
-    }
-}
-
-/// An event's term.
-fn message(event: &Event) -> &Term
-    ensures { tree_of result.now ≡ term_in (plan_event event.now) }
-{
-    match event {
-        Event::Know(term) => term,
-        Event::Fresh(term) => term,
-        Event::Send { term, .. } => term,
-        Event::Recv { term, .. } => term,
-    }
-}
-
-fn copied(alloc: Global, term: &Term) -> Result<Term, NoMemory>
-    ensures { IfOk result (λ copy. copy ≡ term.now) }
-{
-    match term.copy(alloc) {
-        Ok(copy) => Ok(copy),
-        Err(_) => Err(NoMemory),
     }
 }
 

@@ -123,30 +123,10 @@ fn hear(
         × (map tree_of terms.new.items
         ≡ map tree_of terms.old.items ++ term_in (plan_event e) ∷ [])) }
 {
-    let term = term_of(alloc, &events[*next])?;
+    let term = events[*next].term().copy(alloc)?;
     terms.push(term)?;
     *next += 1;
     Ok(())
-}
-
-fn term_of(alloc: Global, event: &Event) -> Result<Term, NoMemory>
-    ensures { IfOk result (λ t. tree_of t ≡ term_in (plan_event event.now)) }
-{
-    match event {
-        Event::Know(term) => copied(alloc, term),
-        Event::Fresh(term) => copied(alloc, term),
-        Event::Send { term, .. } => copied(alloc, term),
-        Event::Recv { term, .. } => copied(alloc, term),
-    }
-}
-
-fn copied(alloc: Global, term: &Term) -> Result<Term, NoMemory>
-    ensures { IfOk result (λ copy. copy ≡ term.now) }
-{
-    match term.copy(alloc) {
-        Ok(copy) => Ok(copy),
-        Err(_) => Err(NoMemory),
-    }
 }
 
 /// Appends what an operator makes of registers.

@@ -72,19 +72,7 @@ fn mark_events(marks: &mut Vec<bool>, events: &[Event])
         (flat_map (λ e. atoms_in (term_in e)) (map plan_event events.now)) }
 {
     for event in events {
-        mark_event(marks, event);
-    }
-}
-
-fn mark_event(marks: &mut Vec<bool>, event: &Event)
-    ensures { marks.new.items
-        ≡ marked marks.old.items (atoms_in (term_in (plan_event event.now))) }
-{
-    match event {
-        Event::Know(term) => mark_term(marks, term),
-        Event::Fresh(term) => mark_term(marks, term),
-        Event::Send { term, .. } => mark_term(marks, term),
-        Event::Recv { term, .. } => mark_term(marks, term),
+        mark_term(marks, event.term());
     }
 }
 

@@ -73,21 +73,9 @@ fn put_event_formats(out: &mut Vec<usize>, events: &[Event]) -> Result<(), NoMem
         ≡ out.old.items ++ flat_map (λ e. formats_in (term_in e)) (map plan_event events.now)) }
 {
     for event in events {
-        put_formats_of(out, event)?;
+        put_formats(out, event.term())?;
     }
     Ok(())
-}
-
-fn put_formats_of(out: &mut Vec<usize>, event: &Event) -> Result<(), NoMemory>
-    ensures { OnOk result (out.new.items
-        ≡ out.old.items ++ formats_in (term_in (plan_event event.now))) }
-{
-    match event {
-        Event::Know(term) => put_formats(out, term),
-        Event::Fresh(term) => put_formats(out, term),
-        Event::Send { term, .. } => put_formats(out, term),
-        Event::Recv { term, .. } => put_formats(out, term),
-    }
 }
 
 /// Appends the formats in a term.

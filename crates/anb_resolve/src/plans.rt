@@ -21,6 +21,25 @@ pub enum Event {
     Recv { action: u32, term: Term },
 }
 
+impl Event {
+    ghost use Rattle.std.specs.Prelude.{◌≡◌};
+    ghost use Rattle.anb_term.specs.View.{tree_of};
+    ghost use Rattle.anb_resolve.specs.Plans.{term_in};
+    ghost use Rattle.anb_resolve.specs.Views.{plan_event};
+
+    /// The term that the role knows, makes, sends or receives.
+    pub fn term(&self) -> &Term
+        ensures { tree_of result.now ≡ term_in (plan_event self.now) }
+    {
+        match self {
+            Event::Know(term) => term,
+            Event::Fresh(term) => term,
+            Event::Send { term, .. } => term,
+            Event::Recv { term, .. } => term,
+        }
+    }
+}
+
 /// What a role does, one event after another.
 #[derive(Drop)]
 pub struct Plan {
