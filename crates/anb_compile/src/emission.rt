@@ -58,13 +58,9 @@ impl Emission {
         ensures first { IfOk result (λ first. first ≡ length self.old.basis.1) }
     {
         self.tell_basis();
-        match self.basis.next(alloc, term) {
-            Ok(first) => {
-                self.tell_basis();
-                Ok(first)
-            }
-            Err(_) => Err(NoMemory),
-        }
+        let first = self.basis.next(alloc, term)?;
+        self.tell_basis();
+        Ok(first)
     }
 
     /// Writes the checks from a place on.

@@ -95,12 +95,8 @@ fn make_into<A: Algebra>(
     ensures err { OnErr result (registers.new.items ≡ registers.old.items) }
     ensures capacity { vec_capacity registers.old ≤ vec_capacity registers.new }
 {
-    let Ok(value) = algebra.build(alloc, op, registers, operands) else {
-        return Err(NoMemory);
-    };
-    if registers.push(value).is_err() {
-        return Err(NoMemory);
-    }
+    let value = algebra.build(alloc, op, registers, operands)?;
+    registers.push(value)?;
     Ok(true)
 }
 
@@ -123,12 +119,11 @@ fn undo_into<A: Algebra>(
     ensures err { OnErr result (registers.new.items ≡ registers.old.items) }
     ensures capacity { vec_capacity registers.old ≤ vec_capacity registers.new }
 {
-    match algebra.undo(alloc, op, registers, keys, of) {
-        Err(_) => Err(NoMemory),
-        Ok(None) => Ok(false),
-        Ok(Some(mut parts)) => match registers.append(&mut parts) {
-            Ok(()) => Ok(true),
-            Err(_) => Err(NoMemory),
-        },
+    match algebra.undo(alloc, op, registers, keys, of)? {
+        None => Ok(false),
+        Some(mut parts) => {
+            registers.append(&mut parts)?;
+            Ok(true)
+        }
     }
 }

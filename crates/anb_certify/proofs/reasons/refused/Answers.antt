@@ -26,7 +26,7 @@ returns-clause-reason c =
     let same : s.0 ≡ x = (let e = slice_get-at events i x c.requires.within c.index-events-i.is in let f = s.1 in cc) in
     let stuck : IsStuck c.args.p.now frame c.args.action (plan_event x) = subst (λ (e : Event). IsStuck c.args.p.now frame c.args.action (plan_event e)) same s.2 in
     reason_is c.args.p.now c.args.role c.args.action events i frame x c.in_ok-term.term c.in_ok-terms.terms c.requires.holds c.requires.unsent (record { plan = c.requires.plan; labels = c.requires.labels })
-    c.requires.within c.index-events-i.is c.requires.terms stuck (ap tree_of c.in_ok-term.ensures ∙ c.message.ensures) c.in_ok-terms.ensures
+    c.requires.within c.index-events-i.is c.requires.terms stuck (ap tree_of c.in_ok-term.ensures ∙ c.term.ensures) c.in_ok-terms.ensures
 
 pub returns-clause-terms : goal.returns-clause-terms
 returns-clause-terms c =
@@ -37,4 +37,4 @@ returns-clause-terms c =
     let s = c.requires.stuck in
     let same : s.0 ≡ x = (let e = slice_get-at events i x c.requires.within c.index-events-i.is in let f = s.1 in cc) in
     let stuck : IsStuck c.args.p.now frame c.args.action (plan_event x) = subst (λ (e : Event). IsStuck c.args.p.now frame c.args.action (plan_event e)) same s.2 in
-    reason_told c.args.p.now (record { action = c.args.action; role = c.args.role; term = c.in_ok-term.term; terms = c.in_ok-terms.terms }) (reason_is c.args.p.now c.args.role c.args.action events i frame x c.in_ok-term.term c.in_ok-terms.terms c.requires.holds c.requires.unsent (record { plan = c.requires.plan; labels = c.requires.labels }) c.requires.within c.index-events-i.is c.requires.terms stuck (ap tree_of c.in_ok-term.ensures ∙ c.message.ensures) c.in_ok-terms.ensures) c.requires.terms
+    reason_told c.args.p.now (record { action = c.args.action; role = c.args.role; term = c.in_ok-term.term; terms = c.in_ok-terms.terms }) (reason_is c.args.p.now c.args.role c.args.action events i frame x c.in_ok-term.term c.in_ok-terms.terms c.requires.holds c.requires.unsent (record { plan = c.requires.plan; labels = c.requires.labels }) c.requires.within c.index-events-i.is c.requires.terms stuck (ap tree_of c.in_ok-term.ensures ∙ c.term.ensures) c.in_ok-terms.ensures) c.requires.terms

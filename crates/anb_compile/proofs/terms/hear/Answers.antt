@@ -9,5 +9,5 @@ returns-clause-term c =
     let old = c.args.terms.now.items in (
       e,
       slice_get-at c.args.events.now c.args.next.now e c.requires c.index-events-next.is,
-      ap (map tree_of) c.in_ok-push.ensures.items ∙ map-append tree_of old (c.in_ok-term.term ∷ []) ∙ ap (λ t. map tree_of old ++ t ∷ []) c.in_ok-term.ensures,
+      ap (map tree_of) c.in_ok-push.ensures.items ∙ map-append tree_of old (c.in_ok-term.term ∷ []) ∙ ap (λ t. map tree_of old ++ t ∷ []) (ap tree_of c.in_ok-term.ensures ∙ c.term.ensures),
     )

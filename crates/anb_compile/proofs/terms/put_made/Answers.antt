@@ -6,8 +6,8 @@ use Rattle.anb_term.specs.Lawful.{picked}
 use Rattle.anb_compile.proofs.Valuing.{made_written}
 use Rattle.anb_compile.proofs.terms.put_made.Goals as goal
 
-pub returns-in_ok-push-in-Ok : goal.returns-in_ok-push-in-Ok
-returns-in_ok-push-in-Ok c formats =
+pub returns : goal.returns
+returns c formats =
     let old = c.args.terms.now.items in
-    let made = c.in-Ok.ensures ∙ ap (λ (l : List Term). Node c.args.op (map tree_of (picked l c.args.at.now))) c.deref.ensures.value in
-    made_written formats c.args.op c.args.at.now old c.push.new.self.items (c.in_ok-push-in-Ok.ensures.items ∙ ap (λ t. old ++ t ∷ []) made)
+    let made = c.in_ok-term.ensures ∙ ap (λ (l : List Term). Node c.args.op (map tree_of (picked l c.args.at.now))) c.deref.ensures.value in
+    made_written formats c.args.op c.args.at.now old c.push.new.self.items (c.in_ok-push.ensures.items ∙ ap (λ t. old ++ t ∷ []) made)

@@ -17,5 +17,5 @@ loop-event-preserved c =
     let here = slice_get-at events i x (omega arith) c.event-item.is in
     let marks = c.loop-event.marks.items in
     let later = flat_map (λ e. atoms_in (term_in e)) (map plan_event (drop (i + 1) events)) in
-    ap (λ m. marked m later) c.mark_event.ensures ∙ sym (marked_both marks (atoms_in (term_in (plan_event x))) later)
+    ap (λ m. marked m later) (c.mark_term.ensures ∙ ap (λ t. marked marks (atoms_in t)) c.term.ensures) ∙ sym (marked_both marks (atoms_in (term_in (plan_event x))) later)
     ∙ ap (λ l. marked marks (flat_map (λ e. atoms_in (term_in e)) (map plan_event l))) (sym (drop_at_got events i x here)) ∙ c.loop-event.invariant
