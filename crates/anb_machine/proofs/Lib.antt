@@ -6,3 +6,4 @@ pub mod Gone
 pub mod Verified
 pub mod Steps
 pub mod Turns
+mod Resting

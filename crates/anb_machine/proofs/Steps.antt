@@ -82,6 +82,7 @@ kept_after s t act ws e i kept next after count few_events few_draws =
     let instrs : length t.code.now.instrs ≡ length s.code.now.instrs = ap (λ c. length c.instrs) same.code in
     record {
       formats = formats ∙ kept.formats ∙ sym (ap (λ c. c.formats) same.code);
+      suite = ap (λ a. a.suite) same.algebra ∙ kept.suite ∙ sym (ap (λ c. c.suite) same.code);
       within = omega (arith, next.within, instrs, after.next);
       few = omega (arith, kept.few, instrs);
       events = omega (arith, kept.events, after.event, after.next, few_events);

@@ -1,6 +1,5 @@
 -- From a run under way to its machine.
-use Rattle.std.proofs.Common.{◌≡◌, ◌≤◌, ℕ, zero, suc, ◌+◌, ◌-◌, List, [], ◌∷◌, length, map, true, Some, None, refl, sym, ap, ◌∙◌, subst, arith}
-use Rattle.anb_format.specs.Formats.{FormatValue}
+use Rattle.std.proofs.Common.{◌≡◌, ◌≤◌, ℕ, ◌+◌, ◌-◌, List, [], ◌∷◌, length, map, true, Some, None, refl, sym, ap, ◌∙◌, subst, arith}
 use Rattle.anb_seal.specs.Streams.{draw_of}
 use Rattle.std.specs.Prelude.{vec_capacity}
 use Rattle.anb_base.specs.declared.TheConstants.{ARRIVAL, WIDE}
@@ -10,7 +9,6 @@ use Rattle.anb_plays.specs.Plays.{Played, ends, waiting, stopped, done}
 use Rattle.anb_plays.specs.Codes.{Act, receives}
 use Rattle.anb_plays.specs.Exec.{exec, IsVerified, HasTakes}
 use Rattle.anb_plays.proofs.Exec.{exec_is_run, takes_ready}
-use Rattle.anb_code.specs.declared.instr.Instr.{Instr}
 use Rattle.anb_code.specs.Meaning.{act_of}
 use Rattle.anb_code.specs.Taking.{take_texts}
 use Rattle.anb_code.specs.Verified.{IsVerifiedCode, count_registers}
@@ -23,7 +21,7 @@ use Rattle.anb_machine.specs.declared.turn.Turn.TheVariants.{Message, Wants, Don
 use Rattle.anb_machine.specs.Machines.{MachineValue, unless_over, gives, waits_after, answer, answer_after, Turned, last_after, turn_of}
 use Rattle.anb_machine.specs.ByteRuns.{run_bytes}
 use Rattle.anb_machine.proofs.Verified.{has_takes, counted}
-use Rattle.anb_machine.specs.Standing.{registers_in, acts_from, acts_left, coming, IsKept, IsSameRun, AtReceive, TurnsTo}
+use Rattle.anb_machine.specs.Standing.{registers_in, acts_left, coming, IsKept, IsSameRun, AtReceive, TurnsTo}
 use Rattle.std.proofs.lemmas.List.{length-drop}
 use Rattle.anb_machine.specs.Inside.{value_of, IsWhole}
 use Rattle.anb_machine.specs.Keeping.{AreDropped, IsLean, instrs_left}
@@ -109,9 +107,9 @@ gives_waiting s (last.Stopped halt) h arrivals = cc
 gives_waiting s last.NoMemory h arrivals = cc
 
 -- the acts of a code from its first instruction
-pub begins : (s : RunState) → IsVerifiedCode ARRIVAL WIDE s.code.now → s.algebra.formats ≡ s.code.now.formats → s.next ≡ 0 → s.event ≡ 0 → s.drawn ≡ 0
-    → length s.registers.items ≡ length (take_texts s.code.now.instrs) → count_registers s.code.now.formats s.code.now.instrs ≤ vec_capacity s.registers → IsKept s
-begins s verified formats next event drawn long room =
+pub begins : (s : RunState) → IsVerifiedCode ARRIVAL WIDE s.code.now → s.algebra.formats ≡ s.code.now.formats → s.algebra.suite ≡ s.code.now.suite
+    → s.next ≡ 0 → s.event ≡ 0 → s.drawn ≡ 0 → length s.registers.items ≡ length (take_texts s.code.now.instrs) → count_registers s.code.now.formats s.code.now.instrs ≤ vec_capacity s.registers → IsKept s
+begins s verified formats suite next event drawn long room =
     let code = s.code.now in
     let acts : acts_left s ≡ map (act_of code.formats) code.instrs = rw (formats, next) refl in
     let takes = has_takes ARRIVAL WIDE code verified in
@@ -121,6 +119,7 @@ begins s verified formats next event drawn long room =
     subst (IsVerified (has_operator code.formats) (map (act_of code.formats) code.instrs)) (sym long) ready in
     record {
       formats = formats;
+      suite = suite;
       within = omega (arith, next);
       few = verified.few_instrs;
       events = omega (arith, event);

@@ -10,6 +10,7 @@ use Rattle.anb_machine.specs.Standing.{IsKept, AtReceive, acts_left}
 
 abbrev pub value_of : RunState → Last → MachineValue
 value_of s what = record {
+  code = s.code.now;
   formats = s.algebra.formats;
   suite = s.algebra.suite;
   seed = s.seed;

@@ -1,5 +1,6 @@
 pub mod ByteRuns
 pub mod Machines
+pub mod Resting
 pub mod Standing
 pub mod Works
 -- for proofs alone

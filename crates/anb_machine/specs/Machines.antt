@@ -6,6 +6,7 @@ use Rattle.anb_seal.specs.Streams.{draw_of}
 use Rattle.anb_algebra.specs.ByteMeaning.{byte_meaning}
 use Rattle.anb_plays.specs.Plays.{Played, End, stopped, waiting, done, ends, says}
 use Rattle.anb_plays.specs.Exec.{exec}
+use Rattle.anb_code.specs.CodeValue.{CodeValue}
 use Rattle.anb_code.specs.declared.instr.Instr.{Instr}
 use Rattle.anb_code.specs.Meaning.{act_of}
 use Rattle.anb_code.specs.Uses.{is_read}
@@ -15,9 +16,10 @@ use Rattle.anb_machine.specs.declared.turn.Last.TheVariants as last
 use Rattle.anb_machine.specs.declared.turn.Turn.{Turn}
 use Rattle.anb_machine.specs.declared.turn.Turn.TheVariants.{Message, Wants, Done, Stopped, NoMemory}
 
--- the formats and the suite, the session's draws, the instructions to come, the widths of all registers, the values of those written
--- so far, the numbers of sends and receives, of instructions and of draws so far, and what the last turn leaves
+-- the code, its formats and its suite, the session's draws, the instructions to come, the widths of all registers, the values of those
+-- written so far, the numbers of sends and receives, of instructions and of draws so far, and what the last turn leaves
 pub record MachineValue : Type 0 where
+  pub code : CodeValue
   pub formats : List FormatValue
   pub suite : Suite
   pub seed : List ℕ

@@ -41,6 +41,7 @@ coming s arrivals = exec (byte_meaning s.algebra.formats s.algebra.suite) (draw_
 -- its instructions are ready, it is in the code, its counts are no further than its place, and its table has room for what is to be written
 pub record IsKept (s : RunState) : Type 0 where
   pub formats : s.algebra.formats ≡ s.code.now.formats
+  pub suite : s.algebra.suite ≡ s.code.now.suite
   pub within : s.next ≤ length s.code.now.instrs
   pub few : length s.code.now.instrs + 1 < 2 ^ 32
   pub events : s.event ≤ s.next

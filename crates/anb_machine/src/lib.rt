@@ -6,10 +6,12 @@
 
 mod machine;
 mod registers;
+mod rest;
 mod state;
 mod turn;
 mod work;
 
 pub use machine::Machine;
+pub use rest::Rest;
 pub use turn::{Halt, Turn};
 pub use work::work as do_work;

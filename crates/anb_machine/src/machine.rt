@@ -18,8 +18,8 @@ use std::marker::Model;
 /// A code on its way.
 #[derive(Drop)]
 pub struct Machine<'c> {
-    state: RunState<'c>,
-    last: Last,
+    pub(crate) state: RunState<'c>,
+    pub(crate) last: Last,
 }
 
 impl<'c> Model for Machine<'c> {
@@ -49,6 +49,7 @@ impl<'c> Machine<'c> {
         ensures run { IfOk result (λ machine. (arrivals : List (List ℕ))
             → gives machine arrivals ≡ run_bytes code.now init.now seed.now session arrivals) }
         ensures open { IfOk result (λ machine. answer machine ≡ None) }
+        ensures code { IfOk result (λ machine. machine.code ≡ code.now) }
         ensures widths { IfOk result (λ machine.
             machine.widths ≡ register_widths ARRIVAL code.now.formats code.now.instrs) }
         ensures keeps { IfOk result KeepsLive }
@@ -76,6 +77,7 @@ impl<'c> Machine<'c> {
         ensures turned { Turned self.old self.new result }
         ensures first { result ≢ Turn.NoMemory → result ≡ turn_of (gives self.old []) }
         ensures narrow { (b : List ℕ) → result ≡ Turn.Message b → length b ≤ WIDE }
+        ensures code { self.new.code ≡ self.old.code }
         ensures widths { self.new.widths ≡ self.old.widths }
         ensures keeps { KeepsLive self.new }
         ensures again { IfSome (answer self.old) (λ turn. (result ≡ turn) × (self.new ≡ self.old)) }
@@ -97,6 +99,7 @@ impl<'c> Machine<'c> {
         ensures further { left self.new < left self.old }
         ensures waits { waits self.new ≡ false }
         ensures open { answer self.new ≡ None }
+        ensures code { self.new.code ≡ self.old.code }
         ensures widths { self.new.widths ≡ self.old.widths }
         ensures keeps { KeepsLive self.new }
     {

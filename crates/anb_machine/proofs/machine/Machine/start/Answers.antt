@@ -1,6 +1,6 @@
 use Rattle.std.proofs.Common.{◌∙◌, true, refl, arith}
 use Rattle.anb_machine.specs.declared.state.RunState.{RunState}
-use Rattle.anb_machine.specs.Keeping.{AreDropped, IsLean}
+use Rattle.anb_machine.specs.Keeping.{IsLean}
 use Rattle.anb_machine.proofs.Lean.{begins_lean, keeps, over_dropped}
 use Rattle.anb_machine.proofs.Turns.{begins, runs}
 use Rattle.anb_machine.proofs.machine.Machine.start.Goals as goal
@@ -14,7 +14,7 @@ invariant_of-result c =
     let table = c.in_ok-registers.ensures in
     let dropped = over_dropped code.formats code.instrs c.last_uses.result.now 0 (λ r. true) c.args.init.now c.in_ok-registers.registers.items uses table.values in
     record {
-      kept = begins s c.formats.ensures.verified formats refl refl refl (dropped.count ∙ c.requires.count) (omega (arith, table.room, uses.count));
+      kept = begins s c.formats.ensures.verified formats (c.new.ensures.suite ∙ c.suite.ensures) refl refl refl (dropped.count ∙ c.requires.count) (omega (arith, table.room, uses.count));
       lean = begins_lean s c.args.init.now c.formats.ensures.verified refl c.requires.count c.requires.short dropped;
       stands = tt;
     }
