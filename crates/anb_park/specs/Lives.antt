@@ -1,6 +1,6 @@
 -- What a session under way stands for.
 use Rattle.std.specs.Prelude.{◌≡◌, ℕ, List, [], ◌∷◌, ◌++◌, true}
-use Rattle.anb_plays.specs.Plays.{Played, SendsFirst}
+use Rattle.anb_plays.specs.Plays.{SendsFirst}
 use Rattle.anb_code.specs.CodeValue.{CodeValue}
 use Rattle.anb_machine.specs.Machines.{MachineValue, gives, waits, turn_of}
 use Rattle.anb_machine.specs.declared.turn.Turn.{Turn}

@@ -15,9 +15,11 @@ mod body;
 mod laws;
 mod live;
 mod playing;
+mod rest;
 mod resuming;
 
 pub use laws::{accepted_is_not_refused, has_one_cause, records_are_apart};
 pub use live::Live;
 pub use playing::play_on;
+pub use rest::LiveRest;
 pub use resuming::{ParkNo, resume};

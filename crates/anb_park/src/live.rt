@@ -53,6 +53,7 @@ impl<'c> Live<'c> {
         ensures stands { IfOk result (λ live.
             Stands code.now (started id init.now seed.now session) [] live) }
         ensures open { IfOk result (λ live. answer live.machine ≡ None) }
+        ensures code { IfOk result (λ live. live.machine.code ≡ code.now) }
     {
         let body = begin_body(alloc, &id, seed, session, init)?;
         let machine = Machine::start(alloc, code, init, seed, session)?;
@@ -70,6 +71,7 @@ impl<'c> Live<'c> {
         ensures narrow { (b : List ℕ) → result ≡ Turn.Message b → length b ≤ WIDE }
         ensures again { IfSome (answer self.old.machine) (λ turn.
             (result ≡ turn) × (self.new ≡ self.old)) }
+        ensures code { self.new.machine.code ≡ self.old.machine.code }
         ensures body { self.new.body ≡ self.old.body }
         ensures stands { (code : CodeValue) (p : Parked) (sent : List (List ℕ)) →
             result ≢ Turn.NoMemory → Stands code p sent self.old
@@ -91,6 +93,7 @@ impl<'c> Live<'c> {
         ensures waits { waits self.new.machine ≡ false }
         ensures open { OnOk result (answer self.new.machine ≡ None) }
         ensures failed { OnErr result (answer self.new.machine ≡ Some Turn.NoMemory) }
+        ensures code { self.new.machine.code ≡ self.old.machine.code }
         ensures body { OnOk result (self.new.body ≡ self.old.body ++ frame bytes) }
         ensures stands { OnOk result ((code : CodeValue) (p : Parked) (sent : List (List ℕ)) →
             Stands code p sent self.old → Stands code (after p (bytes ∷ [])) sent self.new) }

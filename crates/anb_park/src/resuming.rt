@@ -40,6 +40,7 @@ pub fn resume<'c>(
     ensures resumed { IfOk result (λ live. (p : Parked)
         × Accepts (count_takes code.now) (IsWaiting code.now) id key.now parked.now p
         × IsParked code.now p live) }
+    ensures code { IfOk result (λ live. live.machine.code ≡ code.now) }
     ensures refused { IfErr result
         (Refuses (count_takes code.now) (IsWaiting code.now) id key.now parked.now) }
     ensures accepts { (p : Parked)
@@ -63,6 +64,7 @@ fn go_on<'c>(
     ensures resumed { IfOk result (λ live. (p : Parked)
         × AcceptsBody (count_takes code.now) (IsWaiting code.now) id.now body.items p
         × IsParked code.now p live) }
+    ensures code { IfOk result (λ live. live.machine.code ≡ code.now) }
     ensures refused { IfErr result
         (RefusesBody (count_takes code.now) (IsWaiting code.now) id.now body.items) }
 {
@@ -86,6 +88,7 @@ fn run_again<'c>(
     ensures resumed { IfOk result (λ machine. (p : Parked)
         × AcceptsBody (count_takes code.now) (IsWaiting code.now) id.now body.now p
         × GoesOnFrom code.now p machine) }
+    ensures code { IfOk result (λ machine. machine.code ≡ code.now) }
     ensures refused { IfErr result
         (RefusesBody (count_takes code.now) (IsWaiting code.now) id.now body.now) }
 {
@@ -124,6 +127,7 @@ fn differ(a: &[u8; 32], b: &[u8; 32]) -> bool
 fn run_over(alloc: Global, machine: &mut Machine<'_>, frames: &[u8]) -> Result<(), ParkNo>
     ensures ok { OnOk result ((bs : List (List ℕ)) → AreFrames frames.now bs
         → RunsTo machine.old bs machine.new) }
+    ensures code { machine.new.code ≡ machine.old.code }
     ensures err { IfErr result (λ no. (no ≡ ParkNo.NoMemory)
         ⊎ ((no ≡ ParkNo.NotWaiting) × ((bs : List (List ℕ)) → AreFrames frames.now bs
         → RunsElsewhere machine.old bs))) }
