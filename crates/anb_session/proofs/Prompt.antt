@@ -17,7 +17,7 @@ use Rattle.anb_frame.specs.declared.FrameNo.TheVariants.{Truncated, TooLarge, Fa
 use Rattle.anb_frame.proofs.Cuts.{cut_of_part}
 use Rattle.anb_frame.specs.Cuts.{End as Whole}
 use Rattle.anb_plays.specs.Plays.{Played, says, ends, waiting}
-use Rattle.anb_session.specs.Sessions.{due, due_at, IsPrompt}
+use Rattle.anb_session.specs.Sessions.{due, due_at, Awaits, IsPrompt}
 use Rattle.anb_session.specs.Turns.{WaitsPromptly, GoesOnPromptly, ReceivesPromptly, SendsPromptly, TookNothing}
 
 -- two runs with the same due from two points on have it at each byte
@@ -50,6 +50,9 @@ in_time_saying R R' b (Some w) mid taken_at now whole n comes put h =
     let told : IfSome (Some (w ++ frame b)) (λ v. Put taken_at now (due_at R' (length v) [] whole n)) = subst (λ o. IfSome o (λ v. Put taken_at now (due_at R' (length v) [] whole n))) put h in
     subst (Put taken_at now) (sym (due_at-same R R' (length w) (length (w ++ frame b)) [] [] (due_saying R R' b w comes) whole n)) told
 
+awaits_saying : (R R' : List (List ℕ) → Played (List ℕ)) (b : List ℕ) → ((xs : List (List ℕ)) → R xs ≡ says b (R' xs)) → (xs : List (List ℕ)) → Awaits (R' xs) → Awaits (R xs)
+awaits_saying R R' b comes xs h = subst Awaits (sym (comes xs)) h
+
 pub saying_promptly : (s t : WireState) (b : List ℕ) → Put s.written t.written (frame b) → TookNothing s t → SendsPromptly b s t
 saying_promptly s t b put nothing R R' comes = record {
   each = λ u p. record {
@@ -61,6 +64,8 @@ saying_promptly s t b put nothing R R' comes = record {
     took = subst (λ o. Took o u.left (frames p.whole ++ p.rest)) nothing.left p.took;
     in_time = in_time_saying R R' b s.written t.written s.taken_at u.taken_at p.whole (length p.rest) comes put
         (subst (λ o. IfSome t.written (λ w. Put o u.taken_at (due_at R' (length w) [] p.whole (length p.rest)))) nothing.taken_at p.in_time);
+    awaited = λ used d later is. awaits_saying R R' b comes used (p.awaited used d later is);
+    awaits = λ some. awaits_saying R R' b comes p.whole (p.awaits some);
   };
 }
 
@@ -81,6 +86,18 @@ in_time_receiving R R' event b (Some w) mid_written taken_at mid now whole n wai
     let first : Put taken_at mid (replicate (length (frame b)) (due R (length w) [])) = subst (λ (k : ℕ). Put taken_at mid (replicate (length (frame b)) k)) (due_waiting R event (length w) waits) stamped in
     Put-joined taken_at mid now (replicate (length (frame b)) (due R (length w) [])) (due_at R (length w) (b ∷ []) whole n) first later
 
+awaits_first : (R : List (List ℕ) → Played (List ℕ)) (event : ℕ) → R [] ≡ ends (waiting event) [] → Awaits (R [])
+awaits_first R event waits = (event, ap (λ p. p.end) waits)
+
+awaited_receiving : (R R' : List (List ℕ) → Played (List ℕ)) (event : ℕ) (b : List ℕ) (whole : List (List ℕ)) → R [] ≡ ends (waiting event) [] → ((xs : List (List ℕ)) → R (b ∷ xs) ≡ R' xs)
+    → ((used : List (List ℕ)) (d : List ℕ) (later : List (List ℕ)) → whole ≡ used ++ d ∷ later → Awaits (R' used))
+    → (used : List (List ℕ)) (d : List ℕ) (later : List (List ℕ)) → b ∷ whole ≡ used ++ d ∷ later → Awaits (R used)
+awaited_receiving R R' event b whole waits comes each [] d later is = awaits_first R event waits
+awaited_receiving R R' event b whole waits comes each (c ∷ used) d later is =
+    let same : b ≡ c = cc in
+    let rest : whole ≡ used ++ d ∷ later = cc in
+    subst (λ x. Awaits (R (x ∷ used))) same (subst Awaits (sym (comes used)) (each used d later rest))
+
 pub receiving_promptly : (s t : WireState) (event : ℕ) (b : List ℕ) → length b ≤ ARRIVAL → Took s.left t.left (frame b) → t.written ≡ s.written
     → IfSome s.written (λ w. Stamped s.taken_at t.taken_at (length w) (length (frame b))) → ReceivesPromptly event b s t
 receiving_promptly s t event b fits took same stamped R R' waits comes = record {
@@ -92,10 +109,16 @@ receiving_promptly s t event b fits took same stamped R R' waits comes = record 
     ends = p.ends;
     took = subst (Took s.left u.left) (sym (append_assoc (frame b) (frames p.whole) p.rest)) (Took-joined s.left t.left u.left (frame b) (frames p.whole ++ p.rest) took p.took);
     in_time = in_time_receiving R R' event b s.written t.written s.taken_at t.taken_at u.taken_at p.whole (length p.rest) waits comes same stamped p.in_time;
+    awaited = awaited_receiving R R' event b p.whole waits comes p.awaited;
+    awaits = λ some. subst Awaits (sym (comes p.whole)) (p.awaits some);
   };
 }
 
 -- ---- turns that end it
+
+none_before : (used : List (List ℕ)) (b : List ℕ) (later : List (List ℕ)) → [] ≡ used ++ b ∷ later → ⊥
+none_before [] b later is = cc
+none_before (c ∷ used) b later is = cc
 
 pub prompt_nothing : (R : List (List ℕ) → Played (List ℕ)) (s t : WireState) → TookNothing s t → IsPrompt R s t
 prompt_nothing R s t nothing = record {
@@ -106,6 +129,8 @@ prompt_nothing R s t nothing = record {
   ends = refl;
   took = subst (λ o. Took s.left o []) (sym nothing.left) (took_nothing s.left);
   in_time = all_in_time s.written;
+  awaited = λ used b later is. absurd (none_before used b later is);
+  awaits = λ some. absurd (some refl);
 } where
   all_in_time : (written : Option (List ℕ)) → IfSome written (λ w. Put s.taken_at t.taken_at [])
   all_in_time None = tt
@@ -125,6 +150,8 @@ prompt_part s t event z tail ends took stamped R waits = record {
   ends = ends;
   took = took;
   in_time = all_in_time s.written stamped;
+  awaited = λ used b later is. absurd (none_before used b later is);
+  awaits = λ some. awaits_first R event waits;
 } where
   all_in_time : (written : Option (List ℕ)) → IfSome written (λ w. Stamped s.taken_at t.taken_at (length w) (length z)) → IfSome written (λ w. Put s.taken_at t.taken_at (replicate (length z) (due R (length w) [])))
   all_in_time None h = tt
@@ -175,6 +202,8 @@ prompt_as R R' s t same p = record {
   ends = p.ends;
   took = p.took;
   in_time = all_in_time s.written p.in_time;
+  awaited = λ used b later is. subst Awaits (same used) (p.awaited used b later is);
+  awaits = λ some. subst Awaits (same p.whole) (p.awaits some);
 } where
   all_in_time : (written : Option (List ℕ)) → IfSome written (λ w. Put s.taken_at t.taken_at (due_at R (length w) [] p.whole (length p.rest))) → IfSome written (λ w. Put s.taken_at t.taken_at (due_at R' (length w) [] p.whole (length p.rest)))
   all_in_time None h = tt

@@ -1,5 +1,5 @@
 -- What comes of a session: of a run whose arrivals are the frames of a wire's input.
-use Rattle.std.specs.Prelude.{◌≡◌, ℕ, ◌+◌, ◌≤◌, List, [], ◌∷◌, ◌++◌, length, replicate, take, All, Bool, true, false, Option, IfSome}
+use Rattle.std.specs.Prelude.{◌≡◌, ◌≢◌, ℕ, ◌+◌, ◌≤◌, List, [], ◌∷◌, ◌++◌, length, replicate, take, All, Bool, true, false, Option, IfSome}
 use Rattle.anb_base.specs.Moves.{Took, Put, PutPrefix, AtEnd}
 use Rattle.anb_base.specs.Wires.{WireState}
 use Rattle.anb_base.specs.declared.TheConstants.{ARRIVAL}
@@ -78,9 +78,13 @@ module _ (R : Run) where
       replicate (length (frame b)) (due before used)
       ++ due_at before (used ++ b ∷ []) arrivals rest
 
+-- so it waits for an arrival
+abbrev pub Awaits : Played (List ℕ) → Type 0
+Awaits p = (e : ℕ) × (p.end ≡ plays.waiting e)
+
 -- what was taken is the frames of whole arrivals, and then a tail as far as it is taken. Each byte
 -- of it was taken when exactly the messages were written that the run sends over the whole arrivals
--- before that byte's
+-- before that byte's, and over these the run waits
 pub record IsPrompt (R : Run) (old new : WireState) : Type 0 where
   pub whole : List (List ℕ)
   pub rest : List ℕ
@@ -90,3 +94,6 @@ pub record IsPrompt (R : Run) (old new : WireState) : Type 0 where
   pub took : Took old.left new.left (frames whole ++ rest)
   pub in_time : IfSome old.written (λ written.
       Put old.taken_at new.taken_at (due_at R (length written) [] whole (length rest)))
+  pub awaited : (used : List (List ℕ)) (b : List ℕ) (later : List (List ℕ))
+      → whole ≡ used ++ b ∷ later → Awaits (R used)
+  pub awaits : rest ≢ [] → Awaits (R whole)

@@ -2,7 +2,7 @@
 //! come in.
 #![tactic(auto)]
 
-ghost use Rattle.std.specs.Prelude.{◌≡◌, ◌≢◌, ◌≤◌, ◌<◌, ℕ, List, length, true, IfOk, OnOk, IfErr, IfSome, IfNone};
+ghost use Rattle.std.specs.Prelude.{◌≡◌, ◌≢◌, ◌≤◌, ◌<◌, ℕ, List, length, true, Some, IfOk, OnOk, IfErr, IfSome, IfNone};
 ghost use Rattle.anb_base.specs.Moves.{Rose, Put};
 ghost use Rattle.anb_base.specs.declared.TheConstants.{ARRIVAL, WIDE};
 ghost use Rattle.anb_frame.specs.Frames.{frame};
@@ -49,11 +49,15 @@ pub fn play<W: Wire>(alloc: Global, machine: &mut Machine<'_>, wire: &mut W) -> 
     ensures prompt { IsPrompt (gives machine.old) (W.state wire.old) (W.state wire.new) }
     ensures waits { waits_at result ≡ true → waits machine.new ≡ true }
 
-    // A fault is answered only where its count rose.
+    // A fault is answered where its count rose, and nowhere else.
     ensures read_fault { result ≡ PlayEnd.ReadFault
         → Rose (W.Source.faults wire.old) (W.Source.faults wire.new) }
     ensures write_fault { result ≡ PlayEnd.WriteFault
         → Rose (W.Sink.faults wire.old) (W.Sink.faults wire.new) }
+    ensures read_told { W.Source.faults wire.old < W.Source.faults wire.new
+        → result ≡ PlayEnd.ReadFault }
+    ensures write_told { W.Sink.faults wire.old < W.Sink.faults wire.new
+        → result ≡ PlayEnd.WriteFault }
     ensures reading_never_falls { W.Source.faults wire.old ≤ W.Source.faults wire.new }
     ensures writing_never_falls { W.Sink.faults wire.old ≤ W.Sink.faults wire.new }
 
@@ -96,6 +100,10 @@ fn turn<W: Wire>(
         → Rose (W.Source.faults wire.old) (W.Source.faults wire.new)) }
     ensures write_fault { IfSome result (λ end. end ≡ PlayEnd.WriteFault
         → Rose (W.Sink.faults wire.old) (W.Sink.faults wire.new)) }
+    ensures read_told { W.Source.faults wire.old < W.Source.faults wire.new
+        → result ≡ Some PlayEnd.ReadFault }
+    ensures write_told { W.Sink.faults wire.old < W.Sink.faults wire.new
+        → result ≡ Some PlayEnd.WriteFault }
     ensures reading_never_falls { W.Source.faults wire.old ≤ W.Source.faults wire.new }
     ensures writing_never_falls { W.Sink.faults wire.old ≤ W.Sink.faults wire.new }
     ensures reached { W.reached wire.new ≡ W.reached wire.old }
@@ -129,6 +137,8 @@ pub fn send<W: Wire>(alloc: Global, wire: &mut W, message: &[u8]) -> Result<(), 
     ensures waits { IfErr result (λ end. waits_at end ≢ true) }
     ensures write_fault { result ≡ Err PlayEnd.WriteFault
         → Rose (W.Sink.faults wire.old) (W.Sink.faults wire.new) }
+    ensures told { W.Sink.faults wire.old < W.Sink.faults wire.new
+        → result ≡ Err PlayEnd.WriteFault }
     ensures never_falls { W.Sink.faults wire.old ≤ W.Sink.faults wire.new }
     ensures left { W.left wire.new ≡ W.left wire.old }
     ensures read_faults { W.Source.faults wire.new ≡ W.Source.faults wire.old }
@@ -165,6 +175,8 @@ pub fn receive<W: Wire>(
     ensures no_write_fault { result ≢ Err PlayEnd.WriteFault }
     ensures read_fault { result ≡ Err PlayEnd.ReadFault
         → Rose (W.Source.faults wire.old) (W.Source.faults wire.new) }
+    ensures told { W.Source.faults wire.old < W.Source.faults wire.new
+        → result ≡ Err PlayEnd.ReadFault }
     ensures never_falls { W.Source.faults wire.old ≤ W.Source.faults wire.new }
     ensures written { W.written wire.new ≡ W.written wire.old }
     ensures write_faults { W.Sink.faults wire.new ≡ W.Sink.faults wire.old }

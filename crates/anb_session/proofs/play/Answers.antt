@@ -1,5 +1,4 @@
-use Rattle.std.proofs.Common.{arith, refl, ◌∙◌}
-use Rattle.anb_base.proofs.Moving.{Rose-later}
+use Rattle.std.proofs.Common.{◌<◌, arith, refl, ◌∙◌}
 use Rattle.anb_machine.specs.Machines.{gives}
 use Rattle.anb_session.proofs.Continued.{going_nowhere, continued, ending}
 use Rattle.anb_session.proofs.Prompt.{prompt_still, nowhere_promptly, joined_promptly}
@@ -11,8 +10,8 @@ loop-end-init g c = record {
   room = omega (arith, c.in-Ok.ensures.len, c.in-Ok.buffer.ok.0);
   continues = going_nowhere (gives c.args.machine.now) (g.W.Source.left c.args.wire.now) (g.W.Sink.written c.args.wire.now);
   goes_on = nowhere_promptly (gives c.args.machine.now) (g.W.Wire.state c.args.wire.now);
-  reading = omega arith;
-  writing = omega arith;
+  reading = refl;
+  writing = refl;
   reached = refl;
   reach_faults = refl;
 }
@@ -26,8 +25,8 @@ loop-end-preserved g c =
           continued (gives c.args.machine.now) (gives c.loop-end.machine) (gives c.turn.new.machine) (g.W.Source.left c.args.wire.now) (g.W.Source.left c.loop-end.wire) (g.W.Source.left c.turn.new.wire)
           (g.W.Sink.written c.args.wire.now) (g.W.Sink.written c.loop-end.wire) (g.W.Sink.written c.turn.new.wire) old.continues now.continues;
       goes_on = joined_promptly (gives c.args.machine.now) (gives c.loop-end.machine) (gives c.turn.new.machine) (g.W.Wire.state c.args.wire.now) (g.W.Wire.state c.loop-end.wire) (g.W.Wire.state c.turn.new.wire) old.goes_on now.goes_on;
-      reading = omega (arith, old.reading, now.reading_never_falls);
-      writing = omega (arith, old.writing, now.writing_never_falls);
+      reading = (let still : (g.W.Source.faults c.loop-end.wire < g.W.Source.faults c.turn.new.wire → ⊥) = (λ rose. let told = c.turn.ensures.read_told rose in cc) in omega (arith, still, now.reading_never_falls, old.reading));
+      writing = (let still : (g.W.Sink.faults c.loop-end.wire < g.W.Sink.faults c.turn.new.wire → ⊥) = (λ rose. let told = c.turn.ensures.write_told rose in cc) in omega (arith, still, now.writing_never_falls, old.writing));
       reached = now.reached ∙ old.reached;
       reach_faults = now.reach_faults ∙ old.reach_faults;
     }
@@ -40,8 +39,10 @@ returns-in-Some g c =
           (g.W.Source.left c.turn.new.wire) (g.W.Sink.written c.turn.new.wire) c.in-Some.end old.continues c.in-Some.ensures.ends;
       prompt = old.goes_on.each (g.W.Wire.state c.turn.new.wire) c.in-Some.ensures.prompt;
       waits = c.in-Some.ensures.waits;
-      read_fault = λ is. Rose-later _ _ _ old.reading (c.in-Some.ensures.read_fault is);
-      write_fault = λ is. Rose-later _ _ _ old.writing (c.in-Some.ensures.write_fault is);
+      read_fault = λ is. rw (← old.reading) (c.in-Some.ensures.read_fault is);
+      write_fault = λ is. rw (← old.writing) (c.in-Some.ensures.write_fault is);
+      read_told = λ rose. let told = c.turn.ensures.read_told (omega (arith, old.reading, rose)) in cc;
+      write_told = λ rose. let told = c.turn.ensures.write_told (omega (arith, old.writing, rose)) in cc;
       reading_never_falls = omega (arith, old.reading, c.in-Some.ensures.reading_never_falls);
       writing_never_falls = omega (arith, old.writing, c.in-Some.ensures.writing_never_falls);
       reached = c.in-Some.ensures.reached ∙ old.reached;
