@@ -11,6 +11,7 @@ use Rattle.anb_session.specs.declared.PlayEnd.{PlayEnd}
 use Rattle.anb_session.specs.declared.PlayEnd.TheVariants.{Done, Stopped, Waiting, Truncated, TooLarge, ReadFault, WriteFault, NoMemory}
 use Rattle.anb_session.specs.Sessions.{Runs, Concludes, Reads, end_at, due, due_at, IsPrompt}
 use Rattle.anb_session.specs.Turns.{Ends}
+use Rattle.anb_session.proofs.Prompt.{prompt_placeless}
 use Rattle.anb_branch.specs.Stems.{Closes, no_halt}
 
 abbrev placeless : Run → Run
@@ -50,24 +51,6 @@ module _ (R : Run) (arrivals : List (List ℕ)) (tail : Tail) (left now written 
 
 pub ends_placeless : (R : Run) (left now written written_now : Option (List ℕ)) (end : PlayEnd) → Ends R left now written written_now end → Ends (λ more. without_place (R more)) left now written written_now (no_halt end)
 ends_placeless R left now written written_now end h arrivals tail cut = runs_placeless R arrivals tail left now written written_now end (h arrivals tail cut)
-
-due_placeless : (R : Run) (before : ℕ) (used arrivals : List (List ℕ)) (rest : ℕ) → due_at R before used arrivals rest ≡ due_at (placeless R) before used arrivals rest
-due_placeless R before used [] rest = refl
-due_placeless R before used (b ∷ arrivals) rest = ap (λ l. replicate (length (frame b)) (due R before used) ++ l) (due_placeless R before (used ++ b ∷ []) arrivals rest)
-
-pub prompt_placeless : (R : Run) (s t : WireState) → IsPrompt R s t → IsPrompt (λ more. without_place (R more)) s t
-prompt_placeless R s t p = record {
-  whole = p.whole;
-  rest = p.rest;
-  tail = p.tail;
-  fits = p.fits;
-  ends = p.ends;
-  took = p.took;
-  in_time = all_in_time s.written p.in_time;
-} where
-  all_in_time : (written : Option (List ℕ)) → IfSome written (λ w. Put s.taken_at t.taken_at (due_at R (length w) [] p.whole (length p.rest))) → IfSome written (λ w. Put s.taken_at t.taken_at (due_at (placeless R) (length w) [] p.whole (length p.rest)))
-  all_in_time None h = tt
-  all_in_time (Some w) h = subst (Put s.taken_at t.taken_at) (due_placeless R (length w) [] p.whole (length p.rest)) h
 
 pub closes_placeless : (R : Run) (s t : WireState) (end : PlayEnd) → Ends R s.left t.left s.written t.written end → IsPrompt R s t → Closes (λ more. without_place (R more)) s t (no_halt end)
 closes_placeless R s t end ends_so prompt = record {

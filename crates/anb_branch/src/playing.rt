@@ -62,11 +62,15 @@ pub fn branch_play<W: Wire>(
     ensures plays { PlaysTaken (branched_of b.now) role.now told init.now seed.now
         (run_taken (branched_of b.now) role.now told init.now seed.now codes.now) }
 
-    // A fault is answered only where its count rose.
+    // A fault is answered where its count rose, and nowhere else.
     ensures read_fault { result ≡ PlayEnd.ReadFault
         → Rose (W.Source.faults wire.old) (W.Source.faults wire.new) }
     ensures write_fault { result ≡ PlayEnd.WriteFault
         → Rose (W.Sink.faults wire.old) (W.Sink.faults wire.new) }
+    ensures read_told { W.Source.faults wire.old < W.Source.faults wire.new
+        → result ≡ PlayEnd.ReadFault }
+    ensures write_told { W.Sink.faults wire.old < W.Sink.faults wire.new
+        → result ≡ PlayEnd.WriteFault }
     ensures reading_never_falls { W.Source.faults wire.old ≤ W.Source.faults wire.new }
     ensures writing_never_falls { W.Sink.faults wire.old ≤ W.Sink.faults wire.new }
 
@@ -107,6 +111,10 @@ fn play_untold<W: Wire>(
         → Rose (W.Source.faults wire.old) (W.Source.faults wire.new) }
     ensures write_fault { result ≡ PlayEnd.WriteFault
         → Rose (W.Sink.faults wire.old) (W.Sink.faults wire.new) }
+    ensures read_told { W.Source.faults wire.old < W.Source.faults wire.new
+        → result ≡ PlayEnd.ReadFault }
+    ensures write_told { W.Sink.faults wire.old < W.Sink.faults wire.new
+        → result ≡ PlayEnd.WriteFault }
     ensures reading_never_falls { W.Source.faults wire.old ≤ W.Source.faults wire.new }
     ensures writing_never_falls { W.Sink.faults wire.old ≤ W.Sink.faults wire.new }
     ensures reached { W.reached wire.new ≡ W.reached wire.old }
@@ -148,6 +156,10 @@ fn play_seeing<W: Wire>(
         → Rose (W.Source.faults wire.old) (W.Source.faults wire.new) }
     ensures write_fault { result ≡ PlayEnd.WriteFault
         → Rose (W.Sink.faults wire.old) (W.Sink.faults wire.new) }
+    ensures read_told { W.Source.faults wire.old < W.Source.faults wire.new
+        → result ≡ PlayEnd.ReadFault }
+    ensures write_told { W.Sink.faults wire.old < W.Sink.faults wire.new
+        → result ≡ PlayEnd.WriteFault }
     ensures reading_never_falls { W.Source.faults wire.old ≤ W.Source.faults wire.new }
     ensures writing_never_falls { W.Sink.faults wire.old ≤ W.Sink.faults wire.new }
     ensures reached { W.reached wire.new ≡ W.reached wire.old }
@@ -190,6 +202,10 @@ fn play_again<W: Wire>(
         → Rose (W.Source.faults wire.old) (W.Source.faults wire.new) }
     ensures write_fault { result ≡ PlayEnd.WriteFault
         → Rose (W.Sink.faults wire.old) (W.Sink.faults wire.new) }
+    ensures read_told { W.Source.faults wire.old < W.Source.faults wire.new
+        → result ≡ PlayEnd.ReadFault }
+    ensures write_told { W.Sink.faults wire.old < W.Sink.faults wire.new
+        → result ≡ PlayEnd.WriteFault }
     ensures reading_never_falls { W.Source.faults wire.old ≤ W.Source.faults wire.new }
     ensures writing_never_falls { W.Sink.faults wire.old ≤ W.Sink.faults wire.new }
     ensures reached { W.reached wire.new ≡ W.reached wire.old }
@@ -221,6 +237,10 @@ fn play_code<W: Wire>(
         → Rose (W.Source.faults wire.old) (W.Source.faults wire.new) }
     ensures write_fault { result ≡ PlayEnd.WriteFault
         → Rose (W.Sink.faults wire.old) (W.Sink.faults wire.new) }
+    ensures read_told { W.Source.faults wire.old < W.Source.faults wire.new
+        → result ≡ PlayEnd.ReadFault }
+    ensures write_told { W.Sink.faults wire.old < W.Sink.faults wire.new
+        → result ≡ PlayEnd.WriteFault }
     ensures reading_never_falls { W.Source.faults wire.old ≤ W.Source.faults wire.new }
     ensures writing_never_falls { W.Sink.faults wire.old ≤ W.Sink.faults wire.new }
     ensures reached { W.reached wire.new ≡ W.reached wire.old }

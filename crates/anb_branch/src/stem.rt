@@ -49,6 +49,10 @@ pub(crate) fn play_to_choice<W: Wire>(
         → Rose (W.Source.faults wire.old) (W.Source.faults wire.new) }
     ensures write_fault { result ≡ Err PlayEnd.WriteFault
         → Rose (W.Sink.faults wire.old) (W.Sink.faults wire.new) }
+    ensures read_told { W.Source.faults wire.old < W.Source.faults wire.new
+        → result ≡ Err PlayEnd.ReadFault }
+    ensures write_told { W.Sink.faults wire.old < W.Sink.faults wire.new
+        → result ≡ Err PlayEnd.WriteFault }
     ensures reading_never_falls { W.Source.faults wire.old ≤ W.Source.faults wire.new }
     ensures writing_never_falls { W.Sink.faults wire.old ≤ W.Sink.faults wire.new }
     ensures reached { W.reached wire.new ≡ W.reached wire.old }
@@ -86,6 +90,10 @@ fn play_turn<W: Wire>(
         → Rose (W.Source.faults wire.old) (W.Source.faults wire.new) }
     ensures write_fault { result ≡ step.Over PlayEnd.WriteFault
         → Rose (W.Sink.faults wire.old) (W.Sink.faults wire.new) }
+    ensures read_told { W.Source.faults wire.old < W.Source.faults wire.new
+        → result ≡ step.Over PlayEnd.ReadFault }
+    ensures write_told { W.Sink.faults wire.old < W.Sink.faults wire.new
+        → result ≡ step.Over PlayEnd.WriteFault }
     ensures reading_never_falls { W.Source.faults wire.old ≤ W.Source.faults wire.new }
     ensures writing_never_falls { W.Sink.faults wire.old ≤ W.Sink.faults wire.new }
     ensures reached { W.reached wire.new ≡ W.reached wire.old }
@@ -194,6 +202,10 @@ pub(crate) fn play_on<W: Wire>(
         → Rose (W.Source.faults wire.old) (W.Source.faults wire.new) }
     ensures write_fault { result ≡ PlayEnd.WriteFault
         → Rose (W.Sink.faults wire.old) (W.Sink.faults wire.new) }
+    ensures read_told { W.Source.faults wire.old < W.Source.faults wire.new
+        → result ≡ PlayEnd.ReadFault }
+    ensures write_told { W.Sink.faults wire.old < W.Sink.faults wire.new
+        → result ≡ PlayEnd.WriteFault }
     ensures reading_never_falls { W.Source.faults wire.old ≤ W.Source.faults wire.new }
     ensures writing_never_falls { W.Sink.faults wire.old ≤ W.Sink.faults wire.new }
     ensures reached { W.reached wire.new ≡ W.reached wire.old }
@@ -211,6 +223,10 @@ pub(crate) fn play_whole<W: Wire>(alloc: Global, machine: &mut Machine<'_>, wire
         → Rose (W.Source.faults wire.old) (W.Source.faults wire.new) }
     ensures write_fault { result ≡ PlayEnd.WriteFault
         → Rose (W.Sink.faults wire.old) (W.Sink.faults wire.new) }
+    ensures read_told { W.Source.faults wire.old < W.Source.faults wire.new
+        → result ≡ PlayEnd.ReadFault }
+    ensures write_told { W.Sink.faults wire.old < W.Sink.faults wire.new
+        → result ≡ PlayEnd.WriteFault }
     ensures reading_never_falls { W.Source.faults wire.old ≤ W.Source.faults wire.new }
     ensures writing_never_falls { W.Sink.faults wire.old ≤ W.Sink.faults wire.new }
     ensures reached { W.reached wire.new ≡ W.reached wire.old }

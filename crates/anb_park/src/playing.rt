@@ -1,6 +1,6 @@
 //! A session over a wire.
 
-ghost use Rattle.std.specs.Prelude.{◌≡◌, ◌≤◌, ◌<◌, ℕ, List, length, true, IfSome, IfNone};
+ghost use Rattle.std.specs.Prelude.{◌≡◌, ◌≤◌, ◌<◌, ℕ, List, length, true, Some, IfSome, IfNone};
 ghost use Rattle.anb_base.specs.Moves.{Rose};
 ghost use Rattle.anb_base.specs.declared.TheConstants.{ARRIVAL};
 ghost use Rattle.anb_frame.specs.Cuts.{Tail, CutLeft};
@@ -34,11 +34,15 @@ pub fn play_on<W: Wire>(alloc: Global, live: &mut Live<'_>, wire: &mut W) -> Pla
         → Stands code p sent live.old → CutLeft ARRIVAL (W.left wire.old) arrivals tail
         → IsParked code (after p arrivals) live.new }
 
-    // A fault is answered only where its count rose.
+    // A fault is answered where its count rose, and nowhere else.
     ensures read_fault { result ≡ PlayEnd.ReadFault
         → Rose (W.Source.faults wire.old) (W.Source.faults wire.new) }
     ensures write_fault { result ≡ PlayEnd.WriteFault
         → Rose (W.Sink.faults wire.old) (W.Sink.faults wire.new) }
+    ensures read_told { W.Source.faults wire.old < W.Source.faults wire.new
+        → result ≡ PlayEnd.ReadFault }
+    ensures write_told { W.Sink.faults wire.old < W.Sink.faults wire.new
+        → result ≡ PlayEnd.WriteFault }
     ensures reading_never_falls { W.Source.faults wire.old ≤ W.Source.faults wire.new }
     ensures writing_never_falls { W.Sink.faults wire.old ≤ W.Sink.faults wire.new }
 
@@ -84,6 +88,10 @@ fn turn<W: Wire>(
         → Rose (W.Source.faults wire.old) (W.Source.faults wire.new)) }
     ensures write_fault { IfSome result (λ end. end ≡ PlayEnd.WriteFault
         → Rose (W.Sink.faults wire.old) (W.Sink.faults wire.new)) }
+    ensures read_told { W.Source.faults wire.old < W.Source.faults wire.new
+        → result ≡ Some PlayEnd.ReadFault }
+    ensures write_told { W.Sink.faults wire.old < W.Sink.faults wire.new
+        → result ≡ Some PlayEnd.WriteFault }
     ensures reading_never_falls { W.Source.faults wire.old ≤ W.Source.faults wire.new }
     ensures writing_never_falls { W.Sink.faults wire.old ≤ W.Sink.faults wire.new }
     ensures reached { W.reached wire.new ≡ W.reached wire.old }

@@ -80,6 +80,8 @@ prompt_writing R S T U writes p = record {
   ends = p.ends;
   took = subst (λ (l : Option (List ℕ)). Took S.left l (frames p.whole ++ p.rest)) (sym (ap (λ (w : WireState). w.left) writes.same)) p.took;
   in_time = subst (λ (t : Option (List ℕ)). IfSome S.written (λ text. Put S.taken_at t (due_at R (length text) [] p.whole (length p.rest)))) (sym (ap (λ (w : WireState). w.taken_at) writes.same)) p.in_time;
+  awaited = p.awaited;
+  awaits = p.awaits;
 }
 
 module _ (R : Run) (saved : List (List ℕ) → List ℕ) (S T : WireState) where

@@ -17,6 +17,7 @@ use Rattle.anb_frame.specs.declared.FrameNo.TheVariants.{Truncated, TooLarge, Fa
 use Rattle.anb_frame.proofs.Cuts.{cut_of_part}
 use Rattle.anb_frame.specs.Cuts.{End as Whole}
 use Rattle.anb_plays.specs.Plays.{Played, says, ends, waiting}
+use Rattle.anb_plays.specs.Runs.{without_place, no_place}
 use Rattle.anb_session.specs.Sessions.{due, due_at, Awaits, IsPrompt}
 use Rattle.anb_session.specs.Turns.{WaitsPromptly, GoesOnPromptly, ReceivesPromptly, SendsPromptly, TookNothing}
 
@@ -191,21 +192,28 @@ module _ (s t : WireState) (event room n : ℕ) (buf : List ℕ) (is : room ≡ 
       let c = cut_of_part ARRIVAL [] z need (All-nil (λ b. length b ≤ ARRIVAL)) (subst (λ (limit : ℕ). IsPart limit z need) is part) in
       prompt_part s t event z c.0 (subst (λ x. Ends ARRIVAL x c.0) (sym c.1.1) c.1.3) took (told _ stamped)
 
--- ---- a run that is the same over all arrivals
+-- ---- a run that sends the same messages, and waits where the other does
 
-pub prompt_as : (R R' : List (List ℕ) → Played (List ℕ)) (s t : WireState) → ((xs : List (List ℕ)) → R xs ≡ R' xs) → IsPrompt R s t → IsPrompt R' s t
-prompt_as R R' s t same p = record {
-  whole = p.whole;
-  rest = p.rest;
-  tail = p.tail;
-  fits = p.fits;
-  ends = p.ends;
-  took = p.took;
-  in_time = all_in_time s.written p.in_time;
-  awaited = λ used b later is. subst Awaits (same used) (p.awaited used b later is);
-  awaits = λ some. subst Awaits (same p.whole) (p.awaits some);
-} where
-  all_in_time : (written : Option (List ℕ)) → IfSome written (λ w. Put s.taken_at t.taken_at (due_at R (length w) [] p.whole (length p.rest))) → IfSome written (λ w. Put s.taken_at t.taken_at (due_at R' (length w) [] p.whole (length p.rest)))
-  all_in_time None h = tt
-  all_in_time (Some w) h =
-      subst (Put s.taken_at t.taken_at) (due_at-same R R' (length w) (length w) [] [] (λ xs. ap (λ q. length w + length (frames q.sent)) (same xs)) p.whole (length p.rest)) h
+module _ (R R' : List (List ℕ) → Played (List ℕ)) (s t : WireState) where
+  pub prompt_alike : ((xs : List (List ℕ)) → (R xs).sent ≡ (R' xs).sent) → ((xs : List (List ℕ)) → Awaits (R xs) → Awaits (R' xs)) → IsPrompt R s t → IsPrompt R' s t
+  prompt_alike same waits p = record {
+    whole = p.whole;
+    rest = p.rest;
+    tail = p.tail;
+    fits = p.fits;
+    ends = p.ends;
+    took = p.took;
+    in_time = all_in_time s.written p.in_time;
+    awaited = λ used b later is. waits used (p.awaited used b later is);
+    awaits = λ some. waits p.whole (p.awaits some);
+  } where
+    all_in_time : (written : Option (List ℕ)) → IfSome written (λ w. Put s.taken_at t.taken_at (due_at R (length w) [] p.whole (length p.rest))) → IfSome written (λ w. Put s.taken_at t.taken_at (due_at R' (length w) [] p.whole (length p.rest)))
+    all_in_time None h = tt
+    all_in_time (Some w) h =
+        subst (Put s.taken_at t.taken_at) (due_at-same R R' (length w) (length w) [] [] (λ xs. ap (λ (sent : List (List ℕ)). length w + length (frames sent)) (same xs)) p.whole (length p.rest)) h
+
+  pub prompt_as : ((xs : List (List ℕ)) → R xs ≡ R' xs) → IsPrompt R s t → IsPrompt R' s t
+  prompt_as same p = prompt_alike (λ xs. ap (λ (q : Played (List ℕ)). q.sent) (same xs)) (λ xs h. subst Awaits (same xs) h) p
+
+pub prompt_placeless : (R : List (List ℕ) → Played (List ℕ)) (s t : WireState) → IsPrompt R s t → IsPrompt (λ xs. without_place (R xs)) s t
+prompt_placeless R s t p = prompt_alike R (λ xs. without_place (R xs)) s t (λ xs. refl) (λ xs h. (h.0, ap no_place h.1)) p

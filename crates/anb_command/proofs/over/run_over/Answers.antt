@@ -6,7 +6,8 @@ use Rattle.anb_plays.specs.Plays.{Played}
 use Rattle.anb_command.specs.OverWire.{OverWire}
 use Rattle.anb_command.specs.declared.status.Status.TheVariants.{Unreached}
 use Rattle.anb_command.proofs.OverWire.{left_unreached, no_memory, not_before, not_reached, ran, runs_after, runs_nowhere, taken_unreached, written_unreached}
-use Rattle.anb_command.proofs.Prompt.{prompt_after, prompt_nowhere, prompt_same}
+use Rattle.anb_session.proofs.Prompt.{prompt_as}
+use Rattle.anb_command.proofs.Prompt.{prompt_after, prompt_nowhere}
 use Rattle.anb_command.proofs.over.run_over.Goals as goal
 
 pub returns-in-Ok-reach-clause-runs : goal.returns-in-Ok-reach-clause-runs
@@ -22,7 +23,7 @@ returns-in-Ok-reach-clause-prompt g c =
     let p = c.args.prepared.now in
     let machine = c.in-Ok-start.machine in
     let same = subst (λ (init : List (List ℕ)). (arrivals : List (List ℕ)) → gives machine arrivals ≡ run_bytes p.code init p.seed 0 arrivals) c.as_slice-initial.ensures c.in-Ok-start.ensures.run in
-    prompt_same (gives machine) (run_bytes p.code p.initial p.seed 0) (λ arrivals. ap (λ (q : Played (List ℕ)). q.sent) (same arrivals)) (g.W.Wire.state c.args.wire.now) (g.W.Wire.state c.run_now.new.wire)
+    prompt_as (gives machine) (run_bytes p.code p.initial p.seed 0) (g.W.Wire.state c.args.wire.now) (g.W.Wire.state c.run_now.new.wire) same
     (prompt_after (gives machine) c.in-Ok.place (g.W.Wire.state c.args.wire.now) (g.W.Wire.state c.reach.new.wire) (g.W.Wire.state c.run_now.new.wire) c.in-Ok-reach.ensures.reached c.run_now.ensures.prompt)
 
 pub returns-in-Ok-reach-clause-wire : goal.returns-in-Ok-reach-clause-wire

@@ -1,4 +1,4 @@
-use Rattle.std.proofs.Common.{◌≡◌, ◌≤◌, length}
+use Rattle.std.proofs.Common.{◌≡◌, length}
 use Rattle.anb_base.specs.declared.TheConstants.{ARRIVAL}
 use Rattle.anb_machine.specs.Machines.{gives, left}
 use Rattle.anb_session.specs.Turns.{Continues, GoesOnPromptly}
@@ -11,8 +11,8 @@ invariant-loop-end g l = record {
   continues : Continues (gives l.fn.live.machine) (gives l.live.machine) (g.W.Source.left l.fn.wire) (g.W.Source.left l.wire) (g.W.Sink.written l.fn.wire) (g.W.Sink.written l.wire);
   goes_on : GoesOnPromptly (gives l.fn.live.machine) (gives l.live.machine) (g.W.Wire.state l.fn.wire) (g.W.Wire.state l.wire);
   stands_on : StandsOn l.fn.live l.live (g.W.Source.left l.fn.wire) (g.W.Source.left l.wire);
-  reading : g.W.Source.faults l.fn.wire ≤ g.W.Source.faults l.wire;
-  writing : g.W.Sink.faults l.fn.wire ≤ g.W.Sink.faults l.wire;
+  reading : g.W.Source.faults l.wire ≡ g.W.Source.faults l.fn.wire;
+  writing : g.W.Sink.faults l.wire ≡ g.W.Sink.faults l.fn.wire;
   reached : g.W.Wire.reached l.wire ≡ g.W.Wire.reached l.fn.wire;
   reach_faults : g.W.Wire.reach_faults l.wire ≡ g.W.Wire.reach_faults l.fn.wire;
 }

@@ -8,7 +8,7 @@ use Rattle.anb_session.specs.declared.PlayEnd.TheVariants as ends
 use Rattle.anb_command.specs.Causes.{HasWireCause}
 use Rattle.anb_command.specs.OverWire.{StaysReached}
 use Rattle.anb_command.proofs.OverWire.{by_parts}
-use Rattle.anb_command.proofs.Prompt.{prompt_same}
+use Rattle.anb_session.proofs.Prompt.{prompt_placeless}
 use Rattle.anb_command.proofs.States.{telling}
 use Rattle.anb_park_commands.specs.Going.{plays_on, saved}
 use Rattle.anb_park_commands.proofs.Reached.{RunsSo, after_of, cause_further, cause_of, never_parked, parks_ended, parks_waiting, prompt_writing, stays_writing}
@@ -48,7 +48,7 @@ returns-in-Waiting-clause-kept g c = λ code s sent stands e arrivals tail is cu
 pub returns-in-Waiting-clause-prompt : goal.returns-in-Waiting-clause-prompt
 returns-in-Waiting-clause-prompt g c =
     let R = gives c.args.live.now.machine in
-    prompt_same R (plays_on c.args.live.now) (λ arrivals. refl) (g.W.Wire.state c.args.wire.now) (g.W.Wire.state c.keep.new.wire)
+    prompt_placeless R (g.W.Wire.state c.args.wire.now) (g.W.Wire.state c.keep.new.wire)
     (prompt_writing R (g.W.Wire.state c.args.wire.now) (g.W.Wire.state c.play_on.new.wire) (g.W.Wire.state c.keep.new.wire) c.keep.ensures.only c.in-Waiting.ensures.prompt)
 
 pub returns-in-Waiting-clause-cause : goal.returns-in-Waiting-clause-cause
@@ -74,7 +74,7 @@ returns-in_default-clause-kept g c = λ code s sent stands e arrivals tail is cu
 
 pub returns-in_default-clause-prompt : goal.returns-in_default-clause-prompt
 returns-in_default-clause-prompt g c =
-    prompt_same (gives c.args.live.now.machine) (plays_on c.args.live.now) (λ arrivals. refl) (g.W.Wire.state c.args.wire.now) (g.W.Wire.state c.play_on.new.wire) c.play_on.ensures.prompt
+    prompt_placeless (gives c.args.live.now.machine) (g.W.Wire.state c.args.wire.now) (g.W.Wire.state c.play_on.new.wire) c.play_on.ensures.prompt
 
 pub returns-in_default-clause-after : goal.returns-in_default-clause-after
 returns-in_default-clause-after g c = rw c.ended.ensures (after_of c.play_on.result)

@@ -1,6 +1,6 @@
 use Rattle.std.proofs.Common.{refl}
 use Rattle.anb_machine.specs.ByteRuns.{run_bytes}
-use Rattle.anb_command.proofs.Prompt.{prompt_same}
+use Rattle.anb_session.proofs.Prompt.{prompt_placeless}
 use Rattle.anb_command.proofs.Runs.{ends_untold, stops_untold}
 use Rattle.anb_role_commands.specs.Playing.{play_by}
 use Rattle.anb_role_commands.proofs.role_play.play_over.Goals as goal
@@ -13,7 +13,7 @@ returns-in-Stopped-clause-runs g c = λ arrivals tail cut.
 pub returns-in-Stopped-clause-prompt : goal.returns-in-Stopped-clause-prompt
 returns-in-Stopped-clause-prompt g c =
     let p = c.args.prepared.now in
-    prompt_same (run_bytes p.code p.initial p.seed 0) (play_by p.code p.initial p.seed) (λ arrivals. refl) (g.W.Wire.state c.args.wire.now) (g.W.Wire.state c.run_over.new.wire) c.in-Stopped.ensures.prompt
+    prompt_placeless (run_bytes p.code p.initial p.seed 0) (g.W.Wire.state c.args.wire.now) (g.W.Wire.state c.run_over.new.wire) c.in-Stopped.ensures.prompt
 
 pub returns-in-Stopped-clause-wire : goal.returns-in-Stopped-clause-wire
 returns-in-Stopped-clause-wire g c =
@@ -28,7 +28,7 @@ returns-in_default-clause-runs g c = λ arrivals tail cut.
 pub returns-in_default-clause-prompt : goal.returns-in_default-clause-prompt
 returns-in_default-clause-prompt g c =
     let p = c.args.prepared.now in
-    prompt_same (run_bytes p.code p.initial p.seed 0) (play_by p.code p.initial p.seed) (λ arrivals. refl) (g.W.Wire.state c.args.wire.now) (g.W.Wire.state c.run_over.new.wire) c.run_over.ensures.prompt
+    prompt_placeless (run_bytes p.code p.initial p.seed 0) (g.W.Wire.state c.args.wire.now) (g.W.Wire.state c.run_over.new.wire) c.run_over.ensures.prompt
 
 pub returns-in_default-clause-wire : goal.returns-in_default-clause-wire
 returns-in_default-clause-wire g c = c.run_over.ensures.wire
