@@ -12,8 +12,8 @@ invariant-loop-arrival g l = record {
   bytes : AreBytes l.past.items;
   short : AreShort l.past.items;
   along : Along l.receives l.fn.machine l.machine l.past.items (g.W.Wire.state l.fn.wire) (g.W.Wire.state l.wire);
-  reading : g.W.Source.faults l.fn.wire ≤ g.W.Source.faults l.wire;
-  writing : g.W.Sink.faults l.fn.wire ≤ g.W.Sink.faults l.wire;
+  reading : g.W.Source.faults l.wire ≡ g.W.Source.faults l.fn.wire;
+  writing : g.W.Sink.faults l.wire ≡ g.W.Sink.faults l.fn.wire;
   reached : g.W.Wire.reached l.wire ≡ g.W.Wire.reached l.fn.wire;
   reach_faults : g.W.Wire.reach_faults l.wire ≡ g.W.Wire.reach_faults l.fn.wire;
 }
