@@ -37,7 +37,7 @@ zip_bound (b ∷ ws) [] h r = absurd h
 zip_bound (b ∷ ws) (w ∷ new) h zero = h.0
 zip_bound (b ∷ ws) (w ∷ new) h (suc r) = zip_bound ws new h.1 r
 
-grown_bound : (table : List (List ℕ)) (widths : List ℕ) (ws : List (List ℕ)) (new : List ℕ) → length widths ≡ length table → IsBound table widths → AreWithin ws new → IsBound (table ++ ws) (widths ++ new)
+pub grown_bound : (table : List (List ℕ)) (widths : List ℕ) (ws : List (List ℕ)) (new : List ℕ) → length widths ≡ length table → IsBound table widths → AreWithin ws new → IsBound (table ++ ws) (widths ++ new)
 grown_bound [] [] ws new e h k r = zip_bound ws new k r
 grown_bound [] (w ∷ widths) ws new e h k r = absurd (omega (arith, e))
 grown_bound (b ∷ table) [] ws new e h k r = absurd (omega (arith, e))
@@ -49,7 +49,7 @@ front_same [] ws r h = absurd (omega (arith, h))
 front_same (b ∷ table) ws zero h = refl
 front_same (b ∷ table) ws (suc r) h = front_same table ws r (omega (arith, h))
 
-within_longer : (ws : List (List ℕ)) (new : List ℕ) → AreWithin ws new → length new ≡ length ws
+pub within_longer : (ws : List (List ℕ)) (new : List ℕ) → AreWithin ws new → length new ≡ length ws
 within_longer [] [] h = refl
 within_longer [] (w ∷ new) h = absurd h
 within_longer (b ∷ ws) [] h = absurd h
@@ -133,7 +133,7 @@ taken_front [] more (suc n) e = absurd (omega (arith, e))
 taken_front (w ∷ widths) more zero e = absurd (omega (arith, e))
 taken_front (w ∷ widths) more (suc n) e = ap (λ l. w ∷ l) (taken_front widths more n (omega (arith, e)))
 
-front_all : (P : ℕ → Type 0) (widths more : List ℕ) → AllByRecursion P (widths ++ more) → AllByRecursion P widths
+pub front_all : (P : ℕ → Type 0) (widths more : List ℕ) → AllByRecursion P (widths ++ more) → AllByRecursion P widths
 front_all P [] more h = tt
 front_all P (w ∷ widths) more h = (h.0, front_all P widths more h.1)
 
@@ -144,7 +144,7 @@ narrow_front s lean =
     let all : All (λ w. w ≤ WIDE) (lean.widths ++ more.0) = subst (All (λ w. w ≤ WIDE)) (sym lean.later ∙ more.1) lean.narrow in
     All-from_recursion (λ w. w ≤ WIDE) lean.widths (front_all (λ w. w ≤ WIDE) lean.widths more.0 (recursion_from_All (λ w. w ≤ WIDE) (lean.widths ++ more.0) all))
 
-get_got : (table : List (List ℕ)) (r : ℕ) (b : List ℕ) → slice_get table r ≡ Some b → get_or table r [] ≡ b
+pub get_got : (table : List (List ℕ)) (r : ℕ) (b : List ℕ) → slice_get table r ≡ Some b → get_or table r [] ≡ b
 get_got [] r b e = cc
 get_got (x ∷ table) zero b e = cc
 get_got (x ∷ table) (suc r) b e = get_got table r b e
@@ -234,7 +234,7 @@ no_take_same formats widths [] e = refl
 no_take_same formats widths (Take text ∷ instrs) e = cc
 no_take_same formats widths (x ∷ instrs) e = no_take_same formats (widths ++ written_widths ARRIVAL formats widths x) instrs e
 
-takes_same : (formats : List FormatValue) (widths : List ℕ) (before instrs : List Instr) → EachAfter (IsInstrAfter formats) before instrs
+pub takes_same : (formats : List FormatValue) (widths : List ℕ) (before instrs : List Instr) → EachAfter (IsInstrAfter formats) before instrs
     → widths_after ARRIVAL formats widths instrs ≡ later_widths formats (widths ++ replicate (length (take_texts instrs)) ARRIVAL) instrs
 takes_same formats widths before [] each = sym (append-nil widths)
 takes_same formats widths before (Take text ∷ instrs) each =
@@ -245,7 +245,7 @@ takes_same formats widths before (x ∷ instrs) each =
     let none : take_texts instrs ≡ [] = no_takes formats (before ++ x ∷ []) instrs each.1 (other_last before x refl) in
     no_take_same formats widths (x ∷ instrs) none ∙ sym (ap (λ l. later_widths formats l (x ∷ instrs)) (ap (λ ts. widths ++ replicate (length ts) ARRIVAL) none ∙ append-nil widths))
 
-short_at : (init : List (List ℕ)) (r : ℕ) → AllByRecursion (λ b. length b ≤ ARRIVAL) init → length (get_or init r []) ≤ slice_index (replicate (length init) ARRIVAL) r
+pub short_at : (init : List (List ℕ)) (r : ℕ) → AllByRecursion (λ b. length b ≤ ARRIVAL) init → length (get_or init r []) ≤ slice_index (replicate (length init) ARRIVAL) r
 short_at [] r h = omega arith
 short_at (b ∷ init) zero h = h.0
 short_at (b ∷ init) (suc r) h = short_at init r h.1

@@ -6,4 +6,5 @@ pub mod Gone
 pub mod Verified
 pub mod Steps
 pub mod Turns
+pub mod Sent
 mod Resting

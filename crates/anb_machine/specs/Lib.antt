@@ -1,5 +1,6 @@
 pub mod ByteRuns
 pub mod Machines
+pub mod Laws
 pub mod Resting
 pub mod Standing
 pub mod Works

@@ -4,6 +4,7 @@
 //! demand fails. It takes the memory for its registers when it starts.
 #![tactic(auto)]
 
+mod laws;
 mod machine;
 mod registers;
 mod rest;
@@ -11,6 +12,7 @@ mod state;
 mod turn;
 mod work;
 
+pub use laws::runs_send_within;
 pub use machine::Machine;
 pub use rest::Rest;
 pub use turn::{Halt, Turn};

@@ -1,5 +1,4 @@
-use Rattle.std.proofs.Common.{◌≡◌, ◌+◌, ◌∷◌, ◌++◌, length, take, not, nat_lt, true, [], arith, rules}
-use Rattle.anb_machine.specs.Keeping.{AreOver}
+use Rattle.std.proofs.Common.{arith}
 use Rattle.anb_machine.proofs.Lean.{over_pushed}
 use Rattle.anb_machine.proofs.registers.initial_registers.Goals as goal
 

@@ -1,9 +1,6 @@
-use Rattle.std.proofs.Common.{◌≡◌, ◌+◌, ◌∙◌, [], Some, refl, sym, ap, subst, arith, inr}
-use Rattle.std.specs.Prelude.{slice_get}
+use Rattle.std.proofs.Common.{◌+◌, ◌∙◌, [], Some, refl, sym, ap, subst, arith, inr}
 use Rattle.std.proofs.lemmas.List.{append-nil}
-use Rattle.anb_code.specs.declared.instr.Instr.{Instr}
 use Rattle.anb_code.specs.declared.instr.Instr.TheVariants.{Take, Fresh, Recv, Send}
-use Rattle.anb_plays.specs.Codes.{receives, takes}
 use Rattle.anb_machine.specs.declared.state.RunState.{RunState}
 use Rattle.anb_machine.specs.Standing.{AtReceive}
 use Rattle.anb_machine.proofs.Gone.{moves_nothing}

@@ -1,4 +1,4 @@
-use Rattle.std.proofs.Common.{List, ℕ, sym}
+use Rattle.std.proofs.Common.{sym}
 use Rattle.anb_seal.specs.Streams.{draw_of}
 use Rattle.anb_algebra.specs.ByteMeaning.{byte_meaning}
 use Rattle.anb_machine.specs.Keeping.{AreDropped, instrs_left, thinned_by}
