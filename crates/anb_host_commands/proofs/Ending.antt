@@ -10,21 +10,21 @@ use Rattle.anb_base.proofs.Moving.{put_nothing}
 use Rattle.anb_host.specs.declared.event.HostEvent.{HostEvent}
 use Rattle.anb_host.specs.declared.serving.HostEnd.{HostEnd}
 use Rattle.anb_host.specs.declared.serving.HostEnd.TheVariants as ends
-use Rattle.anb_host.specs.HostFrames.{Tail, End, Part, Bad, out}
+use Rattle.anb_host.specs.HostFrames.{Tail, End, Part, Bad, HostFrames, out}
 use Rattle.anb_host.specs.Own.{told}
 use Rattle.anb_host.specs.Serving.{Answers, Reads, Serves, stamps}
 use Rattle.anb_command.specs.declared.status.Status.{Status}
-use Rattle.anb_command.specs.declared.status.Status.TheVariants.{FileFault, Truncated, ReadFault, WriteFault, BadKind, Spent, NoMemory}
+use Rattle.anb_command.specs.declared.status.Status.TheVariants.{FileFault, Spent, NoMemory}
 use Rattle.anb_command.specs.Statuses.{is_fault}
 use Rattle.anb_command.specs.Steps.{Answer, refused, given, HasOneAnswer, IsFailure}
 use Rattle.anb_command.proofs.Ones.{RefusesQuietly, not_both, same_given, same_refusal}
 use Rattle.anb_command.proofs.Written.{faulty}
 use Rattle.anb_role_commands.specs.Jobs.{Job}
 use Rattle.anb_host_commands.specs.declared.hosting.TheConstants.{FRAMES}
-use Rattle.anb_host_commands.specs.HostCommand.{ArePlays, IsInTime, IsServing, Outcome, Takes, TakesInTime, handled, read_of_input, read_of_tail, sizes, status_before, status_of_input}
+use Rattle.anb_host_commands.specs.HostCommand.{ArePlays, IsBehind, IsInTime, IsServing, Outcome, Takes, TakesInTime, handled, read_of_input, read_of_tail, sizes, status_before, status_of_input}
 use Rattle.anb_host_commands.specs.Serving.{IsIdle, status_of}
 use Rattle.anb_host_commands.proofs.Alike.{Alike, AreBytes, HaveBytes, same_stamps, same_told}
-use Rattle.anb_host_commands.proofs.Sizes.{frames_size, take_bytes, took_rest}
+use Rattle.anb_host_commands.proofs.Sizes.{bad_above, frames_size, take_bytes, took_rest}
 
 some_map : {A : Type 0} (o : Option A) (P Q : A → Type 0) → ((x : A) → P x → Q x) → IfSome o P → IfSome o Q
 some_map None P Q f p = tt
@@ -38,7 +38,7 @@ take_short (suc k) (x ∷ xs) = let rest = take_short k xs in omega (arith, rest
 -- what comes of a job whose sessions are these
 module _ (Asks : Answer Job → Type 0) (one : HasOneAnswer Asks) (job : Job) (asks : Asks (given job)) (R plays : ℕ → Run) (are : ArePlays job plays)
     (alike : (others : ℕ → Run) → ArePlays job others → (s : ℕ) (arrivals : List (List ℕ)) → AreBytes arrivals → Alike (R s arrivals) (others s arrivals))
-    (left : List ℕ) (events : List HostEvent) (tail : Tail) (have : HaveBytes events) (S T : WireState) (is_left : S.left ≡ Some left) where
+    (left : List ℕ) (events : List HostEvent) (tail : Tail) (frames : HostFrames left events tail) (have : HaveBytes events) (S T : WireState) (is_left : S.left ≡ Some left) where
   -- the first k events are told the same
   told_by : (others : ℕ → Run) → ArePlays job others → (k : ℕ) → told R [] (take k events) ≡ told others [] (take k events)
   told_by others each k = same_told R others (alike others each) [] (take k events) tt (take_bytes k events have)
@@ -55,12 +55,13 @@ module _ (Asks : Answer Job → Type 0) (one : HasOneAnswer Asks) (job : Job) (a
     took = subst (λ (o : Option (List ℕ)). Took o T.left (r.0.0 ++ z)) is r.0.1;
   }
 
-  in_time : (k : ℕ) (z : List ℕ) → Reads R [] events tail FRAMES S T k z → (other : Job) → Asks (given other) → IsInTime other S T
-  in_time k z r other asked = inr (subst (λ (j : Job). TakesInTime j S T) (same_given job other (one (given job) (given other) asks asked)) here) where
+  in_time : (k : ℕ) (z : List ℕ) → IsBehind z → Reads R [] events tail FRAMES S T k z → (other : Job) → Asks (given other) → IsInTime other S T
+  in_time k z behind r other asked = inr (subst (λ (j : Job). TakesInTime j S T) (same_given job other (one (given job) (given other) asks asked)) here) where
     here : TakesInTime job S T
     here = record {
       some = take k events;
       z = z;
+      behind = behind;
       takes = taken S.left refl k z r;
       in_time = some_map S.written _ _ (λ written put. subst (λ (ns : List ℕ). Put S.taken_at T.taken_at ns)
           (ap (λ ns. ns ++ replicate (length z) (length written + length (out (told R [] (take k events))))) (same_stamps R plays (alike plays are) [] (length written) (take k events) tt (take_bytes k events have))
@@ -69,7 +70,7 @@ module _ (Asks : Answer Job → Type 0) (one : HasOneAnswer Asks) (job : Job) (a
 
   -- ---- without a fault
 
-  module _ (s : Status) (k : ℕ) (z : List ℕ) (quiet : is_fault s ≡ false) (status_is : s ≡ status_of_input events tail) (all : take k events ≡ handled events)
+  module _ (s : Status) (k : ℕ) (z : List ℕ) (behind : IsBehind z) (quiet : is_fault s ≡ false) (status_is : s ≡ status_of_input events tail) (all : take k events ≡ handled events)
       (size : sizes (take k events) + length z ≡ read_of_input events tail) (reads : Reads R [] events tail FRAMES S T k z) (answers : Answers R [] events tail FRAMES S T k) where
     put : (others : ℕ → Run) → ArePlays job others → Put S.written T.written (out (told others [] (handled events)))
     put others each = subst (λ (ns : List HostEvent). Put S.written T.written (out (told others [] ns))) all
@@ -101,16 +102,16 @@ module _ (Asks : Answer Job → Type 0) (one : HasOneAnswer Asks) (job : Job) (a
       );
       only = λ _. only;
       cut_short = λ fault. faulty (sym fault ∙ quiet);
-      in_time = in_time k z reads;
+      in_time = in_time k z behind reads;
     }
 
-  before_tail : (due : Tail) (z : List ℕ) → is_fault (status_before due) ≡ false → length z ≡ read_of_tail due → tail ≡ due → length events < FRAMES
+  before_tail : (due : Tail) (z : List ℕ) → IsBehind z → is_fault (status_before due) ≡ false → length z ≡ read_of_tail due → tail ≡ due → length events < FRAMES
       → Reads R [] events tail FRAMES S T (length events) z → Answers R [] events tail FRAMES S T (length events) → IsServing Asks left events tail S T (status_before due)
-  before_tail due z quiet long tail_is few reads answers =
+  before_tail due z behind quiet long tail_is few reads answers =
       let below = is_below (length events) FRAMES few in
       let all : take (length events) events ≡ events = take_all (length events) events (omega arith) in
       let handles : handled events ≡ events = take_all FRAMES events (omega (arith, few)) in
-      concluded (status_before due) (length events) z quiet
+      concluded (status_before due) (length events) z behind quiet
       (ap status_before (sym tail_is) ∙ ap (λ b. cond b (status_before tail) (Spent FRAMES)) (sym below))
       (all ∙ sym handles)
       (ap (λ (ns : List HostEvent). sizes ns + length z) (all ∙ sym handles) ∙ ap (λ n. sizes (handled events) + n) (long ∙ ap read_of_tail (sym tail_is) ∙ ap (λ b. cond b (read_of_tail tail) 0) (sym below)))
@@ -119,7 +120,7 @@ module _ (Asks : Answer Job → Type 0) (one : HasOneAnswer Asks) (job : Job) (a
   all_handled : FRAMES ≤ length events → Reads R [] events tail FRAMES S T FRAMES [] → Answers R [] events tail FRAMES S T FRAMES → IsServing Asks left events tail S T (Spent FRAMES)
   all_handled many reads answers =
       let over = isnt_below (length events) FRAMES many in
-      concluded (Spent FRAMES) FRAMES [] refl (ap (λ b. cond b (status_before tail) (Spent FRAMES)) (sym over)) refl
+      concluded (Spent FRAMES) FRAMES [] (inl (inl refl)) refl (ap (λ b. cond b (status_before tail) (Spent FRAMES)) (sym over)) refl
       (ap (λ b. sizes (handled events) + cond b (read_of_tail tail) 0) (sym over)) reads answers
 
   -- ---- with one
@@ -128,9 +129,9 @@ module _ (Asks : Answer Job → Type 0) (one : HasOneAnswer Asks) (job : Job) (a
   part_of k n part = subst (λ ns. Put S.written T.written (take n (out ns))) (told_by plays are k) part
 
   pub ends_so : (end : HostEnd) → Serves R [] events tail FRAMES S T end → IsServing Asks left events tail S T (status_of end)
-  ends_so ends.Ended (tail_is, few, reads, answers) = before_tail End [] refl refl tail_is few reads answers
-  ends_so (ends.Truncated have_ need) (z, ending, (tail_is, few, reads, answers)) = before_tail (Part have_ need) z refl ending.0 tail_is few reads answers
-  ends_so (ends.BadKind kind) (tail_is, few, reads, answers) = before_tail (Bad kind) (kind ∷ []) refl refl tail_is few reads answers
+  ends_so ends.Ended (tail_is, few, reads, answers) = before_tail End [] (inl (inl refl)) refl refl tail_is few reads answers
+  ends_so (ends.Truncated have_ need) (z, ending, (tail_is, few, reads, answers)) = before_tail (Part have_ need) z (inl (inr (need, ending.1))) refl ending.0 tail_is few reads answers
+  ends_so (ends.BadKind kind) (tail_is, few, reads, answers) = before_tail (Bad kind) (kind ∷ []) (inr (kind, refl, bad_above left events kind (subst (λ (t : Tail). HostFrames left events t) tail_is frames))) refl refl tail_is few reads answers
   ends_so (ends.Spent n) (is, many, reads, answers) = subst (λ (m : ℕ). IsServing Asks left events tail S T (Spent m)) (sym is) (all_handled many reads answers)
   ends_so ends.ReadFault (k, z, small, begun, reads, answers) = record {
     is = λ never. faulty never;
@@ -140,7 +141,7 @@ module _ (Asks : Answer Job → Type 0) (one : HasOneAnswer Asks) (job : Job) (a
       (job, asks, (take k events, z, begun, taken (Some left) is_left k z reads, (let short = take_short k events in omega (arith, short, small)), refl)),
       subst (λ ns. Put S.written T.written (out ns)) (told_by plays are k) answers,
     );
-    in_time = in_time k z reads;
+    in_time = in_time k z (inl begun) reads;
   }
   ends_so ends.WriteFault (k, within, reads, (n, some, part)) = record {
     is = λ never. faulty never;
@@ -150,7 +151,7 @@ module _ (Asks : Answer Job → Type 0) (one : HasOneAnswer Asks) (job : Job) (a
       (job, asks, (take k events, taken (Some left) is_left k [] reads, (let short = take_short k events in omega (arith, short, within)), (n, refl))),
       part_of k n part,
     );
-    in_time = in_time k [] reads;
+    in_time = in_time k [] (inl (inl refl)) reads;
   }
   ends_so ends.NoMemory (k, z, within, begun, reads, (n, some, part)) = record {
     is = λ never. faulty never;
@@ -160,7 +161,7 @@ module _ (Asks : Answer Job → Type 0) (one : HasOneAnswer Asks) (job : Job) (a
       inr (job, asks, (take k events, z, begun, taken (Some left) is_left k z reads, (let short = take_short k events in omega (arith, short, within)), (n, refl))),
       part_of k n part,
     );
-    in_time = in_time k z reads;
+    in_time = in_time k z (inl begun) reads;
   }
 
   -- where nothing is done

@@ -1,5 +1,5 @@
 -- How many bytes the frames of events have, and what they are.
-use Rattle.std.proofs.Common.{◌≡◌, ℕ, zero, suc, ◌+◌, List, [], ◌∷◌, ◌++◌, length, take, drop, Option, Some, None, refl, sym, ap, ◌∙◌, subst, arith, length-append}
+use Rattle.std.proofs.Common.{◌≡◌, ℕ, zero, suc, ◌<◌, List, [], ◌∷◌, ◌++◌, length, take, drop, Option, Some, None, refl, sym, ap, ◌∙◌, subst, arith, length-append}
 use Rattle.std.proofs.lemmas.List.{drop_at}
 use Rattle.anb_base.specs.Bytes.{IsBytes}
 use Rattle.anb_base.specs.Moves.{Took}
@@ -7,7 +7,7 @@ use Rattle.anb_base.proofs.Strings.{bytes_right}
 use Rattle.anb_frame.specs.Frames.{frame, length_bytes}
 use Rattle.anb_host.specs.declared.event.HostEvent.{HostEvent}
 use Rattle.anb_host.specs.declared.event.HostEvent.TheVariants.{Start, Arrive, Oversize}
-use Rattle.anb_host.specs.HostFrames.{IsFrame, Tail, End, HostFrames}
+use Rattle.anb_host.specs.HostFrames.{IsFrame, Tail, Bad, End, HostFrames}
 use Rattle.anb_host.proofs.Served.{size_is}
 use Rattle.anb_command.proofs.Cutting.{bytes_taken}
 use Rattle.anb_host_commands.specs.HostCommand.{sizes}
@@ -18,6 +18,11 @@ pub frames_size : (x : List ℕ) (events : List HostEvent) → HostFrames x even
 frames_size x [] is = ap length is
 frames_size x (e ∷ events) (z, rest, is, f, more) =
     omega (arith, ap length is, length-append z rest, size_is z e f, frames_size rest events more)
+
+-- what is no kind of frame is above all kinds
+pub bad_above : (x : List ℕ) (events : List HostEvent) (kind : ℕ) → HostFrames x events (Bad kind) → 1 < kind
+bad_above x [] kind (rest, is, above) = above
+bad_above x (e ∷ events) kind (z, rest, is, f, more) = bad_above rest events kind more
 
 -- ---- bytes
 

@@ -81,11 +81,17 @@ abbrev pub due : {job : Job} → {left left_now : Option (List ℕ)} → {events
     → Takes job left left_now events z → List ℕ
 due {job} {left} {left_now} {events} {z} takes = out (told takes.plays [] events)
 
+-- what may have been taken behind the frames of the last event: nothing, the beginning of one frame, or
+-- the one byte that is no kind of frame
+abbrev pub IsBehind : List ℕ → Type 0
+IsBehind z = IsBegun z ⊎ ((kind : ℕ) × (z ≡ kind ∷ []) × (1 < kind))
+
 -- Each byte that was taken, of a frame or of what stands behind the frames, was taken when exactly the
 -- notices of the events before were written.
 pub record TakesInTime (job : Job) (old new : WireState) : Type 0 where
   pub some : List HostEvent
   pub z : List ℕ
+  pub behind : IsBehind z
   pub takes : Takes job old.left new.left some z
   pub in_time : IfSome old.written (λ written. Put old.taken_at new.taken_at
       (stamps takes.plays [] (length written) some

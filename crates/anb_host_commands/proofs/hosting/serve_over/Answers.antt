@@ -2,10 +2,9 @@ use Rattle.std.proofs.Common.{[], true, inl, ◌∙◌, subst}
 use Rattle.anb_base.specs.declared.place.Place.{Place}
 use Rattle.anb_host.specs.Hosts.{plays_of}
 use Rattle.anb_command.specs.OverWire.{OverWire}
-use Rattle.anb_command.specs.declared.status.Status.TheVariants.{Unreached}
-use Rattle.anb_command.proofs.OverWire.{no_memory, not_before, not_reached, ran}
+use Rattle.anb_command.proofs.OverWire.{no_memory, not_before, ran}
 use Rattle.anb_host_commands.specs.Serving.{runs_by}
-use Rattle.anb_host_commands.proofs.Reached.{idle_no_memory, idle_unreached, plays_are, serves_after}
+use Rattle.anb_host_commands.proofs.Reached.{idle_no_memory, plays_are, serves_after}
 use Rattle.anb_host_commands.proofs.hosting.serve_over.Goals as goal
 
 pub returns-in-Ok-reach-clause-serves : goal.returns-in-Ok-reach-clause-serves
