@@ -10,6 +10,7 @@ pub record Children : Type 0 where
 abbrev pub child_of : Children → ℕ → Child
 child_of s role = record {
   left = None;
+  taken_at = None;
   written = None;
   asked = None;
   status = None;

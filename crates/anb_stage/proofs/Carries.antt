@@ -1,26 +1,28 @@
 -- One message more is carried, or isn't.
-use Rattle.std.proofs.Common.{◌≡◌, ◌≢◌, ◌<◌, ◌≤◌, ◌+◌, ◌==◌, ℕ, zero, suc, List, [], ◌∷◌, ◌++◌, length, map, filter, drop, Bool, Option, Some, None, refl, sym, ap, ◌∙◌, subst, arith, inl, inr, length-append}
+use Rattle.std.proofs.Common.{◌≡◌, ◌≢◌, ◌<◌, ◌≤◌, ◌+◌, ◌==◌, ℕ, zero, suc, List, [], ◌∷◌, ◌++◌, length, map, filter, drop, replicate, Bool, Option, Some, None, refl, sym, ap, ◌∙◌, subst, arith, inl, inr, length-append}
 use Rattle.std.specs.List.{slice_get}
 use Rattle.std.proofs.lemmas.Bool.{eq-eqb}
 use Rattle.std.proofs.lemmas.List.{append-nil, map-append}
 use Rattle.std.proofs.lemmas.List.Elements.{filter-append}
 use Rattle.std.proofs.lemmas.Grind.{flat_map-append}
 use Rattle.anb_lemmas.proofs.Numbers.{nat_eq-differs}
-use Rattle.anb_base.specs.Moves.{Put, PutPrefix}
+use Rattle.anb_base.specs.Moves.{Put, PutPrefix, Stamped}
 use Rattle.anb_base.specs.declared.TheConstants.{ARRIVAL}
 use Rattle.anb_base.proofs.Joined.{Put-joined}
 use Rattle.anb_base.specs.declared.content.Sent.{Sent}
 use Rattle.anb_frame.specs.Frames.{frame, frames}
 use Rattle.anb_frame.specs.Cuts.{Tail, CutLeft}
 use Rattle.anb_resolve.specs.Choices.{each_after}
-use Rattle.anb_stage.specs.Children.{Child}
-use Rattle.anb_stage.specs.Relays.{Message, sends_of, bytes_of, message_of, messages, bytes_to, report, refusal_of, refusal_at, missing, SomeWritten}
-use Rattle.anb_stage.specs.Steps.{CarryKeeps, Carries, CarriesPart, FailsCarrying, Carried, FailsCarryingSome}
+use Rattle.anb_stage.specs.Children.{Child, written_to_all}
+use Rattle.anb_stage.specs.Relays.{Message, sends_of, bytes_of, message_of, messages, bytes_to, report, refusal_of, refusal_at, missing, own_stamps, size_of_tail, stamps, stamps_behind, AreHeard, AllInTime, SomeInTime, SomeWritten}
+use Rattle.anb_stage.specs.Steps.{Begins, CarryKeeps, Carries, CarriesPart, FailsCarrying, Carried, FailsCarryingSome, next_size, written_behind}
 use Rattle.anb_stage.specs.declared.ends.Ends.{Ends}
 use Rattle.anb_stage.specs.declared.refusal.RelayNo.{RelayNo}
 use Rattle.anb_stage.specs.declared.refusal.RelayNo.TheVariants as no
 use Rattle.anb_stage.proofs.Messages.{each_after-at, first_after-at, first_after-none, put_prefix, put_prefix-more}
 use Rattle.anb_stage.proofs.Roles.{one_or_other}
+use Rattle.anb_stage.proofs.Stamps.{own_here, own_there, stamps_joined, stamps_one, written_joined}
+use Rattle.anb_stage.proofs.Totals.{put_below}
 
 -- what stands first behind so many stands at that place
 drop_first : {X : Type 0} (xs : List X) (n : ℕ) (x : X) (rest : List X) → drop n xs ≡ x ∷ rest → (slice_get xs n ≡ Some x) × (drop (suc n) xs ≡ rest)
@@ -96,9 +98,84 @@ module _ (outputs : ℕ → List (List ℕ)) (before : List Ends) (a : Ends) whe
         let sent : Message → Sent = λ m. record { action = m.action; bytes = m.bytes } in
         ap (map sent) one_more ∙ map-append sent (messages outputs before) (message_of outputs before a) ∙ ap (λ t. map sent (messages outputs before) ++ map sent t) message_is
 
+put_told : (old new : Option (List ℕ)) (bytes : List ℕ) → old ≢ None → Put old new bytes → new ≢ None
+put_told None new bytes told put = absurd (told refl)
+put_told (Some old) new bytes told put = λ none. let never : Some (old ++ bytes) ≡ None = sym put ∙ none in absurd cc
+
+-- the stamps of the next action begin with those of what may be taken of its sender's output
+stamps_next : (outputs : ℕ → List (List ℕ)) (tails : ℕ → Tail) (role written : ℕ) (before : List Ends) (e : Ends) (after : List Ends)
+    → (rest : List ℕ) × (stamps_behind outputs tails role written before (e ∷ after)
+    ≡ own_stamps role e.from (next_size (drop (sends_of e.from before) (outputs e.from)) (tails e.from)) written ++ rest)
+stamps_next outputs tails role written before e after = by (drop (sends_of e.from before) (outputs e.from)) refl where
+  by : (bs : List (List ℕ)) → drop (sends_of e.from before) (outputs e.from) ≡ bs
+      → (rest : List ℕ) × (stamps_behind outputs tails role written before (e ∷ after)
+      ≡ own_stamps role e.from (next_size (drop (sends_of e.from before) (outputs e.from)) (tails e.from)) written ++ rest)
+  by [] is =
+      let none : bytes_of outputs before e ≡ None = drop_none (outputs e.from) (sends_of e.from before) is in
+      ([], rw (none, is) (sym (append-nil (own_stamps role e.from (size_of_tail (tails e.from)) written))))
+  by (b ∷ bs) is =
+      let some : bytes_of outputs before e ≡ Some b = (drop_first (outputs e.from) (sends_of e.from before) b bs is).0 in
+      (stamps_behind outputs tails role (written + length (frame b)) (before ++ e ∷ []) after, rw (some, is) refl)
+
 module _ (a b c : ℕ → Child) (roles : ℕ) (few : roles ≤ 32) (outputs : ℕ → List (List ℕ)) (tails : ℕ → Tail)
     (before : List Ends) (e : Ends) (from : e.from < roles) (to : e.to < roles) (p : Carried a b roles outputs tails before)
     (k : CarryKeeps b c e.from e.to) where
+  -- each byte of the message was taken when exactly the messages before were written
+  module _ (bytes : List ℕ) (there : bytes_of outputs before e ≡ Some bytes)
+      (stamped : Stamped (b e.from).taken_at (c e.from).taken_at (written_to_all b) (length (frame bytes))) where
+    stamps_more : (role : ℕ) → stamps outputs tails role (written_to_all a) (before ++ e ∷ [])
+        ≡ stamps outputs tails role (written_to_all a) before ++ own_stamps role e.from (length (frame bytes)) (written_behind outputs (written_to_all a) [] before)
+    stamps_more role =
+        stamps_joined outputs tails role (written_to_all a) [] before (e ∷ []) p.none
+        ∙ ap (λ t. stamps outputs tails role (written_to_all a) before ++ t) (stamps_one outputs tails role (written_behind outputs (written_to_all a) [] before) before e bytes there)
+
+    in_time_now : AreHeard roles a → AllInTime roles a c outputs (before ++ e ∷ []) tails
+    in_time_now heard role below = elim (one_or_other e.from role) [
+      | inl own ↦
+          let size = length (frame bytes) in
+          let at = written_behind outputs (written_to_all a) [] before in
+          let put : Put (b role).taken_at (c role).taken_at (replicate size at) =
+          subst (λ (r : ℕ). Put (b r).taken_at (c r).taken_at (replicate size at)) own (subst (λ (n : ℕ). Put (b e.from).taken_at (c e.from).taken_at (replicate size n)) (p.total heard) stamped) in
+          subst (Put (a role).taken_at (c role).taken_at) (sym (stamps_more role ∙ ap (λ t. stamps outputs tails role (written_to_all a) before ++ t) (own_here role e.from size at own)))
+          (Put-joined (a role).taken_at (b role).taken_at (c role).taken_at (stamps outputs tails role (written_to_all a) before) (replicate size at) (p.in_time heard role below) put)
+      | inr other ↦
+          let size = length (frame bytes) in
+          let at = written_behind outputs (written_to_all a) [] before in
+          subst (Put (a role).taken_at (c role).taken_at)
+          (sym (stamps_more role ∙ ap (λ t. stamps outputs tails role (written_to_all a) before ++ t) (own_there role e.from size at other) ∙ append-nil (stamps outputs tails role (written_to_all a) before)))
+          (subst (λ (t : Option (List ℕ)). Put (a role).taken_at t (stamps outputs tails role (written_to_all a) before)) (sym (k.taken role (omega (arith, below, few)) (λ same. other (sym same)))) (p.in_time heard role below))
+    ]
+
+    total_now : Put (b e.to).written (c e.to).written (frame bytes) → AreHeard roles a
+        → written_to_all c ≡ written_behind outputs (written_to_all a) [] (before ++ e ∷ [])
+    total_now put heard =
+        let told : (b e.to).written ≢ None = put_told (a e.to).written (b e.to).written (frames (bytes_to outputs e.to before)) (heard e.to to) (p.written e.to to) in
+        put_below 32 e.to (λ role. (b role).written) (λ role. (c role).written) (frame bytes) (omega (arith, to, few)) k.written told put
+        ∙ ap (λ n. n + length (frame bytes)) (p.total heard)
+        ∙ sym (written_joined outputs tails (written_to_all a) [] before e bytes p.none there)
+
+  -- what was taken of a message that isn't handed on was taken then too
+  pub some_in_time : (after : List Ends)
+      → Begins (b e.from).taken_at (c e.from).taken_at (written_to_all b) (drop (sends_of e.from before) (outputs e.from)) (tails e.from)
+      → AreHeard roles a → SomeInTime roles a c outputs (before ++ e ∷ after) tails
+  some_in_time after begins heard role below =
+      let at = written_behind outputs (written_to_all a) [] before in
+      let next = stamps_next outputs tails role at before e after in
+      let size = next_size (drop (sends_of e.from before) (outputs e.from)) (tails e.from) in
+      let whole : stamps outputs tails role (written_to_all a) (before ++ e ∷ after) ≡ stamps outputs tails role (written_to_all a) before ++ (own_stamps role e.from size at ++ next.0) =
+      stamps_joined outputs tails role (written_to_all a) [] before (e ∷ after) p.none ∙ ap (λ t. stamps outputs tails role (written_to_all a) before ++ t) next.1 in
+      subst (PutPrefix (a role).taken_at (c role).taken_at) (sym whole) (elim (one_or_other e.from role) [
+        | inl own ↦
+            let more : PutPrefix (b role).taken_at (c role).taken_at (own_stamps role e.from size at) =
+            subst (PutPrefix (b role).taken_at (c role).taken_at) (sym (own_here role e.from size at own))
+            (subst (λ (r : ℕ). PutPrefix (b r).taken_at (c r).taken_at (replicate size at)) own (subst (λ (n : ℕ). PutPrefix (b e.from).taken_at (c e.from).taken_at (replicate size n)) (p.total heard) begins)) in
+            put_prefix-more (a role).taken_at (b role).taken_at (c role).taken_at (stamps outputs tails role (written_to_all a) before) (own_stamps role e.from size at) next.0 (p.in_time heard role below) more
+        | inr other ↦
+            let put : Put (a role).taken_at (c role).taken_at (stamps outputs tails role (written_to_all a) before) =
+            subst (λ (t : Option (List ℕ)). Put (a role).taken_at t (stamps outputs tails role (written_to_all a) before)) (sym (k.taken role (omega (arith, below, few)) (λ same. other (sym same)))) (p.in_time heard role below) in
+            put_prefix (a role).taken_at (c role).taken_at (stamps outputs tails role (written_to_all a) before) (own_stamps role e.from size at ++ next.0) put
+      ])
+
   pub one_carried : (bytes : List ℕ) → Carries b c (drop (sends_of e.from before) (outputs e.from)) (tails e.from) e.from e.to bytes
       → Carried a c roles outputs tails (before ++ e ∷ []) × (report outputs (before ++ e ∷ []) ≡ report outputs before ++ record { action = length before + 1; bytes = bytes } ∷ [])
   one_carried bytes x =
@@ -126,6 +203,8 @@ module _ (a b c : ℕ → Child) (roles : ℕ) (few : roles ≤ 32) (outputs : �
                 subst (Put (a role).written (c role).written) (sym (frames_more outputs before e role ∙ ap (λ t. frames (bytes_to outputs role before) ++ t) (frames_other outputs before e bytes there role other) ∙ append-nil (frames (bytes_to outputs role before))))
                 (subst (λ (w : Option (List ℕ)). Put (a role).written w (frames (bytes_to outputs role before))) (sym (k.written role (omega (arith, below, few)) (λ same. other (sym same)))) (p.written role below))
           ];
+          in_time = in_time_now bytes there x.stamped;
+          total = total_now bytes there x.stamped x.put;
         },
         report_more outputs before e bytes there,
       )

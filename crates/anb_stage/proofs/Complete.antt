@@ -1,5 +1,5 @@
 -- The turns of all senders and receivers, in order, are a complete schedule.
-use Rattle.std.proofs.Common.{◌≡◌, ◌≢◌, ℕ, zero, suc, ◌+◌, ◌<◌, ◌==◌, List, [], ◌∷◌, ◌++◌, length, Bool, true, false, cond, Option, Some, None, refl, sym, ap, ◌∙◌, subst, arith, inl, inr, append_assoc, length-append}
+use Rattle.std.proofs.Common.{◌≡◌, ℕ, zero, suc, ◌+◌, ◌==◌, List, [], ◌∷◌, ◌++◌, length, Bool, true, false, cond, Some, None, refl, sym, ap, ◌∙◌, arith, inl, inr, append_assoc, length-append}
 use Rattle.std.specs.Prelude.{slice_get, count_by, filter, flat_map, option_and_then, ◌||◌, ◌&&◌}
 use Rattle.std.specs.List.{AllByRecursion, list_any}
 use Rattle.std.proofs.lemmas.Bool.{cases_Bool, eqb-true, eq-eqb}
@@ -9,7 +9,7 @@ use Rattle.std.proofs.lemmas.List.Sums.{length-filter}
 use Rattle.anb_resolve.specs.Choices.{each_after}
 use Rattle.anb_resolve.specs.Protocols.{ActionValue, ProtocolValue}
 use Rattle.anb_resolve.specs.Laws.{IsActionOf}
-use Rattle.anb_resolve.specs.Schedules.{Turn, part_in, parts_of, next_of, was_sent, if_ready, turn_of, append_if, taken_after, taken, IsComplete}
+use Rattle.anb_resolve.specs.Schedules.{Turn, part_in, parts_of, next_of, was_sent, if_ready, turn_of, append_if, taken_after, IsComplete}
 use Rattle.anb_stage.specs.Honest.{turns_of}
 use Rattle.anb_stage.proofs.Messages.{each_after-at}
 use Rattle.anb_lemmas.proofs.Each.{each_in_both}

@@ -11,6 +11,7 @@ use Rattle.anb_stage.proofs.Roles.{one_or_other, lower, stays_same, stays_by_cal
 
 pub none_finished : (a : ℕ → Child) (roles : ℕ) → ((role : ℕ) → role < roles → (a role).phase ≡ 1) → Finished a a 0 roles
 none_finished a roles running = record {
+  taken = λ role below. refl;
   done = λ role below. absurd (omega (arith, below));
   running = λ role above below. running role below;
   good = λ role below. absurd (omega (arith, below));
@@ -31,6 +32,12 @@ module _ (a b c : ℕ → Child) (i roles : ℕ) (s : Finished a b i roles) (wit
   asked_now role below = elim (one_or_other role i) [
     | inl e ↦ subst (λ (x : ℕ). (c x).asked ≡ (a x).asked) (sym e) (kept.asked ∙ s.asked i (omega (arith, within, few)))
     | inr d ↦ ap (λ (x : Child). x.asked) (others role d) ∙ s.asked role below
+  ]
+
+  taken_now : (role : ℕ) → role < 32 → (c role).taken_at ≡ (a role).taken_at
+  taken_now role below = elim (one_or_other role i) [
+    | inl e ↦ subst (λ (x : ℕ). (c x).taken_at ≡ (a x).taken_at) (sym e) (kept.taken_at ∙ s.taken i (omega (arith, within, few)))
+    | inr d ↦ ap (λ (x : Child). x.taken_at) (others role d) ∙ s.taken role below
   ]
 
   written_now : (role : ℕ) → role < 32 → (c role).written ≡ (a role).written
@@ -57,6 +64,7 @@ module _ (a b c : ℕ → Child) (i roles : ℕ) (s : Finished a b i roles) (wit
 
   pub one_finished : IfSome (b i).status (λ t. 0 ≡ t) → (c i).phase ≡ 2 → Finished a c (i + 1) roles
   one_finished is done = record {
+    taken = taken_now;
     done = done_now done;
     running = running_now;
     good = λ role below. elim (one_or_other role i) [
@@ -69,7 +77,7 @@ module _ (a b c : ℕ → Child) (i roles : ℕ) (s : Finished a b i roles) (wit
   }
 
   pub one_unfinished : Rose (b i).faults (c i).faults → FailsFinishing a c roles (no.Fault i)
-  one_unfinished rose = (within, Rose-later (a i).faults (b i).faults (c i).faults (s.stays.faults i (omega (arith, within, few))) rose, record { asked = asked_now; written = written_now; stays = stays_now })
+  one_unfinished rose = (within, Rose-later (a i).faults (b i).faults (c i).faults (s.stays.faults i (omega (arith, within, few))) rose, record { taken = taken_now; asked = asked_now; written = written_now; stays = stays_now })
 
   pub one_bad : (n : ℕ) → n ≢ 0 → IfSome (b i).status (λ t. n ≡ t) → (c i).phase ≡ 2 → FailsFinishing a c roles (no.Bad i n)
   one_bad n bad is done = (
@@ -78,5 +86,5 @@ module _ (a b c : ℕ → Child) (i roles : ℕ) (s : Finished a b i roles) (wit
       | inl above ↦ rw (lt-leb role i above) (running_now role (omega (arith, above)) below)
       | inr least ↦ rw (le-leb role i (omega (arith, least))) (done_now done role (omega (arith, least)))
     ]),
-    record { asked = asked_now; written = written_now; stays = stays_now },
+    record { taken = taken_now; asked = asked_now; written = written_now; stays = stays_now },
   )

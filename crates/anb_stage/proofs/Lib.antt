@@ -1,4 +1,5 @@
 pub mod Beside
+pub mod Begun
 pub mod Carries
 pub mod Complete
 pub mod Due
@@ -12,6 +13,8 @@ pub mod Messages
 pub mod PlanParts
 pub mod PlaysGrow
 pub mod Roles
+pub mod Stamps
 pub mod Starts
 pub mod Steps
+pub mod Totals
 pub mod Whole

@@ -23,6 +23,12 @@ module _ (a b c : ℕ → Child) (i : ℕ) (words : List (List (List ℕ))) (s :
     | inr d ↦ ap (λ (x : Child). x.left) (others role d) ∙ s.left role below
   ]
 
+  taken_now : (role : ℕ) → role < 32 → (c role).taken_at ≡ (a role).taken_at
+  taken_now role below = elim (one_or_other role i) [
+    | inl e ↦ subst (λ (x : ℕ). (c x).taken_at ≡ (a x).taken_at) (sym e) (kept.taken_at ∙ s.taken i within)
+    | inr d ↦ ap (λ (x : Child). x.taken_at) (others role d) ∙ s.taken role below
+  ]
+
   written_now : (role : ℕ) → role < 32 → (c role).written ≡ (a role).written
   written_now role below = elim (one_or_other role i) [
     | inl e ↦ subst (λ (x : ℕ). (c x).written ≡ (a x).written) (sym e) (kept.written ∙ s.written i within)
@@ -48,6 +54,7 @@ module _ (a b c : ℕ → Child) (i : ℕ) (words : List (List (List ℕ))) (s :
       | inr d ↦ ap (λ (x : Child). x.phase) (others role d) ∙ s.phases role (lower role i below d)
     ];
     left = left_now;
+    taken = taken_now;
     written = written_now;
     stays = stays_now (i + 1) (omega arith);
   }
@@ -75,6 +82,7 @@ module _ (a b c : ℕ → Child) (i : ℕ) (words : List (List (List ℕ))) (s :
           | inl less ↦ let p = phase_of role less in (omega (arith, p), omega (arith, p))
           | inr above ↦ let p = (left_alone role above (omega (arith, small, few))).1 in let q = new role small in (omega (arith, p, q), omega (arith, p, q))
         ];
+        taken = taken_now;
         written = written_now;
         stays = stays_now roles below;
       }

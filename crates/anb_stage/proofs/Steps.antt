@@ -3,20 +3,20 @@ use Rattle.std.proofs.Common.{◌≡◌, ◌<◌, ◌≤◌, ◌+◌, ℕ, suc, 
 use Rattle.std.proofs.Math.Seq.{drop-cons, take-suc}
 use Rattle.std.proofs.lemmas.List.{take-append-drop, length-take-le, append-nil}
 use Rattle.anb_lemmas.proofs.Each.{each_at}
-use Rattle.anb_base.specs.Moves.{Put, PutPrefix}
+use Rattle.anb_base.specs.Moves.{Put, PutPrefix, Stamped}
 use Rattle.anb_base.specs.declared.TheConstants.{ARRIVAL}
 use Rattle.anb_base.proofs.Moving.{Rose-later}
 use Rattle.anb_frame.specs.Frames.{frame, frames}
 use Rattle.anb_frame.specs.Cuts.{Tail, CutLeft}
-use Rattle.anb_stage.specs.Children.{Child, KeptByRead, KeptByWrite}
-use Rattle.anb_stage.specs.Relays.{sends_of, bytes_to, report, SomeWritten}
-use Rattle.anb_stage.specs.Steps.{OthersStayBelow, CarryKeeps, Carries, CarriesPart, FailsCarrying, IsMissing, Takes, IsCaused, Carried, FailsCarryingSome, CarryingKeeps, AreWithin, AreRunning}
+use Rattle.anb_stage.specs.Children.{Child, KeptByRead, KeptByWrite, written_to_all}
+use Rattle.anb_stage.specs.Relays.{sends_of, bytes_to, report, AreHeard, SomeInTime, SomeWritten}
+use Rattle.anb_stage.specs.Steps.{Begins, OthersStayBelow, CarryKeeps, Carries, CarriesPart, FailsCarrying, IsMissing, Takes, IsCaused, Carried, FailsCarryingSome, CarryingKeeps, AreWithin, AreRunning}
 use Rattle.anb_stage.specs.Relays.{Stays}
 use Rattle.anb_stage.specs.declared.ends.Ends.{Ends}
 use Rattle.anb_stage.specs.declared.refusal.RelayNo.{RelayNo}
 use Rattle.anb_stage.specs.declared.refusal.RelayNo.TheVariants as no
 use Rattle.anb_stage.proofs.Messages.{put_prefix}
-use Rattle.anb_stage.proofs.Carries.{frames_at, one_carried, one_uncarried}
+use Rattle.anb_stage.proofs.Carries.{frames_at, one_carried, one_uncarried, some_in_time}
 use Rattle.anb_stage.proofs.Roles.{one_or_other, stays_joined}
 
 -- ---- taking alone
@@ -41,11 +41,22 @@ module _ (a b c : ℕ → Child) (from to : ℕ) (fromBelow : from < 32) (toBelo
     | inr d ↦ ap (λ (x : Child). x.left) (rest from fromBelow d)
   ]
 
-  pub taken_and_put : Takes (b from).left bs tail bytes → Put (b to).written (c to).written (frame bytes) → Carries a c bs tail from to bytes
-  taken_and_put t p = record {
+  -- and so is what tells when it was taken
+  taken_after : (c from).taken_at ≡ (b from).taken_at
+  taken_after = elim (one_or_other from to) [
+    | inl e ↦ subst (λ (x : ℕ). (c x).taken_at ≡ (b x).taken_at) (sym e) put.taken_at
+    | inr d ↦ ap (λ (x : Child). x.taken_at) (rest from fromBelow d)
+  ]
+
+  pub begins_after : (written : ℕ) → Begins (a from).taken_at (b from).taken_at written bs tail → Begins (a from).taken_at (c from).taken_at written bs tail
+  begins_after written begins = subst (λ (t : Option (List ℕ)). Begins (a from).taken_at t written bs tail) (sym taken_after) begins
+
+  pub taken_and_put : Stamped (a from).taken_at (b from).taken_at (written_to_all a) (length (frame bytes)) → Takes (b from).left bs tail bytes → Put (b to).written (c to).written (frame bytes) → Carries a c bs tail from to bytes
+  taken_and_put stamped t p = record {
     rest = t.0;
     is = t.1;
     cut = subst (λ (l : Option (List ℕ)). CutLeft ARRIVAL l t.0 tail) (sym left_after) t.2;
+    stamped = subst (λ (o : Option (List ℕ)). Stamped (a from).taken_at o (written_to_all a) (length (frame bytes))) (sym taken_after) stamped;
     put = subst (λ (w : Option (List ℕ)). Put w (c to).written (frame bytes)) written_before p;
   }
 
@@ -159,6 +170,14 @@ module _ (a b c : ℕ → Child) (actions : List Ends) (i : ℕ) (d : Ends) (bel
         let g = subst (λ (n : ℕ). FailsCarrying b c (drop (sends_of (get_or actions i d).from (take i actions)) (outputs (get_or actions i d).from)) (tails (get_or actions i d).from) (n + 1) (get_or actions i d).to r) (sym many) f in
         subst (λ xs. FailsCarryingSome a c roles outputs tails xs r) (sym here)
         (one_uncarried a b c roles few outputs tails (take i actions) (get_or actions i d) e.0 e.1 p k (drop (suc i) actions) r g)
+
+    pub carrying_begins : ((bs : List (List ℕ)) (tail : Tail) → CutLeft ARRIVAL (b (get_or actions i d).from).left bs tail
+        → Begins (b (get_or actions i d).from).taken_at (c (get_or actions i d).from).taken_at (written_to_all b) bs tail)
+        → AreHeard roles a → SomeInTime roles a c outputs actions tails
+    carrying_begins begins heard =
+        let e = ends_at roles within in
+        subst (λ xs. SomeInTime roles a c outputs xs tails) (sym here)
+        (some_in_time a b c roles few outputs tails (take i actions) (get_or actions i d) e.0 e.1 p k (drop (suc i) actions) (begins _ _ cut_at) heard)
 
     pub carrying_goes_on : (bytes : List ℕ)
         → ((bs : List (List ℕ)) (tail : Tail) → CutLeft ARRIVAL (b (get_or actions i d).from).left bs tail → Carries b c bs tail (get_or actions i d).from (get_or actions i d).to bytes)

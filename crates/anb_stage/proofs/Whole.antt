@@ -1,21 +1,27 @@
 -- A relay's parts are one.
 use Rattle.std.proofs.Common.{◌≡◌, ◌<◌, ◌≤◌, ℕ, List, [], length, Option, None, IfSome, refl, sym, ◌∙◌, subst, arith, inl, inr}
+use Rattle.std.proofs.lemmas.List.{append-nil}
 use Rattle.std.proofs.lemmas.Option.{slice_get_within}
 use Rattle.anb_base.specs.Moves.{Put, PutPrefix}
 use Rattle.anb_base.specs.declared.TheConstants.{ARRIVAL}
 use Rattle.anb_base.proofs.Moving.{Rose-later, put_nothing}
 use Rattle.anb_frame.specs.Frames.{frames}
 use Rattle.anb_frame.specs.Cuts.{Tail, CutLeft}
-use Rattle.anb_stage.specs.Children.{Child, lines}
-use Rattle.anb_stage.specs.Relays.{bytes_to, missing, AreCut, AreGood, AllWritten, SomeWritten, AllAsked, SomeAsked, HavePhases, IsFault, Stays, IsRelayed, IsRefused}
-use Rattle.anb_stage.specs.Steps.{SameWritten, Started, FailsStarting, Carried, FailsCarryingSome, CarryingKeeps, IsCaused, Finished, FailsFinishing}
+use Rattle.anb_stage.specs.Children.{Child, lines, written_to_all}
+use Rattle.anb_stage.specs.Relays.{bytes_to, missing, stamps, AllInTime, AreHeard, SomeInTime, AreCut, AreGood, AllWritten, SomeWritten, AllAsked, SomeAsked, HavePhases, IsFault, Stays, IsRelayed, IsRefused}
+use Rattle.anb_stage.specs.Steps.{SameTaken, SameWritten, Started, FailsStarting, Carried, FailsCarryingSome, CarryingKeeps, IsCaused, Finished, FailsFinishing}
 use Rattle.anb_stage.specs.declared.ends.Ends.{Ends}
 use Rattle.anb_stage.specs.declared.refusal.RelayNo.{RelayNo}
 use Rattle.anb_stage.specs.declared.refusal.RelayNo.TheVariants as no
+use Rattle.anb_stage.proofs.Messages.{put_prefix}
 use Rattle.anb_stage.proofs.Roles.{stays_same, stays_joined}
+use Rattle.anb_stage.proofs.Totals.{same_below}
 
 prefix_none : (old new : Option (List ℕ)) (bytes : List ℕ) → new ≡ old → PutPrefix old new bytes
 prefix_none old new bytes same = (0, omega arith, subst (λ n. Put old n []) (sym same) (put_nothing old))
+
+prefix_all : (old new : Option (List ℕ)) (bytes : List ℕ) → Put old new bytes → PutPrefix old new bytes
+prefix_all old new bytes put = subst (PutPrefix old new) (append-nil bytes) (put_prefix old new bytes [] put)
 
 module _ (roles : ℕ) (few : roles ≤ 32) (words : List (List (List ℕ))) (many : length words ≡ roles) (actions : List Ends) where
   -- ---- before and within starting
@@ -23,6 +29,7 @@ module _ (roles : ℕ) (few : roles ≤ 32) (words : List (List (List ℕ))) (ma
   pub refused_before : (a : ℕ → Child) → ((role : ℕ) → role < roles → (a role).phase ≡ 0) → IsRefused roles a a words actions no.NoMemory
   refused_before a new = record {
     writes = λ outputs tails cut role below. prefix_none (a role).written (a role).written _ refl;
+    in_time = λ outputs tails cut heard role below. prefix_none (a role).taken_at (a role).taken_at _ refl;
     asks = λ role own at. inr refl;
     phases = λ role below. let p = new role below in (omega (arith, p), omega (arith, p));
     bad = tt;
@@ -33,6 +40,7 @@ module _ (roles : ℕ) (few : roles ≤ 32) (words : List (List (List ℕ))) (ma
   pub refused_starting : (a b : ℕ → Child) (r : RelayNo) → FailsStarting a b roles words r → IsRefused roles a b words actions r
   refused_starting a b (no.Fault role) s = record {
     writes = λ outputs tails cut. inl ((λ other below. prefix_none (a other).written (b other).written _ (s.written other (omega (arith, below, few)))), s.phases);
+    in_time = λ outputs tails cut heard other below. prefix_none (a other).taken_at (b other).taken_at _ (s.taken other (omega (arith, below, few)));
     asks = s.asked;
     phases = tt;
     bad = tt;
@@ -51,6 +59,12 @@ module _ (roles : ℕ) (few : roles ≤ 32) (words : List (List (List ℕ))) (ma
     pub cut_after : (outputs : ℕ → List (List ℕ)) (tails : ℕ → Tail) → AreCut roles a outputs tails → AreCut roles b outputs tails
     cut_after outputs tails cut role below =
         subst (λ (l : Option (List ℕ)). CutLeft ARRIVAL l (outputs role) (tails role)) (sym (s.left role (omega (arith, below, few)))) (cut role below)
+
+    heard_after : AreHeard roles a → AreHeard roles b
+    heard_after heard role below none = heard role below (sym (s.written role (omega (arith, below, few))) ∙ none)
+
+    total_after : written_to_all b ≡ written_to_all a
+    total_after = same_below 32 (λ role. (a role).written) (λ role. (b role).written) s.written
 
     module _ (c : ℕ → Child) (k : CarryingKeeps b c roles) where
       asked_after : AllAsked roles a c words
@@ -74,12 +88,19 @@ module _ (roles : ℕ) (few : roles ≤ 32) (words : List (List (List ℕ))) (ma
       some_after outputs some role below =
           subst (λ (w : Option (List ℕ)). PutPrefix w (c role).written (frames (bytes_to outputs role actions))) (s.written role (omega (arith, below, few))) (some role below)
 
+      in_time_after : (outputs : ℕ → List (List ℕ)) (tails : ℕ → Tail) → SomeInTime roles b c outputs actions tails → SomeInTime roles a c outputs actions tails
+      in_time_after outputs tails some role below =
+          subst (λ (t : Option (List ℕ)). PutPrefix t (c role).taken_at (stamps outputs tails role (written_to_all a) actions)) (s.taken role (omega (arith, below, few)))
+          (subst (λ (n : ℕ). PutPrefix (b role).taken_at (c role).taken_at (stamps outputs tails role n actions)) total_after (some role below))
+
       cause_after : (role : ℕ) → IsCaused b c roles (no.Fault role) → IsFault roles a c (no.Fault role)
       cause_after role caused = (caused.0, Rose-later (a role).faults (b role).faults (c role).faults (s.stays.faults role (omega (arith, caused.0, few))) caused.1)
 
       pub refused_carrying : (r : RelayNo) → ((outputs : ℕ → List (List ℕ)) (tails : ℕ → Tail) → AreCut roles b outputs tails → FailsCarryingSome b c roles outputs tails actions r)
+          → ((outputs : ℕ → List (List ℕ)) (tails : ℕ → Tail) → AreCut roles b outputs tails → AreHeard roles b → SomeInTime roles b c outputs actions tails)
           → IsCaused b c roles r → IsRefused roles a c words actions r
-      refused_carrying (no.Fault role) f caused = record {
+      refused_carrying (no.Fault role) f t caused = record {
+        in_time = λ outputs tails cut heard. in_time_after outputs tails (t outputs tails (cut_after outputs tails cut) (heard_after heard));
         writes = λ outputs tails cut. inl (some_after outputs (f outputs tails (cut_after outputs tails cut)), phases_after 0 (omega arith));
         asks = some_asked;
         phases = tt;
@@ -87,7 +108,8 @@ module _ (roles : ℕ) (few : roles ≤ 32) (words : List (List (List ℕ))) (ma
         cause = cause_after role caused;
         stays = stays_after;
       }
-      refused_carrying no.NoMemory f caused = record {
+      refused_carrying no.NoMemory f t caused = record {
+        in_time = λ outputs tails cut heard. in_time_after outputs tails (t outputs tails (cut_after outputs tails cut) (heard_after heard));
         writes = λ outputs tails cut. some_after outputs (f outputs tails (cut_after outputs tails cut));
         asks = some_asked;
         phases = phases_after 0 (omega arith);
@@ -95,7 +117,8 @@ module _ (roles : ℕ) (few : roles ≤ 32) (words : List (List (List ℕ))) (ma
         cause = tt;
         stays = stays_after;
       }
-      refused_carrying (no.Ended n) f caused = record {
+      refused_carrying (no.Ended n) f t caused = record {
+        in_time = λ outputs tails cut heard. in_time_after outputs tails (t outputs tails (cut_after outputs tails cut) (heard_after heard));
         writes = λ outputs tails cut. let x = f outputs tails (cut_after outputs tails cut) in (x.0, some_after outputs x.1);
         asks = asked_after;
         phases = phases_after 1 (omega arith);
@@ -103,7 +126,8 @@ module _ (roles : ℕ) (few : roles ≤ 32) (words : List (List (List ℕ))) (ma
         cause = tt;
         stays = stays_after;
       }
-      refused_carrying (no.Cut n have need) f caused = record {
+      refused_carrying (no.Cut n have need) f t caused = record {
+        in_time = λ outputs tails cut heard. in_time_after outputs tails (t outputs tails (cut_after outputs tails cut) (heard_after heard));
         writes = λ outputs tails cut. let x = f outputs tails (cut_after outputs tails cut) in (x.0, some_after outputs x.1);
         asks = asked_after;
         phases = phases_after 1 (omega arith);
@@ -111,7 +135,8 @@ module _ (roles : ℕ) (few : roles ≤ 32) (words : List (List (List ℕ))) (ma
         cause = tt;
         stays = stays_after;
       }
-      refused_carrying (no.Long n len) f caused = record {
+      refused_carrying (no.Long n len) f t caused = record {
+        in_time = λ outputs tails cut heard. in_time_after outputs tails (t outputs tails (cut_after outputs tails cut) (heard_after heard));
         writes = λ outputs tails cut. let x = f outputs tails (cut_after outputs tails cut) in (x.0, some_after outputs x.1);
         asks = asked_after;
         phases = phases_after 1 (omega arith);
@@ -119,7 +144,7 @@ module _ (roles : ℕ) (few : roles ≤ 32) (words : List (List (List ℕ))) (ma
         cause = tt;
         stays = stays_after;
       }
-      refused_carrying (no.Bad role status) f caused = absurd caused
+      refused_carrying (no.Bad role status) f t caused = absurd caused
 
       -- ---- after carrying
 
@@ -133,6 +158,19 @@ module _ (roles : ℕ) (few : roles ≤ 32) (words : List (List (List ℕ))) (ma
                   subst (λ (w : Option (List ℕ)). Put w (d role).written (frames (bytes_to outputs role actions))) (s.written role (omega (arith, below, few)))
                   (subst (λ (w : Option (List ℕ)). Put (b role).written w (frames (bytes_to outputs role actions))) (sym (same role (omega (arith, below, few)))) (x.written role below)),
             )
+
+        in_time_at_end : SameTaken c d → (outputs : ℕ → List (List ℕ)) (tails : ℕ → Tail) → AreCut roles a outputs tails → AreHeard roles a
+            → AllInTime roles a d outputs actions tails
+        in_time_at_end same outputs tails cut heard role below =
+            let x = carried outputs tails (cut_after outputs tails cut) in
+            subst (λ (t : Option (List ℕ)). Put t (d role).taken_at (stamps outputs tails role (written_to_all a) actions)) (s.taken role (omega (arith, below, few)))
+            (subst (λ (t : Option (List ℕ)). Put (b role).taken_at t (stamps outputs tails role (written_to_all a) actions)) (sym (same role (omega (arith, below, few))))
+            (subst (λ (n : ℕ). Put (b role).taken_at (c role).taken_at (stamps outputs tails role n actions)) total_after (x.in_time (heard_after heard) role below)))
+
+        some_at_end : SameTaken c d → (outputs : ℕ → List (List ℕ)) (tails : ℕ → Tail) → AreCut roles a outputs tails → AreHeard roles a
+            → SomeInTime roles a d outputs actions tails
+        some_at_end same outputs tails cut heard role below =
+            prefix_all (a role).taken_at (d role).taken_at (stamps outputs tails role (written_to_all a) actions) (in_time_at_end same outputs tails cut heard role below)
 
         asked_at_end : ((role : ℕ) → role < 32 → (d role).asked ≡ (c role).asked) → AllAsked roles a d words
         asked_at_end same role own at =
@@ -149,6 +187,7 @@ module _ (roles : ℕ) (few : roles ≤ 32) (words : List (List (List ℕ))) (ma
         pub succeeded : Finished c d roles roles → IsRelayed roles a d words actions
         succeeded f = record {
           relayed = all_after f.written;
+          in_time = in_time_at_end f.taken;
           asked = asked_at_end f.asked;
           phases = λ role below. let p = f.done role below in (omega (arith, p), omega (arith, p));
           good = good_before roles (omega arith) f.good;
@@ -158,6 +197,7 @@ module _ (roles : ℕ) (few : roles ≤ 32) (words : List (List (List ℕ))) (ma
         pub refused_finishing : (r : RelayNo) → FailsFinishing c d roles r → IsRefused roles a d words actions r
         refused_finishing (no.Fault role) f = record {
           writes = λ outputs tails cut. inr (all_after f.2.written outputs tails cut);
+          in_time = some_at_end f.2.taken;
           asks = λ other own at. inl (asked_at_end f.2.asked other own at);
           phases = tt;
           bad = tt;
@@ -166,6 +206,7 @@ module _ (roles : ℕ) (few : roles ≤ 32) (words : List (List (List ℕ))) (ma
         }
         refused_finishing (no.Bad role status) f = record {
           writes = all_after f.2.written;
+          in_time = some_at_end f.2.taken;
           asks = asked_at_end f.2.asked;
           phases = f.1;
           bad = (

@@ -1,17 +1,29 @@
 -- What a spawner tells of the child of each role, and what each of its calls changes.
-use Rattle.std.specs.Prelude.{◌≡◌, ◌≢◌, ℕ, List, [], ◌∷◌, ◌++◌, flat_map, Option}
+use Rattle.std.specs.Prelude.{◌≡◌, ◌≢◌, ℕ, zero, suc, ◌+◌, List, [], ◌∷◌, ◌++◌, length, flat_map, Option}
+use Rattle.std.specs.Option.{option_map_or}
 
--- The bytes that are left of its output, those that were written to it, the words that were asked of
--- it, each with a line feed, and the status with which it ends: each may be untold. How often a call
--- for it has failed, up to the last value of a u64. Its phase is 0 before it was started, 1 once it
--- was, and 2 once it was finished.
+-- The bytes that are left of its output; for each byte that was read of it, in order, how many bytes
+-- had been written to all children by then; the bytes that were written to it, the words that were
+-- asked of it, each with a line feed, and the status with which it ends: each may be untold. How often
+-- a call for it has failed, up to the last value of a u64. Its phase is 0 before it was started, 1 once
+-- it was, and 2 once it was finished.
 pub record Child : Type 0 where
   pub left : Option (List ℕ)
+  pub taken_at : Option (List ℕ)
   pub written : Option (List ℕ)
   pub asked : Option (List ℕ)
   pub status : Option ℕ
   pub faults : ℕ
   pub phase : ℕ
+
+-- how many bytes are written to the first so many of these inputs; none to one that isn't told
+unfoldable pub written_below : ℕ → (ℕ → Option (List ℕ)) → ℕ
+written_below zero inputs = 0
+written_below (suc n) inputs = option_map_or length (inputs n) 0 + written_below n inputs
+
+-- how many bytes are written to all children
+abbrev pub written_to_all : (ℕ → Child) → ℕ
+written_to_all children = written_below 32 (λ role. (children role).written)
 
 -- each word and a line feed
 abbrev pub lines : List (List ℕ) → List ℕ
@@ -21,6 +33,7 @@ lines words = flat_map (λ word. word ++ 10 ∷ []) words
 -- doesn't fall.
 pub record KeptByStart (old new : Child) : Type 0 where
   pub left : new.left ≡ old.left
+  pub taken_at : new.taken_at ≡ old.taken_at
   pub written : new.written ≡ old.written
   pub status : new.status ≡ old.status
 
@@ -32,11 +45,13 @@ pub record KeptByRead (old new : Child) : Type 0 where
 
 pub record KeptByWrite (old new : Child) : Type 0 where
   pub left : new.left ≡ old.left
+  pub taken_at : new.taken_at ≡ old.taken_at
   pub asked : new.asked ≡ old.asked
   pub status : new.status ≡ old.status
   pub phase : new.phase ≡ old.phase
 
 pub record KeptByFinish (old new : Child) : Type 0 where
+  pub taken_at : new.taken_at ≡ old.taken_at
   pub written : new.written ≡ old.written
   pub asked : new.asked ≡ old.asked
   pub status : new.status ≡ old.status

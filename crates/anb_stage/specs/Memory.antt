@@ -1,13 +1,15 @@
 -- A spawner in memory: what it holds, and which of its calls fail.
-use Rattle.std.specs.Prelude.{ℕ, ◌+◌, ◌<◌, ◌≤◌, IsTrue, List, [], ◌∷◌, ◌++◌, length, drop, get_or, slice_set, Some}
+use Rattle.std.specs.Prelude.{ℕ, ◌+◌, ◌<◌, ◌≤◌, IsTrue, List, [], ◌∷◌, ◌++◌, length, drop, replicate, get_or, slice_set, Some}
 use Rattle.anb_base.specs.Memory.{raised, fails_after}
 use Rattle.anb_base.specs.Moves.{last_count}
 use Rattle.anb_stage.specs.Children.{Child, lines}
 
--- a child: what is left of its output, what was written to it, what was asked of it, its status, how
--- many bytes can be written to it, and asked of it, in all, its count of faults and its phase
+-- a child: what is left of its output, how many bytes had been written to all children when each byte
+-- of it was read, what was written to it, what was asked of it, its status, how many bytes can be
+-- written to it, and asked of it, in all, its count of faults and its phase
 pub record MemoryChild : Type 0 where
   pub left : List ℕ
+  pub taken_at : List ℕ
   pub written : List ℕ
   pub asked : List ℕ
   pub status : ℕ
@@ -25,6 +27,7 @@ pub record MemorySpawner : Type 0 where
 abbrev pub absent : MemoryChild
 absent = record {
   left = [];
+  taken_at = [];
   written = [];
   asked = [];
   status = 0;
@@ -40,6 +43,7 @@ child_at spawner role = get_or spawner.children role absent
 abbrev pub told : MemoryChild → Child
 told c = record {
   left = Some c.left;
+  taken_at = Some c.taken_at;
   written = Some c.written;
   asked = Some c.asked;
   status = Some c.status;
@@ -51,6 +55,7 @@ told c = record {
 abbrev pub fresh_child : ℕ → List ℕ → ℕ → MemoryChild
 fresh_child room output status = record {
   left = output;
+  taken_at = [];
   written = [];
   asked = [];
   status = status;
@@ -58,6 +63,10 @@ fresh_child room output status = record {
   faults = 0;
   phase = 0;
 }
+
+-- all children
+abbrev pub children_of : MemorySpawner → ℕ → Child
+children_of spawner role = told (child_at spawner role)
 
 -- one of each output and its status
 abbrev pub fresh_children : ℕ → List (List ℕ) → List ℕ → List MemoryChild
@@ -100,10 +109,13 @@ with_child spawner role c = record spawner {
 abbrev pub failed : MemoryChild → MemoryChild
 failed c = record c { faults = raised c.faults }
 
--- after so many bytes were read, after bytes were written, after it was started with these words, and
--- after it was finished
-abbrev pub after_read : MemoryChild → ℕ → MemoryChild
-after_read c n = record c { left = drop n c.left }
+-- after so many bytes were read while so many were written to all children, after bytes were written,
+-- after it was started with these words, and after it was finished
+abbrev pub after_read : MemoryChild → (written n : ℕ) → MemoryChild
+after_read c written n = record c {
+  left = drop n c.left;
+  taken_at = c.taken_at ++ replicate n written;
+}
 
 abbrev pub after_write : MemoryChild → List ℕ → MemoryChild
 after_write c bytes = record c { written = c.written ++ bytes }

@@ -1,14 +1,14 @@
 -- What is relayed: the messages of all actions, and the first refusal.
-use Rattle.std.specs.Prelude.{◌≡◌, ◌≢◌, ℕ, ◌+◌, ◌<◌, ◌≤◌, ◌==◌, ◌⊎◌, nat_le, if◌then◌else◌, List, [], ◌∷◌, length, map, filter, slice_get, Option, Some, None, IfSome, is_none}
+use Rattle.std.specs.Prelude.{◌≡◌, ◌≢◌, ℕ, ◌+◌, ◌<◌, ◌≤◌, ◌==◌, ◌⊎◌, nat_le, if◌then◌else◌, List, [], ◌∷◌, ◌++◌, length, map, filter, replicate, slice_get, Option, Some, None, IfSome, is_none}
 use Rattle.std.specs.Option.{option_map_or}
 use Rattle.anb_base.specs.Moves.{Put, PutPrefix, Rose}
 use Rattle.anb_base.specs.declared.TheConstants.{ARRIVAL}
 use Rattle.anb_base.specs.declared.content.Sent.{Sent}
-use Rattle.anb_frame.specs.Frames.{frames}
+use Rattle.anb_frame.specs.Frames.{frame, frames}
 use Rattle.anb_frame.specs.Cuts.{Tail, End, Short, Long, CutLeft}
 use Rattle.anb_resolve.specs.Choices.{refuse_if, first_after, each_after}
 use Rattle.anb_resolve.specs.Protocols.{ActionValue, ProtocolValue}
-use Rattle.anb_stage.specs.Children.{Child, lines}
+use Rattle.anb_stage.specs.Children.{Child, lines, written_to_all}
 use Rattle.anb_stage.specs.declared.ends.Ends.{Ends}
 use Rattle.anb_stage.specs.declared.refusal.RelayNo.{RelayNo}
 use Rattle.anb_stage.specs.declared.refusal.RelayNo.TheVariants as no
@@ -37,6 +37,16 @@ abbrev pub refusal_at : ℕ → Tail → RelayNo
 refusal_at action End = no.Ended action
 refusal_at action (Short have need) = no.Cut action have need
 refusal_at action (Long len) = no.Long action len
+
+-- how many bytes are taken where a message is missing
+abbrev pub size_of_tail : Tail → ℕ
+size_of_tail End = 0
+size_of_tail (Short have need) = have
+size_of_tail (Long len) = 4
+
+-- the stamps of an action's bytes at a role's output: there are some at its sender's alone
+abbrev pub own_stamps : (role from size written : ℕ) → List ℕ
+own_stamps role from size written = if from == role then replicate size written else []
 
 -- the frames in the output of each role's child, and how that output ends behind them
 module _ (outputs : ℕ → List (List ℕ)) where
@@ -75,10 +85,31 @@ module _ (outputs : ℕ → List (List ℕ)) where
   abbrev pub missing : (ℕ → Tail) → List Ends → Option RelayNo
   missing tails actions = first_after (refusal_of tails) [] actions
 
+  -- ---- when bytes are taken
+
+  -- For each byte that is taken of a role's output in these actions, behind others before, how many
+  -- bytes are written to all children by then: so many at first, and then the frames of all messages
+  -- before. Nothing is taken behind the first message that is missing.
+  abbrev pub stamps_behind :
+      (ℕ → Tail) → (role written : ℕ) → (before actions : List Ends) → List ℕ
+  stamps_behind tails role written before [] = []
+  stamps_behind tails role written before (a ∷ actions) =
+      option_map_or
+      (λ bytes. own_stamps role a.from (length (frame bytes)) written
+      ++ stamps_behind tails role (written + length (frame bytes)) (before ++ a ∷ []) actions)
+      (bytes_of before a) (own_stamps role a.from (size_of_tail (tails a.from)) written)
+
+  abbrev pub stamps : (ℕ → Tail) → (role written : ℕ) → List Ends → List ℕ
+  stamps tails role written actions = stamps_behind tails role written [] actions
+
 -- the outputs of the roles below a number are told, and cut so
 abbrev pub AreCut : ℕ → (ℕ → Child) → (ℕ → List (List ℕ)) → (ℕ → Tail) → Type 0
 AreCut roles children outputs tails =
     (role : ℕ) → role < roles → CutLeft ARRIVAL (children role).left (outputs role) (tails role)
+
+-- what is written to each of them is told
+abbrev pub AreHeard : ℕ → (ℕ → Child) → Type 0
+AreHeard roles children = (role : ℕ) → role < roles → (children role).written ≢ None
 
 -- ---- what comes of a relay, from old to new children of so many roles
 
@@ -115,6 +146,20 @@ module _ (roles : ℕ) (old new : ℕ → Child) where
         → PutPrefix (old role).written (new role).written (frames (bytes_to outputs role actions))
 
     module _ (tails : ℕ → Tail) where
+      -- Each byte of each message's frame was taken when exactly the frames of the messages before were
+      -- written; of bytes that were taken, it is so.
+      abbrev pub AllInTime : Type 0
+      AllInTime =
+          (role : ℕ) → role < roles
+          → Put (old role).taken_at (new role).taken_at
+          (stamps outputs tails role (written_to_all old) actions)
+
+      abbrev pub SomeInTime : Type 0
+      SomeInTime =
+          (role : ℕ) → role < roles
+          → PutPrefix (old role).taken_at (new role).taken_at
+          (stamps outputs tails role (written_to_all old) actions)
+
       -- no message is missing, and all are written
       abbrev pub AllRelayed : Type 0
       AllRelayed = (missing outputs tails actions ≡ None) × AllWritten
@@ -170,6 +215,8 @@ module _ (roles : ℕ) (old new : ℕ → Child) (words : List (List (List ℕ))
   pub record IsRelayed : Type 0 where
     pub relayed : (outputs : ℕ → List (List ℕ)) (tails : ℕ → Tail) → AreCut roles old outputs tails
         → AllRelayed roles old new outputs actions tails
+    pub in_time : (outputs : ℕ → List (List ℕ)) (tails : ℕ → Tail) → AreCut roles old outputs tails
+        → AreHeard roles old → AllInTime roles old new outputs actions tails
     pub asked : AllAsked roles old new words
     pub phases : HavePhases roles old new 2 2
     pub good : AreGood old roles
@@ -178,6 +225,8 @@ module _ (roles : ℕ) (old new : ℕ → Child) (words : List (List (List ℕ))
   pub record IsRefused (refusal : RelayNo) : Type 0 where
     pub writes : (outputs : ℕ → List (List ℕ)) (tails : ℕ → Tail) → AreCut roles old outputs tails
         → WritesRefusing roles old new outputs actions tails refusal
+    pub in_time : (outputs : ℕ → List (List ℕ)) (tails : ℕ → Tail) → AreCut roles old outputs tails
+        → AreHeard roles old → SomeInTime roles old new outputs actions tails
     pub asks : AsksRefusing roles old new words refusal
     pub phases : EndsRefusing roles old new refusal
     pub bad : IsFirstBad roles old refusal

@@ -1,18 +1,28 @@
 -- How far a relay is: the children so many of which were started, or finished, and those between
 -- which so many actions were carried.
-use Rattle.std.specs.Prelude.{◌≡◌, ◌≢◌, ℕ, ◌<◌, ◌≤◌, ◌⊎◌, List, [], ◌∷◌, drop, slice_get, Some, None, Option}
+use Rattle.std.specs.Prelude.{◌≡◌, ◌≢◌, ℕ, ◌+◌, ◌<◌, ◌≤◌, ◌⊎◌, List, [], ◌∷◌, ◌++◌, length, take, drop, replicate, slice_get, Some, None, Option, Result, Ok, Err}
 use Rattle.std.specs.List.{AllByRecursion}
-use Rattle.anb_base.specs.Moves.{Put, PutPrefix, Rose}
+use Rattle.std.specs.Option.{option_map_or}
+use Rattle.anb_base.specs.Moves.{Put, PutPrefix, Rose, Stamped}
 use Rattle.anb_base.specs.declared.TheConstants.{ARRIVAL}
 use Rattle.anb_frame.specs.Frames.{frame, frames}
 use Rattle.anb_frame.specs.Cuts.{Tail, CutLeft}
 use Rattle.anb_frame.specs.declared.Taken.{Taken}
 use Rattle.anb_frame.specs.declared.Taken.TheVariants.{Frame, End}
-use Rattle.anb_stage.specs.Children.{Child, lines}
-use Rattle.anb_stage.specs.Relays.{sends_of, bytes_to, missing, refusal_at, AreGood, IsFirstBad, EndsRefusing, SomeAsked, SomeWritten, HavePhases, Stays}
+use Rattle.anb_frame.specs.declared.FrameNo.{FrameNo}
+use Rattle.anb_stage.specs.Children.{Child, lines, written_to_all}
+use Rattle.anb_stage.specs.Relays.{sends_of, bytes_of, bytes_to, missing, refusal_at, size_of_tail, AreGood, AreHeard, AllInTime, IsFirstBad, EndsRefusing, SomeAsked, SomeWritten, HavePhases, Stays}
 use Rattle.anb_stage.specs.declared.ends.Ends.{Ends}
 use Rattle.anb_stage.specs.declared.refusal.RelayNo.{RelayNo}
 use Rattle.anb_stage.specs.declared.refusal.RelayNo.TheVariants as no
+
+-- how many bytes are written behind the messages of these actions, where none is missing
+abbrev pub written_behind : (ℕ → List (List ℕ)) → (written : ℕ) → (before actions : List Ends) → ℕ
+written_behind outputs written before [] = written
+written_behind outputs written before (a ∷ actions) =
+    option_map_or
+    (λ bytes. written_behind outputs (written + length (frame bytes)) (before ++ a ∷ []) actions)
+    (bytes_of outputs before a) written
 
 -- the children of all roles below 32 but one are as before
 abbrev pub OthersStayBelow : ℕ → (old new : ℕ → Child) → Type 0
@@ -22,6 +32,9 @@ OthersStayBelow role old new =
 module _ (old new : ℕ → Child) where
   abbrev pub SameWritten : Type 0
   SameWritten = (role : ℕ) → role < 32 → (new role).written ≡ (old role).written
+
+  abbrev pub SameTaken : Type 0
+  SameTaken = (role : ℕ) → role < 32 → (new role).taken_at ≡ (old role).taken_at
 
   abbrev pub SameAsked : Type 0
   SameAsked = (role : ℕ) → role < 32 → (new role).asked ≡ (old role).asked
@@ -38,6 +51,7 @@ module _ (old new : ℕ → Child) where
         → Put (old role).asked (new role).asked (lines own)
     pub phases : (role : ℕ) → role < count → (new role).phase ≡ 1
     pub left : (role : ℕ) → role < 32 → (new role).left ≡ (old role).left
+    pub taken : SameTaken
     pub written : SameWritten
     pub stays : Stays old new count
 
@@ -47,6 +61,7 @@ module _ (old new : ℕ → Child) where
     pub rose : RoseFor role
     pub asked : SomeAsked roles old new words
     pub phases : HavePhases roles old new 0 1
+    pub taken : SameTaken
     pub written : SameWritten
     pub stays : Stays old new roles
 
@@ -57,6 +72,7 @@ module _ (old new : ℕ → Child) where
   -- a message was carried from one role's child to another's
   pub record CarryKeeps (from to : ℕ) : Type 0 where
     pub left : (role : ℕ) → role < 32 → role ≢ from → (new role).left ≡ (old role).left
+    pub taken : (role : ℕ) → role < 32 → role ≢ from → (new role).taken_at ≡ (old role).taken_at
     pub written : (role : ℕ) → role < 32 → role ≢ to → (new role).written ≡ (old role).written
     pub asked : SameAsked
     pub phases : SamePhases
@@ -71,6 +87,8 @@ module _ (old new : ℕ → Child) where
       pub rest : List (List ℕ)
       pub is : bs ≡ b ∷ rest
       pub cut : CutLeft ARRIVAL (new from).left rest tail
+      pub stamped : Stamped (old from).taken_at (new from).taken_at (written_to_all old)
+          (length (frame b))
       pub put : Put (old to).written (new to).written (frame b)
 
     pub record CarriesPart (to : ℕ) : Type 0 where
@@ -101,6 +119,9 @@ module _ (old new : ℕ → Child) where
         → CutLeft ARRIVAL (new role).left (drop (sends_of role actions) (outputs role)) (tails role)
     pub written : (role : ℕ) → role < roles
         → Put (old role).written (new role).written (frames (bytes_to outputs role actions))
+    pub in_time : AreHeard roles old → AllInTime roles old new outputs actions tails
+    pub total : AreHeard roles old
+        → written_to_all new ≡ written_behind outputs (written_to_all old) [] actions
 
   -- with each refusal of some of them
   abbrev pub FailsCarryingSome :
@@ -119,6 +140,7 @@ module _ (old new : ℕ → Child) where
 
   -- so many children were finished, each with status 0 where that is told
   pub record Finished (count roles : ℕ) : Type 0 where
+    pub taken : SameTaken
     pub done : (role : ℕ) → role < count → (new role).phase ≡ 2
     pub running : (role : ℕ) → count ≤ role → role < roles → (new role).phase ≡ 1
     pub good : AreGood old count
@@ -127,6 +149,7 @@ module _ (old new : ℕ → Child) where
     pub stays : Stays old new roles
 
   pub record FinishFailed (roles : ℕ) : Type 0 where
+    pub taken : SameTaken
     pub asked : SameAsked
     pub written : SameWritten
     pub stays : Stays old new roles
@@ -143,6 +166,22 @@ module _ (old new : ℕ → Child) where
 abbrev pub FitsIn : ℕ → Taken → Type 0
 FitsIn most (Frame n) = n ≤ most
 FitsIn most End = Unit {0}
+
+-- a fact for the bytes of the frame that stands in a buffer
+abbrev pub OnFrame : (buffer : List ℕ) → Result Taken FrameNo → (List ℕ → Type 0) → Type 0
+OnFrame buffer (Ok (Frame n)) P = P (take n buffer)
+OnFrame buffer (Ok End) P = Unit {0}
+OnFrame buffer (Err refusal) P = Unit {0}
+
+-- how many bytes are taken at most for the next message of an output with this cut
+abbrev pub next_size : List (List ℕ) → Tail → ℕ
+next_size [] tail = size_of_tail tail
+next_size (b ∷ bs) tail = length (frame b)
+
+-- so many of them, each when so many were written
+abbrev pub Begins : (taken_at taken_at_now : Option (List ℕ)) → (written : ℕ) → List (List ℕ) → Tail → Type 0
+Begins taken_at taken_at_now written bs tail =
+    PutPrefix taken_at taken_at_now (replicate (next_size bs tail) written)
 
 -- of what was left, with this cut, the first frame was taken
 abbrev pub Takes : Option (List ℕ) → List (List ℕ) → Tail → List ℕ → Type 0

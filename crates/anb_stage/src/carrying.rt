@@ -1,14 +1,14 @@
 //! Messages from sender to receiver.
 
 ghost use Rattle.std.specs.Prelude.{◌≡◌, ◌<◌, ◌≤◌, ◌+◌, ◌^◌, ℕ, List, length, IfErr, IfOk, OnOk, OnErr};
-ghost use Rattle.anb_base.specs.Moves.{Rose, Put, PutPrefix};
+ghost use Rattle.anb_base.specs.Moves.{Rose, Put, PutPrefix, Stamped};
 ghost use Rattle.anb_base.specs.declared.TheConstants.{ARRIVAL};
 ghost use Rattle.anb_frame.specs.Frames.{frame};
 ghost use Rattle.anb_frame.specs.Cuts.{Tail, CutLeft};
 ghost use Rattle.anb_frame.specs.Answers.{Follows, OnFailed};
-ghost use Rattle.anb_stage.specs.Children.{KeptByRead, KeptByWrite};
-ghost use Rattle.anb_stage.specs.Relays.{AreCut, report};
-ghost use Rattle.anb_stage.specs.Steps.{OthersStayBelow, AreWithin, AreRunning, FitsIn, Takes, IsMissing, Carries, CarryKeeps, FailsCarrying, IsCaused, Carried, FailsCarryingSome, CarryingKeeps};
+ghost use Rattle.anb_stage.specs.Children.{KeptByRead, KeptByWrite, written_to_all};
+ghost use Rattle.anb_stage.specs.Relays.{AreCut, AreHeard, SomeInTime, report};
+ghost use Rattle.anb_stage.specs.Steps.{Begins, OthersStayBelow, AreWithin, AreRunning, FitsIn, OnFrame, Takes, IsMissing, Carries, CarryKeeps, FailsCarrying, IsCaused, Carried, FailsCarryingSome, CarryingKeeps};
 ghost use Rattle.anb_stage.specs.declared.TheConstants.{ROLES};
 
 use crate::ends::Ends;
@@ -39,6 +39,10 @@ pub(crate) fn carry_all<P: Spawner>(
         → AreWithin roles actions.now → AreCut roles (P.child spawner.old) outputs tails
         → IfErr result (FailsCarryingSome (P.child spawner.old) (P.child spawner.new) roles outputs
         tails actions.now) }
+    ensures in_time { (roles : ℕ) (outputs : ℕ → List (List ℕ)) (tails : ℕ → Tail) → roles ≤ ROLES
+        → AreWithin roles actions.now → AreCut roles (P.child spawner.old) outputs tails
+        → AreHeard roles (P.child spawner.old) → OnErr result (SomeInTime roles
+        (P.child spawner.old) (P.child spawner.new) outputs actions.now tails) }
     ensures cause { (roles : ℕ) → roles ≤ ROLES → AreWithin roles actions.now
         → IfErr result (IsCaused (P.child spawner.old) (P.child spawner.new) roles) }
     ensures kept { (roles : ℕ) → roles ≤ ROLES → AreWithin roles actions.now
@@ -79,6 +83,10 @@ fn carry<P: Spawner>(
         → CutLeft ARRIVAL (P.child spawner.old ends.from).left bs tail
         → IfErr result (FailsCarrying (P.child spawner.old) (P.child spawner.new) bs tail action
         ends.to) }
+    ensures begins { (bs : List (List ℕ)) (tail : Tail)
+        → CutLeft ARRIVAL (P.child spawner.old ends.from).left bs tail
+        → Begins (P.child spawner.old ends.from).taken_at (P.child spawner.new ends.from).taken_at
+        (written_to_all (P.child spawner.old)) bs tail }
     ensures cause { (roles : ℕ) → ends.from < roles → ends.to < roles
         → IfErr result (IsCaused (P.child spawner.old) (P.child spawner.new) roles) }
     ensures kept { CarryKeeps (P.child spawner.old) (P.child spawner.new) ends.from ends.to }
@@ -111,6 +119,13 @@ fn receive<P: Spawner>(
     ensures missing { (bs : List (List ℕ)) (tail : Tail)
         → CutLeft ARRIVAL (P.child spawner.old role).left bs tail
         → IfErr result (IsMissing bs tail action) }
+    ensures stamped { IfOk result (λ bytes. Stamped (P.child spawner.old role).taken_at
+        (P.child spawner.new role).taken_at (written_to_all (P.child spawner.old))
+        (length (frame bytes))) }
+    ensures begins { (bs : List (List ℕ)) (tail : Tail)
+        → CutLeft ARRIVAL (P.child spawner.old role).left bs tail
+        → Begins (P.child spawner.old role).taken_at (P.child spawner.new role).taken_at
+        (written_to_all (P.child spawner.old)) bs tail }
     ensures cause { (roles : ℕ) → role < roles
         → IfErr result (IsCaused (P.child spawner.old) (P.child spawner.new) roles) }
     ensures never_falls { (P.child spawner.old role).faults ≤ (P.child spawner.new role).faults }
@@ -138,6 +153,13 @@ fn take_from<P: Spawner>(spawner: &mut P, role: u32, buffer: &mut [u8]) -> Resul
     ensures follows { (bs : List (List ℕ)) (tail : Tail)
         → CutLeft ARRIVAL (P.child spawner.old role).left bs tail
         → Follows ARRIVAL bs tail (P.child spawner.new role).left buffer.new result }
+    ensures stamped { OnFrame buffer.new result (λ bytes. Stamped
+        (P.child spawner.old role).taken_at (P.child spawner.new role).taken_at
+        (written_to_all (P.child spawner.old)) (length (frame bytes))) }
+    ensures begins { (bs : List (List ℕ)) (tail : Tail)
+        → CutLeft ARRIVAL (P.child spawner.old role).left bs tail
+        → Begins (P.child spawner.old role).taken_at (P.child spawner.new role).taken_at
+        (written_to_all (P.child spawner.old)) bs tail }
     ensures same_length { length buffer.new ≡ length buffer.old }
     ensures cause { OnFailed result
         (Rose (P.child spawner.old role).faults (P.child spawner.new role).faults) }

@@ -1,12 +1,12 @@
 //! Children in memory.
 
-ghost use Rattle.std.specs.Prelude.{◌≡◌, ◌<◌, ◌≤◌, ◌+◌, ◌-◌, ◌↔◌, ◌⊎◌, ℕ, List, [], ◌++◌, length, take, drop, min, IsTrue, IsErr, IfOk, OnOk, OnErr, vec_len, vec_capacity};
+ghost use Rattle.std.specs.Prelude.{◌≡◌, ◌<◌, ◌≤◌, ◌+◌, ◌-◌, ◌^◌, ◌↔◌, ◌⊎◌, ℕ, List, [], ◌++◌, length, take, drop, min, IsTrue, IsErr, IfOk, OnOk, OnErr, vec_len, vec_capacity};
 ghost use Rattle.anb_base.specs.Memory.{raised, fails_after};
 ghost use Rattle.anb_base.specs.Moves.{Rose};
-ghost use Rattle.anb_stage.specs.Children.{lines};
-ghost use Rattle.anb_stage.specs.Memory.{fresh_child, fresh_spawner, child_at, failed, after_read, after_write, after_start, after_finish, told, IsDueToFail, HasNoOutput, HasNoRoom, HasNoRoomForWords, with_child};
+ghost use Rattle.anb_stage.specs.Children.{lines, written_to_all};
+ghost use Rattle.anb_stage.specs.Memory.{fresh_child, fresh_spawner, child_at, children_of, failed, after_read, after_write, after_start, after_finish, IsDueToFail, HasNoOutput, HasNoRoom, HasNoRoomForWords, with_child};
 
-use crate::Spawner;
+use crate::{ROLES, Spawner};
 use anb_base::{Bytes, Failed, NoMemory, Text};
 use std::alloc::Global;
 use std::marker::Model;
@@ -29,6 +29,14 @@ impl Room {
             bytes: Vec::with_capacity(alloc, limit as usize)?,
             limit,
         })
+    }
+
+    fn len(&self) -> usize
+        ensures length { result ≡ length self.now.bytes.items }
+        ensures most { result < 2 ^ 32 }
+    {
+        prove!(self.bytes.len() <= self.limit as usize);
+        self.bytes.len()
     }
 
     fn left(&self) -> usize
@@ -58,11 +66,13 @@ impl Room {
     }
 }
 
-/// A child whose output stands from the start.
+/// A child whose output stands from the start. A place of the stamps is given to each byte of it, and
+/// has its meaning once that is read.
 #[derive(Debug, Drop)]
 pub(crate) struct MemChild {
     output: Bytes,
     read: usize,
+    stamps: Vec<usize>,
     written: Room,
     asked: Room,
     status: u8,
@@ -71,13 +81,14 @@ pub(crate) struct MemChild {
 }
 
 impl Model for MemChild {
-    ghost use Rattle.std.specs.Prelude.{◌≡◌, ◌≤◌, length, drop};
+    ghost use Rattle.std.specs.Prelude.{◌≡◌, ◌≤◌, length, take, drop};
     ghost use Rattle.anb_stage.specs.Memory.{MemoryChild};
 
     ghost Value = { MemoryChild };
 
     ghost view = { λ c. record {
       left = drop c.read c.output;
+      taken_at = take c.read c.stamps.items;
       written = c.written.bytes.items;
       asked = c.asked.bytes.items;
       status = c.status;
@@ -86,16 +97,19 @@ impl Model for MemChild {
       phase = c.phase;
     } };
 
-    ghost invariant = { λ c. (c.read ≤ length c.output) × (c.asked.limit ≡ c.written.limit) };
+    ghost invariant = { λ c. (c.read ≤ length c.output) × (c.asked.limit ≡ c.written.limit)
+        × (length c.stamps.items ≡ length c.output) };
 }
 
 impl MemChild {
     fn new(alloc: Global, output: Bytes, status: u8, room: u32) -> Result<Self, NoMemory>
         ensures { IfOk result (λ child. child ≡ fresh_child room output status) }
     {
+        let stamps = vec![in alloc; 0usize; output.as_slice().len()]?;
         Ok(MemChild {
             output,
             read: 0,
+            stamps,
             written: Room::new(alloc, room)?,
             asked: Room::new(alloc, room)?,
             status,
@@ -114,15 +128,16 @@ impl MemChild {
         Failed
     }
 
-    /// Takes as many bytes as the buffer has room for.
-    fn read(&mut self, buf: &mut [u8]) -> usize
+    /// Takes as many bytes as the buffer has room for, while so many were written to all children.
+    fn read(&mut self, written: usize, buf: &mut [u8]) -> usize
         ensures count { result ≡ min (length buf.old) (length self.old.left) }
         ensures bytes { buf.new ≡ take result self.old.left ++ drop result buf.old }
-        ensures moved { self.new ≡ after_read self.old result }
+        ensures moved { self.new ≡ after_read self.old written result }
     {
         let left = &self.output.as_slice()[self.read..];
         let n = buf.len().min(left.len());
         buf[..n].copy_from_slice(&left[..n]);
+        self.stamps[self.read..self.read + n].fill(written);
         self.read += n;
         n
     }
@@ -252,6 +267,37 @@ impl MemSpawner {
         child.asked.bytes.as_slice()
     }
 
+    /// When each byte of a role's output was read: how many had been written to all children by then.
+    pub fn taken_at(&self, role: u32) -> &[usize]
+        requires { role < length self.now.children }
+        ensures { result.now ≡ (child_at self.now role).taken_at }
+    {
+        let child = &self.children[role as usize];
+        &child.stamps[..child.read]
+    }
+
+    /// How many bytes are written to all children.
+    fn written_to_all(&self) -> usize
+        ensures { result ≡ written_to_all (children_of self.now) }
+    {
+        let mut all = 0;
+        for role in 0..ROLES as usize {
+            all += self.written_to(role);
+        }
+        all
+    }
+
+    /// How many bytes are written to a role's child.
+    fn written_to(&self, role: usize) -> usize
+        ensures length { result ≡ length (child_at self.now role).written }
+        ensures most { result < 2 ^ 32 }
+    {
+        if role >= self.children.len() {
+            return 0;
+        }
+        self.children[role].written.len()
+    }
+
     /// Counts the call that comes now, and says whether it fails.
     fn next_fails(&mut self) -> bool
         ensures fails { result ≡ fails_after self.old.calls self.old.fails }
@@ -264,7 +310,7 @@ impl MemSpawner {
 }
 
 impl Spawner for MemSpawner {
-    ghost child = { λ spawner role. told (child_at spawner role) };
+    ghost child = { children_of };
 
     fn start(&mut self, role: u32, words: &[Text]) -> Result<(), Failed>
         ensures fails { IsErr result ↔ (IsDueToFail self.old ⊎ HasNoOutput self.old role
@@ -296,18 +342,19 @@ impl Spawner for MemSpawner {
             n ≡ min (length buf.old) (length (child_at self.old role).left)) }
         ensures bytes { IfOk result (λ n.
             buf.new ≡ take n (child_at self.old role).left ++ drop n buf.old) }
-        ensures moved { IfOk result (λ n.
-            self.new ≡ with_child self.old role (after_read (child_at self.old role) n)) }
+        ensures moved { IfOk result (λ n. self.new ≡ with_child self.old role
+            (after_read (child_at self.old role) (written_to_all (children_of self.old)) n)) }
         ensures end { IfOk result (λ n.
             0 < length buf.new → n ≡ 0 → (child_at self.old role).left ≡ []) }
         ensures never_falls { (child_at self.old role).faults ≤ (child_at self.new role).faults }
     {
         let fails = self.next_fails();
+        let written = self.written_to_all();
         let child = &mut self.children[role as usize];
         if fails {
             return Err(child.fail());
         }
-        Ok(child.read(buf))
+        Ok(child.read(written, buf))
     }
 
     fn write(&mut self, role: u32, piece: &[u8]) -> Result<usize, Failed>

@@ -1,13 +1,13 @@
 //! One role of a spawner, lent as a source or as a sink.
 
-ghost use Rattle.std.specs.Prelude.{◌≡◌, ◌<◌, ◌≤◌, ℕ, None};
-ghost use Rattle.anb_stage.specs.Sides.{kept_beside, without_output, without_input};
+ghost use Rattle.std.specs.Prelude.{◌≡◌, ◌<◌, ◌≤◌, ℕ};
+ghost use Rattle.anb_stage.specs.Sides.{beside_input, beside_output};
 ghost use Rattle.anb_stage.specs.declared.TheConstants.{ROLES};
 
 use crate::Spawner;
 use anb_base::{Failed, Sink, Source};
 
-/// The output of a role's child, as a source. When bytes were taken isn't told.
+/// The output of a role's child, as a source. Beside it stands what is written to all children.
 pub(crate) struct Output<'s, P: Spawner> {
     pub(crate) spawner: &'s mut P,
     pub(crate) role: u32,
@@ -18,11 +18,11 @@ pub(crate) struct Output<'s, P: Spawner> {
 impl<P: Spawner> Source for Output<'_, P> {
     ghost left = { λ output. (P.child output.spawner.now output.role).left };
 
-    ghost taken_at = { λ _. None };
+    ghost taken_at = { λ output. (P.child output.spawner.now output.role).taken_at };
 
     ghost faults = { λ output. (P.child output.spawner.now output.role).faults };
 
-    ghost kept = { λ output. kept_beside output.spawner.ghost_name output.role without_output
+    ghost kept = { λ output. beside_output output.spawner.ghost_name output.role
         (P.child output.spawner.now) };
 
     fn read(&mut self, buf: &mut [u8]) -> Result<usize, Failed> {
@@ -43,7 +43,7 @@ impl<P: Spawner> Sink for Input<'_, P> {
 
     ghost faults = { λ input. (P.child input.spawner.now input.role).faults };
 
-    ghost kept = { λ input. kept_beside input.spawner.ghost_name input.role without_input
+    ghost kept = { λ input. beside_input input.spawner.ghost_name input.role
         (P.child input.spawner.now) };
 
     fn write(&mut self, piece: &[u8]) -> Result<usize, Failed> {

@@ -1,8 +1,8 @@
 //! Child programs, one for each role.
 
 ghost use Rattle.std.specs.Prelude.{◌≡◌, ◌<◌, ◌≤◌, ℕ, length, take, IfOk, IfSome, OnOk, OnErr};
-ghost use Rattle.anb_base.specs.Moves.{Rose, Took, Put, AtEnd};
-ghost use Rattle.anb_stage.specs.Children.{Child, lines, KeptByStart, KeptByRead, KeptByWrite, KeptByFinish, IsUnstarted, OthersStay};
+ghost use Rattle.anb_base.specs.Moves.{Rose, Took, Put, AtEnd, Stamped};
+ghost use Rattle.anb_stage.specs.Children.{Child, lines, written_to_all, KeptByStart, KeptByRead, KeptByWrite, KeptByFinish, IsUnstarted, OthersStay};
 ghost use Rattle.anb_stage.specs.declared.TheConstants.{ROLES};
 
 use anb_base::{Failed, Text};
@@ -36,9 +36,14 @@ pub trait Spawner {
         ensures within { IfOk result (λ n. n ≤ length buf.new) }
         ensures took { IfOk result (λ n.
             Took (child self.old role).left (child self.new role).left (take n buf.new)) }
+        ensures stamped { IfOk result (λ n.
+            Stamped (child self.old role).taken_at (child self.new role).taken_at
+            (written_to_all (child self.old)) n) }
         ensures end { IfOk result (λ n.
             0 < length buf.new → n ≡ 0 → AtEnd (child self.old role).left) }
         ensures failed { OnErr result ((child self.new role).left ≡ (child self.old role).left) }
+        ensures unstamped { OnErr result
+            ((child self.new role).taken_at ≡ (child self.old role).taken_at) }
         ensures cause { OnErr result
             (Rose (child self.old role).faults (child self.new role).faults) }
         ensures quiet { OnOk result

@@ -2,7 +2,7 @@ use Rattle.std.proofs.Common.{◌∙◌, ◌+◌, take, arith, rules}
 use Rattle.std.proofs.lemmas.List.{take_all}
 use Rattle.anb_stage.specs.Relays.{report}
 use Rattle.anb_stage.proofs.Messages.{appended}
-use Rattle.anb_stage.proofs.Steps.{runs_at, keeps_at, carrying_fails, carrying_goes_on, carrying_ends, caused_later, ends_at}
+use Rattle.anb_stage.proofs.Steps.{runs_at, keeps_at, carrying_fails, carrying_begins, carrying_goes_on, carrying_ends, caused_later, ends_at}
 use Rattle.anb_stage.proofs.carrying.carry_all.Goals as goal
 
 pub carry-requires-clause-sender : goal.carry-requires-clause-sender
@@ -17,6 +17,16 @@ pub returns-in-Err-clause-failed : goal.returns-in-Err-clause-failed
 returns-in-Err-clause-failed g c roles outputs tails few within cut =
     carrying_fails (g.P.Spawner.child c.args.spawner.now) (g.P.Spawner.child c.loop-i.spawner) (g.P.Spawner.child c.carry.new.spawner) c.args.actions.now c.loop-i.i _ c.loop-i-test.true
     roles few within outputs tails (c.loop-i.invariant.carried roles outputs tails few within cut).0 c.carry.ensures.kept c.in-Err.no c.in-Err.ensures.failed
+
+pub returns-in-Err-clause-in_time : goal.returns-in-Err-clause-in_time
+returns-in-Err-clause-in_time g c roles outputs tails few within cut heard =
+    carrying_begins (g.P.Spawner.child c.args.spawner.now) (g.P.Spawner.child c.loop-i.spawner) (g.P.Spawner.child c.carry.new.spawner) c.args.actions.now c.loop-i.i _ c.loop-i-test.true
+    roles few within outputs tails (c.loop-i.invariant.carried roles outputs tails few within cut).0 c.carry.ensures.kept c.carry.ensures.begins heard
+
+pub returns-in_default-clause-in_time : goal.returns-in_default-clause-in_time
+returns-in_default-clause-in_time g c roles outputs tails few within cut heard =
+    carrying_begins (g.P.Spawner.child c.args.spawner.now) (g.P.Spawner.child c.loop-i.spawner) (g.P.Spawner.child c.carry.new.spawner) c.args.actions.now c.loop-i.i _ c.loop-i-test.true
+    roles few within outputs tails (c.loop-i.invariant.carried roles outputs tails few within cut).0 c.carry.ensures.kept c.carry.ensures.begins heard
 
 pub returns-in-Err-clause-cause : goal.returns-in-Err-clause-cause
 returns-in-Err-clause-cause g c roles few within =

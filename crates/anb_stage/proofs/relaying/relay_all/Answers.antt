@@ -20,6 +20,7 @@ returns-in-Err-carry_all-clause-refused g c =
     (g.P.Spawner.child c.args.spawner.now) (g.P.Spawner.child c.start_all.new.spawner) c.in-Ok.ensures.started
     (g.P.Spawner.child c.carry_all.new.spawner) (c.carry_all.ensures.kept _ c.requires.roles c.requires.within) c.in-Err-carry_all.no
     (λ outputs tails cut. c.in-Err-carry_all.ensures.failed _ outputs tails c.requires.roles c.requires.within cut)
+    (λ outputs tails cut heard. c.in-Err-carry_all.ensures.in_time _ outputs tails c.requires.roles c.requires.within cut heard)
     (c.in-Err-carry_all.ensures.cause _ c.requires.roles c.requires.within)
 
 pub finish_all-requires-clause-running : goal.finish_all-requires-clause-running
