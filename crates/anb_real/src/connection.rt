@@ -1,111 +1,189 @@
-//! One TCP connection: how it is made, within a time where there is one, and how it ends.
+//! One TCP connection under a time limit, where it has one: how it is read, written and ended.
 
-use crate::descriptors::FIRST_FREE;
-use anb_base::Place;
-use std::io::{ErrorKind, Read};
-use std::net::{Net, OpenListener, Shutdown, TcpListener, TcpStream, ToSocketAddrs};
-use std::os::fd::AsRawFd;
+ghost use Rattle.std.specs.Prelude.{◌≤◌, length, IfOk};
+
+use crate::again::TRIES;
+use crate::frames::Progress;
+use std::io;
+use std::io::{ErrorKind, Read, Write};
+use std::net::{Shutdown, TcpStream};
 use std::time::{Duration, Instant};
-use std::{io, thread};
 
-/// The pause between two tries to connect or to accept, in milliseconds.
-const PAUSE: u64 = 10;
+/// How many bytes of what the peer still sends are read and dropped at the end at most.
+const DRAIN_BYTES: usize = 4 * 1024 * 1024;
 
-/// For how many seconds, and in how many pieces of this size at most, what the peer still sends is
-/// read and dropped at the end.
-const DRAIN_SECONDS: u64 = 2;
+/// For how many milliseconds that is done at most, and after a wait that took too long.
+const DRAIN_TIME: u64 = 2_000;
 
-const DRAIN_PIECES: u32 = 1024;
+const LATE_DRAIN_TIME: u64 = 200;
 
-const DRAIN_PIECE: usize = 4096;
+/// How many bytes are read at once there.
+const DRAIN_PIECE: usize = 4_096;
 
-/// The connection of the place, or none where it is standard input and output.
-pub(crate) fn connect(
+/// A connection. With a limit, no first byte of a frame is waited for longer, no frame takes longer
+/// from its first byte to its last, and no piece takes longer to be written.
+#[derive(Drop)]
+pub(crate) struct Connection {
+    stream: TcpStream,
+    limit: Option<Duration>,
+    /// How far the frame is that is read, and when its first byte came.
+    progress: Progress,
+    arriving: Option<Instant>,
+    /// How much is left of the piece that is written, and when that began.
+    unwritten: usize,
+    writing: Option<Instant>,
+    is_late: bool,
+}
+
+impl Connection {
+    pub(crate) fn new(stream: TcpStream, limit: Option<Duration>) -> Self {
+        Connection {
+            stream,
+            limit,
+            progress: Progress::at_border(),
+            arriving: None,
+            unwritten: 0,
+            writing: None,
+            is_late: false,
+        }
+    }
+
+    pub(crate) fn set_limit(&mut self, limit: Duration) {
+        self.limit = Some(limit);
+    }
+
+    pub(crate) fn read(&mut self, rt: &HostRuntime, buf: &mut [u8]) -> io::Result<usize>
+        ensures { IfOk result (λ n. n ≤ length buf.new) }
+    {
+        let start = self.start(rt, self.arriving)?;
+        for _ in 0..TRIES {
+            let left = self.left(rt, start)?;
+            self.stream.set_read_timeout(left)?;
+            match self.stream.read(buf) {
+                Ok(n) => {
+                    self.take(rt, buf, n)?;
+                    return Ok(n);
+                }
+                Err(error) => self.bear(error)?,
+            }
+        }
+        Err(io::Error::from(ErrorKind::Interrupted))
+    }
+
+    pub(crate) fn write(&mut self, rt: &HostRuntime, piece: &[u8]) -> io::Result<usize>
+        ensures { IfOk result (λ n. n ≤ length piece.now) }
+    {
+        // A piece of which a part went out is handed in again without that part.
+        if self.unwritten != piece.len() {
+            self.writing = None;
+        }
+        self.writing = self.start(rt, self.writing)?;
+        for _ in 0..TRIES {
+            let left = self.left(rt, self.writing)?;
+            self.stream.set_write_timeout(left)?;
+            match self.stream.write(piece) {
+                Ok(n) => {
+                    self.unwritten = piece.len() - n;
+                    return Ok(n);
+                }
+                Err(error) => self.bear(error)?,
+            }
+        }
+        Err(io::Error::from(ErrorKind::Interrupted))
+    }
+
+    /// When what is done now began: then, or else now. Without a limit that doesn't matter.
+    fn start(&self, rt: &HostRuntime, then: Option<Instant>) -> io::Result<Option<Instant>> {
+        match (self.limit, then) {
+            (None, _) => Ok(None),
+            (Some(_), Some(then)) => Ok(Some(then)),
+            (Some(_), None) => Ok(Some(Instant::now(rt)?)),
+        }
+    }
+
+    /// What is left of the limit, where there is one.
+    fn left(&mut self, rt: &HostRuntime, start: Option<Instant>) -> io::Result<Option<Duration>> {
+        let (Some(limit), Some(start)) = (self.limit, start) else {
+            return Ok(None);
+        };
+        let left = left_of(rt, limit, start);
+        self.is_late = left.is_err();
+        Ok(Some(left?))
+    }
+
+    /// Goes on where a signal interrupted a call.
+    fn bear(&mut self, error: io::Error) -> io::Result<()> {
+        match error.kind() {
+            ErrorKind::Interrupted => Ok(()),
+            ErrorKind::WouldBlock => {
+                self.is_late = true;
+                Err(error)
+            }
+            _ => Err(error),
+        }
+    }
+
+    /// Keeps in mind how far the frame is.
+    fn take(&mut self, rt: &HostRuntime, buf: &[u8], n: usize) -> io::Result<()>
+        requires { n ≤ length buf.now }
+    {
+        if self.limit.is_none() {
+            return Ok(());
+        }
+        self.progress.take(buf.len(), &buf[..n]);
+        self.arriving = if self.progress.is_at_border() {
+            None
+        } else {
+            self.start(rt, self.arriving)?
+        };
+        Ok(())
+    }
+
+    /// Ends a connection so that the peer gets all that was written. Closing it while bytes of the
+    /// peer are unread would throw away what isn't sent yet, so these are read first, up to a bound in
+    /// bytes and in time.
+    pub(crate) fn finish(mut self, rt: &HostRuntime) -> io::Result<()> {
+        self.stream.shutdown(Shutdown::Write)?;
+        let start = Instant::now(rt)?;
+        let time = self.drain_time();
+        let mut dropped = [0u8; DRAIN_PIECE];
+        let mut count = 0usize;
+        for _ in 0..DRAIN_BYTES {
+            self.stream
+                .set_read_timeout(Some(left_of(rt, time, start)?))?;
+            match self.stream.read(&mut dropped) {
+                Ok(0) => break,
+                Ok(n) => count = count.saturating_add(n),
+                Err(error) => self.bear(error)?,
+            }
+            if count >= DRAIN_BYTES {
+                break;
+            }
+        }
+        Ok(())
+    }
+
+    fn drain_time(&self) -> Duration {
+        if self.is_late {
+            return Duration::from_millis(LATE_DRAIN_TIME);
+        }
+        let time = Duration::from_millis(DRAIN_TIME);
+        match self.limit {
+            Some(limit) => time.min(limit),
+            None => time,
+        }
+    }
+}
+
+/// What is left of a time since then. Where nothing is left, that is an error.
+pub(crate) fn left_of(
     rt: &HostRuntime,
-    place: &Place,
-    wait: Option<Duration>,
-) -> io::Result<Option<TcpStream>> {
-    let connection = match (place, wait) {
-        (Place::Stdio, _) => return Ok(None),
-        (Place::Dial(at), None) => TcpStream::connect(rt, at.as_str())?,
-        (Place::Dial(at), Some(wait)) => dial_within(rt, at.as_str(), wait)?,
-        (Place::Listen(at), None) => TcpListener::bind(rt, at.as_str())?.accept()?.0,
-        (Place::Listen(at), Some(wait)) => accept_within(rt, at.as_str(), wait)?,
-    };
-    // A standard stream that was closed is no connection.
-    if connection.as_raw_fd() < FIRST_FREE {
-        return Err(io::Error::from(ErrorKind::AddrInUse));
+    time: Duration,
+    start: Instant,
+) -> io::Result<Duration> {
+    let left = time.saturating_sub(start.elapsed(rt)?);
+    if left.is_zero() {
+        return Err(io::Error::from(ErrorKind::TimedOut));
     }
-    connection.set_nodelay(true)?;
-    limit_waits(&connection, wait)?;
-    Ok(Some(connection))
-}
-
-/// Makes each single wait of the connection that takes longer an error.
-pub(crate) fn limit_waits(connection: &TcpStream, wait: Option<Duration>) -> io::Result<()> {
-    connection.set_read_timeout(wait)?;
-    connection.set_write_timeout(wait)
-}
-
-/// Dials again and again until a connection stands or the time is over.
-fn dial_within(rt: &HostRuntime, at: &str, wait: Duration) -> io::Result<TcpStream> {
-    let start = Instant::now(rt)?;
-    for _ in 0..u64::MAX {
-        let left = wait.saturating_sub(start.elapsed(rt)?);
-        if left.is_zero() {
-            break;
-        }
-        if let Some(connection) = dial(rt, at, left)? {
-            return Ok(connection);
-        }
-        thread::sleep(rt, Duration::from_millis(PAUSE));
-    }
-    Err(io::Error::from(ErrorKind::TimedOut))
-}
-
-/// Dials each address once.
-fn dial(rt: &HostRuntime, at: &str, wait: Duration) -> io::Result<Option<TcpStream>> {
-    for address in at.to_socket_addrs(rt)? {
-        if let Ok(connection) = TcpStream::connect_timeout(rt, &address, wait) {
-            return Ok(Some(connection));
-        }
-    }
-    Ok(None)
-}
-
-/// Waits for a peer until the time is over.
-fn accept_within(rt: &HostRuntime, at: &str, wait: Duration) -> io::Result<TcpStream> {
-    let start = Instant::now(rt)?;
-    let listener = TcpListener::bind(rt, at)?;
-    listener.set_nonblocking(true)?;
-    for _ in 0..u64::MAX {
-        match listener.accept() {
-            Ok((connection, _)) => return Ok(connection),
-            Err(error) if error.kind() == ErrorKind::WouldBlock => {}
-            Err(error) => return Err(error),
-        }
-        if start.elapsed(rt)? >= wait {
-            break;
-        }
-        thread::sleep(rt, Duration::from_millis(PAUSE));
-    }
-    Err(io::Error::from(ErrorKind::TimedOut))
-}
-
-/// Ends a connection so that the peer gets all that was written. Closing it while bytes of the peer
-/// are unread would throw away what isn't sent yet, so these are read first, up to a bound in bytes
-/// and in time.
-pub(crate) fn finish(rt: &HostRuntime, mut connection: TcpStream) -> io::Result<()> {
-    connection.shutdown(Shutdown::Write)?;
-    let start = Instant::now(rt)?;
-    let mut dropped = [0u8; DRAIN_PIECE];
-    for _ in 0..DRAIN_PIECES {
-        let left = Duration::from_secs(DRAIN_SECONDS).saturating_sub(start.elapsed(rt)?);
-        // No time left is refused here.
-        connection.set_read_timeout(Some(left))?;
-        if connection.read(&mut dropped)? == 0 {
-            break;
-        }
-    }
-    Ok(())
+    Ok(left)
 }

@@ -2,9 +2,12 @@
 //! their faults.
 #![tactic(auto)]
 
+mod again;
+mod connecting;
 mod connection;
 mod descriptors;
 mod faults;
+mod frames;
 mod shelf;
 mod standard_error;
 mod wire;

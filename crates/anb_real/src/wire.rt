@@ -2,21 +2,23 @@
 
 ghost use Rattle.std.specs.Prelude.{◌≡◌, ◌<◌, ◌≤◌, ℕ, List, [], ◌∷◌, None, refl};
 
-use crate::connection::{connect, finish, limit_waits};
+use crate::again::{read_again, write_again};
+use crate::connecting::connect;
+use crate::connection::Connection;
 use crate::faults::one_more;
 use anb_base::{Failed, Place, Sink, Source, Wire};
-use std::io::{Read, Write};
 use std::marker::Model;
-use std::net::TcpStream;
 use std::time::Duration;
 
 /// The wire over standard input and output or, once it has reached another place, over one TCP
 /// connection. It tells nothing of the bytes. Each count rises by one with each fault. A limit on
-/// waiting holds for reaching a place and for each single wait of a connection.
+/// waiting holds for reaching a place and, over a connection, for the first byte of each frame, for the
+/// rest of it together, and for each piece that is written. A call that a signal interrupted is made
+/// again.
 #[derive(Drop)]
 pub struct RealWire {
     rt: HostRuntime,
-    connection: Option<TcpStream>,
+    connection: Option<Connection>,
     wait: Option<Duration>,
     read_faults: u64,
     write_faults: u64,
@@ -50,12 +52,12 @@ impl RealWire {
     }
 
     /// Ends the wire. Of a connection the sending side is shut, and what the peer still sends is
-    /// read and dropped for two seconds and four mebibytes at most, so that all that was written
-    /// comes through.
+    /// read and dropped for four mebibytes and two seconds at most, or the limit where that is less,
+    /// so that all that was written comes through.
     pub fn finish(self) {
         if let Some(connection) = self.connection {
             // A connection that fails now is over all the same.
-            let _ = finish(&self.rt, connection);
+            let _ = connection.finish(&self.rt);
         }
     }
 }
@@ -71,8 +73,8 @@ impl Source for RealWire {
 
     fn read(&mut self, buf: &mut [u8]) -> Result<usize, Failed> {
         let got = match &mut self.connection {
-            None => (&self.rt.stdin()).read(buf),
-            Some(connection) => connection.read(buf),
+            None => read_again(&mut self.rt.stdin(), buf),
+            Some(connection) => connection.read(&self.rt, buf),
         };
         match got {
             Ok(n) => Ok(n),
@@ -93,8 +95,8 @@ impl Sink for RealWire {
 
     fn write(&mut self, piece: &[u8]) -> Result<usize, Failed> {
         let put = match &mut self.connection {
-            None => (&self.rt.stdout()).write(piece),
-            Some(connection) => connection.write(piece),
+            None => write_again(&mut self.rt.stdout(), piece),
+            Some(connection) => connection.write(&self.rt, piece),
         };
         match put {
             Ok(n) if n > 0 || piece.is_empty() => Ok(n),
@@ -129,8 +131,8 @@ impl Wire for RealWire {
 
     fn reach(&mut self, place: &Place) -> Result<(), Failed> {
         match connect(&self.rt, place, self.wait) {
-            Ok(connection) => {
-                self.connection = connection;
+            Ok(stream) => {
+                self.connection = stream.map(|stream| Connection::new(stream, self.wait));
                 Ok(())
             }
             Err(_) => {
@@ -142,10 +144,10 @@ impl Wire for RealWire {
 
     /// Standard input and output have no limit.
     fn wait_at_most(&mut self, seconds: u32) {
-        self.wait = Some(Duration::from_secs(u64::from(seconds)));
-        if let Some(connection) = &self.connection {
-            // Where the limit can't be set a wait has none.
-            let _ = limit_waits(connection, self.wait);
+        let wait = Duration::from_secs(u64::from(seconds));
+        self.wait = Some(wait);
+        if let Some(connection) = &mut self.connection {
+            connection.set_limit(wait);
         }
     }
 }
