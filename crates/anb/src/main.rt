@@ -4,11 +4,11 @@
 
 use anb_base::{NoMemory, Text};
 use anb_command::tell;
-use anb_processes::RealSpawner;
+use anb_processes::{ChildProgram, RealSpawner};
 use anb_real::{RealShelf, RealWire, StandardError, fill_standard_descriptors};
 use anb_run::{Status, run_all};
 use std::env;
-use std::env::{Env, FillError};
+use std::env::{Env, FillError, VarError};
 use std::process::ExitCode;
 use std::random::RandomSource;
 
@@ -22,6 +22,7 @@ fn status(rt: HostRuntime, skipped: usize) -> Status {
     let mut err = StandardError::new(rt);
     let Ok(words) = words(rt, skipped) else {
         tell(&mut err, &Status::NoMemory);
+        err.finish();
         return Status::NoMemory;
     };
     let mut shelf = RealShelf::new(rt);
@@ -36,20 +37,20 @@ fn status(rt: HostRuntime, skipped: usize) -> Status {
         &mut err,
         seed(rt),
     );
+    // The children end before the line is told, so one that can't be written leaves none behind.
     spawner.end();
+    err.finish();
     wire.finish();
     status
 }
 
-/// The program that each child runs: the one that the environment names, else this one itself. Where
-/// its path isn't known the name is empty, and no child can be started.
-fn child_program(rt: HostRuntime) -> Text {
-    if let Ok(program) = env::var(&rt, "ANB_CHILD") {
-        return Text::new(program);
-    }
-    match env::current_exe(&rt) {
-        Ok(path) => Text::new(path.into_string()),
-        Err(_) => Text::new(String::new(rt.alloc())),
+/// The program that each child runs: the one that the environment names, else this one itself. A name
+/// that can't be read is never replaced by another.
+fn child_program(rt: HostRuntime) -> ChildProgram {
+    match env::var(&rt, "ANB_CHILD") {
+        Ok(name) => ChildProgram::Named(Text::new(name)),
+        Err(VarError::NotPresent) => ChildProgram::Own,
+        Err(_) => ChildProgram::Unreadable,
     }
 }
 

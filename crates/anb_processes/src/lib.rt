@@ -2,10 +2,12 @@
 #![tactic(auto)]
 
 mod counts;
+mod notes;
+mod pauses;
 mod running;
 mod spawner;
 
-pub use spawner::RealSpawner;
+pub use spawner::{ChildProgram, RealSpawner};
 
 #[cfg(test)]
 mod tests;

@@ -1,93 +1,240 @@
 //! A child program that runs, with its two pipes.
 
-ghost use Rattle.std.specs.Prelude.{◌≤◌, length, IfSome};
+ghost use Rattle.std.specs.Prelude.{◌≤◌, length, IfOk};
 
+use crate::pauses::{Pauses, is_over};
 use anb_base::Text;
 use std::io;
-use std::io::{Read, Write};
-use std::process::{Child, ChildStdin, ChildStdout, Command, Stdio};
+use std::io::{ErrorKind, Read, Write};
+use std::os::fd::{AsRawFd, OwnedFd, RawFd};
+use std::os::unix::net::UnixStream;
+use std::process::{Child, ChildStdin, ChildStdout, Command, ExitStatus, Stdio};
+use std::time::{Duration, Instant};
 
-/// How often the output of a child that is finished is read and dropped at most. What it writes beyond
-/// that fails.
-const DROPPED_READS: u32 = 1_024;
+/// How many bytes of the output of a child that is finished are read and dropped at most, and for how
+/// many milliseconds. What it writes beyond that fails.
+const DROPPED_BYTES: usize = 4 * 1024 * 1024;
 
-/// How many bytes such a read takes at most.
-const DROPPED_BYTES: usize = 4_096;
+const DROPPING_TIME: u64 = 2_000;
 
-/// A child that was started, its input while that is open, and its output.
+/// How many bytes are read at once there.
+const DROPPED_PIECE: usize = 4_096;
+
+/// The descriptor above those of the standard streams.
+const FIRST_FREE: RawFd = 3;
+
+/// A child that was started, its input while that is open, and its output, which both don't block.
 #[derive(Drop)]
 pub(crate) struct Running {
     pub(crate) role: u32,
     child: Child,
     input: Option<ChildStdin>,
     output: Option<ChildStdout>,
+    /// When it was found to have ended.
+    ended: Option<Instant>,
 }
 
 impl Running {
-    /// Starts the program with these words. It inherits standard error.
+    /// Starts the program with these words. It has this program's standard error as its own, also
+    /// where that was closed.
     pub(crate) fn start(
         rt: &HostRuntime,
-        program: &Text,
+        program: &str,
         role: u32,
         words: &[Text],
     ) -> io::Result<Self> {
-        let mut command = Command::new(rt.alloc(), program.as_str())?;
+        let mut command = Command::new(rt.alloc(), program)?;
         for word in words {
             let _ = command.arg(word.as_str())?;
         }
-        let _ = command.stdin(Stdio::piped()).stdout(Stdio::piped());
-        let mut child = command.spawn(rt)?;
-        let input = child.stdin.take();
-        let output = child.stdout.take();
-        Ok(Running {
+        let _ = command
+            .stdin(Stdio::piped())
+            .stdout(Stdio::piped())
+            .stderr(rt.stderr());
+        let mut running = Running {
             role,
-            child,
-            input,
-            output,
-        })
+            child: command.spawn(rt)?,
+            input: None,
+            output: None,
+            ended: None,
+        };
+        match running.take_pipes() {
+            Ok(()) => Ok(running),
+            Err(error) => {
+                let _ = running.kill();
+                Err(error)
+            }
+        }
     }
 
-    pub(crate) fn read(&mut self, buf: &mut [u8]) -> Option<usize>
-        ensures { IfSome result (λ n. n ≤ length buf.new) }
-    {
-        let output = self.output.as_mut()?;
-        output.read(buf).ok()
+    /// Takes the pipes of the child, so that neither blocks.
+    fn take_pipes(&mut self) -> io::Result<()> {
+        if let Some(input) = self.child.stdin.take() {
+            self.input = Some(ChildStdin::from(unblocked(OwnedFd::from(input))?));
+        }
+        if let Some(output) = self.child.stdout.take() {
+            self.output = Some(ChildStdout::from(unblocked(OwnedFd::from(output))?));
+        }
+        Ok(())
     }
 
-    pub(crate) fn write(&mut self, piece: &[u8]) -> Option<usize>
-        ensures { IfSome result (λ n. n ≤ length piece.now) }
+    /// What the child wrote, once there is some. Its output is also at its end where it has ended and
+    /// whoever else holds its pipe writes nothing for two seconds.
+    pub(crate) fn read(&mut self, rt: &HostRuntime, buf: &mut [u8]) -> io::Result<usize>
+        ensures { IfOk result (λ n. n ≤ length buf.new) }
     {
-        let input = self.input.as_mut()?;
-        input.write(piece).ok()
+        let mut pauses = Pauses::new();
+        for _ in 0..u64::MAX {
+            let Some(output) = &mut self.output else {
+                return Ok(0);
+            };
+            match output.read(buf) {
+                Err(error) if is_for_the_moment(error.kind()) => {}
+                ended => return ended,
+            }
+            if self.is_long_over(rt)? {
+                return Ok(0);
+            }
+            pauses.pause(rt);
+        }
+        Err(io::Error::from(ErrorKind::TimedOut))
+    }
+
+    /// Hands the child the first bytes of the piece. What it no longer takes is dropped.
+    pub(crate) fn write(&mut self, rt: &HostRuntime, piece: &[u8]) -> io::Result<usize>
+        ensures { IfOk result (λ n. n ≤ length piece.now) }
+    {
+        let mut pauses = Pauses::new();
+        for _ in 0..u64::MAX {
+            let Some(input) = &mut self.input else {
+                return Ok(piece.len());
+            };
+            match input.write(piece) {
+                Err(error) if error.kind() == ErrorKind::BrokenPipe => return Ok(piece.len()),
+                Err(error) if is_for_the_moment(error.kind()) => {}
+                ended => return ended,
+            }
+            if self.is_long_over(rt)? {
+                return Ok(piece.len());
+            }
+            pauses.pause(rt);
+        }
+        Err(io::Error::from(ErrorKind::TimedOut))
+    }
+
+    /// Whether the child ended two seconds ago or more.
+    fn is_long_over(&mut self, rt: &HostRuntime) -> io::Result<bool> {
+        if self.ended.is_none() && self.child.try_wait()?.is_some() {
+            self.ended = Some(Instant::now(rt)?);
+        }
+        match self.ended {
+            Some(ended) => is_over(rt, dropping_time(), ended),
+            None => Ok(false),
+        }
     }
 
     /// Ends the child's input, waits for the child, and answers its status, where it ended by itself.
-    pub(crate) fn finish(&mut self) -> Option<u8> {
+    /// What it still writes is dropped.
+    pub(crate) fn finish(&mut self, rt: &HostRuntime) -> io::Result<u8> {
         self.input = None;
-        if let Some(mut output) = self.output.take() {
-            drop_output(&mut output);
+        let start = Instant::now(rt)?;
+        let mut pauses = Pauses::new();
+        let mut dropped = 0usize;
+        for _ in 0..u64::MAX {
+            if let Some(status) = self.child.try_wait()? {
+                return number_of(status);
+            }
+            let count = self.drop_some();
+            dropped = dropped.saturating_add(count);
+            if dropped >= DROPPED_BYTES || is_over(rt, dropping_time(), start)? {
+                self.output = None;
+            }
+            if count == 0 {
+                pauses.pause(rt);
+            }
         }
-        let status = self.child.wait().ok()?;
-        u8::try_from(status.code()?).ok()
+        Err(io::Error::from(ErrorKind::TimedOut))
     }
 
-    /// Kills the child where it still runs, and waits for it.
-    pub(crate) fn kill(&mut self) {
+    /// Reads and drops some of what the child wrote, and answers how much. Output that is at its end
+    /// is closed.
+    fn drop_some(&mut self) -> usize {
+        let mut piece = [0u8; DROPPED_PIECE];
+        let Some(output) = &mut self.output else {
+            return 0;
+        };
+        match output.read(&mut piece) {
+            Ok(n) if n > 0 => n,
+            Err(error) if is_for_the_moment(error.kind()) => 0,
+            _ => {
+                self.output = None;
+                0
+            }
+        }
+    }
+
+    /// Ends the child's input, and waits for two seconds until it ends by itself.
+    pub(crate) fn wait_for_end(&mut self, rt: &HostRuntime) -> io::Result<Option<ExitStatus>> {
+        self.input = None;
+        let start = Instant::now(rt)?;
+        let mut pauses = Pauses::new();
+        for _ in 0..u64::MAX {
+            if let Some(status) = self.child.try_wait()? {
+                return Ok(Some(status));
+            }
+            if is_over(rt, dropping_time(), start)? {
+                break;
+            }
+            pauses.pause(rt);
+        }
+        Ok(None)
+    }
+
+    /// Kills the child where it still runs, and waits for it. One that can't be killed, as that of
+    /// another user, isn't waited for.
+    pub(crate) fn kill(&mut self) -> io::Result<()> {
         self.input = None;
         self.output = None;
-        // A child that can't be killed has ended.
-        let _ = self.child.kill();
-        let _ = self.child.wait();
+        if self.child.try_wait()?.is_none() {
+            self.child.kill()?;
+            let _ = self.child.wait()?;
+        }
+        Ok(())
+    }
+
+    /// The number of its process.
+    pub(crate) fn id(&self) -> u32 {
+        self.child.id()
     }
 }
 
-/// Reads what a child still writes.
-fn drop_output(output: &mut ChildStdout) {
-    let mut dropped = [0u8; DROPPED_BYTES];
-    for _ in 0..DROPPED_READS {
-        match output.read(&mut dropped) {
-            Ok(n) if n > 0 => {}
-            _ => return,
-        }
+fn dropping_time() -> Duration {
+    Duration::from_millis(DROPPING_TIME)
+}
+
+/// A pipe whose reads and writes don't wait. It may not be a standard stream that was closed.
+fn unblocked(pipe: OwnedFd) -> io::Result<OwnedFd> {
+    if pipe.as_raw_fd() < FIRST_FREE {
+        return Err(io::Error::from(ErrorKind::AddrInUse));
+    }
+    // A stream is what std lets set it for any descriptor.
+    let pipe = UnixStream::from(pipe);
+    pipe.set_nonblocking(true)?;
+    Ok(OwnedFd::from(pipe))
+}
+
+/// Whether a read or a write may be made again, since nothing is there yet or a signal came.
+fn is_for_the_moment(kind: ErrorKind) -> bool {
+    matches!(kind, ErrorKind::WouldBlock | ErrorKind::Interrupted)
+}
+
+/// The number of a status, unless a signal ended the child.
+fn number_of(status: ExitStatus) -> io::Result<u8> {
+    match status.code() {
+        Some(code) => match u8::try_from(code) {
+            Ok(code) => Ok(code),
+            Err(_) => Err(io::Error::from(ErrorKind::InvalidData)),
+        },
+        None => Err(io::Error::from(ErrorKind::Interrupted)),
     }
 }

@@ -4,20 +4,60 @@ ghost use Rattle.std.specs.Prelude.{◌≡◌, ◌<◌, ◌≤◌, ℕ, get_or};
 ghost use Rattle.anb_processes.specs.Children.{child_of};
 
 use crate::counts::Counts;
+use crate::notes::{tell_end, tell_left, tell_no_program};
 use crate::running::Running;
 use anb_base::{Failed, Text};
 use anb_stage::Spawner;
+use std::alloc::Global;
+use std::io::ErrorKind;
 use std::marker::Model;
+use std::{fs, io};
+
+/// Where this program itself is found, whatever its name is.
+const OWN: &str = "/proc/self/exe";
+
+/// The place of a role's name among the words of its child.
+const NAME: usize = 2;
+
+/// The program that each child runs.
+#[derive(Drop)]
+pub enum ChildProgram {
+    /// This program itself.
+    Own,
+    /// The one with this name.
+    Named(Text),
+    /// One whose name can't be read, so that no child can be started.
+    Unreadable,
+}
+
+impl ChildProgram {
+    fn path(&self) -> io::Result<&str> {
+        match self {
+            ChildProgram::Own => Ok(OWN),
+            ChildProgram::Named(name) if !name.as_str().is_empty() => Ok(name.as_str()),
+            _ => Err(io::Error::from(ErrorKind::InvalidInput)),
+        }
+    }
+}
+
+/// A child with the name of its role.
+#[derive(Drop)]
+struct Named {
+    name: Text,
+    running: Running,
+}
 
 /// Starts one program for all roles, each time as a child of this one, over pipes. It tells nothing
 /// of the bytes, the words and the statuses. Each role's count rises by one with each fault, which
-/// is also the answer for a child that a signal ended. Dropping it closes all pipes and ends no
-/// child: `end` does.
+/// is also the answer for a child that a signal ended. What a child no longer takes is dropped, and is
+/// no fault. Dropping it closes all pipes and ends no child: `end` does.
 #[derive(Drop)]
 pub struct RealSpawner {
     rt: HostRuntime,
-    program: Text,
-    children: Vec<Running>,
+    program: ChildProgram,
+    children: Vec<Named>,
+    /// The role whose output was last found at its end.
+    silent: Option<u32>,
     counts: Counts,
 }
 
@@ -31,7 +71,7 @@ impl Model for RealSpawner {
 
 impl RealSpawner {
     /// A spawner that has started nothing.
-    pub fn new(rt: HostRuntime, program: Text) -> Self
+    pub fn new(rt: HostRuntime, program: ChildProgram) -> Self
         ensures { (role : ℕ) → get_or result.phases role 0 ≡ 0 }
     {
         let alloc = rt.alloc();
@@ -39,40 +79,85 @@ impl RealSpawner {
             rt,
             program,
             children: Vec::new(alloc),
+            silent: None,
             counts: Counts::new(),
         }
     }
 
-    /// Kills each child that wasn't finished, and waits for it, so that none is left behind.
+    /// Kills each child that wasn't finished, and waits for it, so that none is left behind. Where a
+    /// child's output ended too early, standard error is told what it ended with, which is waited for
+    /// first, for two seconds at most. A child that can't be killed is told too, and left.
     pub fn end(self) {
-        for mut child in self.children {
-            child.kill();
+        let RealSpawner {
+            rt,
+            program: _,
+            mut children,
+            silent,
+            counts: _,
+        } = self;
+        if let Some(role) = silent {
+            if let Some(child) = child_in(&mut children, role) {
+                // What can't be told isn't.
+                let _ = tell_status(&rt, child);
+            }
+        }
+        for mut child in children {
+            if child.running.kill().is_err() {
+                let _ = tell_left(&rt, &child.running);
+            }
         }
     }
+}
+
+/// Tells what a child ended with.
+fn tell_status(rt: &HostRuntime, child: &mut Named) -> io::Result<()> {
+    let status = child.running.wait_for_end(rt)?;
+    tell_end(rt, &child.name, status)
 }
 
 /// Starts the child of a role, which is killed again where there is no memory to keep it.
 fn start(
     rt: &HostRuntime,
-    program: &Text,
-    children: &mut Vec<Running>,
+    program: &ChildProgram,
+    children: &mut Vec<Named>,
     role: u32,
     words: &[Text],
-) -> Option<()> {
-    let child = Running::start(rt, program, role, words).ok()?;
-    match children.push(child) {
-        Ok(()) => Some(()),
+) -> io::Result<()> {
+    let name = name_of(rt.alloc(), words)?;
+    let running = Running::start(rt, program.path()?, role, words)?;
+    match children.push(Named { name, running }) {
+        Ok(()) => Ok(()),
         Err(failed) => {
             let mut child = failed.value;
-            child.kill();
-            None
+            let _ = child.running.kill();
+            Err(io::Error::from(ErrorKind::OutOfMemory))
+        }
+    }
+}
+
+/// The name of the role that a child has these words for.
+fn name_of(alloc: Global, words: &[Text]) -> io::Result<Text> {
+    let name = match words.get(NAME) {
+        Some(name) => name.as_str(),
+        None => "",
+    };
+    Ok(Text::new(String::from_str(alloc, name)?))
+}
+
+/// Tells where this program itself can't be found.
+fn explain(rt: &HostRuntime, program: &ChildProgram) {
+    if let ChildProgram::Own = program {
+        if fs::symlink_metadata(rt, OWN).is_err() {
+            let _ = tell_no_program(rt, OWN);
         }
     }
 }
 
 /// The child of a role.
-fn child_in(children: &mut [Running], role: u32) -> Option<&mut Running> {
-    children.iter_mut().find(|child| child.role == role)
+fn child_in(children: &mut [Named], role: u32) -> Option<&mut Named> {
+    children
+        .iter_mut()
+        .find(|child| child.running.role == role)
 }
 
 impl Spawner for RealSpawner {
@@ -80,28 +165,36 @@ impl Spawner for RealSpawner {
 
     fn start(&mut self, role: u32, words: &[Text]) -> Result<(), Failed> {
         match start(&self.rt, &self.program, &mut self.children, role, words) {
-            Some(()) => {
+            Ok(()) => {
                 self.counts.enter(role, 1);
                 Ok(())
             }
-            None => Err(self.counts.fail(role)),
+            Err(_) => {
+                explain(&self.rt, &self.program);
+                Err(self.counts.fail(role))
+            }
         }
     }
 
     fn read(&mut self, role: u32, buf: &mut [u8]) -> Result<usize, Failed> {
         let got = match child_in(&mut self.children, role) {
-            Some(child) => child.read(buf),
+            Some(child) => child.running.read(&self.rt, buf).ok(),
             None => None,
         };
         match got {
-            Some(n) => Ok(n),
+            Some(n) => {
+                if n == 0 && !buf.is_empty() {
+                    self.silent = Some(role);
+                }
+                Ok(n)
+            }
             None => Err(self.counts.fail(role)),
         }
     }
 
     fn write(&mut self, role: u32, piece: &[u8]) -> Result<usize, Failed> {
         let put = match child_in(&mut self.children, role) {
-            Some(child) => child.write(piece),
+            Some(child) => child.running.write(&self.rt, piece).ok(),
             None => None,
         };
         match put {
@@ -112,7 +205,7 @@ impl Spawner for RealSpawner {
 
     fn finish(&mut self, role: u32) -> Result<u8, Failed> {
         let status = match child_in(&mut self.children, role) {
-            Some(child) => child.finish(),
+            Some(child) => child.running.finish(&self.rt).ok(),
             None => None,
         };
         match status {

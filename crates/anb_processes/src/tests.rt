@@ -3,7 +3,7 @@
 ghost use Rattle.std.specs.Prelude.{◌≡◌, ◌≢◌, ◌<◌, ℕ, get_or, IfOk, OnOk};
 ghost use Rattle.anb_stage.specs.declared.TheConstants.{ROLES};
 
-use crate::RealSpawner;
+use crate::{ChildProgram, RealSpawner};
 use anb_base::{Failed, Text};
 use anb_stage::Spawner;
 use std::alloc::{AllocError, Global};
@@ -23,7 +23,7 @@ fn spawner(rt: HostRuntime, program: &str) -> Result<RealSpawner, AllocError>
     ensures { IfOk result (λ s. (role : ℕ) → get_or s.phases role 0 ≡ 0) }
 {
     let program = String::from_str(rt.alloc(), program)?;
-    Ok(RealSpawner::new(rt, Text::new(program)))
+    Ok(RealSpawner::new(rt, ChildProgram::Named(Text::new(program))))
 }
 
 fn start(children: &mut RealSpawner, role: u32, words: &[Text]) -> Result<(), Fail>

@@ -1,0 +1,42 @@
+//! Lines on standard error, beside the line of the status.
+
+ghost use Rattle.std.specs.Prelude.{None};
+
+use crate::running::Running;
+use anb_base::Text;
+use std::io;
+use std::io::Write;
+use std::process::ExitStatus;
+use std::os::unix::prelude::ExitStatusExt;
+
+/// Tells what a child ended with whose output ended too early, where it ended.
+pub(crate) fn tell_end(rt: &HostRuntime, name: &Text, status: Option<ExitStatus>) -> io::Result<()> {
+    let name = name.as_str();
+    let line = match status {
+        None => format!(in rt.alloc(); "anb: child {name} ended its output and ran on\n")?,
+        Some(status) => match (status.code(), status.signal()) {
+            (Some(code), _) => format!(in rt.alloc(); "anb: child {name} ended with {code}\n")?,
+            (None, Some(signal)) => {
+                format!(in rt.alloc(); "anb: child {name} ended by signal {signal}\n")?
+            }
+            (None, None) => return Ok(()),
+        },
+    };
+    tell(rt, line.as_str())
+}
+
+/// Tells that a child is left.
+pub(crate) fn tell_left(rt: &HostRuntime, child: &Running) -> io::Result<()> {
+    let line = format!(in rt.alloc(); "anb: process {} can't be killed\n", child.id())?;
+    tell(rt, line.as_str())
+}
+
+/// Tells that the program itself isn't found.
+pub(crate) fn tell_no_program(rt: &HostRuntime, path: &str) -> io::Result<()> {
+    let line = format!(in rt.alloc(); "anb: no {path}, so ANB_CHILD must name a program\n")?;
+    tell(rt, line.as_str())
+}
+
+fn tell(rt: &HostRuntime, line: &str) -> io::Result<()> {
+    rt.stderr().write_all(line.as_bytes())
+}
