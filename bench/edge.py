@@ -1,167 +1,46 @@
 """The edge of the built program to the machine: sockets, descriptors, memory, time; a line for each row.
 
-    python3 bench/edge.py PROGRAM [ROW ..]
+    python3 bench/edge.py PROGRAM [--quick] [ROW ..]
 
 Each row runs the program over loopback or pipes, and looks at what no proof can see. A row waits for
-what the system says of the program and never for a fixed time. The status is 1 where a row fails.
-Wants Linux and /bin/sh.
+what the system says of the program and never for a fixed time. With --quick the rows that take long are
+left out, and what may go well by chance is tried less often; docs/check.py runs these. The status is 1
+where a row fails. Wants Linux and /bin/sh. What needs mounts of its own, or another user, says where it
+wasn't tried.
 """
 import contextlib
 import os
+import resource
 import shutil
+import signal
 import socket
 import subprocess
 import sys
 import tempfile
 import time
 
-PING = """Protocol: Ping;
-Types: Agent A, B; Number N;
-Knowledge: A: N; B: N;
-Actions: A -> B: N; B -> A: N;
-"""
-
-# What A sends in Ping with the value "ab", and an answer that isn't the same.
-FRAME, OTHER = b"\0\0\0\x02ab", b"\0\0\0\x02ac"
-
-ARRIVAL = 262_144
-
-# What a row may take where it says "at once" (of a processor, but for messages), what a time limit may
-# be passed by, and how long a program is waited for at most, in seconds.
-AT_ONCE, LATE, PATIENCE = 1.0, 2.0, 60.0
-
-# The most memory that stays in use, in megabytes. What is found is at least what this script takes.
-MOST_MEMORY = 200
-
-
-class Fault(Exception):
-    """What a row found in place of what it wants."""
-
-
-def want(what, found, wanted):
-    if found != wanted:
-        raise Fault(f"{what}: {found!r:.200} and not {wanted!r:.200}")
-
-
-def want_below(what, found, most):
-    if found > most:
-        raise Fault(f"{what}: {found:.2f}, above {most}")
-
-
-class Run:
-    """A run of the program, in a folder that is its own."""
-
-    def __init__(self, path, folder, words, before="", redirections="", **streams):
-        line = f'{before} exec "$0" "$@" {redirections}'
-        # A file takes any line while standard output is read.
-        self.line = tempfile.TemporaryFile()
-        pipes = {"stdin": subprocess.PIPE, "stdout": subprocess.PIPE, "stderr": self.line}
-        self.began = time.monotonic()
-        self.child = subprocess.Popen(["/bin/sh", "-c", line, path, *words], cwd=folder, **{**pipes, **streams})
-        self.memory = self.seconds = self.processor = None
-
-    def state(self):
-        """The letter of the child's state: S sleeps, Z has ended."""
-        with open(f"/proc/{self.child.pid}/stat", "rb") as file:
-            return file.read().rpartition(b")")[2].split()[0].decode()
-
-    def wait_until_it_waits(self):
-        """Returns once the program waits for something, or has ended."""
-        end = time.monotonic() + PATIENCE
-        while self.state() not in "SZX" or self.is_shell():
-            if time.monotonic() > end:
-                raise Fault("the program never waits")
-            os.sched_yield()
-
-    def is_shell(self):
-        with contextlib.suppress(OSError):
-            return os.path.basename(os.readlink(f"/proc/{self.child.pid}/exe")) in ("sh", "dash", "bash", "busybox")
-        return False
-
-    def end(self, given=b""):
-        """The status, what was written and the line, once the program has ended."""
-        with contextlib.suppress(BrokenPipeError):
-            if self.child.stdin:
-                self.child.stdin.write(given)
-                self.child.stdin.close()
-        wrote = self.child.stdout.read() if self.child.stdout else b""
-        _, status, usage = os.wait4(self.child.pid, 0)
-        self.seconds, self.memory = time.monotonic() - self.began, usage.ru_maxrss / 1024
-        self.processor = usage.ru_utime + usage.ru_stime
-        self.child.returncode = os.waitstatus_to_exitcode(status)
-        self.line.seek(0)
-        return self.child.returncode, wrote, self.line.read()
-
-
-class Program:
-    def __init__(self, path, folder):
-        self.path, self.folder = os.path.abspath(path), folder
-
-    def write(self, name, content):
-        with open(os.path.join(self.folder, name), "wb") as file:
-            file.write(content if isinstance(content, bytes) else content.encode())
-
-    def start(self, *words, path=None, **how):
-        return Run(path or self.path, self.folder, words, **how)
-
-    def run(self, *words, given=b"", **how):
-        run = self.start(*words, **how)
-        return run, run.end(given)
-
-
-def listener(buffer=None):
-    """A socket that listens, and its address."""
-    made = socket.socket()
-    if buffer:
-        made.setsockopt(socket.SOL_SOCKET, socket.SO_RCVBUF, buffer)
-    made.bind(("127.0.0.1", 0))
-    made.listen()
-    made.settimeout(PATIENCE)
-    return made, "127.0.0.1:%d" % made.getsockname()[1]
-
-
-def free_address():
-    made, at = listener()
-    made.close()
-    return at
-
-
-def accept(made):
-    peer, _ = made.accept()
-    peer.settimeout(PATIENCE)
-    return peer
-
-
-def dial(at):
-    """Dials until someone listens."""
-    host, port = at.split(":")
-    end = time.monotonic() + PATIENCE
-    while True:
-        try:
-            return socket.create_connection((host, int(port)), PATIENCE)
-        except ConnectionRefusedError:
-            if time.monotonic() > end:
-                raise Fault("nobody listens") from None
-            os.sched_yield()
-
-
-def read_all(peer, size=65_536, before_each=lambda: None):
-    """All that the peer gets, and whether its connection was reset."""
-    got = []
-    while True:
-        before_each()
-        try:
-            piece = peer.recv(size)
-        except ConnectionResetError:
-            return b"".join(got), True
-        if not piece:
-            return b"".join(got), False
-        got.append(piece)
-
-
-def write_ping(program):
-    program.write("ping.anb", PING)
-    program.write("ping.values", 'N = "ab"\n')
+from edge_runs import (
+    ARRIVAL,
+    AT_ONCE,
+    FRAME,
+    LATE,
+    MOST_MEMORY,
+    OTHER,
+    PING,
+    PATIENCE,
+    Fault,
+    Program,
+    accept,
+    can_unshare,
+    dial,
+    free_address,
+    listener,
+    read_all,
+    want,
+    want_below,
+    write_ping,
+)
+from edge_stages import STAGES
 
 
 def closed_streams(program):
@@ -374,112 +253,371 @@ def silent_peers(program):
     made, silent = listener(buffer=4096)
     unreached = f"anb: can't reach {nobody}\n".encode()
     found = []
-    for what, words, status, line in (
-        ("a peer that sends nothing", ["ping.anb", "A", "ping.values", "--dial", silent], 14, b"anb: read failed\n"),
-        ("a peer that reads nothing", ["big.anb", "A", "big.values", "--dial", silent], 15, b"anb: write failed\n"),
-        ("nobody listens", ["ping.anb", "A", "ping.values", "--dial", nobody], 9, unreached),
-        ("nobody dials", ["ping.anb", "B", "ping.values", "--listen", nobody], 9, unreached),
-    ):
-        run, ended = program.run("play", *words, "--timeout", "1")
-        want(what, ended, (status, b"", line))
-        # A write that could send a part waits once more, and a connection is drained for two seconds.
-        want_below(f"seconds, {what}", run.seconds, 1 + 1 + 2 + LATE)
-        want(f"{what}: that it waits for a second", run.seconds >= 1, True)
-        found.append(f"{run.seconds:.1f}")
+    for limit in (1, 2):
+        for what, words, status, line in (
+            ("a peer that sends nothing", ["ping.anb", "A", "ping.values", "--dial", silent], 14, b"anb: read failed\n"),
+            ("a peer that reads nothing", ["big.anb", "A", "big.values", "--dial", silent], 15, b"anb: write failed\n"),
+            ("nobody listens", ["ping.anb", "A", "ping.values", "--dial", nobody], 9, unreached),
+            ("nobody dials", ["ping.anb", "B", "ping.values", "--listen", nobody], 9, unreached),
+        ):
+            run, ended = program.run("play", *words, "--timeout", str(limit))
+            want(what, ended, (status, b"", line))
+            want_below(f"seconds, {what}", run.seconds, limit + LATE)
+            want(f"{what}: that it waits for {limit} s", run.seconds >= limit, True)
+            found.append(f"{run.seconds:.2f}")
     at = free_address()
     run = program.start("play", "ping.anb", "A", "ping.values", "--dial", at, "--timeout", "30")
     run.wait_until_it_waits()
-    late = socket.socket()
-    late.setsockopt(socket.SOL_SOCKET, socket.SO_REUSEADDR, 1)
-    late.bind(("127.0.0.1", int(at.split(":")[1])))
-    late.listen()
-    late.settimeout(PATIENCE)
-    peer = accept(late)
+    peer = accept(listener_at(at))
     peer.sendall(FRAME)
     want("what a late listener got", read_all(peer), (FRAME, False))
     peer.close()
     want("with a late listener", run.end(), (0, b"", b""))
-    return f"{', '.join(found)} s with a limit of 1; a late listener is reached"
+    return f"{', '.join(found)} s with limits of 1 and 2; a late listener is reached"
 
 
-# A child of a stage, with what A does behind its message, and what B does.
-CHILD = r"""#!/bin/sh
-echo $$ >> pids
-case $3 in
-    A) printf '\0\0\0\2ab'; %s ;;
-    B) %s ;;
-esac
-"""
-
-WAITS, HEARS = "exec sleep 1000", "head -c 6 > /dev/null"
-
-# What A and B do, and the status and the line.
-CHILDREN = (
-    (HEARS, "head -c 6", 0, ""),
-    (WAITS, f"{HEARS}; exit 0", 32, "no message of action 2"),
-    (WAITS, HEARS + r"; printf '\0\0'", 33, "message of action 2 ends after 2 of 4 bytes"),
-    (WAITS, HEARS + r"; printf '\0\4\0\1'", 34, "message of action 2 has 262145 bytes"),
-    (HEARS, "head -c 6; exit 10", 35, "child B ended with 10"),
-    (HEARS, "head -c 6; kill -9 $$", 31, "child B failed"),
-    (HEARS, "head -c 6; head -c 1000000 /dev/zero", 0, ""),
-)
+def listener_at(at):
+    """A socket that listens there, once the address is free."""
+    host, port = at.split(":")
+    made = socket.socket()
+    made.setsockopt(socket.SOL_SOCKET, socket.SO_REUSEADDR, 1)
+    end = time.monotonic() + PATIENCE
+    while True:
+        try:
+            made.bind((host, int(port)))
+            break
+        except OSError:
+            if time.monotonic() > end:
+                raise
+            time.sleep(0.001)
+    made.listen()
+    made.settimeout(PATIENCE)
+    return made
 
 
-def children_of_stages(program):
-    """a stage leaves no child behind, whatever the children do"""
+def slow_peers(program):
+    """--timeout bounds a whole frame, from its first byte to its last, and a whole piece that is written"""
     write_ping(program)
-    report = b"1 6162\n2 6162\nrelayed 2\n"
-    for role in "AB":
-        program.write(f"{role}.values", 'N = "ab"\n')
-    want("a stage of the program itself", program.run("stage", "ping.anb", ".")[1], (0, report, b""))
-    for a, b, status, line in CHILDREN:
-        program.write("child", CHILD % (a, b))
-        program.write("pids", "")
-        os.chmod(os.path.join(program.folder, "child"), 0o755)
-        found = program.run("stage", "ping.anb", ".", before="export ANB_CHILD=./child;")[1]
-        want(f"the children {a!r} and {b!r}", found, (status, report if status == 0 else b"", f"anb: {line}\n".encode() if line else b""))
-        with open(os.path.join(program.folder, "pids")) as file:
-            pids = file.read().split()
-        want("children", len(pids), 2)
-        left = [pid for pid in pids if os.path.exists(f"/proc/{pid}")]
-        want("children that are left", left, [])
-    examples = os.path.join(os.path.dirname(os.path.abspath(__file__)), "..", "examples")
-    for name, before, messages in (("nssk", "", 5), ("mutual", f"export ANB={program.path} ANB_CHILD={examples}/peer/child.py;", 3)):
-        found = program.run("stage", f"{examples}/{name}/{name}.anb", f"{examples}/{name}", before=before)[1]
-        want(f"a stage of {name}", (found[0], found[1].splitlines()[-1:]), (0, [b"relayed %d" % messages]))
-    return f"{len(CHILDREN)} pairs of children, none left; nssk, and mutual with a role in Python"
+    frame = (100).to_bytes(4, "big") + b"a" * 100
+    found = []
+    for what, at_once in (("a byte each 0.2 s", 0), ("a length, then a byte each 0.2 s", 4)):
+        made, at = listener()
+        run = program.start("play", "ping.anb", "B", "ping.values", "--dial", at, "--timeout", "2")
+        peer = accept(made)
+        began = time.monotonic()
+        with contextlib.suppress(BrokenPipeError, ConnectionResetError):
+            peer.sendall(frame[:at_once] or frame[:1])
+            for byte in frame[at_once or 1 : at_once + 20]:
+                time.sleep(0.2)
+                peer.sendall(bytes([byte]))
+                if run.state() in "ZX":
+                    break
+        want(what, run.end(), (14, b"", b"anb: read failed\n"))
+        want_below(f"seconds, {what}", time.monotonic() - began, 2 + 2 * LATE)
+        found.append(f"{time.monotonic() - began:.1f}")
+    # Frames that are whole in time may come for as long as they like.
+    write_alternating(program)
+    made, at = listener()
+    run = program.start("play", "turns.anb", "B", "turns.values", "--dial", at, "--timeout", "1")
+    peer = accept(made)
+    for _ in range(4):
+        for piece in (FRAME[:3], FRAME[3:]):
+            time.sleep(0.4)
+            peer.sendall(piece)
+        want("an answer", peer.recv(6, socket.MSG_WAITALL), FRAME)
+    peer.close()
+    want("frames in time", run.end()[0] in (11, 14, 15), True)
+    return f"{', '.join(found)} s with a limit of 2"
 
 
-ROWS = {
-    row.__name__: row
-    for row in (
-        closed_streams,
-        unread_bytes,
-        small_frames,
-        small_frames_over_pipes,
-        small_role_file,
-        small_narration,
-        no_memory_for_words,
-        long_refusals,
-        path_of_other_bytes,
-        shared_error_pipe,
-        silent_peers,
-        children_of_stages,
-    )
+def with_hosts(program, hosts, words):
+    """The words under a file of hosts that is this row's, which it may write."""
+    program.write("hosts", hosts)
+    inner = 'mount --bind hosts /etc/hosts && exec "$0" "$@"'
+    command = ["unshare", "-rm", "sh", "-c", inner, program.path, *words]
+    pipes = {"stdin": subprocess.DEVNULL, "stdout": subprocess.PIPE, "stderr": subprocess.PIPE}
+    return subprocess.Popen(command, cwd=program.folder, **pipes)
+
+
+def names_of_hosts(program):
+    """--timeout bounds connecting over all addresses of a name, and a name may come late"""
+    if not can_unshare():
+        return "not tried: no mounts of its own"
+    write_ping(program)
+    words = ["play", "ping.anb", "A", "ping.values", "--timeout", "1", "--dial"]
+    # Each of these takes no more connections, and answers none: it is full.
+    port, full = None, []
+    for number in range(2, 8):
+        made = socket.socket()
+        made.bind((f"127.0.0.{number}", port or 0))
+        port = made.getsockname()[1]
+        made.listen(0)
+        full.append(made)
+        for _ in range(3):
+            filler = socket.socket()
+            filler.setblocking(False)
+            filler.connect_ex((f"127.0.0.{number}", port))
+            full.append(filler)
+    hosts = "".join(f"127.0.0.{number} many.test\n" for number in range(2, 8))
+    found = []
+    for what, name, text in (("6 addresses", "many.test", hosts), ("no address", "none.test", hosts)):
+        began = time.monotonic()
+        words[5:] = ["--dial", f"{name}:{port}", "--timeout", "1"]
+        run = with_hosts(program, text, words[:4] + words[5:])
+        _, line = run.communicate(timeout=PATIENCE)
+        seconds = time.monotonic() - began
+        want(what, (run.returncode, line), (9, f"anb: can't reach {name}:{port}\n".encode()))
+        want(f"{what}: that it waits for a second", seconds >= 1, True)
+        want_below(f"seconds, {what}", seconds, 1 + LATE)
+        found.append(f"{seconds:.2f}")
+    made, at = listener()
+    port = at.split(":")[1]
+    run = with_hosts(program, "", ["play", "ping.anb", "A", "ping.values", "--dial", f"late.test:{port}", "--timeout", "30"])
+    time.sleep(0.3)
+    with open(os.path.join(program.folder, "hosts"), "w") as file:
+        file.write("127.0.0.1 late.test\n")
+    peer = accept(made)
+    peer.sendall(FRAME)
+    want("a name that comes late", read_all(peer), (FRAME, False))
+    peer.close()
+    want("its status", (run.communicate(timeout=PATIENCE)[1], run.returncode), (b"", 0))
+    return f"{', '.join(found)} s with a limit of 1; a name that comes late is dialled"
+
+
+def free_ports(program):
+    """--listen with port 0 tells the port that it took"""
+    write_ping(program)
+    for host, limit in (("127.0.0.1", []), ("127.0.0.1", ["--timeout", "30"]), ("localhost", [])):
+        run = program.start("play", "ping.anb", "B", "ping.values", "--listen", f"{host}:0", *limit, stderr=subprocess.PIPE)
+        told = run.child.stderr.readline()
+        want("what is told", told.startswith(b"anb: listening at ") and told.endswith(b"\n"), True)
+        peer = dial_to(told.split()[-1].decode())
+        peer.sendall(FRAME)
+        want("what the peer got", read_all(peer), (FRAME, False))
+        peer.close()
+        want("the status", run.end()[0], 0)
+    return "a peer dials what was told"
+
+
+def dial_to(at):
+    host, _, port = at.rpartition(":")
+    return socket.create_connection((host.strip("[]"), int(port)), PATIENCE)
+
+
+def dials_itself(program):
+    """dialling never connects with itself"""
+    write_ping(program)
+    with open("/proc/sys/net/ipv4/ip_local_port_range") as file:
+        low, high = map(int, file.read().split())
+    most = resource.getrlimit(resource.RLIMIT_NOFILE)[1]
+    resource.setrlimit(resource.RLIMIT_NOFILE, (most, most))
+    # The system takes even ports first, so the next one that it takes is the only one that is left.
+    taken, port = [], None
+    for number in range(low + low % 2, high, 2):
+        made = socket.socket()
+        try:
+            made.bind(("127.0.0.1", number))
+        except OSError:
+            made.close()
+            continue
+        if port is None:
+            port = number
+            made.close()
+        else:
+            taken.append(made)
+    at = f"127.0.0.1:{port}"
+    run, ended = program.run("play", "ping.anb", "A", "ping.values", "--dial", at, "--timeout", "1")
+    want("with nobody", ended, (9, b"", f"anb: can't reach {at}\n".encode()))
+    run, ended = program.run("play", "ping.anb", "A", "ping.values", "--dial", at)
+    want("with nobody, and no limit", ended, (9, b"", f"anb: can't reach {at}\n".encode()))
+    run = program.start("play", "ping.anb", "A", "ping.values", "--dial", at, "--timeout", "30")
+    time.sleep(0.2)
+    peer = accept(listener_at(at))
+    peer.sendall(FRAME)
+    want("what a late listener got", read_all(peer), (FRAME, False))
+    peer.close()
+    want("with a late listener", run.end(), (0, b"", b""))
+    for made in taken:
+        made.close()
+    return f"{len(taken)} ports taken, so that the first try would"
+
+
+def stop_and_go(pid):
+    os.kill(pid, signal.SIGSTOP)
+    time.sleep(0.01)
+    os.kill(pid, signal.SIGCONT)
+    time.sleep(0.01)
+
+
+def stopped_roles(program):
+    """a role that is stopped and continued while it waits goes on as if nothing had been"""
+    write_ping(program)
+    for flag in ("--dial", "--listen"):
+        made, at = listener()
+        if flag == "--listen":
+            made.close()
+        run = program.start("play", "ping.anb", "B", "ping.values", flag, at, "--timeout", "60")
+        if flag == "--listen":
+            run.wait_until_it_waits()
+            stop_and_go(run.child.pid)
+            peer = dial(at)
+        else:
+            peer = accept(made)
+        for piece in (FRAME[:5], FRAME[5:]):
+            run.wait_until_it_waits()
+            for _ in range(5):
+                stop_and_go(run.child.pid)
+            peer.sendall(piece)
+        want(f"what the peer got, {flag}", read_all(peer), (FRAME, False))
+        peer.close()
+        want(f"the status, {flag}", run.end(), (0, b"", b""))
+    run = program.start("play", "ping.anb", "B", "ping.values")
+    for piece in (FRAME[:5], FRAME[5:]):
+        run.wait_until_it_waits()
+        for _ in range(5):
+            stop_and_go(run.child.pid)
+        run.child.stdin.write(piece)
+        run.child.stdin.flush()
+    want("on pipes", run.end(), (0, FRAME, b""))
+    return "while it reads over TCP and pipes, and while it listens"
+
+
+def dropped_bytes(program):
+    """a peer may send four mebibytes too much, in however many pieces, and loses nothing"""
+    write_ping(program)
+    found = []
+    for what, pieces in (("5,000 single bytes", [b"x"] * 5000), ("1,000,000 bytes", [b"x" * 1_000_000])):
+        made, at = listener()
+        run = program.start("play", "ping.anb", "A", "ping.values", "--dial", at)
+        peer = accept(made)
+        peer.setsockopt(socket.IPPROTO_TCP, socket.TCP_NODELAY, 1)
+        peer.sendall(FRAME)
+        time.sleep(0.05)
+        try:
+            for piece in pieces:
+                peer.sendall(piece)
+                os.sched_yield()
+        except OSError as fault:
+            raise Fault(f"{what}: {fault}") from None
+        peer.shutdown(socket.SHUT_WR)
+        want(f"what the peer got, {what}", read_all(peer), (FRAME, False))
+        peer.close()
+        want(f"the status, {what}", run.end(), (0, b"", b""))
+        found.append(what)
+    return "; ".join(found)
+
+
+# The commands with words for which they end with 0, and with a word that makes them write a line.
+def commands(program):
+    write_ping(program)
+    program.write("choice.anb", PING.replace("B -> A: N;", "Choice: B; Actions: B -> A: f(N); Actions: B -> A: g(N);")
+                  .replace("Knowledge", 'Formats: f = "F" len; g = "G" len;\nKnowledge'))
+    program.write("transcript", "> 6162\n< 6162\n")
+    program.write("schedule", "A B B A\n")
+    program.write("key", "key")
+    role = ["ping.anb", "A", "ping.values"]
+    program.write("A.role", program.run("compile", "ping.anb", "A")[1][1])
+    program.write("record", program.run("park", *role, "key")[1][1][10:])
+    return [
+        ["fmt", "ping.anb"],
+        ["compile", "ping.anb", "A"],
+        ["explain", "ping.anb", "A"],
+        ["play", *role],
+        ["enact", "A.role", "ping.values"],
+        ["replay", *role, "transcript"],
+        ["host", *role],
+        ["rehearse", "ping.anb", "ping.values", "schedule"],
+        ["drill", "1"],
+        ["branch", "choice.anb", "A", "ping.values"],
+        ["certify", "ping.anb", "A", "A.role"],
+        ["why", "ping.anb"],
+        ["park", *role, "key"],
+        ["resume", "ping.anb", "A", "record", "key"],
+        ["chart", "ping.anb"],
+        ["check", "ping.anb"],
+        ["trace", *role, "transcript"],
+        ["stage", "ping.anb", "."],
+        ["help"],
+    ]
+
+
+SIGNALS = {
+    "at its default": lambda: signal.signal(signal.SIGPIPE, signal.SIG_DFL),
+    "ignored": lambda: signal.signal(signal.SIGPIPE, signal.SIG_IGN),
+    "blocked": lambda: signal.pthread_sigmask(signal.SIG_BLOCK, [signal.SIGPIPE]),
 }
 
 
+def closed_pipes(program):
+    """a reader that has gone is a fault of writing for every command, and never a signal"""
+    all_words = commands(program)
+    want("the commands", [words[0] for words in all_words], [line.split()[1].decode() for line in program.run("help")[1][1].splitlines()])
+    gone, closed = os.pipe()
+    os.close(gone)
+    given = os.path.join(program.folder, "given")
+    program.write("given", b"\0\0\0\0\0")
+
+    def run(words, prepare, out, err):
+        with open(given if words[0] == "host" else os.devnull, "rb") as stdin:
+            return subprocess.run([program.path, *words], cwd=program.folder, stdin=stdin, stdout=out, stderr=err,
+                                  preexec_fn=prepare, restore_signals=False, timeout=PATIENCE)
+
+    for how, prepare in SIGNALS.items():
+        for words in all_words:
+            # What writes nothing can't fail to.
+            status, line = (0, b"") if words[0] == "replay" else (15, b"anb: write failed\n")
+            wrong = [words[0], *(["nothing"] * (len(words) - 1) or ["nothing"])]
+            usual = run(wrong, prepare, subprocess.DEVNULL, subprocess.PIPE)
+            for _ in range(program.times):
+                done = run(words, prepare, closed, subprocess.PIPE)
+                want(f"standard output of {words[0]}, SIGPIPE {how}", (done.returncode, done.stderr), (status, line))
+                done = run(words, prepare, closed, closed)
+                want(f"both of {words[0]}, SIGPIPE {how}", done.returncode, status)
+                done = run(wrong, prepare, subprocess.DEVNULL, closed)
+                want(f"standard error of {words[0]}, SIGPIPE {how}", done.returncode, usual.returncode)
+    os.close(closed)
+    return f"{len(all_words)} commands, 3 ways of SIGPIPE, {program.times} times each"
+
+
+# Rows that take less than a few seconds, and those that take longer.
+QUICK = (
+    closed_streams,
+    closed_pipes,
+    small_frames,
+    small_frames_over_pipes,
+    path_of_other_bytes,
+    silent_peers,
+    slow_peers,
+    names_of_hosts,
+    free_ports,
+    dials_itself,
+    stopped_roles,
+    dropped_bytes,
+    *STAGES,
+)
+
+LONG = (unread_bytes, small_role_file, small_narration, no_memory_for_words, long_refusals, shared_error_pipe)
+
+ROWS = {row.__name__: row for row in (*QUICK, *LONG)}
+
+# How often what may go well by chance is tried.
+TIMES, QUICK_TIMES = 50, 3
+
+
 def main():
-    if len(sys.argv) < 2:
+    words = [word for word in sys.argv[1:] if word != "--quick"]
+    if not words:
         sys.exit(__doc__)
+    is_quick = "--quick" in sys.argv
     failed = 0
-    for name in sys.argv[2:] or ROWS:
+    for name in words[1:] or [row.__name__ for row in QUICK] + [row.__name__ for row in LONG if not is_quick]:
         with tempfile.TemporaryDirectory() as folder:
+            began = time.monotonic()
             try:
-                says, sign = ROWS[name](Program(sys.argv[1], folder)), "ok"
-            except (Fault, OSError) as fault:
+                says, sign = ROWS[name](Program(words[0], folder, QUICK_TIMES if is_quick else TIMES)), "ok"
+            except (Fault, OSError, subprocess.TimeoutExpired) as fault:
                 says, sign, failed = f"{type(fault).__name__}: {fault}", "FAILED", failed + 1
-        print(f"{name:<24} {sign:<7} {says}", flush=True)
+        print(f"{name:<24} {sign:<7} {time.monotonic() - began:5.1f} s  {says}", flush=True)
     sys.exit(1 if failed else 0)
 
 

@@ -1,13 +1,10 @@
 //! Lines on standard error, beside the line of the status.
 
-ghost use Rattle.std.specs.Prelude.{None};
-
-use crate::running::Running;
 use anb_base::Text;
 use std::io;
 use std::io::Write;
-use std::process::ExitStatus;
 use std::os::unix::prelude::ExitStatusExt;
+use std::process::ExitStatus;
 
 /// Tells what a child ended with whose output ended too early, where it ended.
 pub(crate) fn tell_end(rt: &HostRuntime, name: &Text, status: Option<ExitStatus>) -> io::Result<()> {
@@ -26,8 +23,8 @@ pub(crate) fn tell_end(rt: &HostRuntime, name: &Text, status: Option<ExitStatus>
 }
 
 /// Tells that a child is left.
-pub(crate) fn tell_left(rt: &HostRuntime, child: &Running) -> io::Result<()> {
-    let line = format!(in rt.alloc(); "anb: process {} can't be killed\n", child.id())?;
+pub(crate) fn tell_left(rt: &HostRuntime, process: u32) -> io::Result<()> {
+    let line = format!(in rt.alloc(); "anb: process {process} can't be killed\n")?;
     tell(rt, line.as_str())
 }
 

@@ -32,6 +32,7 @@ pub(crate) struct Running {
     output: Option<ChildStdout>,
     /// When it was found to have ended.
     ended: Option<Instant>,
+    is_left: bool,
 }
 
 impl Running {
@@ -57,11 +58,12 @@ impl Running {
             input: None,
             output: None,
             ended: None,
+            is_left: false,
         };
         match running.take_pipes() {
             Ok(()) => Ok(running),
             Err(error) => {
-                let _ = running.kill();
+                running.kill();
                 Err(error)
             }
         }
@@ -191,15 +193,23 @@ impl Running {
     }
 
     /// Kills the child where it still runs, and waits for it. One that can't be killed, as that of
-    /// another user, isn't waited for.
-    pub(crate) fn kill(&mut self) -> io::Result<()> {
+    /// another user, isn't waited for, and is left.
+    pub(crate) fn kill(&mut self) {
         self.input = None;
         self.output = None;
+        self.is_left = self.killed().is_err();
+    }
+
+    fn killed(&mut self) -> io::Result<()> {
         if self.child.try_wait()?.is_none() {
             self.child.kill()?;
             let _ = self.child.wait()?;
         }
         Ok(())
+    }
+
+    pub(crate) fn is_left(&self) -> bool {
+        self.is_left
     }
 
     /// The number of its process.

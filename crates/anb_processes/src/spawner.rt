@@ -11,6 +11,7 @@ use anb_stage::Spawner;
 use std::alloc::Global;
 use std::io::ErrorKind;
 use std::marker::Model;
+use std::process::ExitStatus;
 use std::{fs, io};
 
 /// Where this program itself is found, whatever its name is.
@@ -84,9 +85,9 @@ impl RealSpawner {
         }
     }
 
-    /// Kills each child that wasn't finished, and waits for it, so that none is left behind. Where a
-    /// child's output ended too early, standard error is told what it ended with, which is waited for
-    /// first, for two seconds at most. A child that can't be killed is told too, and left.
+    /// Kills each child that wasn't finished, and waits for it, so that none is left behind. Then
+    /// standard error is told what the child ended with whose output ended too early, which is waited
+    /// for first, for two seconds at most; and each child that can't be killed, which is left.
     pub fn end(self) {
         let RealSpawner {
             rt,
@@ -95,24 +96,34 @@ impl RealSpawner {
             silent,
             counts: _,
         } = self;
-        if let Some(role) = silent {
-            if let Some(child) = child_in(&mut children, role) {
-                // What can't be told isn't.
-                let _ = tell_status(&rt, child);
-            }
+        let ended = match silent {
+            Some(role) => end_of(&rt, &mut children, role),
+            None => None,
+        };
+        for child in children.iter_mut() {
+            child.running.kill();
         }
-        for mut child in children {
-            if child.running.kill().is_err() {
-                let _ = tell_left(&rt, &child.running);
+        // What can't be told isn't.
+        if let Some((name, status)) = ended {
+            let _ = tell_end(&rt, &name, status);
+        }
+        for child in children.iter() {
+            if child.running.is_left() {
+                let _ = tell_left(&rt, child.running.id());
             }
         }
     }
 }
 
-/// Tells what a child ended with.
-fn tell_status(rt: &HostRuntime, child: &mut Named) -> io::Result<()> {
-    let status = child.running.wait_for_end(rt)?;
-    tell_end(rt, &child.name, status)
+/// The name of a role, and what its child ended with.
+fn end_of(
+    rt: &HostRuntime,
+    children: &mut [Named],
+    role: u32,
+) -> Option<(Text, Option<ExitStatus>)> {
+    let child = child_in(children, role)?;
+    let status = child.running.wait_for_end(rt).ok()?;
+    Some((child.name.copy(rt.alloc()).ok()?, status))
 }
 
 /// Starts the child of a role, which is killed again where there is no memory to keep it.
@@ -129,7 +140,7 @@ fn start(
         Ok(()) => Ok(()),
         Err(failed) => {
             let mut child = failed.value;
-            let _ = child.running.kill();
+            child.running.kill();
             Err(io::Error::from(ErrorKind::OutOfMemory))
         }
     }

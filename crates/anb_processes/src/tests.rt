@@ -8,6 +8,7 @@ use anb_base::{Failed, Text};
 use anb_stage::Spawner;
 use std::alloc::{AllocError, Global};
 use std::test::Fail;
+use std::{fs, str};
 
 /// The words of a shell that runs this line.
 fn words(alloc: Global, line: &str) -> Result<Vec<Text>, AllocError> {
@@ -71,11 +72,29 @@ fn a_child_ends_with_its_status(rt: HostRuntime) -> Result<(), Fail> {
     Ok(())
 }
 
-/// The test ends long before the child would.
+/// What the system tells of the process that a child says it is.
+fn place_of(rt: HostRuntime, shells: &mut RealSpawner) -> Result<String, Fail>
+    requires { get_or shells.old.phases 0 0 ≡ 1 }
+{
+    let mut said = [0u8; 32];
+    let Ok(n) = shells.read(0, &mut said) else {
+        return Err("not read".into());
+    };
+    let process = str::from_utf8(&said[..n])?;
+    Ok(format!(in rt.alloc(); "/proc/{}", process.trim_end())?)
+}
+
 #[test]
 fn a_child_that_runs_on_is_killed(rt: HostRuntime) -> Result<(), Fail> {
     let mut shells = spawner(rt, "/bin/sh")?;
-    start(&mut shells, 0, &words(rt.alloc(), "exec sleep 1000")?)?;
+    start(
+        &mut shells,
+        0,
+        &words(rt.alloc(), "echo $$; exec sleep 1000")?,
+    )?;
+    let place = place_of(rt, &mut shells)?;
+    assert!(rt; fs::metadata(&rt, place.as_str()).is_ok());
     shells.end();
+    assert!(rt; fs::metadata(&rt, place.as_str()).is_err());
     Ok(())
 }

@@ -1,0 +1,317 @@
+"""Rows of bench/edge.py on stages: what becomes of their children."""
+import concurrent.futures
+import contextlib
+import os
+import shutil
+import signal
+import subprocess
+import time
+
+from edge_runs import AT_ONCE, PATIENCE, Fault, can_unshare, is_process, wait_until, want, want_below, write_ping
+
+# A child of a stage, with what A does, and what B does.
+CHILD = r"""#!/bin/sh
+echo $$ >> pids
+case $3 in
+    A) %s ;;
+    B) %s ;;
+esac
+"""
+
+SAYS, HEARS, WAITS = r"printf '\0\0\0\2ab'", "head -c 6 > /dev/null", "exec sleep 1000"
+
+# An answer of B, and A's part with B's answer.
+ANSWERS, PLAYS = "head -c 6", f"{SAYS}; {HEARS}"
+
+REPORT = b"1 6162\n2 6162\nrelayed 2\n"
+
+# How long a child may write behind its last message, and what a stage takes beside it, in seconds.
+DROPPING, SHORT = 2.0, 10.0
+
+# What A and B do, and the status and the lines.
+CHILDREN = (
+    (PLAYS, ANSWERS, 0, ""),
+    (f"{SAYS}; {WAITS}", f"{HEARS}; exit 0", 32, "child B ended with 0\nno message of action 2"),
+    (f"{SAYS}; {WAITS}", HEARS + r"; printf '\0\0'", 33, "child B ended with 0\nmessage of action 2 ends after 2 of 4 bytes"),
+    (f"{SAYS}; {WAITS}", HEARS + r"; printf '\0\4\0\1'", 34, "message of action 2 has 262145 bytes"),
+    (PLAYS, f"{ANSWERS}; exit 10", 35, "child B ended with 10"),
+    (PLAYS, f"{ANSWERS}; kill -9 $$", 31, "child B failed"),
+    (PLAYS, f"{HEARS}; kill -9 $$", 32, "child B ended by signal 9\nno message of action 2"),
+    (PLAYS, f"{ANSWERS}; head -c 1000000 /dev/zero", 0, ""),
+)
+
+
+def lines(text):
+    return "".join(f"anb: {line}\n" for line in text.splitlines()).encode()
+
+
+def ended(status, text=""):
+    return status, REPORT if status == 0 else b"", lines(text)
+
+
+def write_child(program, a, b, name="child"):
+    program.write("pids", "")
+    program.write_script(name, CHILD % (a, b))
+
+
+def pids(program):
+    return program.read("pids").decode().split()
+
+
+def want_nobody(program, what):
+    want(what, [pid for pid in pids(program) if is_process(pid)], [])
+
+
+def start_stage(program, child="./child", **how):
+    return program.start("stage", "ping.anb", ".", before=f"export ANB_CHILD={child};", **how)
+
+
+def stage(program, within=PATIENCE, **how):
+    run = start_stage(program, **how)
+    return run, run.end(within=within)
+
+
+def children_of_stages(program):
+    """a stage leaves no child behind, whatever the children do"""
+    write_ping(program)
+    want("a stage of the program itself", program.run("stage", "ping.anb", ".")[1], ended(0))
+    for a, b, *wanted in CHILDREN:
+        write_child(program, a, b)
+        want(f"the children {a!r} and {b!r}", stage(program)[1], ended(*wanted))
+        want("children", len(pids(program)), 2)
+        want_nobody(program, "children that are left")
+    examples = os.path.join(os.path.dirname(os.path.abspath(__file__)), "..", "examples")
+    for name, before, messages in (("nssk", "", 5), ("mutual", f"export ANB={program.path} ANB_CHILD={examples}/peer/child.py;", 3)):
+        found = program.run("stage", f"{examples}/{name}/{name}.anb", f"{examples}/{name}", before=before)[1]
+        want(f"a stage of {name}", (found[0], found[1].splitlines()[-1:]), (0, [b"relayed %d" % messages]))
+    return f"{len(CHILDREN)} pairs of children, none left; nssk, and mutual with a role in Python"
+
+
+def full_pipe():
+    """The ends of a pipe that has no room left."""
+    ours, theirs = os.pipe()
+    os.set_blocking(theirs, False)
+    with contextlib.suppress(BlockingIOError):
+        while True:
+            os.write(theirs, b"\n" * 4096)
+    os.set_blocking(theirs, True)
+    return ours, theirs
+
+
+def children_end_first(program):
+    """a stage ends its children before it tells its line, also where nobody reads that"""
+    write_ping(program)
+    write_child(program, f"{SAYS}; {WAITS}", f"{HEARS}; exit 0")
+    ours, theirs = full_pipe()
+    run = start_stage(program, stderr=theirs)
+    os.close(theirs)
+    wait_until("two children", lambda: len(pids(program)) == 2)
+    wait_until("nobody is left", lambda: not any(map(is_process, pids(program))), SHORT)
+    want("that the line isn't written yet", is_process(run.child.pid), True)
+    with open(ours, "rb") as reader:
+        told = reader.read()
+    want("the line", told.strip(), ended(32, CHILDREN[1][3])[2].strip())
+    want("the status", run.end()[0], 32)
+    for _ in range(program.times):
+        write_child(program, f"echo one >&2; {SAYS}; {WAITS}", f"echo two >&2; {HEARS}; exit 0")
+        command = f'ANB_CHILD=./child "{program.path}" stage ping.anb . 2>&1 | head -n 1'
+        said = subprocess.run(command, shell=True, cwd=program.folder, stdout=subprocess.PIPE, timeout=PATIENCE).stdout
+        want("the first line", said in (b"one\n", b"two\n"), True)
+        wait_until("nobody is left", lambda: not any(map(is_process, pids(program))), SHORT)
+    return f"they end while the line waits; none left in {program.times} runs of | head -n 1"
+
+
+def named_children(program):
+    """a child program that can't be named or found is refused, and never another one is started"""
+    write_ping(program)
+    refused = ended(31, "child A failed")
+    for value in (b"", b"\xff", b"./\xfe\xff", b"./nothing"):
+        env = {**os.environb, b"ANB_CHILD": value}
+        want(f"ANB_CHILD={value!r}", program.run("stage", "ping.anb", ".", env=env)[1], refused)
+    folder = os.path.join(os.fsencode(program.folder), b"\xff\xfe")
+    os.mkdir(folder)
+    path = os.path.join(folder, b"anb")
+    shutil.copy(program.path, path)
+    want("in a folder that isn't UTF-8", program.run("stage", "ping.anb", ".", path=path)[1], ended(0))
+
+    # It reads its narration once the file of the program is gone.
+    os.mkfifo(os.path.join(program.folder, "fifo.anb"))
+    run = program.start("stage", "fifo.anb", ".", path=path)
+    with open(os.path.join(program.folder, "fifo.anb"), "wb") as narration:
+        os.remove(path)
+        narration.write(program.read("ping.anb"))
+    found = run.end()
+    # The children can't read the narration, which was read; but they are started.
+    want("that children were started", b"child A failed" in found[2], False)
+    says = "4 names refused, a path of other bytes, a file that is gone"
+    if not can_unshare():
+        return f"{says}; without /proc not tried"
+    command = ["unshare", "-rm", "sh", "-c", 'mount -t tmpfs none /proc && exec "$0" stage ping.anb .', program.path]
+    done = subprocess.run(command, cwd=program.folder, capture_output=True, timeout=PATIENCE)
+    line = "no /proc/self/exe, so ANB_CHILD must name a program\nchild A failed"
+    want("without /proc", (done.returncode, done.stdout, done.stderr), ended(31, line))
+    return f"{says}; without /proc"
+
+
+def ended_children(program):
+    """a child that has ended is found to have ended, whoever holds its pipes"""
+    write_ping(program)
+    leaves = "sleep 1000 & echo $! >> left"
+    found = []
+    for a, b, *wanted in (
+        (f"{PLAYS}; {leaves}", ANSWERS, 0),
+        (PLAYS, f"{ANSWERS}; {leaves}", 0),
+        (PLAYS, f"{HEARS}; {leaves}; exit 4", 32, "child B ended with 4\nno message of action 2"),
+    ):
+        program.write("left", "")
+        write_child(program, a, b)
+        try:
+            run, outcome = stage(program, SHORT)
+        finally:
+            for pid in program.read("left").split():
+                os.kill(int(pid), signal.SIGKILL)
+        want(f"the children {a!r} and {b!r}", outcome, ended(*wanted))
+        want_below("seconds", run.seconds, DROPPING + AT_ONCE)
+        want_nobody(program, "children that are left")
+        found.append(f"{run.seconds:.1f}")
+    return f"{', '.join(found)} s"
+
+
+def dropped_output(program):
+    """behind its last message a child may write four mebibytes in two seconds, in however many pieces"""
+    write_ping(program)
+    bytewise = "import os; [os.write(1, b'x') and os.sched_yield() for _ in range(5000)]"
+    slowly = "while :; do echo x; sleep 0.1; done"
+    found = []
+    for what, b, *wanted in (
+        ("5,000 single bytes", f'python3 -c "{bytewise}"', 0),
+        ("5,000 bytes", "head -c 5000 /dev/zero", 0),
+        ("4 MiB less a pipe", "head -c 4128768 /dev/zero", 0),
+        ("8,000,000 bytes", "exec head -c 8000000 /dev/zero", 31, "child B failed"),
+        ("a byte now and then", slowly, 31, "child B failed"),
+        ("silence, then an end", "sleep 2.5", 0),
+    ):
+        write_child(program, PLAYS, f"{ANSWERS}; {b}")
+        run, outcome = stage(program, SHORT)
+        want(what, outcome, ended(*wanted))
+        want_nobody(program, "children that are left")
+        found.append(f"{run.seconds:.1f}")
+    return f"{', '.join(found)} s"
+
+
+def three_streams(program):
+    """a child has three open streams, whatever the caller's were"""
+    write_ping(program)
+    looks = "ls /proc/$$/fd >> streams"
+    write_child(program, f"{looks}; {SAYS}; head -c 6 > heard", f"{looks}; {ANSWERS}")
+
+    def want_streams(what, found):
+        streams = program.read("streams").decode().split()
+        want(f"what the children have open, {what}", [streams.count(one) for one in "012"], [2, 2, 2])
+        want(f"the status, {what}", found, 0)
+
+    for closed in ("", "2>&-", "0<&- 2>&-", "0<&-", "0<&- 1>&- 2>&-"):
+        program.write("streams", "")
+        report = {"stdout": subprocess.DEVNULL} if "1>" in closed else {}
+        status = stage(program, redirections=closed, **report)[1][0]
+        # What a closed standard output doesn't take is a fault of writing.
+        want_streams(closed, 0 if status == 15 and "1>" in closed else status)
+    if not can_unshare():
+        return "5 sets of closed streams; without /dev not tried"
+    program.write("streams", "")
+    inner = 'mount -t tmpfs none /dev && exec "$0" stage ping.anb . 2>&- 0<&-'
+    command = ["unshare", "-rm", "sh", "-c", inner, program.path]
+    env = {**os.environ, "ANB_CHILD": "./child"}
+    done = subprocess.run(command, cwd=program.folder, env=env, capture_output=True, timeout=PATIENCE)
+    want_streams("without /dev", done.returncode)
+    want("what is heard, without /dev", program.read("heard"), b"\0\0\0\2ab")
+    return "5 sets of closed streams, and without /dev"
+
+
+def unkillable_child(program):
+    """a child that can't be killed is told and left"""
+    if os.getuid() != 0:
+        return "not tried: only root can make such a child"
+    write_ping(program)
+    os.chmod(program.folder, 0o777)
+    for name, source in (("anb", program.path), ("as_root", shutil.which("setpriv"))):
+        shutil.copy(source, os.path.join(program.folder, name))
+        os.chmod(os.path.join(program.folder, name), 0o755)
+    os.chmod(os.path.join(program.folder, "as_root"), 0o4755)
+    write_child(program, f"{SAYS}; exec ./as_root --reuid=0 --clear-groups sleep 4", f"{HEARS}; sleep 0.5; exit 0")
+    os.chmod(os.path.join(program.folder, "pids"), 0o666)
+    command = ["setpriv", "--reuid=65534", "--regid=65534", "--clear-groups", "./anb", "stage", "ping.anb", "."]
+    began = time.monotonic()
+    env = {**os.environ, "ANB_CHILD": "./child"}
+    done = subprocess.run(command, cwd=program.folder, env=env, capture_output=True, timeout=PATIENCE)
+    seconds = time.monotonic() - began
+    first = [pid for pid in pids(program) if is_process(pid)]
+    want("the status", done.returncode, 32)
+    want("that one is left", len(first), 1)
+    line = f"process {first[0]} can't be killed\nchild B ended with 0\nno message of action 2"
+    want("the lines", sorted(done.stderr.splitlines()), sorted(lines(line).splitlines()))
+    os.kill(int(first[0]), signal.SIGKILL)
+    want_below("seconds", seconds, 2.5)
+    return f"{seconds:.1f} s"
+
+
+# What A and B do, with the values of the role, and the one answer.
+FAULTS = (
+    ("A ends at once", "exit 0", ANSWERS, 32, "child A ended with 0\nno message of action 1"),
+    ("A ends late", "sleep 0.2; exit 3", ANSWERS, 32, "child A ended with 3\nno message of action 1"),
+    ("B ends at once", PLAYS, "exit 0", 32, "child B ended with 0\nno message of action 2"),
+    ("B ends late", PLAYS, "sleep 0.2; exit 3", 32, "child B ended with 3\nno message of action 2"),
+    ("A ends before it hears", f"{SAYS}; exit 5", ANSWERS, 35, "child A ended with 5"),
+    ("A hears nothing", f"{SAYS}; sleep 0.2; exit 5", ANSWERS, 35, "child A ended with 5"),
+)
+
+
+def one_answer(program):
+    """one fault of a child has one status and one line"""
+    write_ping(program)
+    found = []
+    # More at once than there are processors.
+    with concurrent.futures.ThreadPoolExecutor(8) as side_by_side:
+        for number, (what, a, b, *wanted) in enumerate(FAULTS):
+            write_child(program, a, b, f"child{number}")
+            outcomes = side_by_side.map(lambda _: stage(program, child=f"./child{number}")[1], range(program.times))
+            want(f"the answers where {what}", set(outcomes), {ended(*wanted)})
+        os.mkdir(os.path.join(program.folder, "refused"))
+        for role, values in (("A", "N = x00"), ("B", "M = x00")):
+            program.write(f"refused/{role}.values", values)
+        outcomes = side_by_side.map(lambda _: program.run("stage", "ping.anb", "refused")[1], range(program.times))
+        line = "values: M isn't asked for\nchild B ended with 7\nno message of action 2"
+        want("the answers where B refuses its values", set(outcomes), {ended(32, line)})
+    return f"{len(FAULTS) + 1} kinds of children, {program.times} runs each, 8 at once"
+
+
+def stopped_children(program):
+    """a stage goes on where it and its children are stopped and continued"""
+    write_ping(program)
+    write_child(program, f"sleep 0.3; {PLAYS}", f"{HEARS}; sleep 0.3; {SAYS}")
+    for _ in range(min(program.times, 3)):
+        program.write("pids", "")
+        run = start_stage(program)
+        wait_until("two children", lambda: len(pids(program)) == 2)
+        for _ in range(10):
+            for pid in (run.child.pid, *map(int, pids(program))):
+                os.kill(pid, signal.SIGSTOP)
+            time.sleep(0.01)
+            for pid in (run.child.pid, *map(int, pids(program))):
+                os.kill(pid, signal.SIGCONT)
+            time.sleep(0.01)
+        want("the stage", run.end(), ended(0))
+    return "10 stops of a stage and its children"
+
+
+STAGES = (
+    children_of_stages,
+    children_end_first,
+    named_children,
+    ended_children,
+    dropped_output,
+    three_streams,
+    unkillable_child,
+    one_answer,
+    stopped_children,
+)
