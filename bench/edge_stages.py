@@ -304,6 +304,24 @@ def stopped_children(program):
     return "10 stops of a stage and its children"
 
 
+def signalled_stages(program):
+    """a signal that ends a stage ends its children"""
+    write_ping(program)
+    kinds = (signal.SIGINT, signal.SIGTERM, signal.SIGHUP, signal.SIGKILL)
+    for kind in kinds:
+        for to_group in (False, True):
+            write_child(program, f"{SAYS}; {WAITS}", WAITS)
+            run = start_stage(program)
+            wait_until("two children", lambda: len(pids(program)) == 2)
+            if to_group:
+                os.killpg(run.child.pid, kind)
+            else:
+                os.kill(run.child.pid, kind)
+            wait_until(f"nobody is left after {kind.name}", lambda: not any(map(is_process, pids(program))), SHORT)
+            want("the status", run.end()[0], -kind)
+    return f"{', '.join(kind.name for kind in kinds)}, to the stage alone and to its group"
+
+
 STAGES = (
     children_of_stages,
     children_end_first,
@@ -314,4 +332,5 @@ STAGES = (
     unkillable_child,
     one_answer,
     stopped_children,
+    signalled_stages,
 )

@@ -6,6 +6,7 @@ mod notes;
 mod pauses;
 mod running;
 mod spawner;
+mod watcher;
 
 pub use spawner::{ChildProgram, RealSpawner};
 

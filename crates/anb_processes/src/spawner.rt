@@ -6,6 +6,7 @@ ghost use Rattle.anb_processes.specs.Children.{child_of};
 use crate::counts::Counts;
 use crate::notes::{tell_end, tell_left, tell_no_program};
 use crate::running::Running;
+use crate::watcher::Watcher;
 use anb_base::{Failed, Text};
 use anb_stage::Spawner;
 use std::alloc::Global;
@@ -57,6 +58,8 @@ pub struct RealSpawner {
     rt: HostRuntime,
     program: ChildProgram,
     children: Vec<Named>,
+    /// What kills the children where a signal ends this program. There is none without a shell.
+    watcher: Option<Watcher>,
     /// The role whose output was last found at its end.
     silent: Option<u32>,
     counts: Counts,
@@ -80,6 +83,7 @@ impl RealSpawner {
             rt,
             program,
             children: Vec::new(alloc),
+            watcher: None,
             silent: None,
             counts: Counts::new(),
         }
@@ -93,6 +97,7 @@ impl RealSpawner {
             rt,
             program: _,
             mut children,
+            watcher,
             silent,
             counts: _,
         } = self;
@@ -102,6 +107,10 @@ impl RealSpawner {
         };
         for child in children.iter_mut() {
             child.running.kill();
+        }
+        if let Some(watcher) = watcher {
+            // One that fails has ended.
+            let _ = watcher.end();
         }
         // What can't be told isn't.
         if let Some((name, status)) = ended {
@@ -155,6 +164,28 @@ fn name_of(alloc: Global, words: &[Text]) -> io::Result<Text> {
     Ok(Text::new(String::from_str(alloc, name)?))
 }
 
+/// Watches over the child that was started last. The first one brings the watcher with it.
+fn watch(rt: &HostRuntime, watcher: &mut Option<Watcher>, children: &[Named]) -> io::Result<()> {
+    let Some(child) = children.last() else {
+        return Ok(());
+    };
+    if children.len() == 1 {
+        *watcher = Watcher::start(rt)?;
+    }
+    match watcher {
+        Some(watcher) => watcher.add(rt, child.running.id()),
+        None => Ok(()),
+    }
+}
+
+/// No longer watches over the child of a role, which has ended.
+fn unwatch(rt: &HostRuntime, watcher: &mut Option<Watcher>, child: &Named) -> io::Result<()> {
+    match watcher {
+        Some(watcher) => watcher.remove(rt, child.running.id()),
+        None => Ok(()),
+    }
+}
+
 /// Tells where this program itself can't be found.
 fn explain(rt: &HostRuntime, program: &ChildProgram) {
     if let ChildProgram::Own = program {
@@ -177,6 +208,8 @@ impl Spawner for RealSpawner {
     fn start(&mut self, role: u32, words: &[Text]) -> Result<(), Failed> {
         match start(&self.rt, &self.program, &mut self.children, role, words) {
             Ok(()) => {
+                // Without a watcher the children are as good.
+                let _ = watch(&self.rt, &mut self.watcher, &self.children);
                 self.counts.enter(role, 1);
                 Ok(())
             }
@@ -216,7 +249,11 @@ impl Spawner for RealSpawner {
 
     fn finish(&mut self, role: u32) -> Result<u8, Failed> {
         let status = match child_in(&mut self.children, role) {
-            Some(child) => child.running.finish(&self.rt).ok(),
+            Some(child) => {
+                let status = child.running.finish(&self.rt).ok();
+                let _ = unwatch(&self.rt, &mut self.watcher, child);
+                status
+            }
             None => None,
         };
         match status {
