@@ -18,6 +18,8 @@ the messages are those of the narration that the common actions and the arm are.
 Pages: in a fenced block that begins with a line `$ ...` each such line is a command for sh, and what follows is what
 it writes, errors too. The commands run in a folder of their own with a copy of examples/, block by block, with `anb` on
 the path. A fenced block with two words behind its fence, as ```anb mine.anb, is a file that the reader writes.
+
+The edge to the machine: the rows of bench/edge.py that take little time.
 """
 
 import hashlib
@@ -417,6 +419,15 @@ def check_page(name, program, write):
     return commands, faults
 
 
+def check_edge(program):
+    """The rows of bench/edge.py that take little time."""
+    words = [sys.executable, ROOT / "bench" / "edge.py", program, "--quick"]
+    done = subprocess.run(words, stdin=subprocess.DEVNULL, stdout=subprocess.PIPE, text=True)
+    failed = [line for line in done.stdout.splitlines() if " FAILED " in line]
+    print(*failed, sep="\n", end="\n" if failed else "")
+    return max(len(failed), done.returncode)
+
+
 def main():
     words = [word for word in sys.argv[1:] if word != "--write"]
     if len(words) != 1:
@@ -429,6 +440,7 @@ def main():
         if (ROOT / name).exists():
             found, wrong = check_page(name, program, write)
             commands, faults = commands + found, faults + wrong
+    faults += check_edge(program)
     print(f"checked: {examples} examples, {commands} commands, {faults} faults")
     sys.exit(faults > 0)
 
