@@ -19,3 +19,4 @@ pub mod Staging
 pub mod Naming
 pub mod Existing
 pub mod Differing
+pub mod Fitted

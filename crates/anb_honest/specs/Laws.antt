@@ -29,7 +29,7 @@ abbrev pub RehearsalsAreHonest : ProtocolValue → Type 0
 RehearsalsAreHonest p =
     (codes : List CodeValue) (values : List (List ℕ)) (seed : List ℕ) (atoms : ℕ → List ℕ)
     (turns : List ℕ) → let c = cast p codes values seed in
-    IsFitting c → IsSendable p → AreHonest c atoms
+    IsFitting c → AreHonest c atoms
     → AllByRecursion (λ role. role < length p.roles) turns → joint c turns ≡ honest_end c atoms turns
 
 -- and the play of each role over what it took sends what it should by then, and does not stop
