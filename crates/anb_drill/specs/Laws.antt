@@ -1,9 +1,10 @@
 -- What holds of drills.
-use Rattle.std.specs.Prelude.{◌≡◌, ℕ, ◌+◌, ◌*◌, ◌<◌, ◌≤◌, List, length}
+use Rattle.std.specs.Prelude.{◌≡◌, ℕ, ◌<◌, ◌≤◌, List, length}
 use Rattle.std.specs.List.{AllByRecursion, sum_by}
 use Rattle.anb_base.specs.declared.TheConstants.{ARRIVAL, WIDE}
 use Rattle.anb_base.specs.declared.content.Sent.{Sent}
 use Rattle.anb_code.specs.CodeValue.{CodeValue}
+use Rattle.anb_gen.specs.Counts.{drill_counts}
 use Rattle.anb_gen.specs.Drill.{drill_narration, role_names}
 use Rattle.anb_gen.specs.Turns.{turns_of}
 use Rattle.anb_honest.specs.declared.report.Report.{Report}
@@ -31,18 +32,18 @@ DrillsCanBeSent = (n : ℕ) → n ≤ 200 → IsSendable (protocol_of (drill_nar
 pub record AsksFor (n : ℕ) : Type 0 where
   pub names : length (known_names (protocol_of (drill_narration n))) ≡ 3
   pub roles : AllByRecursion (λ role. role < length (protocol_of (drill_narration n)).roles) (turns_of (drill_narration n))
-  pub turns : length (turns_of (drill_narration n)) ≡ 2 * (n + 2)
+  pub turns : length (turns_of (drill_narration n)) ≡ (drill_counts n).turns
 
 abbrev pub DrillsAskFor : Type 0
 DrillsAskFor = (n : ℕ) → n ≤ 200 → AsksFor n
 
--- n + 2 messages were sent, of 96 + 99n bytes together, and no turn was passed over
+-- the report has the counts of a drill, and each turn was taken
 pub record IsDrilled (n : ℕ) (report : Report) : Type 0 where
-  pub turns : report.turns ≡ 2 * (n + 2)
-  pub taken : report.taken ≡ 2 * (n + 2)
-  pub passed : report.passed ≡ 0
-  pub actions : length report.sent ≡ n + 2
-  pub bytes : sum_by (λ (s : Sent). length s.bytes) report.sent ≡ 96 + 99 * n
+  pub turns : report.turns ≡ (drill_counts n).turns
+  pub taken : report.taken ≡ (drill_counts n).turns
+  pub passed : report.passed ≡ (drill_counts n).passed
+  pub actions : length report.sent ≡ (drill_counts n).actions
+  pub bytes : sum_by (λ (s : Sent). length s.bytes) report.sent ≡ (drill_counts n).bytes
 
 -- in the turns of a drill honest roles do all of it, where no value that is given is too long
 abbrev pub DrillsAreDone : Type 0

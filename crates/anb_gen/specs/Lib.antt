@@ -1,3 +1,4 @@
 pub mod Drill
 pub mod Turns
+pub mod Counts
 pub mod Laws
