@@ -3,3 +3,4 @@ pub mod Tasks
 pub mod Preparing
 pub mod Completing
 pub mod Straight
+pub mod Played

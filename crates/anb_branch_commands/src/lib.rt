@@ -10,4 +10,4 @@ mod seating;
 mod valuing;
 
 pub use branching::branch;
-pub use laws::arms_are_narrations;
+pub use laws::{arms_are_narrations, arms_are_played};
