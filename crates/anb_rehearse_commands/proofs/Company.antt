@@ -38,7 +38,7 @@ module _ (p : ProtocolValue) (codes : List CodeValue) (values : List (List ℕ))
 
   module _ (exist : HonestBytesExist) (honest : RehearsalsAreHonest p) where
     ends_as : (atoms : ℕ → List ℕ) → AreHonest (cast_of asked) atoms → joint whole turns ≡ honest_end (cast_of asked) atoms turns
-    ends_as atoms h = honest codes values seed atoms turns fitting can.sendable (as_cast atoms h) (recursion_from_All (λ role. role < length p.roles) turns can.roles)
+    ends_as atoms h = honest codes values seed atoms turns fitting (as_cast atoms h) (recursion_from_All (λ role. role < length p.roles) turns can.roles)
 
     pub goes : GoesOn (joint whole turns)
     goes = let atoms = some exist in subst GoesOn (sym (ends_as atoms.0 atoms.1)) (goes_on (cast_of asked) atoms.0 turns)

@@ -1,17 +1,20 @@
--- What `drill` does: it rehearses a narration of as many exchanges as wanted, and tells how much that is.
-use Rattle.std.specs.Prelude.{◌≡◌, ℕ, ◌+◌, ◌*◌, List, [], ◌∷◌, ◌++◌, codes, decimal}
+-- What `drill` does: it tells how much the rehearsal of a drill's narration is, of as many exchanges as
+-- are wanted.
+use Rattle.std.specs.Prelude.{◌≡◌, ℕ, List, [], ◌∷◌, ◌++◌, codes, decimal}
 use Rattle.anb_base.specs.Wires.{WireState}
+use Rattle.anb_gen.specs.Counts.{Counts, drill_counts}
 use Rattle.anb_command.specs.declared.status.Status.{Status}
 use Rattle.anb_command.specs.Steps.{Answer, given}
 use Rattle.anb_command.specs.Writing.{CompletesText, IsWritingOne}
 
--- a drill of n exchanges has two more actions, each with two turns, of which none is passed over; the
--- opening has 64 bytes, each exchange 99 and the closing 32
+abbrev pub counts_text : Counts → List ℕ
+counts_text c =
+    codes "actions " ++ decimal c.actions ++ codes ", turns " ++ decimal c.turns
+    ++ codes ", passed " ++ decimal c.passed ++ codes ", bytes " ++ decimal c.bytes
+
+-- the counts of the rehearsal of a drill's narration
 abbrev pub drill_text : ℕ → List ℕ
-drill_text n =
-    codes "drill " ++ decimal n ++ codes ": actions " ++ decimal (n + 2)
-    ++ codes ", turns " ++ decimal (2 * (n + 2)) ++ codes ", passed 0, bytes "
-    ++ decimal (96 + 99 * n) ++ 10 ∷ []
+drill_text n = codes "drill " ++ decimal n ++ codes ": " ++ counts_text (drill_counts n) ++ 10 ∷ []
 
 abbrev pub DrillText : ℕ → Answer (List ℕ) → Type 0
 DrillText n answer = answer ≡ given (drill_text n)
