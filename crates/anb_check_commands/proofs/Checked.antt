@@ -56,7 +56,7 @@ module _ (narrations : NarrationsAreUnique) (refusals : RefusalsAreUnique) (none
           → IsTelling files narration (ended_by status writing) w now
       by_writing status said last on Done put = concluded status said last.calm (inr on) put
       by_writing status said last on WriteFault (n, within, put) = record { is = faulty; only = faulty; cut_short = λ _. (take n said, (status, said, on, (n, refl)), put) }
-      by_writing status said last on (Unreached at) same = record { is = faulty; only = faulty; cut_short = λ _. ([], refl, unmoved same) }
+      by_writing status said last on (Unreached at) same = record { is = faulty; only = faulty; cut_short = λ _. ([], ((status, said, on), refl), unmoved same) }
       by_writing status said last on _ never = absurd never
 
       telling : (status : Status) (said : List ℕ) (result : Status) → IsLast status → IsVerdictOnFile files narration status said → IsTold status said result w now

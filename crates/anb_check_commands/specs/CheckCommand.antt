@@ -64,7 +64,7 @@ module _ (files : Files) (narration : List ℕ) where
   abbrev pub TellsLess : Status → List ℕ → Type 0
   TellsLess WriteFault out = TellsPart out
   TellsLess NoMemory out = out ≡ []
-  TellsLess (Unreached place) out = out ≡ []
+  TellsLess (Unreached place) out = ((status : Status) × (said : List ℕ) × IsVerdictOnFile status said) × (out ≡ [])
   TellsLess (FileFault name) out = out ≡ []
   TellsLess status out = ⊥
 
