@@ -1,17 +1,19 @@
 -- The values that a file gives are strings of bytes, one for each name.
 use Rattle.std.proofs.Common.{◌≡◌, ℕ, zero, suc, ◌<◌, List, [], ◌∷◌, length, map, Bool, true, false, Option, Some, None, Ok, refl, sym, ap, ◌∙◌, subst, inl, inr, arith}
-use Rattle.std.specs.Prelude.{IsSome, unwrap_or}
+use Rattle.std.specs.Prelude.{IsSome, codes, unwrap_or}
 use Rattle.std.specs.List.{AllByRecursion, AllZip, flat_map}
 use Rattle.std.specs.Option.{option_to_list}
 use Rattle.std.specs.Str.{bytes_eq}
+use Rattle.std.proofs.lemmas.Slice.Eq.{bytes_eq-Decides}
 use Rattle.std.proofs.lemmas.List.{length-map}
+use Rattle.std.proofs.lemmas.List.Elements.{All-head}
 use Rattle.hex.specs.Hex.{hex_digit_value}
 use Rattle.hex.proofs.HexLemmas.{decode_of-ok}
 use Rattle.anb_base.specs.Bytes.{IsBytes}
 use Rattle.anb_format.specs.Literals.{Character, Plain, Quote, Backslash, Hexadecimal, IsAllowed, IsLiteral, byte_of}
 use Rattle.anb_values.specs.declared.fitted.Fitted.{Fitted}
 use Rattle.anb_values.specs.Fit.{Fit, value_of}
-use Rattle.anb_values.specs.Lines.{IsGiven, IsHex, Says, content, lines_of, value_text}
+use Rattle.anb_values.specs.Lines.{IsGiven, IsHex, IsLabel, Says, content, is_label_byte, lines_of, seed_label, value_text}
 
 digit : (d : Option ℕ) (c : ℕ) → hex_digit_value c ≡ d → IsSome d → unwrap_or d 0 < 16
 digit None c e some = absurd (cc)
@@ -42,19 +44,30 @@ given_bytes label text bytes (inl (named, inl literal)) = literal_bytes text byt
 given_bytes label text bytes (inl (named, inr digits)) = hex_bytes text bytes digits
 given_bytes label text bytes (inr (seed, digits, long)) = hex_bytes text bytes digits
 
--- a value that is found on lines is the value of one
-found_bytes : (lines : List (List ℕ)) (said : _) (name v : List ℕ) → AllZip Says lines said → Some v ≡ value_of (flat_map option_to_list said) name → IsBytes v
-found_bytes [] [] name v all e = absurd (cc)
-found_bytes [] (s ∷ said) name v all e = absurd all
-found_bytes (line ∷ lines) [] name v all e = absurd all
-found_bytes (line ∷ lines) (None ∷ said) name v all e = found_bytes lines said name v all.1 e
-found_bytes (line ∷ lines) (Some entry ∷ said) name v all e = by (bytes_eq entry.label name) refl (found_bytes lines said name v all.1) where
-  by : (b : Bool) → bytes_eq entry.label name ≡ b → (Some v ≡ value_of (flat_map option_to_list said) name → IsBytes v) → IsBytes v
+-- what is found on lines under a name is the value of a line with this label
+pub record IsOnALine (name v : List ℕ) : Type 0 where
+  pub label : List ℕ
+  pub text : List ℕ
+  pub named : bytes_eq label name ≡ true
+  pub given : IsGiven label text v
+
+found : (lines : List (List ℕ)) (said : _) (name v : List ℕ) → AllZip Says lines said → Some v ≡ value_of (flat_map option_to_list said) name → IsOnALine name v
+found [] [] name v all e = absurd (cc)
+found [] (s ∷ said) name v all e = absurd all
+found (line ∷ lines) [] name v all e = absurd all
+found (line ∷ lines) (None ∷ said) name v all e = found lines said name v all.1 e
+found (line ∷ lines) (Some entry ∷ said) name v all e = by (bytes_eq entry.label name) refl (found lines said name v all.1) where
+  by : (b : Bool) → bytes_eq entry.label name ≡ b → (Some v ≡ value_of (flat_map option_to_list said) name → IsOnALine name v) → IsOnALine name v
   by true is later =
       let found : Some v ≡ Some entry.value = rw is at e in
       let same : v ≡ entry.value = cc in
-      subst IsBytes (sym same) (given_bytes entry.label (value_text (content line)) entry.value all.0.1.1)
+      record { label = entry.label; text = value_text (content line); named = is; given = subst (IsGiven entry.label (value_text (content line))) (sym same) all.0.1.1 }
   by false is later = later (rw is at e)
+
+found_bytes : (lines : List (List ℕ)) (said : _) (name v : List ℕ) → AllZip Says lines said → Some v ≡ value_of (flat_map option_to_list said) name → IsBytes v
+found_bytes lines said name v all e =
+    let on = found lines said name v all e in
+    given_bytes on.label on.text v on.given
 
 each_bytes : (lines : List (List ℕ)) (said : _) (names values : List (List ℕ)) → AllZip Says lines said → map Some values ≡ map (value_of (flat_map option_to_list said)) names → AllByRecursion IsBytes values
 each_bytes lines said names [] all e = tt
@@ -71,3 +84,16 @@ fit_bytes text names fitted (entries, said, none, values, seed) =
 pub fit_count : (text : List ℕ) (names : List (List ℕ)) (fitted : Fitted) → Fit text names (Ok fitted) → length fitted.values ≡ length names
 fit_count text names fitted (entries, said, none, values, seed) =
     sym (length-map fitted.values Some) ∙ ap length values ∙ length-map names (value_of entries)
+
+-- a seed that is given has 32 bytes
+seed_given : (label text bytes : List ℕ) → label ≡ seed_label → IsGiven label text bytes → length bytes ≡ 32
+seed_given label text bytes is (inl (named, value)) = absurd (no_label (subst IsLabel is named)) where
+  no_label : IsLabel seed_label → ⊥
+  no_label named = let first : is_label_byte 64 ≡ true = All-head (λ (b : ℕ). is_label_byte b ≡ true) 64 (codes "seed") named.1 in cc
+seed_given label text bytes is (inr (seed, digits, long)) = long
+
+pub fit_seed : (text : List ℕ) (names : List (List ℕ)) (fitted : Fitted) (seed : List ℕ) → Fit text names (Ok fitted) → fitted.seed ≡ Some seed → length seed ≡ 32
+fit_seed text names fitted seed (entries, said, none, values, is) e =
+    let at : Some seed ≡ value_of (flat_map option_to_list said.0) seed_label = sym e ∙ is ∙ ap (λ es. value_of es seed_label) said.2 in
+    let on = found (lines_of text) said.0 seed_label seed said.1 at in
+    seed_given on.label on.text seed ((bytes_eq-Decides on.label seed_label).0 on.named) on.given

@@ -3,6 +3,7 @@ pub mod Causes
 pub mod Chains
 pub mod Cutting
 pub mod Failing
+pub mod Given
 pub mod Lines
 pub mod Ones
 pub mod OverWire

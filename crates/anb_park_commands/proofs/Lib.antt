@@ -1,4 +1,5 @@
 pub mod Answering
+pub mod Bounds
 pub mod Chains
 pub mod Completing
 pub mod Ending
@@ -6,5 +7,7 @@ pub mod Reached
 pub mod Ready
 pub mod Records
 pub mod Roles
+pub mod Splits
 pub mod Tasks
+pub mod Walking
 pub mod Written

@@ -5,5 +5,6 @@ pub mod Parking
 pub mod Records
 pub mod ResumeCommand
 pub mod Sessions
+pub mod Splits
 -- for proofs alone
 pub mod Going

@@ -10,6 +10,6 @@ mod owning;
 mod parking;
 mod resuming;
 
-pub use laws::accepted_records_go_on;
+pub use laws::{accepted_records_go_on, split_plays_are_whole};
 pub use parking::park;
 pub use resuming::resume;

@@ -43,7 +43,7 @@ use Rattle.anb_role_commands.proofs.Tasks.{job_quiet}
 use Rattle.anb_text_commands.specs.TextCommands.{IsDescribed}
 use Rattle.anb_run.specs.Certified.{CertifiedFilesPlay}
 use Rattle.anb_run.specs.Compiled.{CompiledFilesPlay, IsEnactedAsPlayed, IsLoadedAgain, as_played}
-use Rattle.anb_run.proofs.Given.{fit_bytes, fit_count}
+use Rattle.anb_command.proofs.Given.{fit_bytes, fit_count}
 
 -- ---- how an end is told
 

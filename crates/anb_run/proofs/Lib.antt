@@ -1,4 +1,3 @@
 pub mod Compiled
-pub mod Given
 mod Usage
 mod Idle

@@ -19,6 +19,7 @@ ghost use Rattle.anb_command.specs.declared.status.Status.TheVariants.{Usage};
 ghost use Rattle.anb_run.specs.Commands.{Completes, Does};
 ghost use Rattle.anb_run.specs.Certified.{CertifiedFilesPlay};
 ghost use Rattle.anb_run.specs.Compiled.{CompiledFilesPlay};
+ghost use Rattle.anb_park_commands.specs.Splits.{SplitPlaysAreWhole};
 
 mod all;
 mod laws;
@@ -33,7 +34,7 @@ use anb_check_commands::check;
 use anb_command::{Command, tell};
 pub use anb_command::{Due, Halt, NarrationNo, Status};
 use anb_host_commands::host;
-use anb_park_commands::{park, resume};
+use anb_park_commands::{park, resume, split_plays_are_whole};
 use anb_rehearse_commands::{drill, rehearse};
 use anb_role_commands::{enact, play, replay};
 use anb_text_commands::{describe, fmt, help};
@@ -60,6 +61,7 @@ pub fn run<F: Shelf, W: Wire, E: Sink>(
         (W.state wire.old) (W.state wire.new) result }
     ensures compiled { CompiledFilesPlay }
     ensures certified { CertifiedFilesPlay }
+    ensures split { SplitPlaysAreWhole }
     ensures usage { (result ≡ Usage) ↔ (asked_of words.now ≡ None) }
     ensures faults { HasCause (files_of (asked_of words.now)) (place_of (asked_of words.now))
         (F.faults shelf.old) (F.faults shelf.new) (W.state wire.old) (W.state wire.new) result }
@@ -77,6 +79,7 @@ pub fn run<F: Shelf, W: Wire, E: Sink>(
 {
     compiled_files_play();
     certified_files_play();
+    split_plays_are_whole();
     let status = match Command::read(words) {
         None => Status::Usage,
         Some(Command::Fmt { narration }) => fmt(alloc, shelf, wire, narration),
