@@ -30,6 +30,7 @@ untouched reading phase S = record {
   unread = λ _. refl;
   untaken = λ _. refl;
   unread_faults = λ _. refl;
+  missed = λ rose. absurd (omega (arith, rose));
   reads = omega arith;
   writes = omega arith;
   reaches = omega arith;
@@ -48,6 +49,7 @@ module _ (place : Place) (S T : WireState) (tried : DidNotReach S T) where
       record {
         before = λ is. absurd (cc);
         unreached = λ _. tried.same;
+        missed = λ _. refl;
         unread = λ _. ap (λ (w : WireState). w.left) tried.same;
         untaken = λ _. ap (λ (w : WireState). w.taken_at) tried.same;
         unread_faults = λ _. reads;
@@ -86,6 +88,9 @@ cause_from S T U place Usage not_at reads writes cause = cause
 cause_from S T U place _ not_at reads writes cause = tt
 
 module _ (place : Place) (S T : WireState) (at_place : HasReached place S T) where
+  same_reach_faults : T.reach_faults ≡ S.reach_faults
+  same_reach_faults = ap (λ (w : WireState). w.reach_faults) at_place.same
+
   same_left : T.left ≡ S.left
   same_left = ap (λ (w : WireState). w.left) at_place.same
 
@@ -107,8 +112,9 @@ module _ (place : Place) (S T : WireState) (at_place : HasReached place S T) whe
     written_touches : (phase : Phase) → (phase ≡ before_reach → ⊥) → (phase ≡ at_reach → ⊥) → Touches false phase S U
     written_touches phase not_before not_at =
         let read : U.read_faults ≡ S.read_faults = ap (λ (w : WireState). w.read_faults) writes.same ∙ same_read_faults in
-        let reach : U.reach_faults ≡ T.reach_faults = ap (λ (w : WireState). w.reach_faults) writes.same in
+        let reach : U.reach_faults ≡ S.reach_faults = ap (λ (w : WireState). w.reach_faults) writes.same ∙ same_reach_faults in
         record {
+          missed = λ rose. absurd (omega (arith, reach, rose));
           before = λ is. absurd (not_before is);
           unreached = λ is. absurd (not_at is);
           unread = λ _. ap (λ (w : WireState). w.left) writes.same ∙ same_left;
@@ -116,7 +122,7 @@ module _ (place : Place) (S T : WireState) (at_place : HasReached place S T) whe
           unread_faults = λ _. read;
           reads = omega (arith, read);
           writes = omega (arith, same_write_faults, writes.never_falls);
-          reaches = omega (arith, reach, at_place.never_falls);
+          reaches = omega (arith, reach);
         }
 
     told : Put S.reached U.reached (line_of place)
@@ -167,6 +173,7 @@ module _ (place : Place) (S T : WireState) (at_place : HasReached place S T) whe
 
     run_touches : Touches true (phase_of s) S U
     run_touches = record {
+      missed = λ rose. absurd (omega (arith, stays.reach_faults, same_reach_faults, rose));
       before = λ is. absurd (not_before is);
       unreached = λ is. absurd (not_at is);
       unread = λ is. absurd (cc);
@@ -174,7 +181,7 @@ module _ (place : Place) (S T : WireState) (at_place : HasReached place S T) whe
       unread_faults = λ is. absurd (cc);
       reads = omega (arith, same_read_faults, stays.reads);
       writes = omega (arith, same_write_faults, stays.writes);
-      reaches = omega (arith, stays.reach_faults, at_place.never_falls);
+      reaches = omega (arith, stays.reach_faults, same_reach_faults);
     }
 
     pub ran : HasWireCause (Some place) T U s → OverWire place true s S U
@@ -190,6 +197,7 @@ module _ (place : Place) (S T : WireState) (at_place : HasReached place S T) whe
     cause = cause_from S T T place s (not_at T stays_there s after) same_read_faults same_write_faults cause;
     reached = run_reaches T stays_there s after;
     touches = record {
+      missed = λ rose. absurd (omega (arith, same_reach_faults, rose));
       before = λ is. absurd (not_before T stays_there s after is);
       unreached = λ is. absurd (not_at T stays_there s after is);
       unread = λ _. same_left;
@@ -197,7 +205,7 @@ module _ (place : Place) (S T : WireState) (at_place : HasReached place S T) whe
       unread_faults = λ _. same_read_faults;
       reads = omega (arith, same_read_faults);
       writes = omega (arith, same_write_faults);
-      reaches = at_place.never_falls;
+      reaches = omega (arith, same_reach_faults);
     };
   }
 

@@ -41,16 +41,16 @@ module _ (l m t u w x p q : Option (List ℕ)) (a b c d e f : ℕ) (S T : WireSt
     tried : telling m u b x d q f ≡ telling l t a w c q f
     tried = rw (left, taken, reads, written, writes) refl
 
-    parts_reached : (place : Place) → Put p q (line_of place) → HasReached place (telling l t a w c p e) (telling m u b x d q f)
-    parts_reached place put = record { same = tried; told = put; never_falls = never_falls }
+    parts_reached : (place : Place) → Put p q (line_of place) → f ≡ e → HasReached place (telling l t a w c p e) (telling m u b x d q f)
+    parts_reached place put quiet = record { same = tried ∙ ap (λ r. telling l t a w c q r) quiet; told = put }
 
     parts_failed : q ≡ p → Rose e f → DidNotReach (telling l t a w c p e) (telling m u b x d q f)
     parts_failed untold cause = record { same = tried ∙ ap (λ r. telling l t a w c r f) untold; cause = cause; never_falls = never_falls }
 
-    pub has_reached : (r : Result (Unit {0}) Failed) (place : Place) → OnOk r (Put p q (line_of place)) → OnOk r (HasReached place S T)
-    has_reached (Ok y) place put =
-        subst (λ (V : WireState). HasReached place V T) (sym is) (subst (λ (V : WireState). HasReached place (telling l t a w c p e) V) (sym js) (parts_reached place put))
-    has_reached (Err y) place put = tt
+    pub has_reached : (r : Result (Unit {0}) Failed) (place : Place) → OnOk r (Put p q (line_of place)) → OnOk r (f ≡ e) → OnOk r (HasReached place S T)
+    has_reached (Ok y) place put quiet =
+        subst (λ (V : WireState). HasReached place V T) (sym is) (subst (λ (V : WireState). HasReached place (telling l t a w c p e) V) (sym js) (parts_reached place put quiet))
+    has_reached (Err y) place put quiet = tt
 
     pub did_not_reach : (r : Result (Unit {0}) Failed) → OnErr r (q ≡ p) → OnErr r (Rose e f) → OnErr r (DidNotReach S T)
     did_not_reach (Ok y) untold cause = tt

@@ -11,9 +11,8 @@ use Rattle.anb_command.specs.Statuses.{phase_of}
 use Rattle.anb_command.specs.Touches.{Touches}
 
 pub record HasReached (place : Place) (old new : WireState) : Type 0 where
-  pub same : new ≡ record old { reached = new.reached; reach_faults = new.reach_faults }
+  pub same : new ≡ record old { reached = new.reached }
   pub told : Put old.reached new.reached (line_of place)
-  pub never_falls : old.reach_faults ≤ new.reach_faults
 
 pub record DidNotReach (old new : WireState) : Type 0 where
   pub same : new ≡ record old { reach_faults = new.reach_faults }

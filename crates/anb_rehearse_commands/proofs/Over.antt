@@ -34,6 +34,7 @@ module _ (S T : WireState) (at_place : HasReached Stdio S T) (U : WireState) (wr
         touches = record {
           before = r.touches.before;
           unreached = r.touches.unreached;
+          missed = r.touches.missed;
           unread = λ _. ap (λ (w : WireState). w.left) writes.same ∙ ap (λ (w : WireState). w.left) at_place.same;
           untaken = λ _. ap (λ (w : WireState). w.taken_at) writes.same ∙ ap (λ (w : WireState). w.taken_at) at_place.same;
           unread_faults = λ _. ap (λ (w : WireState). w.read_faults) writes.same ∙ ap (λ (w : WireState). w.read_faults) at_place.same;
