@@ -38,7 +38,7 @@ module _ {A : Type 0} (IsRunOf : A → List (List ℕ) → Played (List ℕ) →
   pub nothing_run : (s : Status) (P : List ℕ → Type 0) (left : List ℕ) (arrivals : List (List ℕ)) (tail : Tail) (w : Option (List ℕ)) → IsFailure s P (Prepares (refused s))
       → IsOutcome IsRunOf Prepares left arrivals tail s (Some left) w w
   nothing_run (FileFault name) P left arrivals tail w fails = record { is = faulty; only = faulty; cut_short = λ _. ([], (refl, refl), put_nothing w) }
-  nothing_run NoMemory P left arrivals tail w fails = record { is = faulty; only = faulty; cut_short = λ _. ([], inl refl, put_nothing w) }
+  nothing_run NoMemory P left arrivals tail w fails = record { is = faulty; only = faulty; cut_short = λ _. ([], inl (refl, refl), put_nothing w) }
   nothing_run s P left arrivals tail w asks = quiet_refusal s left arrivals tail w asks (quiet.each s asks).0
 
   pub refusing : (s : Status) → IsFailure s Reads (Prepares (refused s)) → IsRefusing Prepares Reads s
@@ -71,12 +71,12 @@ module _ {A : Type 0} (IsRunOf : A → List (List ℕ) → Played (List ℕ) →
     over_input files ready (Some left) now written written_now runs = λ arrivals tail bytes cut.
         comes IsRunOf (Prepares files) (one files) R ready left arrivals tail bytes cut now written written_now s (runs arrivals tail cut)
 
-    in_time : (files : Files) → IsReady IsRunOf (Prepares files) R → (S T : WireState) → IsPrompt R S T → (asked : A) → Prepares files (given asked) → IsInTime IsRunOf asked S T
-    in_time files ready S T prompt asked asks = inr (record {
-      run = R;
-      comes = λ arrivals bytes. subst (λ (a : A). IsRunOf a arrivals (R arrivals)) (same_given ready.asked asked (one files (given ready.asked) (given asked) ready.asks asks)) ((ready.comes arrivals bytes (R arrivals)).1 refl);
-      prompt = prompt;
-    })
+    in_time : (files : Files) → IsReady IsRunOf (Prepares files) R → (S T : WireState) → IsPrompt R S T → IsInTime IsRunOf (Prepares files) S T
+    in_time files ready S T prompt = inr (
+      ready.asked,
+      ready.asks,
+      record { run = R; comes = λ arrivals bytes. (ready.comes arrivals bytes (R arrivals)).1 refl; prompt = prompt },
+    )
 
     pub runs_over : (told : Option Files) (S T : WireState) → IfTold told (λ files. IsReady IsRunOf (Prepares files) R) → RunsOn R S T s → IsPrompt R S T → RunsOver IsRunOf Prepares Reads told S T s
     runs_over told S T ready runs prompt = record {
@@ -99,5 +99,5 @@ module _ {A : Type 0} (IsRunOf : A → List (List ℕ) → Played (List ℕ) →
   refuses_over (Some files) S s fails = record {
     refuses = refusing IsRunOf (Prepares files) (one files) (quiet files) (Reads files) s fails;
     outcome = over_none s (λ file. Reads files file) files fails S.left S.written;
-    in_time = λ asked asks. inl (refl, refl);
+    in_time = inl (refl, refl);
   }

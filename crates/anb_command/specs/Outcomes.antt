@@ -64,9 +64,11 @@ module _ {A : Type 0} (IsRunOf : A → List (List ℕ) → Played (List ℕ) →
     CutShort ReadFault out left_now =
         (asked : A) × Prepares (given asked) × ((taken : List ℕ) × (whole : List (List ℕ)) × (tail : Tail) × Took (Some left) left_now taken × Cut ARRIVAL taken whole tail
         × ((p : Played (List ℕ)) × IsRunOf asked whole p × ((e : ℕ) × (p.end ≡ plays.waiting e)) × (out ≡ frames p.sent)))
-    -- whole frames, the first of those that are due
+    -- nothing, and nothing is read; or, where there is something to run, whole frames, the first of those
+    -- that are due
     CutShort NoMemory out left_now =
-        (out ≡ []) ⊎ ((asked : A) × Prepares (given asked) × ((p : Played (List ℕ)) × IsRunOf asked arrivals p × ((k : ℕ) × (out ≡ frames (take k p.sent)))))
+        ((out ≡ []) × (left_now ≡ Some left))
+        ⊎ ((asked : A) × Prepares (given asked) × ((p : Played (List ℕ)) × IsRunOf asked arrivals p × ((k : ℕ) × (out ≡ frames (take k p.sent)))))
     -- nothing, where there is something to run
     CutShort (Unreached place) out left_now = ((asked : A) × Prepares (given asked)) × (out ≡ []) × (left_now ≡ Some left)
     -- nothing
@@ -89,9 +91,11 @@ module _ {A : Type 0} (IsRunOf : A → List (List ℕ) → Played (List ℕ) →
     pub comes : (arrivals : List (List ℕ)) → AllByRecursion IsBytes arrivals → IsRunOf asked arrivals (run arrivals)
     pub prompt : IsPrompt run old new
 
-  -- or nothing was taken
-  abbrev pub IsInTime : A → (old new : WireState) → Type 0
-  IsInTime asked old new = ((new.left ≡ old.left) × (new.taken_at ≡ old.taken_at)) ⊎ TakesInTime asked old new
+  -- nothing was taken; or there is something to run, and all was taken in time
+  abbrev pub IsInTime : (Answer A → Type 0) → (old new : WireState) → Type 0
+  IsInTime Prepares old new =
+      ((new.left ≡ old.left) × (new.taken_at ≡ old.taken_at))
+      ⊎ ((asked : A) × Prepares (given asked) × TakesInTime asked old new)
 
   -- What a command does that runs such a thing. What it refuses is exact wherever the files are told.
   -- Where the input is told too, the outcome is that over each cut that it has.
@@ -103,4 +107,4 @@ module _ {A : Type 0} (IsRunOf : A → List (List ℕ) → Played (List ℕ) →
         (arrivals : List (List ℕ)) (tail : Tail) → IsBytes left → Cut ARRIVAL left arrivals tail
         → IsOutcome (Prepares files) left arrivals tail status new.left old.written new.written))
     -- whatever the status
-    pub in_time : IfTold told (λ files. (asked : A) → Prepares files (given asked) → IsInTime asked old new)
+    pub in_time : IfTold told (λ files. IsInTime (Prepares files) old new)

@@ -47,13 +47,12 @@ module _ (Comes : RoleSession → List (List ℕ) → Played (List ℕ) → Type
         subst (λ (a : RoleSession). IsAccepted a arrivals) (same_given ready.asked asked (one files (given ready.asked) (given asked) ready.asks asks))
         (ready.accepted arrivals (bytes_in_cut left arrivals tail bytes cut) (kept e arrivals tail is cut))
 
-    in_time : (files : Files) → IsReady Comes (Prepares files) R records Kept → (S T : WireState) → IsPrompt R S T → (asked : RoleSession) → Prepares files (given asked) → IsInTime Comes asked S T
-    in_time files ready S T prompt asked asks = inr (record {
-      run = R;
-      comes = λ arrivals bytes.
-          subst (λ (a : RoleSession). Comes a arrivals (R arrivals)) (same_given ready.asked asked (one files (given ready.asked) (given asked) ready.asks asks)) ((ready.comes arrivals bytes (R arrivals)).1 refl);
-      prompt = prompt;
-    })
+    in_time : (files : Files) → IsReady Comes (Prepares files) R records Kept → (S T : WireState) → IsPrompt R S T → IsInTime Comes (Prepares files) S T
+    in_time files ready S T prompt = inr (
+      ready.asked,
+      ready.asks,
+      record { run = R; comes = λ arrivals bytes. (ready.comes arrivals bytes (R arrivals)).1 refl; prompt = prompt },
+    )
 
     pub parks_over : (told : Option Files) (S T : WireState) → IfTold told (λ files. IsReady Comes (Prepares files) R records Kept) → ParksOn R records S T s → IsPrompt R S T
         → ((e : ℕ) (arrivals : List (List ℕ)) (tail : Tail) → s ≡ Parked e → CutLeft ARRIVAL S.left arrivals tail → Kept arrivals) → ParksOver Comes Prepares told S T s Reads
@@ -91,5 +90,5 @@ module _ (Comes : RoleSession → List (List ℕ) → Played (List ℕ) → Type
     refuses = refusing Comes (Prepares files) (one files) (quiet files) (Reads files) s fails;
     outcome = over_none s (λ file. Reads files file) files fails S.left S.written;
     accepted = none_accepted s (λ file. Reads files file) files fails S.left;
-    in_time = λ asked asks. inl (refl, refl);
+    in_time = inl (refl, refl);
   }

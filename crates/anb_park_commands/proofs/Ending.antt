@@ -130,5 +130,5 @@ module _ (Comes : RoleSession → List (List ℕ) → Played (List ℕ) → Type
 
     pub nothing_played : (s : Status) (P : List ℕ → Type 0) → IsFailure s P (Prepares (refused s)) → IsOutcome Comes Prepares left arrivals tail s (Some left) w w
     nothing_played (FileFault name) P fails = record { is = faulty; only = faulty; cut_short = λ _. ([], (refl, refl), put_nothing w) }
-    nothing_played NoMemory P fails = record { is = faulty; only = faulty; cut_short = λ _. ([], inl refl, put_nothing w) }
+    nothing_played NoMemory P fails = record { is = faulty; only = faulty; cut_short = λ _. ([], inl (refl, refl), put_nothing w) }
     nothing_played s P asks = quiet_refusal s asks (quiet.each s asks).0

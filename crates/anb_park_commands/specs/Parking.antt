@@ -67,7 +67,7 @@ module _ (Comes : RoleSession → List (List ℕ) → Played (List ℕ) → Type
         (s : RoleSession) × Prepares (given s) × ((p : Played (List ℕ)) × Comes s arrivals p
         × ((n : ℕ) × (out ≡ take n (frames (due p tail (record_after s arrivals))))))
     CutShort NoMemory out left_now =
-        (out ≡ [])
+        ((out ≡ []) × (left_now ≡ Some left))
         ⊎ ((s : RoleSession) × Prepares (given s) × ((p : Played (List ℕ)) × Comes s arrivals p
         × ((k : ℕ) × (out ≡ frames (take k (due p tail (record_after s arrivals)))))))
     CutShort status out left_now = playing.CutShort Comes Prepares left arrivals status out left_now
@@ -101,8 +101,7 @@ module _ (Comes : RoleSession → List (List ℕ) → Played (List ℕ) → Type
           → RecordIs s.protocol s.role s.parked.id s.key (record_after s arrivals)
           (given (after s.parked arrivals))))
       -- whatever the status
-      pub in_time : IfTold told (λ files. (s : RoleSession) → Prepares files (given s)
-          → IsInTime Comes s old new)
+      pub in_time : IfTold told (λ files. IsInTime Comes (Prepares files) old new)
 
     -- where nothing failed and the play over the input's arrivals is done, so is the command, or
     -- memory was wanting
