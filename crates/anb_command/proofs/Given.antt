@@ -1,5 +1,5 @@
 -- The values that a file gives are strings of bytes, one for each name.
-use Rattle.std.proofs.Common.{◌≡◌, ℕ, zero, suc, ◌<◌, List, [], ◌∷◌, length, map, Bool, true, false, Option, Some, None, Ok, refl, sym, ap, ◌∙◌, subst, inl, inr, arith}
+use Rattle.std.proofs.Common.{◌≡◌, ℕ, zero, suc, ◌<◌, ◌≤◌, All, List, [], ◌∷◌, ◌++◌, length, map, Bool, true, false, Option, Some, None, Ok, refl, sym, ap, ◌∙◌, subst, inl, inr, arith}
 use Rattle.std.specs.Prelude.{IsSome, codes, unwrap_or}
 use Rattle.std.specs.List.{AllByRecursion, AllZip, flat_map}
 use Rattle.std.specs.Option.{option_to_list}
@@ -10,10 +10,12 @@ use Rattle.std.proofs.lemmas.List.Elements.{All-head}
 use Rattle.hex.specs.Hex.{hex_digit_value}
 use Rattle.hex.proofs.HexLemmas.{decode_of-ok}
 use Rattle.anb_base.specs.Bytes.{IsBytes}
+use Rattle.anb_base.specs.declared.TheConstants.{ARRIVAL}
 use Rattle.anb_format.specs.Literals.{Character, Plain, Quote, Backslash, Hexadecimal, IsAllowed, IsLiteral, byte_of}
 use Rattle.anb_values.specs.declared.fitted.Fitted.{Fitted}
-use Rattle.anb_values.specs.Fit.{Fit, value_of}
+use Rattle.anb_values.specs.Fit.{Fit, lines_faults, missing, value_of}
 use Rattle.anb_values.specs.Lines.{IsGiven, IsHex, IsLabel, Says, content, is_label_byte, lines_of, seed_label, value_text}
+use Rattle.anb_values.proofs.Short.{values_short}
 
 digit : (d : Option ℕ) (c : ℕ) → hex_digit_value c ≡ d → IsSome d → unwrap_or d 0 < 16
 digit None c e some = absurd (cc)
@@ -97,3 +99,12 @@ fit_seed text names fitted seed (entries, said, none, values, is) e =
     let at : Some seed ≡ value_of (flat_map option_to_list said.0) seed_label = sym e ∙ is ∙ ap (λ es. value_of es seed_label) said.2 in
     let on = found (lines_of text) said.0 seed_label seed said.1 at in
     seed_given on.label on.text seed ((bytes_eq-Decides on.label seed_label).0 on.named) on.given
+
+no_front : {A : Type 0} (xs ys : List A) → xs ++ ys ≡ [] → xs ≡ []
+no_front [] ys e = refl
+no_front (x ∷ xs) ys e = absurd (cc)
+
+-- no value is longer than an arrival
+pub fit_short : (text : List ℕ) (names : List (List ℕ)) (fitted : Fitted) → Fit text names (Ok fitted) → All (λ v. length v ≤ ARRIVAL) fitted.values
+fit_short text names fitted (entries, said, none, values, seed) =
+    values_short (seed_label ∷ names) names fitted.values entries (no_front (lines_faults (seed_label ∷ names) [] entries) (missing names entries) none) values

@@ -27,10 +27,8 @@ use Rattle.anb_seal.specs.Primitives.{hash_of}
 use Rattle.anb_seal.specs.Streams.{draw_of}
 use Rattle.anb_syntax.specs.Canon.{canon}
 use Rattle.anb_syntax.specs.Grammar.{Narration}
-use Rattle.anb_values.specs.Fit.{Fit, FitIsUnique, faults, lines_faults, missing, value_of}
-use Rattle.anb_values.specs.Lines.{seed_label}
+use Rattle.anb_values.specs.Fit.{Fit, FitIsUnique}
 use Rattle.anb_values.specs.declared.fitted.Fitted.{Fitted}
-use Rattle.anb_values.proofs.Short.{values_short}
 use Rattle.anb_values.proofs.Sizes.{entries_fit, values_fit}
 use Rattle.anb_command.specs.declared.limits.TheConstants.{KEY_LIMIT, RECORD_LIMIT, VALUES_LIMIT}
 use Rattle.anb_command.specs.declared.status.Status.{Status}
@@ -44,7 +42,7 @@ use Rattle.anb_command.specs.Seeds.{SeedIs, seed_of}
 use Rattle.anb_command.specs.Statuses.{before_reach, phase_of}
 use Rattle.anb_command.specs.Steps.{Answer, refused, given, InTurn}
 use Rattle.anb_command.proofs.Cutting.{cut_behind}
-use Rattle.anb_command.proofs.Given.{fit_count, fit_seed}
+use Rattle.anb_command.proofs.Given.{fit_count, fit_seed, fit_short}
 use Rattle.anb_command.proofs.Ones.{file_one, not_both, same_given, same_refusal}
 use Rattle.anb_role_commands.specs.Jobs.{Job, JobIs, makes_names}
 use Rattle.anb_role_commands.specs.PlayCommand.{PlayOf}
@@ -202,14 +200,6 @@ job_facts files narration name values host_seed job handed (inr (part, in_file, 
 
 -- ---- sizes
 
-no_front : {A : Type 0} (xs ys : List A) → xs ++ ys ≡ [] → xs ≡ []
-no_front [] ys e = refl
-no_front (x ∷ xs) ys e = absurd (cc)
-
-initial_short : (text : List ℕ) (names : List (List ℕ)) (fitted : Fitted) → Fit text names (Ok fitted) → All (λ v. length v ≤ ARRIVAL) fitted.values
-initial_short text names fitted (entries, said, none, values, seed) =
-    values_short (seed_label ∷ names) names fitted.values entries (no_front (lines_faults (seed_label ∷ names) [] entries) (missing names entries) none) values
-
 initial_total : (text : List ℕ) (names : List (List ℕ)) (fitted : Fitted) → AllPairs (λ (one other : List ℕ). one ≢ other) names → Fit text names (Ok fitted) → sum_by length fitted.values ≤ length text
 initial_total text names fitted differ (entries, said, none, values, seed) =
     omega (arith, values_fit names entries fitted.values differ values, entries_fit text entries said)
@@ -283,7 +273,7 @@ module _ (narrations : NarrationsAreUnique) (refusals : RefusalsAreUnique) (none
       seed = facts.seed_is;
       session = omega arith;
       init = ap length facts.initial_is ∙ fit_count facts.text (known_texts st.job.protocol st.job.role) facts.fitted facts.fit;
-      values = subst (All (λ v. length v ≤ ARRIVAL)) (sym facts.initial_is) (initial_short facts.text (known_texts st.job.protocol st.job.role) facts.fitted facts.fit);
+      values = subst (All (λ v. length v ≤ ARRIVAL)) (sym facts.initial_is) (fit_short facts.text (known_texts st.job.protocol st.job.role) facts.fitted facts.fit);
       arrivals = st.cut.2;
     }
 

@@ -33,16 +33,15 @@ use Rattle.anb_command.specs.Seeds.{SeedIs}
 use Rattle.anb_command.specs.Statuses.{before_reach, phase_of}
 use Rattle.anb_command.specs.Steps.{Answer, refused, given, InTurn, AnswersWith}
 use Rattle.anb_command.proofs.Cutting.{bytes_in_cut}
-use Rattle.anb_command.proofs.Ones.{as_given, as_refused, code_in_file_one, not_both, part_one, protocol_in_file_one, role_one, same_given}
-use Rattle.anb_certify_commands.specs.CertifyCommand.{IsCertificate}
+use Rattle.anb_command.proofs.Ones.{RefusesQuietly, as_given, as_refused, code_in_file_one, is_quiet, not_both, part_one, protocol_in_file_one, role_one, same_given, seed_quiet, then_quiet, values_in_file_quiet}
+use Rattle.anb_certify_commands.specs.CertifyCommand.{CertifyText, IsCertificate}
 use Rattle.anb_role_commands.specs.EnactCommand.{ErrandIs, RunOf}
 use Rattle.anb_role_commands.specs.Jobs.{Job, JobIs, JobOf, makes_names}
 use Rattle.anb_role_commands.specs.PlayCommand.{PlayOf}
 use Rattle.anb_role_commands.proofs.Draws.{draws_as_made}
-use Rattle.anb_role_commands.proofs.Tasks.{job_quiet}
 use Rattle.anb_text_commands.specs.TextCommands.{IsDescribed}
 use Rattle.anb_run.specs.Certified.{CertifiedFilesPlay}
-use Rattle.anb_run.specs.Compiled.{CompiledFilesPlay, IsEnactedAsPlayed, IsLoadedAgain, as_played}
+use Rattle.anb_run.specs.Compiled.{CompiledFilesPlay, IsEnactedAs, IsEnactedAsPlayed, IsLoadedAgain, as_played}
 use Rattle.anb_command.proofs.Given.{fit_bytes, fit_count}
 
 -- ---- how an end is told
@@ -157,30 +156,30 @@ module _ (files : Files) (narration name file values : List ℕ) (host_seed : Op
   count_known : (errand : Errand) → IsErrand code errand → length errand.initial ≡ length (known_by part.protocol part.role)
   count_known errand is = is.count ∙ ap length fits.texts ∙ length-map (known_by part.protocol part.role) (term_text part.protocol)
 
-  module _ (narrations : NarrationsAreUnique) (refusals : RefusalsAreUnique) (none : NoneIsBoth)
-      (role_files : FilesAreUnique) (codes : CodesAreUnique) (no_file : NoFileIsFaulty) (faults : FaultsAreUnique)
-      (in_file : PartInFile files narration name (given part)) (it_is : CodeInFile files file (given code)) where
+  job_of_quiet : RefusesQuietly (JobOf files values host_seed part)
+  job_of_quiet =
+      then_quiet (values_in_file_quiet files values (known_texts part.protocol part.role)) (λ (fitted : Fitted).
+      then_quiet (seed_quiet (makes_names part.protocol part.role) fitted.seed host_seed) (λ (seed : List ℕ). is_quiet _))
+
+  module _ (role_files : FilesAreUnique) (codes : CodesAreUnique) (no_file : NoFileIsFaulty) (faults : FaultsAreUnique) (it_is : CodeInFile files file (given code))
+      (Prepares : Answer Job → Type 0) (of_part : (answer : Answer Job) → Prepares answer → JobOf files values host_seed part answer)
+      (from_part : (answer : Answer Job) → JobOf files values host_seed part answer → Prepares answer) where
     once : (answer : Answer CodeValue) → CodeInFile files file answer → answer ≡ as_given CodeValue code
     once answer is = code_in_file_one role_files codes no_file faults files file answer (given code) is it_is
 
-    -- what is asked of `enact` is asked of the code, and of `play` of the role
+    -- what is asked of `enact` is asked of the code, and what is played is asked of the role
     of_code : (answer : Answer Errand) → ErrandIs files file values host_seed answer → ErrandOf files values host_seed code answer
     of_code answer (inl (t, first, is)) = not_both t code (once (refused t) first)
     of_code answer (inr (loaded, first, next)) = subst (λ (c : CodeValue). ErrandOf files values host_seed c answer) (same_given loaded code (once (given loaded) first)) next
 
-    of_part : (answer : Answer Job) → JobIs files narration name values host_seed answer → JobOf files values host_seed part answer
-    of_part answer (inl (t, first, is)) = not_both t part (part_one narrations refusals none files narration name (refused t) (given part) first in_file)
-    of_part answer (inr (other, first, next)) =
-        subst (λ (q : Part). JobOf files values host_seed q answer) (same_given other part (part_one narrations refusals none files narration name (given other) (given part) first in_file)) next
+    as_job : (answer : Answer Errand) → ErrandIs files file values host_seed answer → Prepares (answer_by job_by answer)
+    as_job answer is = from_part (answer_by job_by answer) (asked_as answer (of_code answer is))
 
-    as_job : (answer : Answer Errand) → ErrandIs files file values host_seed answer → JobIs files narration name values host_seed (answer_by job_by answer)
-    as_job answer is = inr (part, in_file, asked_as answer (of_code answer is))
-
-    as_errand : (answer : Answer Job) → JobIs files narration name values host_seed answer → ErrandIs files file values host_seed (answer_by errand_by answer)
+    as_errand : (answer : Answer Job) → Prepares answer → ErrandIs files file values host_seed (answer_by errand_by answer)
     as_errand answer is = inr (code, it_is, asked_of answer (of_part answer is))
 
-    kept_status : (s : Status) → JobIs files narration name values host_seed (refused s) → as_played s ≡ s
-    kept_status s is = kept_before s ((job_quiet files narration name values host_seed).each s is).1
+    kept_status : (s : Status) → Prepares (refused s) → as_played s ≡ s
+    kept_status s is = kept_before s (job_of_quiet.each s (of_part (refused s) is)).1
 
     module _ (left : List ℕ) (bytes : IsBytes left) (arrivals : List (List ℕ)) (tail : Tail) (out rest : List ℕ) (cut : Cut ARRIVAL left arrivals tail) where
       -- the play of the role is the run of the code
@@ -221,13 +220,13 @@ module _ (files : Files) (narration name file values : List ℕ) (host_seed : Op
             ),
           )
 
-      as_outcome : (status : Status) → Outcome RunOf (ErrandIs files file values host_seed) left arrivals tail status out rest → Outcome PlayOf (JobIs files narration name values host_seed) left arrivals tail (as_played status) out rest
+      as_outcome : (status : Status) → Outcome RunOf (ErrandIs files file values host_seed) left arrivals tail status out rest → Outcome PlayOf Prepares left arrivals tail (as_played status) out rest
       as_outcome status (inl refusal) =
           let refuses = as_job (refused status) refusal.refuses in
-          inl (subst (λ (s : Status). IsRefused (JobIs files narration name values host_seed) left s out rest) (sym (kept_status status refuses)) (record { refuses = refuses; writes = refusal.writes; leaves = refusal.leaves }))
+          inl (subst (λ (s : Status). IsRefused Prepares left s out rest) (sym (kept_status status refuses)) (record { refuses = refuses; writes = refusal.writes; leaves = refusal.leaves }))
       as_outcome status (inr (errand, asks, played)) = inr (job_by errand, as_job (given errand) asks, played_as errand status (is_errand files values host_seed code errand (of_code (given errand) asks)) played)
 
-      of_outcome : (status : Status) → Outcome PlayOf (JobIs files narration name values host_seed) left arrivals tail status out rest → IsEnacted status
+      of_outcome : (status : Status) → Outcome PlayOf Prepares left arrivals tail status out rest → IsEnacted status
       of_outcome status (inl refusal) =
           (status, sym (kept_status status refusal.refuses), inl (record { refuses = as_errand (refused status) refusal.refuses; writes = refusal.writes; leaves = refusal.leaves }))
       of_outcome status (inr (job, asks, played)) =
@@ -236,11 +235,23 @@ module _ (files : Files) (narration name file values : List ℕ) (host_seed : Op
           let same = is_job job (of_part (given job) asks) in
           played_of errand status also (is_errand files values host_seed code errand (of_code (given errand) also)) (subst (λ (j : Job). IsPlayed PlayOf j left arrivals tail status out rest) same played)
 
-    pub enacted_as_played : (left : List ℕ) → IsBytes left → IsEnactedAsPlayed files narration name file values host_seed left
-    enacted_as_played left bytes arrivals tail status out rest cut = (
+    pub enacted_as : (left : List ℕ) → IsBytes left → IsEnactedAs Prepares files file values host_seed left
+    enacted_as left bytes arrivals tail status out rest cut = (
       of_outcome left bytes arrivals tail out rest cut status,
-      λ enacted. subst (λ (s : Status). Outcome PlayOf (JobIs files narration name values host_seed) left arrivals tail s out rest) (sym enacted.1) (as_outcome left bytes arrivals tail out rest cut enacted.0 enacted.2),
+      λ enacted. subst (λ (s : Status). Outcome PlayOf Prepares left arrivals tail s out rest) (sym enacted.1) (as_outcome left bytes arrivals tail out rest cut enacted.0 enacted.2),
     )
+
+  -- what `play` asks of the role
+  module _ (narrations : NarrationsAreUnique) (refusals : RefusalsAreUnique) (none : NoneIsBoth) (in_file : PartInFile files narration name (given part)) where
+    of_play : (answer : Answer Job) → JobIs files narration name values host_seed answer → JobOf files values host_seed part answer
+    of_play answer (inl (t, first, is)) = not_both t part (part_one narrations refusals none files narration name (refused t) (given part) first in_file)
+    of_play answer (inr (other, first, next)) =
+        subst (λ (q : Part). JobOf files values host_seed q answer) (same_given other part (part_one narrations refusals none files narration name (given other) (given part) first in_file)) next
+
+    pub enacted_as_played : FilesAreUnique → CodesAreUnique → NoFileIsFaulty → FaultsAreUnique → CodeInFile files file (given code) → (left : List ℕ) → IsBytes left
+        → IsEnactedAsPlayed files narration name file values host_seed left
+    enacted_as_played role_files codes no_file faults it_is =
+        enacted_as role_files codes no_file faults it_is (JobIs files narration name values host_seed) of_play (λ answer is. inr (part, in_file, is))
 
 -- ---- a role file that was written
 
@@ -265,7 +276,7 @@ pub compiled_files_play : NarrationsAreUnique → RefusalsAreUnique → NoneIsBo
 compiled_files_play narrations refusals none role_files codes no_file faults files narration name file text (inl (t, first, never)) = λ has. not_both t text (sym never)
 compiled_files_play narrations refusals none role_files codes no_file faults files narration name file text (inr (part, in_file, d)) = λ has. (
   loaded_again files narration name file text part d role_files codes no_file faults in_file has,
-  λ values host_seed left bytes. enacted_as_played files narration name file values host_seed part d.code d.fits d.plays narrations refusals none role_files codes no_file faults in_file
+  λ values host_seed left bytes. enacted_as_played files narration name file values host_seed part d.code d.fits d.plays narrations refusals none in_file role_files codes no_file faults
       (written_is files narration name file text part d role_files codes no_file faults in_file has) left bytes,
 )
 
@@ -281,23 +292,44 @@ part_is p role part name named (inr (other, also, inr (u, all, is))) =
 
 module _ (narrations : NarrationsAreUnique) (refusals : RefusalsAreUnique) (none : NoneIsBoth)
     (role_files : FilesAreUnique) (codes : CodesAreUnique) (no_file : NoFileIsFaulty) (faults : FaultsAreUnique) where
-  certified_code : (files : Files) (narration name file : List ℕ) (p : ProtocolValue) (role : ℕ) (code : CodeValue) → RoleIs p name (given role) → CodeInFile files file (given code) → IsCertificate p role code
-      → (part : Part) → PartInFile files narration name (given part) → PartOf p name (given part)
-      → (values : List ℕ) (host_seed : Option (List ℕ)) (left : List ℕ) → IsBytes left → IsEnactedAsPlayed files narration name file values host_seed left
-  certified_code files narration name file p role code named it_is certificate part in_file of values host_seed left bytes =
-      let same = part_is p role part name named of in
-      enacted_as_played files narration name file values host_seed part code
-      (subst (λ (q : Part). FitsRole q.protocol q.role code) (sym same) certificate.fits) (subst (λ (q : Part). FittingCodesPlay q.protocol) (sym same) certificate.plays)
-      narrations refusals none role_files codes no_file faults in_file it_is left bytes
-
   of_protocol : (files : Files) (narration name : List ℕ) (p : ProtocolValue) → ProtocolInFile files narration (given p) → (part : Part) → PartInFile files narration name (given part) → PartOf p name (given part)
   of_protocol files narration name p is part (inl (t, first, never)) = not_both t part (sym never)
   of_protocol files narration name p is part (inr (q, also, of)) =
       subst (λ (r : ProtocolValue). PartOf r name (given part)) (same_given q p (protocol_in_file_one narrations refusals none files narration (given q) (given p) also is)) of
 
+  -- the code of the file is certified for the role
+  record IsCertifiedFor (files : Files) (file : List ℕ) (p : ProtocolValue) (role : ℕ) : Type 0 where
+    code : CodeValue
+    it_is : CodeInFile files file (given code)
+    certificate : IsCertificate p role code
+
+  certified_for : (files : Files) (narration name file text : List ℕ) → CertifyText files narration name file (given text) → (p : ProtocolValue) (role : ℕ) → ProtocolInFile files narration (given p) → RoleIs p name (given role)
+      → IsCertifiedFor files file p role
+  certified_for files narration name file text (inl (t, first, never)) p role in_file named = not_both t text (sym never)
+  certified_for files narration name file text (inr (q, is, inl (t, first, never))) p role in_file named = not_both t text (sym never)
+  certified_for files narration name file text (inr (q, is, inr (r, also, inl (t, first, never)))) p role in_file named = not_both t text (sym never)
+  certified_for files narration name file text (inr (q, is, inr (r, also, inr (code, it_is, certificate)))) p role in_file named =
+      let same : q ≡ p = same_given q p (protocol_in_file_one narrations refusals none files narration (given q) (given p) is in_file) in
+      let same_role : r ≡ role = same_given r role (role_one p name (given r) (given role) (subst (λ (v : ProtocolValue). RoleIs v name (given r)) same also) named) in
+      record {
+        code = code;
+        it_is = it_is;
+        certificate = subst (λ (v : ProtocolValue). IsCertificate v role code) same (subst (λ (n : ℕ). IsCertificate q n code) same_role certificate.0);
+      }
+
   pub certified_files_play : CertifiedFilesPlay
-  certified_files_play files narration name file text (inl (t, first, never)) part in_file = not_both t text (sym never)
-  certified_files_play files narration name file text (inr (p, is, inl (t, first, never))) part in_file = not_both t text (sym never)
-  certified_files_play files narration name file text (inr (p, is, inr (role, named, inl (t, first, never)))) part in_file = not_both t text (sym never)
-  certified_files_play files narration name file text (inr (p, is, inr (role, named, inr (code, it_is, certificate)))) part in_file =
-      certified_code files narration name file p role code named it_is certificate.0 part in_file (of_protocol files narration name p is part in_file)
+  certified_files_play files narration name file text certified p role in_file named values host_seed left bytes = (alone, together) where
+    c : IsCertifiedFor files file p role
+    c = certified_for files narration name file text certified p role in_file named
+
+    alone : IsEnactedAs (JobOf files values host_seed (record { protocol = p; role = role })) files file values host_seed left
+    alone =
+        enacted_as files narration name file values host_seed (record { protocol = p; role = role }) c.code c.certificate.fits c.certificate.plays role_files codes no_file faults c.it_is
+        (JobOf files values host_seed (record { protocol = p; role = role })) (λ answer is. is) (λ answer is. is) left bytes
+
+    together : (part : Part) → PartInFile files narration name (given part) → IsEnactedAsPlayed files narration name file values host_seed left
+    together part part_in =
+        let same = part_is p role part name named (of_protocol files narration name p in_file part part_in) in
+        enacted_as_played files narration name file values host_seed part c.code
+        (subst (λ (q : Part). FitsRole q.protocol q.role c.code) (sym same) c.certificate.fits) (subst (λ (q : Part). FittingCodesPlay q.protocol) (sym same) c.certificate.plays)
+        narrations refusals none part_in role_files codes no_file faults c.it_is left bytes

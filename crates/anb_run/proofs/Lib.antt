@@ -1,3 +1,4 @@
 pub mod Compiled
+pub mod Narrow
 mod Usage
 mod Idle

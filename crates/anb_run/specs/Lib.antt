@@ -1,4 +1,5 @@
 pub mod Certified
 pub mod Commands
 pub mod Compiled
+pub mod Narrow
 pub mod Stages

@@ -1,6 +1,7 @@
 //! Laws on what commands do with each other's files.
 ghost use Rattle.anb_run.specs.Certified.{CertifiedFilesPlay};
 ghost use Rattle.anb_run.specs.Compiled.{CompiledFilesPlay};
+ghost use Rattle.anb_run.specs.Narrow.{EnactedMessagesAreNarrow};
 
 use anb_text::{codes_are_unique, faults_are_unique, files_are_unique};
 
@@ -29,4 +30,11 @@ pub(crate) fn certified_files_play()
     codes_are_unique();
     anb_text::none_is_both();
     faults_are_unique();
+}
+
+/// A law: no message of a role file is longer than its register's width says.
+pub(crate) fn enacted_messages_are_narrow()
+    ensures { EnactedMessagesAreNarrow }
+{
+    anb_machine::runs_send_within();
 }

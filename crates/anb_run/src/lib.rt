@@ -16,18 +16,20 @@ ghost use Rattle.anb_command.specs.Statuses.{line_of};
 ghost use Rattle.anb_command.specs.Touches.{Touches};
 ghost use Rattle.anb_command.specs.Words.{asked_of, files_of, is_reading, place_of};
 ghost use Rattle.anb_command.specs.declared.status.Status.TheVariants.{Usage};
+ghost use Rattle.anb_branch_commands.specs.Laws.{ArmsArePlayed};
 ghost use Rattle.anb_run.specs.Commands.{Completes, Does};
 ghost use Rattle.anb_run.specs.Certified.{CertifiedFilesPlay};
 ghost use Rattle.anb_run.specs.Compiled.{CompiledFilesPlay};
+ghost use Rattle.anb_run.specs.Narrow.{EnactedMessagesAreNarrow};
 ghost use Rattle.anb_park_commands.specs.Splits.{SplitPlaysAreWhole};
 
 mod all;
 mod laws;
 
-use crate::laws::{certified_files_play, compiled_files_play};
+use crate::laws::{certified_files_play, compiled_files_play, enacted_messages_are_narrow};
 pub use all::run_all;
 use anb_base::{Shelf, Sink, Text, Wire};
-use anb_branch_commands::branch;
+use anb_branch_commands::{arms_are_played, branch};
 use anb_certify_commands::{certify, why};
 use anb_chart_commands::{chart, chart_for};
 use anb_check_commands::check;
@@ -62,6 +64,8 @@ pub fn run<F: Shelf, W: Wire, E: Sink>(
     ensures compiled { CompiledFilesPlay }
     ensures certified { CertifiedFilesPlay }
     ensures split { SplitPlaysAreWhole }
+    ensures arms { ArmsArePlayed }
+    ensures narrow { EnactedMessagesAreNarrow }
     ensures usage { (result ≡ Usage) ↔ (asked_of words.now ≡ None) }
     ensures faults { HasCause (files_of (asked_of words.now)) (place_of (asked_of words.now))
         (F.faults shelf.old) (F.faults shelf.new) (W.state wire.old) (W.state wire.new) result }
@@ -80,6 +84,8 @@ pub fn run<F: Shelf, W: Wire, E: Sink>(
     compiled_files_play();
     certified_files_play();
     split_plays_are_whole();
+    arms_are_played();
+    enacted_messages_are_narrow();
     let status = match Command::read(words) {
         None => Status::Usage,
         Some(Command::Fmt { narration }) => fmt(alloc, shelf, wire, narration),
