@@ -12,6 +12,7 @@ use Rattle.anb_stage.proofs.Roles.{one_or_other, lower, stays_same, stays_by_cal
 pub none_finished : (a : ℕ → Child) (roles : ℕ) → ((role : ℕ) → role < roles → (a role).phase ≡ 1) → Finished a a 0 roles
 none_finished a roles running = record {
   taken = λ role below. refl;
+  quiet = λ role below. refl;
   done = λ role below. absurd (omega (arith, below));
   running = λ role above below. running role below;
   good = λ role below. absurd (omega (arith, below));
@@ -62,9 +63,16 @@ module _ (a b c : ℕ → Child) (i roles : ℕ) (s : Finished a b i roles) (wit
   told : (n : ℕ) → IfSome (b i).status (λ t. n ≡ t) → IfSome (a i).status (λ t. t ≡ n)
   told n is = status_of (a i).status (b i).status n (sym (s.stays.statuses i (omega (arith, within, few)))) is
 
-  pub one_finished : IfSome (b i).status (λ t. 0 ≡ t) → (c i).phase ≡ 2 → Finished a c (i + 1) roles
-  one_finished is done = record {
+  quiet_now : (c i).faults ≡ (b i).faults → (role : ℕ) → role < 32 → (c role).faults ≡ (a role).faults
+  quiet_now quiet role below = elim (one_or_other role i) [
+    | inl e ↦ subst (λ (x : ℕ). (c x).faults ≡ (a x).faults) (sym e) (quiet ∙ s.quiet i (omega (arith, within, few)))
+    | inr d ↦ ap (λ (x : Child). x.faults) (others role d) ∙ s.quiet role below
+  ]
+
+  pub one_finished : (c i).faults ≡ (b i).faults → IfSome (b i).status (λ t. 0 ≡ t) → (c i).phase ≡ 2 → Finished a c (i + 1) roles
+  one_finished quiet is done = record {
     taken = taken_now;
+    quiet = quiet_now quiet;
     done = done_now done;
     running = running_now;
     good = λ role below. elim (one_or_other role i) [
@@ -77,14 +85,33 @@ module _ (a b c : ℕ → Child) (i roles : ℕ) (s : Finished a b i roles) (wit
   }
 
   pub one_unfinished : Rose (b i).faults (c i).faults → FailsFinishing a c roles (no.Fault i)
-  one_unfinished rose = (within, Rose-later (a i).faults (b i).faults (c i).faults (s.stays.faults i (omega (arith, within, few))) rose, record { taken = taken_now; asked = asked_now; written = written_now; stays = stays_now })
+  one_unfinished rose = (
+    within,
+    Rose-later (a i).faults (b i).faults (c i).faults (s.stays.faults i (omega (arith, within, few))) rose,
+    record {
+      reported = λ role below more. elim (one_or_other role i) [
+        | inl e ↦ ap no.Fault (sym e)
+        | inr d ↦ let same : (c role).faults ≡ (a role).faults = ap (λ (x : Child). x.faults) (others role d) ∙ s.quiet role below in absurd (omega (arith, same, more))
+      ];
+      taken = taken_now;
+      asked = asked_now;
+      written = written_now;
+      stays = stays_now;
+    },
+  )
 
-  pub one_bad : (n : ℕ) → n ≢ 0 → IfSome (b i).status (λ t. n ≡ t) → (c i).phase ≡ 2 → FailsFinishing a c roles (no.Bad i n)
-  one_bad n bad is done = (
+  pub one_bad : (c i).faults ≡ (b i).faults → (n : ℕ) → n ≢ 0 → IfSome (b i).status (λ t. n ≡ t) → (c i).phase ≡ 2 → FailsFinishing a c roles (no.Bad i n)
+  one_bad quiet n bad is done = (
     (within, bad, told n is, s.good),
     (λ role below. elim (cases_lt i role) [
       | inl above ↦ rw (lt-leb role i above) (running_now role (omega (arith, above)) below)
       | inr least ↦ rw (le-leb role i (omega (arith, least))) (done_now done role (omega (arith, least)))
     ]),
-    record { taken = taken_now; asked = asked_now; written = written_now; stays = stays_now },
+    record {
+      reported = λ role below more. let same = quiet_now quiet role below in absurd (omega (arith, same, more));
+      taken = taken_now;
+      asked = asked_now;
+      written = written_now;
+      stays = stays_now;
+    },
   )

@@ -2,8 +2,10 @@
 use Rattle.std.proofs.Common.{◌≡◌, ◌≢◌, ◌<◌, ◌≤◌, ◌+◌, ℕ, refl, sym, ap, ◌∙◌, subst, arith, inl, inr, ◌⊎◌}
 use Rattle.std.proofs.lemmas.Bool.{cases_lt}
 use Rattle.anb_stage.specs.Children.{Child}
-use Rattle.anb_stage.specs.Steps.{OthersStayBelow}
-use Rattle.anb_stage.specs.Relays.{Stays}
+use Rattle.anb_stage.specs.Steps.{OthersStayBelow, SameFaults}
+use Rattle.anb_stage.specs.Relays.{IsReported, Stays}
+use Rattle.anb_stage.specs.declared.refusal.RelayNo.{RelayNo}
+use Rattle.anb_stage.specs.declared.refusal.RelayNo.TheVariants as no
 
 pub one_or_other : (a b : ℕ) → (a ≡ b) ⊎ (a ≢ b)
 one_or_other a b = elim (cases_lt a b) [
@@ -43,3 +45,28 @@ stays_joined a b c roles s t = record {
   statuses = λ role below. t.statuses role below ∙ s.statuses role below;
   others = λ role above below. t.others role above below ∙ s.others role above below;
 }
+
+-- ---- counts of faults
+
+-- after a call for one role, which is refused as its fault, or left its count as it was
+pub reported_fault : (a b : ℕ → Child) (role : ℕ) → OthersStayBelow role a b → IsReported a b (no.Fault role)
+reported_fault a b role others other below more = elim (one_or_other other role) [
+  | inl e ↦ ap no.Fault (sym e)
+  | inr d ↦ let same : (b other).faults ≡ (a other).faults = ap (λ (x : Child). x.faults) (others other below d) in absurd (omega (arith, same, more))
+]
+
+pub quiet_call : (a b : ℕ → Child) (role : ℕ) → OthersStayBelow role a b → (b role).faults ≡ (a role).faults → SameFaults a b
+quiet_call a b role others quiet other below = elim (one_or_other other role) [
+  | inl e ↦ subst (λ (x : ℕ). (b x).faults ≡ (a x).faults) (sym e) quiet
+  | inr d ↦ ap (λ (x : Child). x.faults) (others other below d)
+]
+
+pub quiet_joined : (a b c : ℕ → Child) → SameFaults a b → SameFaults b c → SameFaults a c
+quiet_joined a b c p q role below = q role below ∙ p role below
+
+-- where no count rose
+pub reported_quiet : (a b : ℕ → Child) (r : RelayNo) → SameFaults a b → IsReported a b r
+reported_quiet a b r quiet role below more = let same = quiet role below in absurd (omega (arith, same, more))
+
+pub reported_later : (a b c : ℕ → Child) (r : RelayNo) → SameFaults a b → IsReported b c r → IsReported a c r
+reported_later a b c r quiet reported role below more = let same = quiet role below in reported role below (omega (arith, same, more))

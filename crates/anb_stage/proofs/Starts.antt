@@ -7,6 +7,7 @@ use Rattle.anb_base.specs.Moves.{Put, Rose}
 use Rattle.anb_stage.specs.Children.{Child, lines, KeptByStart, IsUnstarted, OthersStay}
 use Rattle.anb_stage.specs.Relays.{Stays}
 use Rattle.anb_stage.specs.Steps.{Started, StartFailed}
+use Rattle.anb_stage.specs.declared.refusal.RelayNo.TheVariants as no
 use Rattle.anb_stage.proofs.Roles.{one_or_other, lower, stays_by_call}
 
 same_words : (a b : List (List ℕ)) (o : Option (List (List ℕ))) → o ≡ Some a → o ≡ Some b → a ≡ b
@@ -39,8 +40,12 @@ module _ (a b c : ℕ → Child) (i : ℕ) (words : List (List (List ℕ))) (s :
   stays_now roles below = stays_by_call a b c i roles i s.stays (omega (arith, below)) below never_falls kept.status (λ other small d. others other d)
 
   pub one_started : (own : List (List ℕ)) → slice_get words i ≡ Some own
-      → Put (b i).asked (c i).asked (lines own) → (c i).phase ≡ 1 → Started a c (i + 1) words
-  one_started own at put phase = record {
+      → Put (b i).asked (c i).asked (lines own) → (c i).phase ≡ 1 → (c i).faults ≡ (b i).faults → Started a c (i + 1) words
+  one_started own at put phase quiet = record {
+    quiet = λ role below. elim (one_or_other role i) [
+      | inl e ↦ subst (λ (x : ℕ). (c x).faults ≡ (a x).faults) (sym e) (quiet ∙ s.quiet i within)
+      | inr d ↦ ap (λ (x : Child). x.faults) (others role d) ∙ s.quiet role below
+    ];
     asked = λ role its below its_at. elim (one_or_other role i) [
       | inl e ↦
           let same : own ≡ its = same_words own its (slice_get words i) at (subst (λ (x : ℕ). slice_get words x ≡ Some its) e its_at) in
@@ -73,6 +78,10 @@ module _ (a b c : ℕ → Child) (i : ℕ) (words : List (List (List ℕ))) (s :
       λ role less. ap (λ (x : Child). x.phase) (others role (λ e. omega (arith, less, e))) ∙ s.phases role less in
       record {
         within = below;
+        reported = λ role small more. elim (one_or_other role i) [
+          | inl e ↦ ap no.Fault (sym e)
+          | inr d ↦ let same : (c role).faults ≡ (a role).faults = ap (λ (x : Child). x.faults) (others role d) ∙ s.quiet role small in absurd (omega (arith, same, more))
+        ];
         rose = subst (λ (x : Child). Rose x.faults (c i).faults) as_before rose;
         asked = λ role own at. elim (cases_lt role i) [
           | inl less ↦ inl (subst (λ (x : Child). Put (a role).asked x.asked (lines own)) (sym (others role (λ e. omega (arith, less, e)))) (s.asked role own less at))

@@ -8,13 +8,13 @@ use Rattle.anb_base.proofs.Moving.{Rose-later, put_nothing}
 use Rattle.anb_frame.specs.Frames.{frames}
 use Rattle.anb_frame.specs.Cuts.{Tail, CutLeft}
 use Rattle.anb_stage.specs.Children.{Child, lines, written_to_all}
-use Rattle.anb_stage.specs.Relays.{bytes_to, missing, stamps, AllInTime, AreHeard, SomeInTime, AreCut, AreGood, AllWritten, SomeWritten, AllAsked, SomeAsked, HavePhases, IsFault, Stays, IsRelayed, IsRefused}
-use Rattle.anb_stage.specs.Steps.{SameTaken, SameWritten, Started, FailsStarting, Carried, FailsCarryingSome, CarryingKeeps, IsCaused, Finished, FailsFinishing}
+use Rattle.anb_stage.specs.Relays.{bytes_to, missing, stamps, AllInTime, AreHeard, SomeInTime, AreCut, AreGood, AllWritten, SomeWritten, AllAsked, SomeAsked, HavePhases, IsFault, IsReported, Stays, IsRelayed, IsRefused}
+use Rattle.anb_stage.specs.Steps.{SameFaults, SameTaken, SameWritten, Started, FailsStarting, Carried, FailsCarryingSome, CarryingKeeps, IsCaused, Finished, FailsFinishing}
 use Rattle.anb_stage.specs.declared.ends.Ends.{Ends}
 use Rattle.anb_stage.specs.declared.refusal.RelayNo.{RelayNo}
 use Rattle.anb_stage.specs.declared.refusal.RelayNo.TheVariants as no
 use Rattle.anb_stage.proofs.Messages.{put_prefix}
-use Rattle.anb_stage.proofs.Roles.{stays_same, stays_joined}
+use Rattle.anb_stage.proofs.Roles.{quiet_joined, reported_later, stays_same, stays_joined}
 use Rattle.anb_stage.proofs.Totals.{same_below}
 
 prefix_none : (old new : Option (List ℕ)) (bytes : List ℕ) → new ≡ old → PutPrefix old new bytes
@@ -34,6 +34,7 @@ module _ (roles : ℕ) (few : roles ≤ 32) (words : List (List (List ℕ))) (ma
     phases = λ role below. let p = new role below in (omega (arith, p), omega (arith, p));
     bad = tt;
     cause = tt;
+    reported = λ role below more. absurd (omega (arith, more));
     stays = stays_same a roles;
   }
 
@@ -45,6 +46,7 @@ module _ (roles : ℕ) (few : roles ≤ 32) (words : List (List (List ℕ))) (ma
     phases = tt;
     bad = tt;
     cause = (s.within, s.rose);
+    reported = s.reported;
     stays = s.stays;
   }
   refused_starting a b no.NoMemory s = absurd s
@@ -98,8 +100,9 @@ module _ (roles : ℕ) (few : roles ≤ 32) (words : List (List (List ℕ))) (ma
 
       pub refused_carrying : (r : RelayNo) → ((outputs : ℕ → List (List ℕ)) (tails : ℕ → Tail) → AreCut roles b outputs tails → FailsCarryingSome b c roles outputs tails actions r)
           → ((outputs : ℕ → List (List ℕ)) (tails : ℕ → Tail) → AreCut roles b outputs tails → AreHeard roles b → SomeInTime roles b c outputs actions tails)
-          → IsCaused b c roles r → IsRefused roles a c words actions r
-      refused_carrying (no.Fault role) f t caused = record {
+          → IsCaused b c roles r → IsReported b c r → IsRefused roles a c words actions r
+      refused_carrying (no.Fault role) f t caused reported = record {
+        reported = reported_later a b c _ s.quiet reported;
         in_time = λ outputs tails cut heard. in_time_after outputs tails (t outputs tails (cut_after outputs tails cut) (heard_after heard));
         writes = λ outputs tails cut. inl (some_after outputs (f outputs tails (cut_after outputs tails cut)), phases_after 0 (omega arith));
         asks = some_asked;
@@ -108,7 +111,8 @@ module _ (roles : ℕ) (few : roles ≤ 32) (words : List (List (List ℕ))) (ma
         cause = cause_after role caused;
         stays = stays_after;
       }
-      refused_carrying no.NoMemory f t caused = record {
+      refused_carrying no.NoMemory f t caused reported = record {
+        reported = reported_later a b c _ s.quiet reported;
         in_time = λ outputs tails cut heard. in_time_after outputs tails (t outputs tails (cut_after outputs tails cut) (heard_after heard));
         writes = λ outputs tails cut. some_after outputs (f outputs tails (cut_after outputs tails cut));
         asks = some_asked;
@@ -117,7 +121,8 @@ module _ (roles : ℕ) (few : roles ≤ 32) (words : List (List (List ℕ))) (ma
         cause = tt;
         stays = stays_after;
       }
-      refused_carrying (no.Ended n) f t caused = record {
+      refused_carrying (no.Ended n) f t caused reported = record {
+        reported = reported_later a b c _ s.quiet reported;
         in_time = λ outputs tails cut heard. in_time_after outputs tails (t outputs tails (cut_after outputs tails cut) (heard_after heard));
         writes = λ outputs tails cut. let x = f outputs tails (cut_after outputs tails cut) in (x.0, some_after outputs x.1);
         asks = asked_after;
@@ -126,7 +131,8 @@ module _ (roles : ℕ) (few : roles ≤ 32) (words : List (List (List ℕ))) (ma
         cause = tt;
         stays = stays_after;
       }
-      refused_carrying (no.Cut n have need) f t caused = record {
+      refused_carrying (no.Cut n have need) f t caused reported = record {
+        reported = reported_later a b c _ s.quiet reported;
         in_time = λ outputs tails cut heard. in_time_after outputs tails (t outputs tails (cut_after outputs tails cut) (heard_after heard));
         writes = λ outputs tails cut. let x = f outputs tails (cut_after outputs tails cut) in (x.0, some_after outputs x.1);
         asks = asked_after;
@@ -135,7 +141,8 @@ module _ (roles : ℕ) (few : roles ≤ 32) (words : List (List (List ℕ))) (ma
         cause = tt;
         stays = stays_after;
       }
-      refused_carrying (no.Long n len) f t caused = record {
+      refused_carrying (no.Long n len) f t caused reported = record {
+        reported = reported_later a b c _ s.quiet reported;
         in_time = λ outputs tails cut heard. in_time_after outputs tails (t outputs tails (cut_after outputs tails cut) (heard_after heard));
         writes = λ outputs tails cut. let x = f outputs tails (cut_after outputs tails cut) in (x.0, some_after outputs x.1);
         asks = asked_after;
@@ -144,11 +151,11 @@ module _ (roles : ℕ) (few : roles ≤ 32) (words : List (List (List ℕ))) (ma
         cause = tt;
         stays = stays_after;
       }
-      refused_carrying (no.Bad role status) f t caused = absurd caused
+      refused_carrying (no.Bad role status) f t caused reported = absurd caused
 
       -- ---- after carrying
 
-      module _ (carried : (outputs : ℕ → List (List ℕ)) (tails : ℕ → Tail) → AreCut roles b outputs tails → Carried b c roles outputs tails actions) (d : ℕ → Child) where
+      module _ (carried : (outputs : ℕ → List (List ℕ)) (tails : ℕ → Tail) → AreCut roles b outputs tails → Carried b c roles outputs tails actions) (quiet : SameFaults b c) (d : ℕ → Child) where
         all_after : SameWritten c d → (outputs : ℕ → List (List ℕ)) (tails : ℕ → Tail) → AreCut roles a outputs tails
             → (missing outputs tails actions ≡ None) × AllWritten roles a d outputs actions
         all_after same outputs tails cut =
@@ -191,6 +198,7 @@ module _ (roles : ℕ) (few : roles ≤ 32) (words : List (List (List ℕ))) (ma
           asked = asked_at_end f.asked;
           phases = λ role below. let p = f.done role below in (omega (arith, p), omega (arith, p));
           good = good_before roles (omega arith) f.good;
+          quiet = quiet_joined a c d (quiet_joined a b c s.quiet quiet) f.quiet;
           stays = stays_joined a c d roles stays_after f.stays;
         }
 
@@ -198,6 +206,7 @@ module _ (roles : ℕ) (few : roles ≤ 32) (words : List (List (List ℕ))) (ma
         refused_finishing (no.Fault role) f = record {
           writes = λ outputs tails cut. inr (all_after f.2.written outputs tails cut);
           in_time = some_at_end f.2.taken;
+          reported = reported_later a c d _ (quiet_joined a b c s.quiet quiet) f.2.reported;
           asks = λ other own at. inl (asked_at_end f.2.asked other own at);
           phases = tt;
           bad = tt;
@@ -207,6 +216,7 @@ module _ (roles : ℕ) (few : roles ≤ 32) (words : List (List (List ℕ))) (ma
         refused_finishing (no.Bad role status) f = record {
           writes = all_after f.2.written;
           in_time = some_at_end f.2.taken;
+          reported = reported_later a c d _ (quiet_joined a b c s.quiet quiet) f.2.reported;
           asks = asked_at_end f.2.asked;
           phases = f.1;
           bad = (

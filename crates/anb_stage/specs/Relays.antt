@@ -202,6 +202,11 @@ IsFault roles old new (no.Fault role) =
     (role < roles) × Rose (old role).faults (new role).faults
 IsFault roles old new refusal = Unit {0}
 
+-- and it is answered where a count rose
+abbrev pub IsReported : (old new : ℕ → Child) → RelayNo → Type 0
+IsReported old new refusal =
+    (role : ℕ) → role < 32 → (old role).faults < (new role).faults → refusal ≡ no.Fault role
+
 -- What a relay leaves: no count of faults falls and no status changes, and the children of other roles
 -- than the first so many are as before.
 pub record Stays (old new : ℕ → Child) (roles : ℕ) : Type 0 where
@@ -220,6 +225,7 @@ module _ (roles : ℕ) (old new : ℕ → Child) (words : List (List (List ℕ))
     pub asked : AllAsked roles old new words
     pub phases : HavePhases roles old new 2 2
     pub good : AreGood old roles
+    pub quiet : (role : ℕ) → role < 32 → (new role).faults ≡ (old role).faults
     pub stays : Stays old new roles
 
   pub record IsRefused (refusal : RelayNo) : Type 0 where
@@ -231,4 +237,5 @@ module _ (roles : ℕ) (old new : ℕ → Child) (words : List (List (List ℕ))
     pub phases : EndsRefusing roles old new refusal
     pub bad : IsFirstBad roles old refusal
     pub cause : IsFault roles old new refusal
+    pub reported : IsReported old new refusal
     pub stays : Stays old new roles

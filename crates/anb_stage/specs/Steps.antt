@@ -11,7 +11,7 @@ use Rattle.anb_frame.specs.declared.Taken.{Taken}
 use Rattle.anb_frame.specs.declared.Taken.TheVariants.{Frame, End}
 use Rattle.anb_frame.specs.declared.FrameNo.{FrameNo}
 use Rattle.anb_stage.specs.Children.{Child, lines, written_to_all}
-use Rattle.anb_stage.specs.Relays.{sends_of, bytes_of, bytes_to, missing, refusal_at, size_of_tail, AreGood, AreHeard, AllInTime, IsFirstBad, EndsRefusing, SomeAsked, SomeWritten, HavePhases, Stays}
+use Rattle.anb_stage.specs.Relays.{sends_of, bytes_of, bytes_to, missing, refusal_at, size_of_tail, AreGood, AreHeard, AllInTime, IsFirstBad, IsReported, EndsRefusing, SomeAsked, SomeWritten, HavePhases, Stays}
 use Rattle.anb_stage.specs.declared.ends.Ends.{Ends}
 use Rattle.anb_stage.specs.declared.refusal.RelayNo.{RelayNo}
 use Rattle.anb_stage.specs.declared.refusal.RelayNo.TheVariants as no
@@ -42,6 +42,9 @@ module _ (old new : ℕ → Child) where
   abbrev pub SamePhases : Type 0
   SamePhases = (role : ℕ) → role < 32 → (new role).phase ≡ (old role).phase
 
+  abbrev pub SameFaults : Type 0
+  SameFaults = (role : ℕ) → role < 32 → (new role).faults ≡ (old role).faults
+
   abbrev pub RoseFor : ℕ → Type 0
   RoseFor role = Rose (old role).faults (new role).faults
 
@@ -53,6 +56,7 @@ module _ (old new : ℕ → Child) where
     pub left : (role : ℕ) → role < 32 → (new role).left ≡ (old role).left
     pub taken : SameTaken
     pub written : SameWritten
+    pub quiet : SameFaults
     pub stays : Stays old new count
 
   -- a start failed
@@ -63,6 +67,7 @@ module _ (old new : ℕ → Child) where
     pub phases : HavePhases roles old new 0 1
     pub taken : SameTaken
     pub written : SameWritten
+    pub reported : IsReported old new (no.Fault role)
     pub stays : Stays old new roles
 
   abbrev pub FailsStarting : (roles : ℕ) (words : List (List (List ℕ))) → RelayNo → Type 0
@@ -146,9 +151,11 @@ module _ (old new : ℕ → Child) where
     pub good : AreGood old count
     pub asked : SameAsked
     pub written : SameWritten
+    pub quiet : SameFaults
     pub stays : Stays old new roles
 
-  pub record FinishFailed (roles : ℕ) : Type 0 where
+  pub record FinishFailed (roles : ℕ) (refusal : RelayNo) : Type 0 where
+    pub reported : IsReported old new refusal
     pub taken : SameTaken
     pub asked : SameAsked
     pub written : SameWritten
@@ -156,10 +163,10 @@ module _ (old new : ℕ → Child) where
 
   -- with each refusal
   abbrev pub FailsFinishing : ℕ → RelayNo → Type 0
-  FailsFinishing roles (no.Fault role) = (role < roles) × RoseFor role × FinishFailed roles
+  FailsFinishing roles (no.Fault role) = (role < roles) × RoseFor role × FinishFailed roles (no.Fault role)
   FailsFinishing roles (no.Bad role status) =
       IsFirstBad roles old (no.Bad role status) × EndsRefusing roles old new (no.Bad role status)
-      × FinishFailed roles
+      × FinishFailed roles (no.Bad role status)
   FailsFinishing roles refusal = ⊥
 
 -- a frame has at most so many bytes

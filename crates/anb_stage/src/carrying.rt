@@ -5,10 +5,10 @@ ghost use Rattle.anb_base.specs.Moves.{Rose, Put, PutPrefix, Stamped};
 ghost use Rattle.anb_base.specs.declared.TheConstants.{ARRIVAL};
 ghost use Rattle.anb_frame.specs.Frames.{frame};
 ghost use Rattle.anb_frame.specs.Cuts.{Tail, CutLeft};
-ghost use Rattle.anb_frame.specs.Answers.{Follows, OnFailed};
+ghost use Rattle.anb_frame.specs.Answers.{Follows, OnFailed, UnlessFailed};
 ghost use Rattle.anb_stage.specs.Children.{KeptByRead, KeptByWrite, written_to_all};
-ghost use Rattle.anb_stage.specs.Relays.{AreCut, AreHeard, SomeInTime, report};
-ghost use Rattle.anb_stage.specs.Steps.{Begins, OthersStayBelow, AreWithin, AreRunning, FitsIn, OnFrame, Takes, IsMissing, Carries, CarryKeeps, FailsCarrying, IsCaused, Carried, FailsCarryingSome, CarryingKeeps};
+ghost use Rattle.anb_stage.specs.Relays.{AreCut, AreHeard, IsReported, SomeInTime, report};
+ghost use Rattle.anb_stage.specs.Steps.{Begins, OthersStayBelow, AreWithin, AreRunning, FitsIn, OnFrame, Takes, IsMissing, Carries, CarryKeeps, FailsCarrying, IsCaused, Carried, FailsCarryingSome, CarryingKeeps, SameFaults};
 ghost use Rattle.anb_stage.specs.declared.TheConstants.{ROLES};
 
 use crate::ends::Ends;
@@ -45,6 +45,8 @@ pub(crate) fn carry_all<P: Spawner>(
         (P.child spawner.old) (P.child spawner.new) outputs actions.now tails) }
     ensures cause { (roles : ℕ) → roles ≤ ROLES → AreWithin roles actions.now
         → IfErr result (IsCaused (P.child spawner.old) (P.child spawner.new) roles) }
+    ensures quiet { OnOk result (SameFaults (P.child spawner.old) (P.child spawner.new)) }
+    ensures reported { IfErr result (IsReported (P.child spawner.old) (P.child spawner.new)) }
     ensures kept { (roles : ℕ) → roles ≤ ROLES → AreWithin roles actions.now
         → CarryingKeeps (P.child spawner.old) (P.child spawner.new) roles }
 {
@@ -89,6 +91,8 @@ fn carry<P: Spawner>(
         (written_to_all (P.child spawner.old)) bs tail }
     ensures cause { (roles : ℕ) → ends.from < roles → ends.to < roles
         → IfErr result (IsCaused (P.child spawner.old) (P.child spawner.new) roles) }
+    ensures quiet { OnOk result (SameFaults (P.child spawner.old) (P.child spawner.new)) }
+    ensures reported { IfErr result (IsReported (P.child spawner.old) (P.child spawner.new)) }
     ensures kept { CarryKeeps (P.child spawner.old) (P.child spawner.new) ends.from ends.to }
 {
     let bytes = match receive(alloc, spawner, ends.from, action, buffer) {
@@ -128,6 +132,9 @@ fn receive<P: Spawner>(
         (written_to_all (P.child spawner.old)) bs tail }
     ensures cause { (roles : ℕ) → role < roles
         → IfErr result (IsCaused (P.child spawner.old) (P.child spawner.new) roles) }
+    ensures quiet { OnOk result
+        ((P.child spawner.new role).faults ≡ (P.child spawner.old role).faults) }
+    ensures reported { IfErr result (IsReported (P.child spawner.old) (P.child spawner.new)) }
     ensures never_falls { (P.child spawner.old role).faults ≤ (P.child spawner.new role).faults }
     ensures kept { KeptByRead (P.child spawner.old role) (P.child spawner.new role) }
     ensures others { OthersStayBelow role (P.child spawner.old) (P.child spawner.new) }
@@ -163,6 +170,8 @@ fn take_from<P: Spawner>(spawner: &mut P, role: u32, buffer: &mut [u8]) -> Resul
     ensures same_length { length buffer.new ≡ length buffer.old }
     ensures cause { OnFailed result
         (Rose (P.child spawner.old role).faults (P.child spawner.new role).faults) }
+    ensures quiet { UnlessFailed result
+        ((P.child spawner.new role).faults ≡ (P.child spawner.old role).faults) }
     ensures never_falls { (P.child spawner.old role).faults ≤ (P.child spawner.new role).faults }
     ensures kept { KeptByRead (P.child spawner.old role) (P.child spawner.new role) }
     ensures others { OthersStayBelow role (P.child spawner.old) (P.child spawner.new) }
@@ -187,6 +196,8 @@ fn put_to<P: Spawner>(spawner: &mut P, role: u32, bytes: &[u8]) -> Result<(), Fa
         (P.child spawner.new role).written (frame bytes.now)) }
     ensures cause { OnErr result
         (Rose (P.child spawner.old role).faults (P.child spawner.new role).faults) }
+    ensures quiet { OnOk result
+        ((P.child spawner.new role).faults ≡ (P.child spawner.old role).faults) }
     ensures never_falls { (P.child spawner.old role).faults ≤ (P.child spawner.new role).faults }
     ensures kept { KeptByWrite (P.child spawner.old role) (P.child spawner.new role) }
     ensures others { OthersStayBelow role (P.child spawner.old) (P.child spawner.new) }

@@ -2,6 +2,8 @@ use Rattle.std.proofs.Common.{◌∙◌, ◌+◌, take, arith, rules}
 use Rattle.std.proofs.lemmas.List.{take_all}
 use Rattle.anb_stage.specs.Relays.{report}
 use Rattle.anb_stage.proofs.Messages.{appended}
+use Rattle.anb_stage.specs.declared.refusal.RelayNo.TheVariants as no
+use Rattle.anb_stage.proofs.Roles.{quiet_joined, reported_later, reported_quiet}
 use Rattle.anb_stage.proofs.Steps.{runs_at, keeps_at, carrying_fails, carrying_begins, carrying_goes_on, carrying_ends, caused_later, ends_at}
 use Rattle.anb_stage.proofs.carrying.carry_all.Goals as goal
 
@@ -27,6 +29,15 @@ pub returns-in_default-clause-in_time : goal.returns-in_default-clause-in_time
 returns-in_default-clause-in_time g c roles outputs tails few within cut heard =
     carrying_begins (g.P.Spawner.child c.args.spawner.now) (g.P.Spawner.child c.loop-i.spawner) (g.P.Spawner.child c.carry.new.spawner) c.args.actions.now c.loop-i.i _ c.loop-i-test.true
     roles few within outputs tails (c.loop-i.invariant.carried roles outputs tails few within cut).0 c.carry.ensures.kept c.carry.ensures.begins heard
+
+pub returns-in-Err-clause-reported : goal.returns-in-Err-clause-reported
+returns-in-Err-clause-reported g c =
+    reported_later (g.P.Spawner.child c.args.spawner.now) (g.P.Spawner.child c.loop-i.spawner) (g.P.Spawner.child c.carry.new.spawner) c.in-Err.no c.loop-i.invariant.quiet c.in-Err.ensures.reported
+
+pub returns-in_default-clause-reported : goal.returns-in_default-clause-reported
+returns-in_default-clause-reported g c =
+    reported_quiet (g.P.Spawner.child c.args.spawner.now) (g.P.Spawner.child c.carry.new.spawner) no.NoMemory
+    (quiet_joined (g.P.Spawner.child c.args.spawner.now) (g.P.Spawner.child c.loop-i.spawner) (g.P.Spawner.child c.carry.new.spawner) c.loop-i.invariant.quiet c.in-Ok.ensures.quiet)
 
 pub returns-in-Err-clause-cause : goal.returns-in-Err-clause-cause
 returns-in-Err-clause-cause g c roles few within =
@@ -58,6 +69,7 @@ loop-i-preserved g c = record {
       (o.0, appended c.loop-i.sent.items c.push.new.self.items (report outputs (take c.loop-i.i c.args.actions.now)) _ (record { action = c.loop-i.i + 1; bytes = c.in-Ok.bytes }) (search rules) before.1 o.1);
   keeps = keeps_at (g.P.Spawner.child c.args.spawner.now) (g.P.Spawner.child c.loop-i.spawner) (g.P.Spawner.child c.carry.new.spawner) c.args.actions.now c.loop-i.i _ c.loop-i-test.true
       c.loop-i.invariant.keeps c.carry.ensures.kept;
+  quiet = quiet_joined (g.P.Spawner.child c.args.spawner.now) (g.P.Spawner.child c.loop-i.spawner) (g.P.Spawner.child c.carry.new.spawner) c.loop-i.invariant.quiet c.in-Ok.ensures.quiet;
   buffer = c.carry.auto.buffer ∙ c.loop-i.invariant.buffer;
 }
 

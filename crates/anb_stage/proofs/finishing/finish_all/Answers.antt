@@ -11,7 +11,7 @@ finish-requires-clause-running g c = c.loop-role.invariant.running c.loop-role.r
 pub returns-in-Ok-clause-failed : goal.returns-in-Ok-clause-failed
 returns-in-Ok-clause-failed g c =
     one_bad (g.P.Spawner.child c.args.spawner.now) (g.P.Spawner.child c.loop-role.spawner) (g.P.Spawner.child c.finish.new.self) c.loop-role.role c.args.roles c.loop-role.invariant c.loop-role-test.true c.requires.few
-    c.finish.ensures.kept c.finish.ensures.never_falls c.finish.ensures.others c.in-Ok.status (search rules) c.in-Ok.ensures.status c.in-Ok.ensures.finished
+    c.finish.ensures.kept c.finish.ensures.never_falls c.finish.ensures.others c.in-Ok.ensures.quiet c.in-Ok.status (search rules) c.in-Ok.ensures.status c.in-Ok.ensures.finished
 
 pub returns-in-Err-clause-failed : goal.returns-in-Err-clause-failed
 returns-in-Err-clause-failed g c =
@@ -21,4 +21,4 @@ returns-in-Err-clause-failed g c =
 pub loop-role-preserved : goal.loop-role-preserved
 loop-role-preserved g c =
     one_finished (g.P.Spawner.child c.args.spawner.now) (g.P.Spawner.child c.loop-role.spawner) (g.P.Spawner.child c.finish.new.self) c.loop-role.role c.args.roles c.loop-role.invariant c.loop-role-test.true c.requires.few
-    c.finish.ensures.kept c.finish.ensures.never_falls c.finish.ensures.others (search rules) c.in-Ok-eq0.ensures.finished
+    c.finish.ensures.kept c.finish.ensures.never_falls c.finish.ensures.others c.in-Ok-eq0.ensures.quiet (search rules) c.in-Ok-eq0.ensures.finished

@@ -22,6 +22,7 @@ returns-in-Err-carry_all-clause-refused g c =
     (λ outputs tails cut. c.in-Err-carry_all.ensures.failed _ outputs tails c.requires.roles c.requires.within cut)
     (λ outputs tails cut heard. c.in-Err-carry_all.ensures.in_time _ outputs tails c.requires.roles c.requires.within cut heard)
     (c.in-Err-carry_all.ensures.cause _ c.requires.roles c.requires.within)
+    c.in-Err-carry_all.ensures.reported
 
 pub finish_all-requires-clause-running : goal.finish_all-requires-clause-running
 finish_all-requires-clause-running g c =
@@ -41,6 +42,7 @@ returns-in-Ok-finish_all-clause-relayed g c =
     (g.P.Spawner.child c.args.spawner.now) (g.P.Spawner.child c.start_all.new.spawner) c.in-Ok.ensures.started
     (g.P.Spawner.child c.carry_all.new.spawner) (c.carry_all.ensures.kept _ c.requires.roles c.requires.within)
     (λ outputs tails cut. c.in-Ok-carry_all.ensures.carried _ outputs tails c.requires.roles c.requires.within cut)
+    c.in-Ok-carry_all.ensures.quiet
     (g.P.Spawner.child c.finish_all.new.spawner) c.in-Ok-finish_all.ensures.finished
 
 pub returns-in-Err-finish_all-clause-refused : goal.returns-in-Err-finish_all-clause-refused
@@ -49,4 +51,5 @@ returns-in-Err-finish_all-clause-refused g c =
     (g.P.Spawner.child c.args.spawner.now) (g.P.Spawner.child c.start_all.new.spawner) c.in-Ok.ensures.started
     (g.P.Spawner.child c.carry_all.new.spawner) (c.carry_all.ensures.kept _ c.requires.roles c.requires.within)
     (λ outputs tails cut. c.in-Ok-carry_all.ensures.carried _ outputs tails c.requires.roles c.requires.within cut)
+    c.in-Ok-carry_all.ensures.quiet
     (g.P.Spawner.child c.finish_all.new.spawner) c.in-Err-finish_all.no c.in-Err-finish_all.ensures.failed
