@@ -5,7 +5,8 @@ use Rattle.std.specs.List.{list_any}
 use Rattle.std.proofs.lemmas.List.{drop_more}
 use Rattle.anb_choice.specs.declared.marks.Kind.{Kind}
 use Rattle.anb_choice.specs.declared.marks.Mark.{Mark}
-use Rattle.anb_choice.specs.Order.{before, kind_at, kind_eqb, misfit, place_at}
+use Rattle.anb_choice.specs.Order.{before, kind_at, kind_eqb, place_at}
+use Rattle.anb_choice.specs.Parsing.{misfit}
 
 module _ (kinds : List Kind) (ms : List Mark) (i : ℕ) (m : Mark) (h : i < length ms) (e : m ≡ get_or ms i m) where
   rest : drop i ms ≡ m ∷ drop (i + 1) ms

@@ -5,5 +5,13 @@ pub mod Looking
 pub mod Names
 pub mod Faults
 pub mod Events
-pub mod Headed
+pub mod ReadArms
 pub mod Uniqueness
+pub mod Fronted
+pub mod Worded
+pub mod Cutting
+pub mod Stemmed
+pub mod Ordering
+pub mod Straights
+pub mod Agreeing
+pub mod Lawfully

@@ -9,7 +9,8 @@ use Rattle.anb_choice.specs.declared.marks.Kind.{Kind}
 use Rattle.anb_choice.specs.declared.marks.Kind.TheVariants.{Choice, Actions, Colon, Semicolon, Name, Other, Stop, Bad}
 use Rattle.anb_choice.specs.declared.marks.Mark.{Mark}
 use Rattle.anb_choice.specs.declared.order.Span.{Span}
-use Rattle.anb_choice.specs.Order.{arm_heading, arm_size, arm_span, arms_at, at_end, behind_arm, bytes_between, chooser_in, choice_heading, closes_at, ends_looking, kind_at, kind_eqb, misfit, order, past_at, place_at, stem_end, stem_size, unless, with_front}
+use Rattle.anb_choice.specs.Order.{bytes_between, chooser_in, ends_looking, kind_at, kind_eqb, past_at, place_at, stem_end, stem_size}
+use Rattle.anb_choice.specs.Parsing.{arm_heading, arm_size, arm_span, arms_at, at_end, behind_arm, choice_heading, closes_at, misfit, order, unless, with_front}
 use Rattle.anb_choice.specs.Standing.{IsSpanOf, Stand}
 use Rattle.anb_choice.proofs.Fronts.{before-within}
 use Rattle.anb_choice.proofs.Places.{past_behind, past_of_rest, place_of_rest, stand_drop, stand_past}
@@ -58,13 +59,13 @@ end_ok (suc least) ms spans e = cc
 
 -- what arms come to: none, or one and then others
 module _ (Of : ℕ → ℕ → List Mark → List Span → Type 0)
-    (none : (most : ℕ) (ms : List Mark) → Of 0 most ms [])
-    (more : (least most : ℕ) (a c : Mark) (rest : List Mark) (spans : List Span) → kind_eqb Colon c.kind ≡ true
+    (none : (most : ℕ) (ms : List Mark) → kind_eqb (kind_at ms 0) Stop ≡ true → Of 0 most ms [])
+    (more : (least most : ℕ) (a c : Mark) (rest : List Mark) (spans : List Span) → kind_eqb Actions a.kind ≡ true → kind_eqb Colon c.kind ≡ true
     → Of (least - 1) most (behind_arm (a ∷ c ∷ rest)) spans → Of least (suc most) (a ∷ c ∷ rest) (arm_span (a ∷ c ∷ rest) ∷ spans)) where
-  end_of : (least most : ℕ) (ms : List Mark) (spans : List Span) → at_end least ms ≡ Ok spans → Of least most ms spans
-  end_of least most ms spans e =
+  end_of : (least most : ℕ) (ms : List Mark) (spans : List Span) → kind_eqb (kind_at ms 0) Stop ≡ true → at_end least ms ≡ Ok spans → Of least most ms spans
+  end_of least most ms spans stop e =
       let r = end_ok least ms spans e in
-      subst (λ (l : ℕ). Of l most ms spans) (sym r.0) (subst (λ (s : List Span). Of 0 most ms s) (sym r.1) (none most ms))
+      subst (λ (l : ℕ). Of l most ms spans) (sym r.0) (subst (λ (s : List Span). Of 0 most ms s) (sym r.1) (none most ms stop))
 
   -- an arm, and what comes of the rest
   arm_of : (least most : ℕ) (us : List Mark) (spans : List Span) → ((vs : List Mark) (more : List Span) → arms_at (least - 1) most vs ≡ Ok more → Of (least - 1) most vs more)
@@ -76,35 +77,35 @@ module _ (Of : ℕ → ℕ → List Mark → List Span → Type 0)
       let two = fits_first Colon [] c rest one.1 in
       let r = front_ok (arm_span (a ∷ c ∷ rest) ∷ []) (arms_at (least - 1) most (behind_arm (a ∷ c ∷ rest))) spans g in
       subst (λ (s : List Span). Of least (suc most) (a ∷ c ∷ rest) s) (sym r.2)
-      (more least most a c rest r.0 two.0 (later (behind_arm (a ∷ c ∷ rest)) r.0 r.1))
+      (more least most a c rest r.0 one.0 two.0 (later (behind_arm (a ∷ c ∷ rest)) r.0 r.1))
 
-  last_of : (b : Bool) (least : ℕ) (ms : List Mark) (spans : List Span) → cond b (at_end least ms) (Err (place_at ms 0)) ≡ Ok spans → Of least 0 ms spans
-  last_of true least ms spans e = end_of least 0 ms spans e
-  last_of false least ms spans e = cc
+  last_of : (b : Bool) (least : ℕ) (ms : List Mark) (spans : List Span) → kind_eqb (kind_at ms 0) Stop ≡ b → cond b (at_end least ms) (Err (place_at ms 0)) ≡ Ok spans → Of least 0 ms spans
+  last_of true least ms spans stop e = end_of least 0 ms spans stop e
+  last_of false least ms spans stop e = cc
 
   next_of : (b : Bool) (least most : ℕ) (ms : List Mark) (spans : List Span) → ((vs : List Mark) (more : List Span) → arms_at (least - 1) most vs ≡ Ok more → Of (least - 1) most vs more)
-      → cond b (at_end least ms) (unless (misfit arm_heading ms) (with_front (arm_span ms ∷ []) (arms_at (least - 1) most (behind_arm ms)))) ≡ Ok spans → Of least (suc most) ms spans
-  next_of true least most ms spans later e = end_of least (suc most) ms spans e
-  next_of false least most ms spans later e = let r = unless_ok (misfit arm_heading ms) (with_front (arm_span ms ∷ []) (arms_at (least - 1) most (behind_arm ms))) spans e in arm_of least most ms spans later r.0 r.1
+      → kind_eqb (kind_at ms 0) Stop ≡ b → cond b (at_end least ms) (unless (misfit arm_heading ms) (with_front (arm_span ms ∷ []) (arms_at (least - 1) most (behind_arm ms)))) ≡ Ok spans → Of least (suc most) ms spans
+  next_of true least most ms spans later stop e = end_of least (suc most) ms spans stop e
+  next_of false least most ms spans later stop e = let r = unless_ok (misfit arm_heading ms) (with_front (arm_span ms ∷ []) (arms_at (least - 1) most (behind_arm ms))) spans e in arm_of least most ms spans later r.0 r.1
 
   pub arms_come : (least most : ℕ) (ms : List Mark) (spans : List Span) → arms_at least most ms ≡ Ok spans → Of least most ms spans
   unfolding arms_at
-  arms_come least zero ms spans e = last_of (kind_eqb (kind_at ms 0) Stop) least ms spans e
-  arms_come least (suc most) ms spans e = next_of (kind_eqb (kind_at ms 0) Stop) least most ms spans (λ vs more f. arms_come (least - 1) most vs more f) e
+  arms_come least zero ms spans e = last_of (kind_eqb (kind_at ms 0) Stop) least ms spans refl e
+  arms_come least (suc most) ms spans e = next_of (kind_eqb (kind_at ms 0) Stop) least most ms spans (λ vs more f. arms_come (least - 1) most vs more f) refl e
 
 -- how many there are
 pub arms_count : (least most : ℕ) (ms : List Mark) (spans : List Span) → arms_at least most ms ≡ Ok spans → (least ≤ length spans) × (length spans ≤ most)
-arms_count = arms_come (λ least most ms spans. (least ≤ length spans) × (length spans ≤ most)) (λ most ms. (omega arith, omega arith))
-    (λ least most a c rest spans colon r. let low = r.0 in let high = r.1 in (omega (arith, low), omega (arith, high)))
+arms_count = arms_come (λ least most ms spans. (least ≤ length spans) × (length spans ≤ most)) (λ most ms stop. (omega arith, omega arith))
+    (λ least most a c rest spans actions colon r. let low = r.0 in let high = r.1 in (omega (arith, low), omega (arith, high)))
 
 -- and where they stand
 module _ (x : List ℕ) (behind to : ℕ) where
   abbrev AllStand : ℕ → ℕ → List Mark → List Span → Type 0
   AllStand least most ms spans = (from : ℕ) → behind ≤ from → Stand x from ms to → AllByRecursion (IsSpanOf x behind) spans
 
-  next_stand : (least most : ℕ) (a c : Mark) (rest : List Mark) (spans : List Span) → kind_eqb Colon c.kind ≡ true
+  next_stand : (least most : ℕ) (a c : Mark) (rest : List Mark) (spans : List Span) → kind_eqb Actions a.kind ≡ true → kind_eqb Colon c.kind ≡ true
       → AllStand (least - 1) most (behind_arm (a ∷ c ∷ rest)) spans → AllStand least (suc most) (a ∷ c ∷ rest) (arm_span (a ∷ c ∷ rest) ∷ spans)
-  next_stand least most a c rest spans colon later from low s =
+  next_stand least most a c rest spans actions colon later from low s =
       let n = arm_size (a ∷ c ∷ rest) in
       let first = s.0.low in
       let first_bytes = s.0.bytes in
@@ -124,7 +125,7 @@ module _ (x : List ℕ) (behind to : ℕ) where
       one_more k = omega arith
 
   pub arms_stand : (least most : ℕ) (ms : List Mark) (spans : List Span) → arms_at least most ms ≡ Ok spans → AllStand least most ms spans
-  arms_stand = arms_come AllStand (λ most ms from low s. tt) next_stand
+  arms_stand = arms_come AllStand (λ most ms stop from low s. tt) next_stand
 
 -- ---- the whole order
 
@@ -195,7 +196,7 @@ pub record PartsStand (x : List ℕ) (ms : List Mark) (spans : List Span) : Type
   pub bytes : place_at ms (stem_size ms + 2) ≤ past_at ms (stem_size ms + 2)
   pub high : past_at ms (stem_size ms + 2) ≤ length x
 
-closed_some : (ms : List Mark) (n : ℕ) → closes_at ms n ≡ true → (k : ℕ) × (n ≡ suc k)
+pub closed_some : (ms : List Mark) (n : ℕ) → closes_at ms n ≡ true → (k : ℕ) × (n ≡ suc k)
 closed_some ms zero e = cc
 closed_some ms (suc n) e = (n, refl)
 
@@ -231,7 +232,7 @@ parts_stand x ms spans to e s =
 -- ---- the arms, one after another
 
 module _ (least : ℕ) (ms : List Mark) where
-  at_stop : (most : ℕ) → kind_eqb (kind_at ms 0) Stop ≡ true → arms_at least most ms ≡ at_end least ms
+  pub at_stop : (most : ℕ) → kind_eqb (kind_at ms 0) Stop ≡ true → arms_at least most ms ≡ at_end least ms
   unfolding arms_at
   at_stop zero e = ap (λ b. cond b (at_end least ms) (Err (place_at ms 0))) e
   at_stop (suc most) e = ap (λ b. cond b (at_end least ms) (unless (misfit arm_heading ms) (with_front (arm_span ms ∷ []) (arms_at (least - 1) most (behind_arm ms))))) e
@@ -240,7 +241,7 @@ module _ (least : ℕ) (ms : List Mark) where
   unfolding arms_at
   at_most e = ap (λ b. cond b (at_end least ms) (Err (place_at ms 0))) e
 
-  at_arm : (most : ℕ) (o : Option ℕ) → kind_eqb (kind_at ms 0) Stop ≡ false → misfit arm_heading ms ≡ o
+  pub at_arm : (most : ℕ) (o : Option ℕ) → kind_eqb (kind_at ms 0) Stop ≡ false → misfit arm_heading ms ≡ o
       → arms_at least (suc most) ms ≡ unless o (with_front (arm_span ms ∷ []) (arms_at (least - 1) most (behind_arm ms)))
   unfolding arms_at
   at_arm most o e f =

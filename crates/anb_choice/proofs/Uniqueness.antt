@@ -13,9 +13,11 @@ use Rattle.anb_choice.specs.declared.order.Span.{Span}
 use Rattle.anb_choice.specs.declared.refusal.BranchNo.{BranchNo}
 use Rattle.anb_choice.specs.declared.refusal.BranchNo.TheVariants.{Token, Shape, ArmRead, ArmResolve, Roles, Chooser, Blind, NoMemory}
 use Rattle.anb_choice.specs.Branching.{ArmIsRefused, BranchedText, FirstRefused, IsOrdered, IsRefusal, Tells, choice_fault, straights}
-use Rattle.anb_choice.specs.Headers.{IsRefusedAs}
+use Rattle.anb_choice.specs.ArmRefusals.{IsRefusedAs}
 use Rattle.anb_choice.specs.Lawful.{BranchedValue}
-use Rattle.anb_choice.specs.Order.{AreMarks, bad_at, chooser_in, looked, order, stem_actions}
+use Rattle.anb_choice.specs.Order.{AreMarks, bad_at, chooser_in, looked, stem_actions}
+use Rattle.anb_choice.specs.Parsing.{order}
+use Rattle.anb_choice.proofs.Ordering.{order_there}
 
 abbrev found : List Span → Result (List Span) ℕ
 found s = Ok s
@@ -43,7 +45,7 @@ head_of : (o : Option ℕ) (r : Result (List Span) ℕ) (ms : List Mark) → bad
 head_of o r ms e f = ap (λ z. option_or (option_map Token z) (shape_of (order ms))) e ∙ ap (λ z. option_or (option_map Token o) (shape_of z)) f
 
 ordered_none : (x : List ℕ) (ms : List Mark) (spans : List Span) → IsOrdered x ms spans → head_fault ms ≡ None
-ordered_none x ms spans o = head_of None (Ok spans) ms o.tokens o.order
+ordered_none x ms spans o = head_of None (Ok spans) ms o.tokens (order_there ms spans o.order)
 
 -- the arms were told, and these are they
 abbrev Behind : List ℕ → List Mark → List Span → BranchNo → Type 0
@@ -72,7 +74,7 @@ module _ (tokens : TokensAreUnique) (narrations : read.NarrationsAreUnique) wher
   marks_one x ms ns a b = a.are ∙ ap (looked x) (tokens x a.tokens b.tokens a.lexes b.lexes) ∙ sym b.are
 
   spans_one : (x : List ℕ) (ms ns : List Mark) (s t : List Span) → IsOrdered x ms s → IsOrdered x ns t → (ms ≡ ns) × (s ≡ t)
-  spans_one x ms ns s t a b = let m = marks_one x ms ns a.marks b.marks in (m, ok_one s t (sym a.order ∙ ap order m ∙ b.order))
+  spans_one x ms ns s t a b = let m = marks_one x ms ns a.marks b.marks in (m, ok_one s t (sym (order_there ms s a.order) ∙ ap order m ∙ order_there ns t b.order))
 
   straights_one : (x : List ℕ) (ms ns : List Mark) (s t : List Span) → IsOrdered x ms s → IsOrdered x ns t → straights x ms s ≡ straights x ns t
   straights_one x ms ns s t a b = let r = spans_one x ms ns s t a b in ap (λ z. straights x z s) r.0 ∙ ap (straights x ns) r.1

@@ -1,5 +1,5 @@
 -- What a branched text tells, and why a text is none.
-use Rattle.std.specs.Prelude.{◌≡◌, ℕ, ◌+◌, List, [], ◌∷◌, ◌++◌, length, map, not, Option, Some, None, Ok, Err}
+use Rattle.std.specs.Prelude.{◌≡◌, ℕ, ◌+◌, List, [], ◌∷◌, ◌++◌, length, map, not, Option, Some, None, Err}
 use Rattle.std.specs.Option.{option_map, option_or}
 use Rattle.std.specs.List.{AllZip}
 use Rattle.anb_index.specs.Places.{among}
@@ -15,7 +15,8 @@ use Rattle.anb_choice.specs.declared.order.Span.{Span}
 use Rattle.anb_choice.specs.declared.refusal.BranchNo.{BranchNo}
 use Rattle.anb_choice.specs.declared.refusal.BranchNo.TheVariants.{Token, Shape, ArmRead, ArmResolve, Roles, Chooser, Blind, NoMemory}
 use Rattle.anb_choice.specs.Lawful.{BranchedValue, roles_in, are_same_names, blind}
-use Rattle.anb_choice.specs.Order.{AreMarks, bad_at, order, chooser_in, stem_actions, straight}
+use Rattle.anb_choice.specs.Parsing.{order}
+use Rattle.anb_choice.specs.Order.{AreMarks, HasOrder, bad_at, chooser_in, stem_actions, straight}
 
 -- the protocol of the text's narration, which is well formed
 pub record Tells (text : List ℕ) (p : ProtocolValue) : Type 0 where
@@ -24,11 +25,11 @@ pub record Tells (text : List ℕ) (p : ProtocolValue) : Type 0 where
   pub well_formed : IsWellFormed ARRIVAL WIDE narration
   pub is : p ≡ protocol_of narration
 
--- The tokens of the text are in order, and these are its arms.
+-- The text has a choice behind a stem, and these are its arms.
 pub record IsOrdered (x : List ℕ) (ms : List Mark) (arms : List Span) : Type 0 where
   pub marks : AreMarks x ms
   pub tokens : bad_at ms ≡ None
-  pub order : order ms ≡ Ok arms
+  pub order : HasOrder ms arms
 
 -- for each arm the text of the stem and the arm
 abbrev pub straights : List ℕ → List Mark → List Span → List (List ℕ)

@@ -1,7 +1,7 @@
 -- What holds of branched texts, whatever they are.
-use Rattle.std.specs.Prelude.{◌≡◌, ℕ, List}
+use Rattle.std.specs.Prelude.{◌≡◌, ◌⊎◌, ℕ, List, None}
 use Rattle.anb_choice.specs.declared.refusal.BranchNo.{BranchNo}
-use Rattle.anb_choice.specs.Branching.{BranchedText, IsRefusal}
+use Rattle.anb_choice.specs.Branching.{BranchedText, IsRefusal, choice_fault}
 use Rattle.anb_choice.specs.Lawful.{BranchedValue, IsLawful}
 
 -- a text tells one choice at most
@@ -15,3 +15,11 @@ RefusalsAreUnique = (x : List ℕ) (why other : BranchNo) → IsRefusal x why �
 -- no text tells a lawful choice and is refused
 abbrev pub NoneIsBoth : Type 0
 NoneIsBoth = (x : List ℕ) (b : BranchedValue) (why : BranchNo) → BranchedText x b → IsLawful b → IsRefusal x why → ⊥
+
+-- a text that tells a choice without a fault tells a lawful one
+abbrev pub FaultlessIsLawful : Type 0
+FaultlessIsLawful = (x : List ℕ) (b : BranchedValue) → BranchedText x b → choice_fault b ≡ None → IsLawful b
+
+-- each text tells a lawful choice, or is refused
+abbrev pub EachIsEither : Type 0
+EachIsEither = (x : List ℕ) → ((b : BranchedValue) × BranchedText x b × IsLawful b) ⊎ ((why : BranchNo) × IsRefusal x why)

@@ -4,5 +4,6 @@ pub mod Order
 pub mod Branching
 pub mod Laws
 -- for proofs alone
-pub mod Headers
+pub mod ArmRefusals
 pub mod Standing
+pub mod Parsing

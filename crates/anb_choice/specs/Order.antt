@@ -1,7 +1,7 @@
 -- The order of the tokens of a branched text, and what stands where in it.
-use Rattle.std.specs.Prelude.{◌≡◌, ℕ, zero, suc, ◌+◌, ◌-◌, ◌==◌, ◌&&◌, ◌||◌, not, List, [], ◌∷◌, ◌++◌, take, drop, Bool, true, false, Option, Some, None, Result, Ok, Err, slice_get, if◌then◌else◌}
+use Rattle.std.specs.Prelude.{◌≡◌, ◌≤◌, ◌⊎◌, ℕ, ◌+◌, ◌-◌, ◌==◌, not, List, [], ◌∷◌, ◌++◌, length, map, take, drop, Bool, true, false, Option, Some, None, slice_get, if◌then◌else◌}
 use Rattle.std.specs.Option.{option_map_or}
-use Rattle.std.specs.List.{count_by, list_any, prefix_len}
+use Rattle.std.specs.List.{AllByRecursion, AllZip, count_by, flat_map, list_any, prefix_len}
 use Rattle.std.specs.Str.{bytes_eq}
 use Rattle.anb_syntax.specs.Words.{Word, name, literal, sign, end, bad, Tok, actions_word, choice_word, goals_word, is_name}
 use Rattle.anb_syntax.specs.Lexing.{Lexes, token_here}
@@ -93,61 +93,63 @@ before kinds ms = prefix_len (λ (m : Mark). not (list_any (kind_eqb m.kind) kin
 abbrev pub stem_size : List Mark → ℕ
 stem_size ms = before (Choice ∷ Stop ∷ Bad ∷ []) ms
 
--- the first tokens, so many, end with `;`, or with `Actions` and `:`
-abbrev pub closes_at : List Mark → ℕ → Bool
-closes_at ms zero = false
-closes_at ms (suc n) = kind_eqb (kind_at ms n) Semicolon || (kind_eqb (kind_at ms n) Colon && kind_eqb (kind_at ms (n - 1)) Actions)
+-- ---- the parts of a text with a choice
 
--- the first of these tokens that isn't of its kind
-abbrev pub misfit : List Kind → List Mark → Option ℕ
-misfit [] ms = None
-misfit (k ∷ ks) [] = Some 0
-misfit (k ∷ ks) (m ∷ ms) = if kind_eqb k m.kind then misfit ks ms else Some m.at
+abbrev pub kinds_of : List Mark → List Kind
+kinds_of ms = map (λ (m : Mark). m.kind) ms
 
-abbrev pub choice_heading : List Kind
-choice_heading = Choice ∷ Colon ∷ Name ∷ Semicolon ∷ []
+-- no token is of one of these kinds
+abbrev pub HasNone : List Kind → List Mark → Type 0
+HasNone kinds ms = AllByRecursion (λ (m : Mark). list_any (kind_eqb m.kind) kinds ≡ false) ms
 
-abbrev pub arm_heading : List Kind
-arm_heading = Actions ∷ Colon ∷ []
+-- they end with `;`, or with `Actions` and `:`
+abbrev pub IsClosed : List Mark → Type 0
+IsClosed ms =
+    (front : List Mark) × (last : List Mark) × (ms ≡ front ++ last)
+    × ((kinds_of last ≡ Semicolon ∷ []) ⊎ (kinds_of last ≡ Actions ∷ Colon ∷ []))
 
--- how many tokens stand behind the heading of the arm at the front
-abbrev pub arm_size : List Mark → ℕ
-arm_size ms = before (Choice ∷ Actions ∷ Stop ∷ Bad ∷ []) (drop 2 ms)
+-- the offset past the last of these tokens
+abbrev pub past_last : List Mark → ℕ
+past_last [] = 0
+past_last (m ∷ []) = m.past
+past_last (m ∷ n ∷ ms) = past_last (n ∷ ms)
 
--- the bytes of that arm, from past its `:` to past its last token
-abbrev pub arm_span : List Mark → Span
-arm_span ms = record { from = past_at ms 1; to = past_at ms (arm_size ms + 1) }
+-- An arm is `Actions`, `:` and tokens that begin no other part and don't end the text. Its bytes are
+-- those behind the `:`, up to past its last token.
+pub record IsArm (ms : List Mark) (span : Span) : Type 0 where
+  pub heading : List Mark
+  pub body : List Mark
+  pub are : ms ≡ heading ++ body
+  pub headed : kinds_of heading ≡ Actions ∷ Colon ∷ []
+  pub plain : HasNone (Choice ∷ Actions ∷ Stop ∷ Bad ∷ []) body
+  pub from : span.from ≡ past_last heading
+  pub to : span.to ≡ past_last ms
 
-abbrev pub behind_arm : List Mark → List Mark
-behind_arm ms = drop (arm_size ms) (drop 2 ms)
+-- A text with a choice: a stem that is closed, the choice of a role, two to eight arms, and the end.
+pub record HasOrder (ms : List Mark) (spans : List Span) : Type 0 where
+  pub stem : List Mark
+  pub choice : List Mark
+  pub arms : List (List Mark)
+  pub stop : List Mark
+  pub are : ms ≡ stem ++ (choice ++ (flat_map (λ (arm : List Mark). arm) arms ++ stop))
+  pub plain : HasNone (Choice ∷ Stop ∷ Bad ∷ []) stem
+  pub closed : IsClosed stem
+  pub chosen : kinds_of choice ≡ Choice ∷ Colon ∷ Name ∷ Semicolon ∷ []
+  pub each : AllZip IsArm arms spans
+  pub few : 2 ≤ length spans
+  pub most : length spans ≤ 8
+  pub stops : kinds_of stop ≡ Stop ∷ []
 
-abbrev pub unless : {A : Type 0} → Option ℕ → Result A ℕ → Result A ℕ
-unless None r = r
-unless (Some at) r = Err at
-
-abbrev pub with_front : List Span → Result (List Span) ℕ → Result (List Span) ℕ
-with_front front (Ok spans) = Ok (front ++ spans)
-with_front front (Err at) = Err at
-
--- the end, where this many arms at least are still to come
-abbrev pub at_end : ℕ → List Mark → Result (List Span) ℕ
-at_end zero ms = Ok []
-at_end (suc least) ms = Err (place_at ms 0)
-
--- the arms up to the end, so many at least and so many at most, or the first token that is out of order
-unfoldable pub arms_at : ℕ → ℕ → List Mark → Result (List Span) ℕ
-arms_at least zero ms = if kind_eqb (kind_at ms 0) Stop then at_end least ms else Err (place_at ms 0)
-arms_at least (suc most) ms =
-    if kind_eqb (kind_at ms 0) Stop then at_end least ms
-    else unless (misfit arm_heading ms) (with_front (arm_span ms ∷ []) (arms_at (least - 1) most (behind_arm ms)))
-
--- The arms of a branched text, or the first token that is out of order: a stem that is closed, the
--- choice, and two to eight arms.
-abbrev pub order : List Mark → Result (List Span) ℕ
-order ms =
-    let choice = drop (stem_size ms) ms in
-    unless (refuse_if (not (closes_at ms (stem_size ms))) (place_at choice 0))
-    (unless (misfit choice_heading choice) (arms_at 2 8 (drop 4 choice)))
+-- The first token that is out of order stands at this offset: some text with a choice begins with the
+-- tokens before it, and none with it behind them.
+pub record IsMisplaced (ms : List Mark) (at : ℕ) : Type 0 where
+  pub front : List Mark
+  pub next : Mark
+  pub others : List Mark
+  pub are : ms ≡ front ++ next ∷ others
+  pub is : at ≡ next.at
+  pub viable : (more : List Mark) × (spans : List Span) × HasOrder (front ++ more) spans
+  pub none : (more : List Mark) (spans : List Span) → HasOrder (front ++ next ∷ more) spans → ⊥
 
 -- ---- what stands where
 

@@ -1,5 +1,5 @@
 //! Laws of branched texts.
-ghost use Rattle.anb_choice.specs.Laws.{ChoicesAreUnique, NoneIsBoth, RefusalsAreUnique};
+ghost use Rattle.anb_choice.specs.Laws.{ChoicesAreUnique, EachIsEither, FaultlessIsLawful, NoneIsBoth, RefusalsAreUnique};
 
 use anb_read::{narrations_are_unique, none_is_both, refusals_are_unique};
 use anb_syntax::tokens_are_unique;
@@ -29,4 +29,21 @@ pub fn no_choice_is_refused()
     tokens_are_unique();
     narrations_are_unique();
     none_is_both();
+}
+
+/// A law: a text that tells a choice without a fault tells a lawful one. The arms have the stem in
+/// common, so their narrations do, and the plans up to the choice.
+pub fn faultless_is_lawful()
+    ensures { FaultlessIsLawful }
+{
+    tokens_are_unique();
+    narrations_are_unique();
+}
+
+/// A law: each text tells a lawful choice, or is refused.
+pub fn each_is_either()
+    ensures { EachIsEither }
+{
+    anb_read::each_is_either();
+    faultless_is_lawful();
 }

@@ -3,7 +3,8 @@ ghost use Rattle.std.specs.Prelude.{◌≡◌, ◌≤◌, ◌<◌, ◌+◌, ◌^
 ghost use Rattle.std.specs.List.{count_by, list_any};
 ghost use Rattle.anb_choice.specs.declared.marks.Kind.TheVariants as kinds;
 ghost use Rattle.anb_choice.specs.declared.marks.Mark.{Mark as MarkValue};
-ghost use Rattle.anb_choice.specs.Order.{arm_size, arms_at, before, closes_at, kind_at, kind_eqb, misfit, order, past_at, place_at, stem_actions, stem_size};
+ghost use Rattle.anb_choice.specs.Order.{before, kind_at, kind_eqb, past_at, place_at, stem_actions, stem_size};
+ghost use Rattle.anb_choice.specs.Parsing.{arm_size, arms_at, closes_at, misfit, order};
 
 use crate::marks::{Kind, Mark};
 use anb_base::NoMemory;

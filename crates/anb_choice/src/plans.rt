@@ -1,5 +1,5 @@
 //! Plans of roles by name, and their parts before and behind the choice.
-ghost use Rattle.std.specs.Prelude.{◌≡◌, ◌≤◌, ◌↔◌, length, drop, map, true, IfOk, IsTrue};
+ghost use Rattle.std.specs.Prelude.{◌≡◌, ◌≤◌, length, drop, map, true, IfOk};
 ghost use Rattle.anb_index.specs.Places.{among};
 ghost use Rattle.anb_resolve.specs.Views.{plan_event};
 ghost use Rattle.anb_choice.specs.Lawful.{is_of_stem, plan_named, stem_len};
@@ -53,36 +53,4 @@ pub(crate) fn stem_len(stem: u32, events: &[Event]) -> usize
         }
     }
     events.len()
-}
-
-/// Whether both are the same event.
-fn same_event(one: &Event, other: &Event) -> bool
-    ensures { IsTrue result ↔ (plan_event one.now ≡ plan_event other.now) }
-{
-    match (one, other) {
-        (Event::Know(t), Event::Know(u)) => t.same(u),
-        (Event::Fresh(t), Event::Fresh(u)) => t.same(u),
-        (Event::Send { action: i, term: t }, Event::Send { action: j, term: u }) => {
-            i == j && t.same(u)
-        }
-        (Event::Recv { action: i, term: t }, Event::Recv { action: j, term: u }) => {
-            i == j && t.same(u)
-        }
-        _ => false,
-    }
-}
-
-/// Whether both are the same events, in order.
-pub(crate) fn same_events(ones: &[Event], others: &[Event]) -> bool
-    ensures { IsTrue result ↔ (map plan_event ones.now ≡ map plan_event others.now) }
-{
-    if ones.len() != others.len() {
-        return false;
-    }
-    for (i, one) in ones.iter().enumerate() {
-        if !same_event(one, &others[i]) {
-            return false;
-        }
-    }
-    true
 }

@@ -1,33 +1,34 @@
 //! Reads branched texts.
-ghost use Rattle.std.specs.Prelude.{◌≡◌, ◌≢◌, ◌⊎◌, ◌≤◌, ◌+◌, ℕ, List, length, IfOk, IfErr, IfNone, MatchResult};
+ghost use Rattle.std.specs.Prelude.{◌≡◌, ◌≢◌, ◌⊎◌, ◌≤◌, ◌+◌, ℕ, List, length, IfOk, IfErr, MatchResult};
 ghost use Rattle.std.specs.List.{AllByRecursion, AllZip};
 ghost use Rattle.anb_base.specs.declared.TheConstants.{SMALL_FILE};
 ghost use Rattle.anb_choice.specs.declared.order.Span.{Span as SpanValue};
 ghost use Rattle.anb_choice.specs.declared.refusal.BranchNo.{BranchNo as No};
 ghost use Rattle.anb_choice.specs.Branching.{ArmIsRefused, BranchedText, IsOrdered, IsRefusal, Tells, choice_fault, straights};
-ghost use Rattle.anb_choice.specs.Headers.{HasHeader};
 ghost use Rattle.anb_choice.specs.Lawful.{BranchedValue, IsLawful};
 ghost use Rattle.anb_choice.specs.Order.{chooser_in, stem_end};
 ghost use Rattle.anb_choice.specs.Standing.{IsSpanOf, Stand};
 ghost use Rattle.anb_choice.specs.Views.{branched_of};
 
-use crate::alike::{among, are_alike, other_roles};
-use crate::arms::{Arm, arm_of};
+use crate::alike::{among, other_roles};
+use crate::arms::arm_of;
 use crate::blindness::blind;
 use crate::branched::{Branched, roles_in};
-use crate::laws::{branch_refusals_are_unique, choices_are_unique, no_choice_is_refused};
+use crate::laws::{
+    branch_refusals_are_unique, choices_are_unique, faultless_is_lawful, no_choice_is_refused,
+};
 use crate::marks::{Mark, bad_at, marks};
 use crate::order::{Span, order, past_at, place_at, stem_actions, stem_size};
 use crate::parts::{bytes_between, straight};
 use crate::refusal::BranchNo;
-use anb_base::{Bytes, NoMemory, Text};
+use anb_base::{NoMemory, Text};
 use anb_resolve::Protocol;
 use anb_syntax::name_text;
 use std::alloc::Global;
 
 /// What the text tells: the role that chooses, the number of common actions, and each arm's
 /// protocol. Only what stands before the first `Goals` is looked at. Its time is that of reading
-/// and resolving each arm with the stem, and of comparing the roles' plans.
+/// and resolving each arm with the stem.
 pub fn split(alloc: Global, text: &[u8]) -> Result<Branched, BranchNo>
     requires { length text.now ≤ SMALL_FILE }
     // What is told is the text's choice, and lawful; each text of a lawful choice tells it.
@@ -85,8 +86,9 @@ fn branched_in(
     ensures lawful { IfOk result (λ b. IsLawful (branched_of b)) }
     ensures refused { IfErr result (λ no. no ≢ BranchNo.NoMemory → IsRefusal text.now no) }
 {
-    let Told { arms, headers } = match arms_in(alloc, text, marks, spans) {
-        Ok(told) => told,
+    faultless_is_lawful();
+    let arms = match arms_in(alloc, text, marks, spans) {
+        Ok(arms) => arms,
         Err(no) => return Err(no),
     };
     let chooser = match chooser_in(alloc, text, marks) {
@@ -98,47 +100,42 @@ fn branched_in(
         stem: stem_actions(marks),
         arms,
     };
-    match choice_fault(alloc, &branched, &headers) {
+    match choice_fault(alloc, &branched) {
         Ok(None) => Ok(branched),
         Ok(Some(no)) => Err(no),
         Err(NoMemory) => Err(BranchNo::NoMemory),
     }
 }
 
-/// The protocols of arms, and for each the canonical text of its narration without the actions.
-#[derive(Drop)]
-struct Told {
-    arms: Vec<Protocol>,
-    headers: Vec<Bytes>,
-}
-
 /// The protocols of the arms.
-fn arms_in(alloc: Global, text: &[u8], marks: &[Mark], spans: &[Span]) -> Result<Told, BranchNo>
+fn arms_in(
+    alloc: Global,
+    text: &[u8],
+    marks: &[Mark],
+    spans: &[Span],
+) -> Result<Vec<Protocol>, BranchNo>
     requires size { length text.now ≤ SMALL_FILE }
     requires few { length spans.now ≤ 8 }
     requires spans { AllByRecursion (IsSpanOf text.now (stem_end marks.now)) spans.now }
-    ensures told { IfOk result (λ told.
-        AllZip Tells (straights text.now marks.now spans.now) told.arms.items) }
-    ensures headers { IfOk result (λ told. AllZip HasHeader told.arms.items told.headers.items) }
+    ensures told { IfOk result (λ arms.
+        AllZip Tells (straights text.now marks.now spans.now) arms.items) }
     ensures refused { IfErr result (λ no. no ≢ BranchNo.NoMemory
         → ArmIsRefused (straights text.now marks.now spans.now) no) }
 {
     let stem_end = stem_end(marks);
     let mut arms = Vec::new(alloc);
-    let mut headers = Vec::new(alloc);
     for (i, span) in spans.iter().enumerate() {
         let straight = match straight(alloc, text, stem_end, *span) {
             Ok(straight) => straight,
             Err(NoMemory) => return Err(BranchNo::NoMemory),
         };
-        let Arm { protocol, header } = match arm_of(alloc, i as u32 + 1, &straight) {
+        let arm = match arm_of(alloc, i as u32 + 1, &straight) {
             Ok(arm) => arm,
             Err(no) => return Err(no),
         };
-        arms.push(protocol)?;
-        headers.push(header)?;
+        arms.push(arm)?;
     }
-    Ok(Told { arms, headers })
+    Ok(arms)
 }
 
 /// The offset past the stem.
@@ -165,17 +162,10 @@ fn chooser_in(alloc: Global, text: &[u8], marks: &[Mark]) -> Result<Text, NoMemo
     name_text(alloc, bytes_between(text, span))
 }
 
-/// Why a choice isn't lawful, whose arms have these headers.
-fn choice_fault(
-    alloc: Global,
-    b: &Branched,
-    headers: &[Bytes],
-) -> Result<Option<BranchNo>, NoMemory>
-    requires headers { AllZip HasHeader b.now.arms.items headers.now }
-    requires few { 2 ≤ length b.now.arms.items }
-    requires most { length b.now.arms.items ≤ 8 }
-    ensures fault { IfOk result (λ r. r ≡ choice_fault (branched_of b.now)) }
-    ensures lawful { IfOk result (λ r. IfNone r (IsLawful (branched_of b.now))) }
+/// Why a choice isn't lawful.
+fn choice_fault(alloc: Global, b: &Branched) -> Result<Option<BranchNo>, NoMemory>
+    requires { length b.now.arms.items ≤ 8 }
+    ensures { IfOk result (λ r. r ≡ choice_fault (branched_of b.now)) }
 {
     if let Some(arm) = other_roles(b) {
         return Ok(Some(BranchNo::Roles(arm)));
@@ -183,12 +173,8 @@ fn choice_fault(
     if !among(roles_in(b), &b.chooser) {
         return Ok(Some(BranchNo::Chooser));
     }
-    if let Some((role, arm)) = blind(alloc, b)? {
-        return Ok(Some(BranchNo::Blind { role, arm }));
-    }
-    if are_alike(alloc, b, headers)? {
-        Ok(None)
-    } else {
-        Err(NoMemory)
+    match blind(alloc, b)? {
+        Some((role, arm)) => Ok(Some(BranchNo::Blind { role, arm })),
+        None => Ok(None),
     }
 }

@@ -96,21 +96,23 @@ end_there xs (a ∷ acts) h =
       end_there xs acts (λ y e. h y (or_second (bytes_eq a.from y) _ (or_second (bytes_eq a.to y) _ e))),
     )
 
+-- both ends of each action are roles
+pub ends_are_roles : (n : Narration) → AllByRecursion (λ (a : ActionItem). (among (roles n) a.from ≡ true) × (among (roles n) a.to ≡ true)) n.actions
+ends_are_roles n =
+    end_there (roles n) n.actions
+    (λ y e. new_has [] (line_names n ++ flat_map action_roles n.actions) y (any-append (λ z. bytes_eq z y) (line_names n) (flat_map action_roles n.actions) ∙ or_second (among (line_names n) y) _ e) refl)
+
 pub ends_below : (n : Narration) → AllByRecursion (λ (a : ActionValue). a.from < length (protocol_of n).roles) (protocol_of n).actions
 unfolding protocol_of
 ends_below n =
-    let has : (y : List ℕ) → among (flat_map action_roles n.actions) y ≡ true → among (roles n) y ≡ true =
-    λ y e. new_has [] (line_names n ++ flat_map action_roles n.actions) y (any-append (λ z. bytes_eq z y) (line_names n) (flat_map action_roles n.actions) ∙ or_second (among (line_names n) y) _ e) refl in
     each_of_map (λ (a : ActionValue). a.from < length (roles n)) (action_of (atoms n) (formats_of n) (roles n)) n.actions
-    (each_by (λ (a : ActionItem). (among (roles n) a.from ≡ true) × (among (roles n) a.to ≡ true)) (λ (a : ActionItem). role_number (roles n) a.from < length (roles n)) (λ a h. role_below (roles n) a.from h.0) n.actions (end_there (roles n) n.actions has))
+    (each_by (λ (a : ActionItem). (among (roles n) a.from ≡ true) × (among (roles n) a.to ≡ true)) (λ (a : ActionItem). role_number (roles n) a.from < length (roles n)) (λ a h. role_below (roles n) a.from h.0) n.actions (ends_are_roles n))
 
 pub tos_below : (n : Narration) → AllByRecursion (λ (a : ActionValue). a.to < length (protocol_of n).roles) (protocol_of n).actions
 unfolding protocol_of
 tos_below n =
-    let has : (y : List ℕ) → among (flat_map action_roles n.actions) y ≡ true → among (roles n) y ≡ true =
-    λ y e. new_has [] (line_names n ++ flat_map action_roles n.actions) y (any-append (λ z. bytes_eq z y) (line_names n) (flat_map action_roles n.actions) ∙ or_second (among (line_names n) y) _ e) refl in
     each_of_map (λ (a : ActionValue). a.to < length (roles n)) (action_of (atoms n) (formats_of n) (roles n)) n.actions
-    (each_by (λ (a : ActionItem). (among (roles n) a.from ≡ true) × (among (roles n) a.to ≡ true)) (λ (a : ActionItem). role_number (roles n) a.to < length (roles n)) (λ a h. role_below (roles n) a.to h.1) n.actions (end_there (roles n) n.actions has))
+    (each_by (λ (a : ActionItem). (among (roles n) a.from ≡ true) × (among (roles n) a.to ≡ true)) (λ (a : ActionItem). role_number (roles n) a.to < length (roles n)) (λ a h. role_below (roles n) a.to h.1) n.actions (ends_are_roles n))
 
 pub can_be_checked : (n : Narration) → IsSpellable n → first_fault limit_checks n ≡ None → first_fault name_checks n ≡ None → misshapen n ≡ None → CanBeChecked (protocol_of n)
 can_be_checked n s l a m =

@@ -1,5 +1,5 @@
 use Rattle.std.proofs.Common.{◌≡◌, drop}
-use Rattle.anb_choice.specs.Order.{misfit}
+use Rattle.anb_choice.specs.Parsing.{misfit}
 use Rattle.anb_choice.proofs.order.misfit.Given as goal
 
 abbrev pub invariant-loop-i : goal.invariant-loop-i

@@ -9,8 +9,3 @@ pub blind-requires-clause-roles : goal.blind-requires-clause-roles
 blind-requires-clause-roles c =
     none_refused (λ (p : ProtocolValue). are_same_names (roles_in (branched_of c.args.b.now)) p.roles) (λ (us : List ProtocolValue). length us + 1) [] c.args.b.now.arms.items
     (sym c.other_roles.ensures ∙ c.in_default.is)
-
-pub are_alike-requires-clause-roles : goal.are_alike-requires-clause-roles
-are_alike-requires-clause-roles c =
-    none_refused (λ (p : ProtocolValue). are_same_names (roles_in (branched_of c.args.b.now)) p.roles) (λ (us : List ProtocolValue). length us + 1) [] c.args.b.now.arms.items
-    (sym c.other_roles.ensures ∙ c.in_default.is)

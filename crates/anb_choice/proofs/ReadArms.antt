@@ -1,61 +1,17 @@
--- What the narrations of arms have in common, and the arms that were read.
-use Rattle.std.proofs.Common.{◌≡◌, ℕ, ◌+◌, ◌<◌, List, [], ◌∷◌, ◌++◌, length, map, take, drop, get_or, Bool, true, false, refl, sym, ap, subst, ◌∙◌, arith}
-use Rattle.std.specs.Prelude.{◌&&◌}
-use Rattle.std.specs.List.{AllZip, flat_map}
+-- The arms of a text that were read, one after another.
+use Rattle.std.proofs.Common.{◌≡◌, ℕ, ◌+◌, ◌<◌, List, [], ◌∷◌, ◌++◌, length, take, drop, get_or, sym, ap, subst, ◌∙◌, arith}
+use Rattle.std.specs.List.{AllZip}
 use Rattle.std.proofs.lemmas.List.{drop_more, get_or_default, length-map, length-take-le, take-append-drop}
 use Rattle.std.proofs.Math.ListN.{get_or-map}
 use Rattle.anb_lemmas.proofs.Each.{take_next, zip_and_last}
-use Rattle.anb_syntax.specs.Grammar.{Narration, IsSpellable}
-use Rattle.anb_syntax.specs.Canon.{canon}
-use Rattle.anb_syntax.specs.Text.{Text}
-use Rattle.anb_syntax.specs.Laws.{CanonicalIsText}
-use Rattle.anb_read.specs.Laws.{NarrationsAreUnique}
-use Rattle.anb_resolve.specs.Names.{item_atoms}
-use Rattle.anb_resolve.specs.Protocols.{ProtocolValue, format_value, protocol_of}
+use Rattle.anb_resolve.specs.Protocols.{ProtocolValue}
 use Rattle.anb_choice.specs.declared.refusal.BranchNo.{BranchNo}
 use Rattle.anb_choice.specs.declared.refusal.BranchNo.TheVariants.{Token, Shape, ArmRead, ArmResolve, Roles, Chooser, Blind, NoMemory}
 use Rattle.anb_choice.specs.declared.marks.Mark.{Mark}
 use Rattle.anb_choice.specs.declared.order.Span.{Span}
 use Rattle.anb_choice.specs.Branching.{ArmIsRefused, Tells, straights}
 use Rattle.anb_choice.specs.Order.{bytes_between, stem_end, straight}
-use Rattle.anb_choice.specs.Headers.{HasHeader, IsRefusedAs, without_actions}
-
-fits_first : (a b : Bool) → (a && b) ≡ true → (a && true) ≡ true
-fits_first true b e = refl
-fits_first false b e = cc
-
--- a narration can still be written without its actions
-pub spellable_without : (n : Narration) → IsSpellable n → IsSpellable (without_actions n)
-spellable_without n s = record {
-  valid = record { title = s.valid.title; types = s.valid.types; formats = s.valid.formats; knows = s.valid.knows; actions = tt };
-  fit = fits_first _ _ s.fit;
-}
-
--- what protocols with one header have in common
-pub record HaveOneHeader (p q : ProtocolValue) : Type 0 where
-  pub suite : p.suite ≡ q.suite
-  pub formats : p.formats ≡ q.formats
-  pub atoms : p.atoms ≡ q.atoms
-
-of_narrations : (n m : Narration) → without_actions n ≡ without_actions m → HaveOneHeader (protocol_of n) (protocol_of m)
-unfolding protocol_of
-of_narrations n m e = record {
-  suite = ap (λ (k : Narration). k.suite) e;
-  formats = ap (λ (k : Narration). map format_value k.formats) e;
-  atoms = ap (λ (k : Narration). flat_map item_atoms k.types) e;
-}
-
-pub one_header : CanonicalIsText → NarrationsAreUnique → (p q : ProtocolValue) (h k : List ℕ) → h ≡ k → HasHeader p h → HasHeader q k → HaveOneHeader p q
-one_header texts unique p q h k e one other =
-    let n = without_actions one.narration in
-    let m = without_actions other.narration in
-    let same : canon n ≡ canon m = sym one.is ∙ e ∙ other.is in
-    let written = subst (λ (x : List ℕ). Text m x) (sym same) (texts m other.spellable) in
-    let are = unique (canon n) n m (texts n one.spellable) written in
-    subst (λ (r : ProtocolValue). HaveOneHeader r q) (sym one.protocol) (subst (λ (r : ProtocolValue). HaveOneHeader (protocol_of one.narration) r) (sym other.protocol)
-    (of_narrations one.narration other.narration are))
-
--- ---- arms that were read
+use Rattle.anb_choice.specs.ArmRefusals.{IsRefusedAs}
 
 -- an arm is refused behind others that weren't
 pub refused_at : (texts : List (List ℕ)) (i : ℕ) (text : List ℕ) (arms : List ProtocolValue) (why : BranchNo)

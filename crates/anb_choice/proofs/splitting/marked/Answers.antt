@@ -1,0 +1,15 @@
+use Rattle.std.proofs.Common.{◌≡◌, Ok, sym, ap, ◌∙◌}
+use Rattle.anb_choice.specs.Order.{bad_at}
+use Rattle.anb_choice.specs.Parsing.{order}
+use Rattle.anb_choice.proofs.Ordering.{has_order}
+use Rattle.anb_choice.proofs.splitting.marked.Goals as goal
+
+pub branched_in-requires-clause-ordered : goal.branched_in-requires-clause-ordered
+branched_in-requires-clause-ordered c =
+    let text = c.args.text.now in
+    let ms = c.in-Ok.marks.items in
+    let spans = c.in-Ok-Ok.spans.items in
+    let tokens = ap bad_at (sym c.deref.ensures.value) ∙ sym c.bad_at.ensures ∙ c.in_default.is in
+    let ok : order c.deref-2.result.now ≡ Ok spans = rw c.in-Ok-Ok.field-0-is at c.in-Ok-Ok.ensures in
+    let found = ap order (sym c.deref-2.ensures.value) ∙ ok in
+    rw (c.deref-in-Ok-Ok.ensures.value, c.deref-in-Ok-Ok-2.ensures.value) (record { marks = c.in-Ok.ensures.are; tokens = tokens; order = has_order text ms spans c.in-Ok.ensures.are found })
