@@ -9,7 +9,7 @@ Examples: `fmt` gives the narration's text, each role compiles, all roles play t
 came of it is compared with examples/expected, and the index of the examples with what docs/charts.py writes. Where the
 program has `rehearse`, all roles are rehearsed too, by `schedule` and by each other file `*.schedule`, which has turns
 that are passed over; where it has `chart`, the charts are those of docs/charts.py; and where it has `certify`, each code
-that `compile` wrote is certified, and without one of its checks it is certified or refused. A role's transcript stands
+that `compile` wrote is certified, and less one of its checks it is not, where it then runs otherwise on spoiled arrivals. A role's transcript stands
 beside its values. What the gate runs of each example is a copy, in crates/anb_examples.
 
 Texts with a choice, `choice.anb` in a folder of their own: in each arm all roles play to their ends under `branch`, and
@@ -124,17 +124,77 @@ def certified(program, narration, role, code):
         return subprocess.run([program, "certify", narration, role, file], capture_output=True, timeout=300).returncode
 
 
-def check_certificates(program, narration, codes):
-    """Each code is certified. Without one of its checks it may be no role file (16), or not certified (28)."""
+def instruction(line):
+    """The registers that a line of a code writes, its words, and the registers that it reads."""
+    written, _, did = line.rpartition(" = ") if not line.startswith(("equal ", "send ")) else ("", "", line)
+    word, _, rest = did.partition(" ")
+    if word == "take":
+        return written.split(), did, []
+    names = 1 if word in ("build", "parse") else 0
+    operands = rest.split()
+    return written.split(), " ".join([word, *operands[:names]]), operands[names:]
+
+
+def without_line(code, dropped):
+    """The code less a line and what reads its registers, with the others numbered anew. None, where a send does."""
+    head, mark, body = code.partition("\ncode\n")
+    lines, gone, numbers, kept = body.splitlines()[:-1], set(), {}, []
+    for at, line in enumerate(lines):
+        written, words, read = instruction(line)
+        if at == dropped or gone & set(read):
+            if words == "send":
+                return None
+            gone |= set(written)
+            continue
+        for register in written:
+            numbers[register] = f"r{len(numbers)}"
+        names = " ".join(numbers[register] for register in written)
+        kept.append((names + " = " if names else "") + " ".join([words, *(numbers[register] for register in read)]))
+    return head + mark + "\n".join([*kept, "end\n"])
+
+
+def spoiled(arrivals):
+    """The arrivals, and others with one byte changed, or one more or less."""
+    yield arrivals
+    for at, message in enumerate(arrivals):
+        places = range(0, len(message), max(1, len(message) // 8))
+        others = [message[:k] + bytes([message[k] ^ 1]) + message[k + 1 :] for k in places]
+        for other in [*others, message[:-1], message + b"\0"]:
+            yield [*arrivals[:at], other, *arrivals[at + 1 :]]
+
+
+def runs(program, code, values, inputs):
+    """What a code writes over each of these inputs, and how it ends, but for the instruction of a stop."""
+    ends = []
+    with tempfile.TemporaryDirectory() as scratch:
+        file = pathlib.Path(scratch) / "code"
+        file.write_text(code)
+        for arrivals in inputs:
+            sent = b"".join(struct.pack(">I", len(message)) + message for message in arrivals)
+            done = subprocess.run([program, "enact", file, values], input=sent, capture_output=True, timeout=60)
+            ends.append((done.returncode, done.stdout, re.sub(rb", instruction \d+", b"", done.stderr)))
+    return ends
+
+
+def check_certificates(program, story, narration, folder, codes, messages):
+    """Each code is certified. So is no code less a check that then runs otherwise, on arrivals that are spoiled."""
     for role, code in codes.items():
         if certified(program, narration, role, code) != 0:
             raise ValueError(f"the code of {role} isn't certified")
-        lines = code.splitlines(keepends=True)
-        for i, line in enumerate(lines):
+        heard = [message for (_, receiver, _), message in zip(story.actions, messages) if receiver == role]
+        inputs = list(spoiled(heard))
+        whole = runs(program, code, values_file(folder, role), inputs)
+        for at, line in enumerate(code.partition("\ncode\n")[2].splitlines()):
             if not re.match(r"equal |r[0-9 r]* = (unseal|unwrap|parse) ", line):
                 continue
-            if certified(program, narration, role, "".join(lines[:i] + lines[i + 1 :])) not in (0, 16, 28):
-                raise ValueError(f"the code of {role} without its line {i + 1} has another status")
+            less = without_line(code, at)
+            if less is None:
+                continue
+            status = certified(program, narration, role, less)
+            if status not in (0, 28):
+                raise ValueError(f"the code of {role} without its instruction {at + 1}: status {status}")
+            if status == 0 and runs(program, less, values_file(folder, role), inputs) != whole:
+                raise ValueError(f"the code of {role} without its instruction {at + 1} is certified, and runs otherwise")
 
 
 def played(story, words):
@@ -265,8 +325,6 @@ def check_example(program, folder, commands, write):
     for role, code in codes.items():
         if not re.fullmatch(r"anb-role 2\n.*\nend\n", code, re.S):
             raise ValueError(f"no role file for {role}")
-    if "certify" in commands:
-        check_certificates(program, path, codes)
     check_schedules(program, story, folder, commands)
     names = names_of(story, folder)
     carried = relay(program, story, lambda role: ["play", path, role, values_file(folder, role)])
@@ -274,6 +332,8 @@ def check_example(program, folder, commands, write):
         raise ValueError("the role files' codes sent something else than the roles' plays")
     if carried != [story.bytes_of(message, names) for _, _, message in story.actions]:
         raise ValueError("a message has other bytes than those computed apart")
+    if "certify" in commands:
+        check_certificates(program, story, path, folder, codes, carried)
     check_transcripts(story, folder, carried, write)
     return f"{folder.name}: {summary(story, carried)}"
 
