@@ -17,7 +17,7 @@ use Rattle.anb_command.specs.Prepared.{IsReady, RunsOn, RunsTo}
 use Rattle.anb_command.specs.Statuses.{OnFileFault, before_reach, is_fault, phase_of}
 use Rattle.anb_command.specs.Steps.{Answer, refused, given, HasOneAnswer, IsFailure}
 use Rattle.anb_command.proofs.Chains.{told_map}
-use Rattle.anb_command.proofs.Ones.{RefusesQuietly, same_given, same_refusal, not_both}
+use Rattle.anb_command.proofs.Ones.{RefusesQuietly, same_refusal, not_both}
 use Rattle.anb_command.proofs.Runs.{comes}
 use Rattle.anb_command.proofs.Written.{faulty}
 

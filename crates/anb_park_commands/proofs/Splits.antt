@@ -1,8 +1,8 @@
 -- Parts of a session are the whole play.
-use Rattle.std.proofs.Common.{◌≡◌, ◌≢◌, ℕ, ◌+◌, ◌*◌, ◌≤◌, List, [], ◌∷◌, ◌++◌, length, map, All, AllPairs, Option, Some, None, refl, sym, ap, ◌∙◌, subst, inl, inr, arith, length-append, append_assoc}
+use Rattle.std.proofs.Common.{◌≡◌, ◌≢◌, ℕ, ◌+◌, ◌≤◌, List, [], ◌∷◌, ◌++◌, length, All, AllPairs, Option, Some, None, refl, sym, ap, ◌∙◌, subst, inl, inr, arith, length-append, append_assoc}
 use Rattle.std.specs.Prelude.{Bool, IfSome, Ok, false, replicate, true}
 use Rattle.std.specs.List.{sum_by}
-use Rattle.std.proofs.lemmas.List.{append-nil, append_cancel_left, append_cancel_right, length-map}
+use Rattle.std.proofs.lemmas.List.{append-nil, append_cancel_left, append_cancel_right}
 use Rattle.std.proofs.lemmas.Grind.{flat_map-append}
 use Rattle.sha2.proofs.Facts256.{length-sha256}
 use Rattle.anb_base.specs.Bytes.{IsBytes}
@@ -17,13 +17,12 @@ use Rattle.anb_plays.specs.Plays as plays
 use Rattle.anb_plays.specs.Plays.{Played}
 use Rattle.anb_plays.proofs.Plays.{plays_are_one}
 use Rattle.anb_read.specs.Laws.{NarrationsAreUnique, NoneIsBoth, RefusalsAreUnique}
-use Rattle.anb_resolve.specs.Laws.{HoldsOf, KnownTextsDiffer, ProtocolsHold}
-use Rattle.anb_resolve.specs.Plays.{IsPlay, events_of, meaning_of}
-use Rattle.anb_resolve.specs.Protocols.{ProtocolValue, protocol_of}
+use Rattle.anb_resolve.specs.Laws.{KnownTextsDiffer, ProtocolsHold}
+use Rattle.anb_resolve.specs.Plays.{events_of, meaning_of}
+use Rattle.anb_resolve.specs.Protocols.{ProtocolValue}
 use Rattle.anb_resolve.specs.Texts.{known_texts}
 use Rattle.anb_resolve.specs.WellFormed.{IsProtocol}
 use Rattle.anb_seal.specs.Laws.{SealsLonger}
-use Rattle.anb_seal.specs.Primitives.{hash_of}
 use Rattle.anb_seal.specs.Streams.{draw_of}
 use Rattle.anb_syntax.specs.Canon.{canon}
 use Rattle.anb_syntax.specs.Grammar.{Narration}
@@ -38,7 +37,7 @@ use Rattle.anb_command.specs.Files.{FileIs, NarrationInFile, NarrationIs, Protoc
 use Rattle.anb_command.specs.Outcomes as playing
 use Rattle.anb_command.specs.Outcomes.{LeavesAt}
 use Rattle.anb_command.specs.Roles.{Part, PartInFile, PartOf}
-use Rattle.anb_command.specs.Seeds.{SeedIs, seed_of}
+use Rattle.anb_command.specs.Seeds.{seed_of}
 use Rattle.anb_command.specs.Statuses.{before_reach, phase_of}
 use Rattle.anb_command.specs.Steps.{Answer, refused, given, InTurn}
 use Rattle.anb_command.proofs.Cutting.{cut_behind}
@@ -49,7 +48,7 @@ use Rattle.anb_role_commands.specs.PlayCommand.{PlayOf}
 use Rattle.anb_role_commands.proofs.Tasks.{job_one, job_quiet}
 use Rattle.anb_park_commands.specs.Identities.{IdentityIs, identity}
 use Rattle.anb_park_commands.specs.ParkCommand.{NewSessionIs}
-use Rattle.anb_park_commands.specs.Parking.{IsPlayed, Outcome, due, record_after, status_at}
+use Rattle.anb_park_commands.specs.Parking.{IsPlayed, due, record_after, status_at}
 use Rattle.anb_park_commands.specs.Records.{RecordIs}
 use Rattle.anb_park_commands.specs.ResumeCommand.{ResumedIs}
 use Rattle.anb_park_commands.specs.Sessions.{Begins, GoesOn, RoleSession, count_known}

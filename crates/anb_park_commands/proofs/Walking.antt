@@ -1,10 +1,10 @@
 -- How a play uses its arrivals, and how it goes on over more of them.
-use Rattle.std.proofs.Common.{◌≡◌, ℕ, suc, ◌+◌, ◌≤◌, List, [], ◌∷◌, ◌++◌, length, refl, sym, ap, ◌∙◌, subst, inl, inr, arith}
+use Rattle.std.proofs.Common.{◌≡◌, ℕ, ◌+◌, ◌≤◌, List, [], ◌∷◌, ◌++◌, length, refl, sym, ap, ◌∙◌, subst, inl, inr, arith}
 use Rattle.anb_term.specs.Tree.{Tree}
 use Rattle.anb_term.specs.Value.{Meaning}
-use Rattle.anb_term.specs.Agree.{Agree, Gives}
+use Rattle.anb_term.specs.Agree.{Gives}
 use Rattle.anb_plays.specs.Plans.{Event, know, fresh, send, recv, known}
-use Rattle.anb_plays.specs.Plays.{End, stopped, waiting, done, Played, ends, says, Judge, Walk, Play}
+use Rattle.anb_plays.specs.Plays.{End, stopped, waiting, done, Played, ends, Walk, Play}
 
 -- how many arrivals a plan waits for
 abbrev pub count_receives : List Event → ℕ

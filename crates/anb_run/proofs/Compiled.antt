@@ -1,6 +1,6 @@
 -- A role file of a code that fits is enacted as its role is played: one that `compile` wrote, and one that
 -- `certify` certified.
-use Rattle.std.proofs.Common.{◌≡◌, ℕ, Bool, List, [], length, None, Option, refl, sym, ap, ◌∙◌, subst, inl, inr}
+use Rattle.std.proofs.Common.{◌≡◌, ℕ, Bool, List, length, Option, refl, sym, ap, ◌∙◌, subst, inl, inr}
 use Rattle.std.specs.List.{AllByRecursion}
 use Rattle.std.proofs.lemmas.List.{length-map}
 use Rattle.anb_base.specs.Bytes.{IsBytes}

@@ -4,7 +4,6 @@ use Rattle.anb_base.specs.declared.TheConstants.{ARRIVAL, WIDE}
 use Rattle.anb_code.specs.CodeValue.{CodeValue}
 use Rattle.anb_code.specs.Taking.{take_texts}
 use Rattle.anb_code.specs.Verified.{IsVerifiedCode}
-use Rattle.anb_frame.specs.Cuts.{Tail, Cut}
 use Rattle.anb_machine.specs.Laws.{RunsSendWithin}
 use Rattle.anb_command.specs.Errands.{Errand, ErrandOf}
 use Rattle.anb_command.specs.Fetches.{Files}
