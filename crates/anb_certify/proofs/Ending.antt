@@ -108,7 +108,7 @@ all_past p role code i next v l s = subst (λ (acts : List Act). Stands p role c
 
 -- ---- a certified code fits the role
 
-abbrev texts_in : ProtocolValue → List PlanEvent → List (List ℕ)
+abbrev pub texts_in : ProtocolValue → List PlanEvent → List (List ℕ)
 texts_in p es = map (term_text p) (known_in es)
 
 takes_none : (i : Instr) → is_work i ≡ true → taken_text i ≡ None
@@ -160,7 +160,7 @@ none_yet = None
 no_some : {X : Type 0} (n : ℕ) → Some n ≡ none_yet → X
 no_some n e = cc
 
-texts_are : (p : ProtocolValue) (is : List Instr) (es : List PlanEvent) (n : ℕ) → stray p is es n ≡ None → take_texts is ≡ texts_in p es
+pub texts_are : (p : ProtocolValue) (is : List Instr) (es : List PlanEvent) (n : ℕ) → stray p is es n ≡ None → take_texts is ≡ texts_in p es
 texts_are p [] [] n e = refl
 texts_are p [] (x ∷ es) n e = no_some n e
 texts_are p (i ∷ is) es n e = by_kind (is_work i) refl es e (λ es2 m f. texts_are p is es2 m f) where

@@ -21,3 +21,4 @@ pub mod Framing
 pub mod Tabling
 pub mod Results
 pub mod Ending
+pub mod Followed

@@ -1,5 +1,5 @@
 -- Laws on what is certified.
-use Rattle.std.specs.Prelude.{◌≡◌, ◌≢◌, ℕ, List, [], length, None}
+use Rattle.std.specs.Prelude.{◌≡◌, ◌≢◌, ◌↔◌, ℕ, List, [], length, None}
 use Rattle.anb_term.specs.Value.{Meaning}
 use Rattle.anb_plays.specs.Plans.{Event, known}
 use Rattle.anb_plays.specs.Codes.{Act}
@@ -7,10 +7,11 @@ use Rattle.anb_plays.specs.Fits.{start, Fits}
 use Rattle.anb_plays.specs.Exec.{HasTakes}
 use Rattle.anb_code.specs.CodeValue.{CodeValue}
 use Rattle.anb_resolve.specs.Protocols.{ProtocolValue}
+use Rattle.anb_compile.specs.Fitting.{FollowsRole}
 use Rattle.anb_certify.specs.declared.refusal.CertifyNo.{CertifyNo}
 use Rattle.anb_certify.specs.declared.refusal.CertifyNo.TheVariants.{NoMemory}
 use Rattle.anb_certify.specs.Along.{Finds}
-use Rattle.anb_certify.specs.Certified.{IsCertified, Refuses}
+use Rattle.anb_certify.specs.Certified.{HasFrame, IsCertified, Refuses}
 
 -- a verified code of which nothing is found fits its plan, in all four parts
 abbrev pub CertifiedFits : {A : Type 0} → Meaning A → Type 0
@@ -26,3 +27,8 @@ NoneIsBoth = (p : ProtocolValue) (role : ℕ) (code : CodeValue) (no : CertifyNo
 abbrev pub RefusalsAreUnique : Type 0
 RefusalsAreUnique = (p : ProtocolValue) (role : ℕ) (code : CodeValue) (one other : CertifyNo)
     → one ≢ NoMemory → other ≢ NoMemory → Refuses p role code one → Refuses p role code other → one ≡ other
+
+-- A code has the role's frame exactly where it keeps the order of the role's plan. So *Frame* comes
+-- exactly where that order is broken.
+abbrev pub FramesFollow : Type 0
+FramesFollow = (p : ProtocolValue) (role : ℕ) (code : CodeValue) → HasFrame p role code ↔ FollowsRole p role code

@@ -1,7 +1,7 @@
 //! What a certificate is worth, and what a shut list shows: laws, each a function that does nothing.
 ghost use Rattle.anb_certify.specs.Classes.{ClassesAreTied, RulesAreDecided, RulesTie};
 ghost use Rattle.anb_certify.specs.Shut.{ShutHasNone};
-ghost use Rattle.anb_certify.specs.Statements.{CertifiedFits, NoneIsBoth, RefusalsAreUnique};
+ghost use Rattle.anb_certify.specs.Statements.{CertifiedFits, FramesFollow, NoneIsBoth, RefusalsAreUnique};
 
 use anb_close::laws::every_recipe_composes;
 use anb_term::Algebra;
@@ -36,4 +36,9 @@ pub fn none_is_both()
 /// A law: a code has one refusal at most.
 pub fn refusals_are_unique()
     ensures { RefusalsAreUnique }
+{}
+
+/// A law: a code has a role's frame exactly where it keeps the order of the role's plan.
+pub fn frames_follow()
+    ensures { FramesFollow }
 {}

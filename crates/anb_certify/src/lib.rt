@@ -20,7 +20,8 @@ mod works;
 
 pub use certifying::certify;
 pub use laws::{
-    certified_fits, classes_are_tied, none_is_both, refusals_are_unique, shut_has_none,
+    certified_fits, classes_are_tied, frames_follow, none_is_both, refusals_are_unique,
+    shut_has_none,
 };
 pub use numbers::{composing, marks, put_all};
 pub use reasons::{Refusal, reason};

@@ -1,7 +1,7 @@
 -- When a code is one for a role of a protocol.
 use Rattle.std.specs.Prelude.{◌≡◌, ◌≤◌, ℕ, List, length, Some, slice_get}
 use Rattle.anb_term.specs.Tree.{nodes}
-use Rattle.anb_plays.specs.Fits.{Fits}
+use Rattle.anb_plays.specs.Fits.{Fits, Follows}
 use Rattle.anb_code.specs.CodeValue.{CodeValue}
 use Rattle.anb_code.specs.Meaning.{acts_of}
 use Rattle.anb_code.specs.Taking.{take_texts}
@@ -11,6 +11,17 @@ use Rattle.anb_resolve.specs.Plans.{plan_of}
 use Rattle.anb_resolve.specs.Plays.{events_of, meaning_of}
 use Rattle.anb_compile.specs.Unsent.{labels_of}
 use Rattle.anb_compile.specs.Counted.{count_demands, count_builds, count_subterms}
+
+-- A code keeps the order of a role's plan, whatever it sends and checks: suite, formats and names are the
+-- protocol's and the role's, the takes have the texts of what the role knows, and takes, nonces, arrivals
+-- and sends are in order those of the plan.
+pub record FollowsRole (p : ProtocolValue) (role : ℕ) (code : CodeValue) : Type 0 where
+  pub suite : code.suite ≡ p.suite
+  pub formats : code.formats ≡ p.formats
+  pub protocol : code.protocol ≡ p.name
+  pub name : slice_get p.roles role ≡ Some code.role
+  pub texts : take_texts code.instrs ≡ known_texts p role
+  pub order : Follows (acts_of code) (events_of p role)
 
 -- Suite, formats and names are the protocol's and the role's, and the takes have the texts of what the
 -- role knows. What the code does fits the role's plan over byte strings: it keeps the plan's order, each
