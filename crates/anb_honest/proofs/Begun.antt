@@ -32,7 +32,7 @@ use Rattle.anb_resolve.specs.Plans.{PlanEvent, plan_of}
 use Rattle.anb_resolve.specs.Plays.{events_of}
 use Rattle.anb_resolve.specs.Schedules.{parts_of}
 use Rattle.anb_honest.specs.declared.player.Player.{Player}
-use Rattle.anb_honest.specs.Order.{FollowsRole}
+use Rattle.anb_compile.specs.Fitting.{FollowsRole}
 use Rattle.anb_honest.specs.Given.{items_of}
 use Rattle.anb_honest.specs.Joint.{Cast, init_of, given_bytes, long_end}
 use Rattle.anb_honest.specs.Acting.{KeepsOrder}

@@ -21,7 +21,7 @@ use Rattle.anb_resolve.specs.Protocols.{ProtocolValue}
 use Rattle.anb_resolve.specs.Texts.{known_texts}
 use Rattle.anb_resolve.specs.Plans.{PlanEvent, plan_of}
 use Rattle.anb_resolve.specs.Plays.{events_of}
-use Rattle.anb_honest.specs.Order.{FollowsRole}
+use Rattle.anb_compile.specs.Fitting.{FollowsRole}
 use Rattle.std.proofs.lemmas.List.{take_all}
 use Rattle.anb_lemmas.proofs.Each.{take_next}
 use Rattle.anb_lemmas.proofs.Bools.{never_both}

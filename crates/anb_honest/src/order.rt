@@ -7,7 +7,7 @@ ghost use Rattle.anb_resolve.specs.Plays.{event_of};
 ghost use Rattle.anb_resolve.specs.Views.{plan_event};
 ghost use Rattle.anb_honest.specs.declared.kind.Kind.{Kind};
 ghost use Rattle.anb_honest.specs.Kinds.{kind_of, kinds_of, event_kind};
-ghost use Rattle.anb_honest.specs.Order.{FollowsRole};
+ghost use Rattle.anb_compile.specs.Fitting.{FollowsRole};
 
 use crate::kind::Kind;
 use anb_base::{NoMemory, Suite, Text};

@@ -1,7 +1,8 @@
 //! Rehearsals for tests, and what they tell.
 ghost use Rattle.std.specs.Prelude.{◌≡◌, ◌<◌, ◌≤◌, length, All, IfOk, OnOk};
 ghost use Rattle.anb_base.specs.declared.TheConstants.{ARRIVAL};
-ghost use Rattle.anb_honest.specs.Order.{FollowRoles, FollowsRole};
+ghost use Rattle.anb_compile.specs.Fitting.{FollowsRole};
+ghost use Rattle.anb_honest.specs.Order.{FollowRoles};
 
 use anb_base::{ARRIVAL, Bytes, SMALL_FILE};
 use anb_code::RoleCode;

@@ -7,7 +7,7 @@ use Rattle.anb_code.specs.Taking.{take_texts}
 use Rattle.anb_resolve.specs.Plays.{event_of}
 use Rattle.anb_resolve.specs.Texts.{known_texts}
 use Rattle.anb_honest.specs.Kinds.{kind_of, kinds_of, event_kind}
-use Rattle.anb_honest.specs.Order.{FollowsRole}
+use Rattle.anb_compile.specs.Fitting.{FollowsRole}
 use Rattle.anb_honest.proofs.Comparing.{follows_where, follows_not, falls}
 use Rattle.anb_honest.proofs.order.follows.Goals.{then-takes_these, else-takes_these}
 use Rattle.anb_honest.proofs.order.follows.Goals as goal

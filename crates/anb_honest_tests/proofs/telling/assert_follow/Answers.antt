@@ -3,7 +3,7 @@ use Rattle.std.specs.Prelude.{◌==◌, slice_get}
 use Rattle.std.proofs.lemmas.Bool.{eqb-true, eqb-false}
 use Rattle.std.proofs.lemmas.Option.{slice_get-get_or}
 use Rattle.anb_code.specs.CodeValue.{CodeValue}
-use Rattle.anb_honest.specs.Order.{FollowsRole}
+use Rattle.anb_compile.specs.Fitting.{FollowsRole}
 use Rattle.anb_honest_tests.proofs.telling.assert_follow.Goals as goal
 
 is_within : (xs : List CodeValue) (i : ℕ) (x : CodeValue) → slice_get xs i ≡ Some x → i < length xs
