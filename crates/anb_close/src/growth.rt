@@ -266,7 +266,7 @@ impl Growth {
         let first = self.entries.len() as u32;
         let term = self.entries[of as usize].term.copy(alloc)?;
         match &term {
-            Term::Atom(_) => Err(NoMemory),
+            Term::Atom(_) => unreachable!(),
             Term::Node(op, operands) => {
                 let _arity = op.arity();
                 self.push_parts(alloc, *op, keys, of, operands.as_slice(), touched)?;

@@ -1,5 +1,7 @@
 use Rattle.std.proofs.Common.{◌≡◌, length, arith, sym, ◌∙◌}
+use Rattle.std.proofs.lemmas.Option.{none-some}
 use Rattle.anb_close.proofs.Growing.{grown_few, opens_within, room_by, opened_by, extended_firsts}
+use Rattle.anb_close.proofs.Openable.{no_atom}
 use Rattle.anb_close.proofs.growth.Growth.open.Goals as goal
 
 pub overflow_cast-first : goal.overflow_cast-first
@@ -35,3 +37,10 @@ returns-clause-grown c =
 pub returns-clause-opened : goal.returns-clause-opened
 returns-clause-opened c =
     (opened_by _ _ _ _ c.args.of _ c.index.result.now c.in-Node.op c.in-Node.operands c.as_slice.result.now c.requires.grown c.requires.opens (opens_within _ _ _ _ c.requires.grown c.requires.opens) c.index.ensures (sym c.in_ok-term.ensures ∙ c.in-Node.is) c.as_slice.ensures c.in_ok-push_parts-in-Node.ensures.ok).2
+
+-- what can be opened is no atom
+pub unreachable-requires : goal.unreachable-requires
+unreachable-requires c =
+    let o = c.requires.opens in
+    let none = no_atom _ _ c.args.of c.index.result.now (opens_within _ _ _ _ c.requires.grown o) c.index.ensures c.in-Atom.field-0 (sym c.in_ok-term.ensures ∙ c.in-Atom.is) o.op o.operands o.able in
+    none-some _ (sym none ∙ o.made)
