@@ -15,7 +15,7 @@ use Rattle.anb_host.specs.declared.serving.HostEnd.TheVariants.{Ended, Truncated
 use Rattle.anb_host.specs.HostFrames.{Tail, End, Part, Bad, Ends, IsFrame, HostFrames, FramesLeft, out}
 use Rattle.anb_host.specs.Hosts.{HostValue, plays_of, StandsFor}
 use Rattle.anb_host.specs.Own.{answer, told}
-use Rattle.anb_host.specs.Serving.{size_of, stamps, Serves}
+use Rattle.anb_host.specs.Serving.{size_of, stamps, IsBehind, Serves, StandsAfter}
 use Rattle.anb_host.specs.Turns.{TakesOf, GoesOn, FailsIn, EndsAt}
 use Rattle.anb_host.specs.Runs.{TookFrames, Done, Handled}
 use Rattle.anb_host.proofs.Pieces.{header_long}
@@ -213,23 +213,70 @@ module _ (h now : HostValue) (old new next : WireState) (k : ℕ) (so_far : Hand
     left_bad (Some x) None kind rest took above l = absurd took
     left_bad (Some x) (Some y) kind rest took above l = ends_at x (Bad kind) rest tail (y, took, above) l
 
-    pub served : (end : HostEnd) → EndsAt now new next end → Serves (plays_of h) past events tail budget old next end
-    served Ended (same, (z, takes, (none, at))) =
+    pub served : (now' : HostValue) (end : HostEnd) → EndsAt now now' new next end → Serves (plays_of h) past events tail budget old next end
+    served now' Ended (is_same, (same, (z, takes, (none, at)))) =
         concluded same [] (subst (TakesOf new next) none takes) End (left_ends new.left next.left z End done.rest takes.0 at none done.left)
-    served (Truncated have need) (same, (z, takes, (at, long, part))) =
+    served now' (Truncated have need) (is_same, (same, (z, takes, (at, long, part)))) =
         (z, (long, part), concluded same z takes (Part have need) (left_ends new.left next.left z (Part have need) done.rest takes.0 at (long, part) done.left))
-    served (BadKind kind) (same, (z, takes, (is, above))) =
+    served now' (BadKind kind) (is_same, (same, (z, takes, (is, above)))) =
         let t = subst (TakesOf new next) is takes in
         concluded same (kind ∷ []) t (Bad kind) (left_bad new.left next.left kind done.rest t.0 above done.left)
-    served ReadFault (same, (z, takes, begun)) = let b = in_between same z takes in (k, z, within, begun, b.0, b.1)
-    served WriteFault fail = let f = failed fail in (k + 1, omega (arith, within), f.0, f.1)
-    served (Spent n) (same, (z, takes, says)) = absurd says
-    served NoMemory e = elim e [
+    served now' ReadFault (is_same, (same, (z, takes, begun))) = let b = in_between same z takes in (k, z, within, begun, b.0, b.1)
+    served now' WriteFault fail = let f = failed fail.fails in (k + 1, omega (arith, within), f.0, f.1)
+    served now' (Spent n) (is_same, (same, (z, takes, says))) = absurd says
+    served now' NoMemory e = elim e [
       | inl (same, (z, takes, begun)) ↦ let b = in_between same z takes in (k, z, omega (arith, within), begun, b.0, put_all (out (told (plays_of h) past (take k events))) b.1)
       | inr fail ↦ let f = failed fail in (k + 1, [], omega (arith, within), inl refl, f.0, f.1)
     ]
 
+    -- what the host stands for then
+    stands_before : (now' : HostValue) → now' ≡ now → StandsFor now' (past ++ take k events)
+    stands_before now' is = subst (λ (v : HostValue). StandsFor v (past ++ take k events)) (sym is)
+        (subst (λ es. StandsFor now (past ++ es)) (first_k done.front done.rest k done.whole done.many) done.stands)
+
+    stands_so : (now' : HostValue) (z : List ℕ) → IsBehind z → (now' ≡ now) → next.written ≡ new.written → TakesOf new next z → StandsAfter (plays_of h) past events tail budget old next now'
+    stands_so now' z behind is same takes = (k, z, omega (arith, within), behind, (in_between same z takes).0, stands_before now' is)
+
+    pub stands_after : (now' : HostValue) (end : HostEnd) → EndsAt now now' new next end → (end ≡ NoMemory → ⊥) → StandsAfter (plays_of h) past events tail budget old next now'
+    stands_after now' Ended (is_same, (same, (z, takes, (none, at)))) other = stands_so now' z (inl (inl none)) is_same same takes
+    stands_after now' (Truncated have need) (is_same, (same, (z, takes, (at, long, part)))) other = stands_so now' z (inl (inr (need, part))) is_same same takes
+    stands_after now' (BadKind kind) (is_same, (same, (z, takes, (is, above)))) other = stands_so now' z (inr (kind, is, above)) is_same same takes
+    stands_after now' ReadFault (is_same, (same, (z, takes, begun))) other = stands_so now' z (inl begun) is_same same takes
+    stands_after now' WriteFault fail other =
+        let x = fail.fails.event in
+        let following_one = following past events tail st left x fail.fails.taken fail.fails.is_frame fail.fails.takes in
+        let whole = whole_now past events tail st left x fail.fails.taken fail.fails.is_frame fail.fails.takes in
+        let is : done.front ++ x ∷ [] ≡ take (k + 1) events = first_k (done.front ++ x ∷ []) following_one.0 (k + 1) whole (many_now past events tail st left x fail.fails.taken fail.fails.is_frame fail.fails.takes) in
+        let stands = subst (StandsFor now') (append_assoc past done.front (x ∷ [])) (fail.stands (past ++ done.front) done.stands) in
+        (k + 1, [], omega (arith, within), inl (inl refl), (failed fail.fails).0, subst (λ es. StandsFor now' (past ++ es)) is stands)
+    stands_after now' (Spent n) (is_same, (same, (z, takes, says))) other = absurd says
+    stands_after now' NoMemory e other = absurd (other refl)
+
+-- nothing is read or written where memory was wanting before
+pub nothing_served : (plays : ℕ → List (List ℕ) → Played (List ℕ)) (past events : List HostEvent) (tail : Tail) (budget : ℕ) (s : WireState) → Serves plays past events tail budget s s NoMemory
+nothing_served plays past events tail budget s = (
+  0,
+  [],
+  omega arith,
+  inl refl,
+  (([], took_nothing s.left, refl), some_of s.written (λ w. Put s.taken_at s.taken_at []) (λ w. put_nothing s.taken_at)),
+  put_none s.written [],
+)
+
 -- the budget is spent
+pub stands_spent : (h now : HostValue) (old new : WireState) (budget : ℕ) → Handled h now old new budget → (past events : List HostEvent) (tail : Tail) → StandsFor h past → FramesLeft old.left events tail
+    → StandsAfter (plays_of h) past events tail budget old new now
+stands_spent h now old new budget so_far past events tail st left =
+    let e = so_far.each past events tail st left in
+    let is : e.front ≡ take budget events = sym (ap (take budget) e.whole ∙ take_at e.front e.rest budget e.many) in (
+      budget,
+      [],
+      omega arith,
+      inl (inl refl),
+      subst (λ es. TookFrames (plays_of h) past es old new []) is e.took,
+      subst (λ es. StandsFor now (past ++ es)) is e.stands,
+    )
+
 pub spent : (h now : HostValue) (old new : WireState) (budget : ℕ) → Handled h now old new budget → (past events : List HostEvent) (tail : Tail) → StandsFor h past → FramesLeft old.left events tail
     → Serves (plays_of h) past events tail budget old new (Spent budget)
 spent h now old new budget so_far past events tail st left =

@@ -2,7 +2,7 @@
 use Rattle.std.proofs.Common.{◌≡◌, ℕ, List, [], ◌∷◌, ◌++◌, All, map, Bool, sym, ap, ◌∙◌}
 use Rattle.std.proofs.lemmas.List.{append-nil, map-append}
 use Rattle.std.proofs.lemmas.List.Elements.{All-append, All-cons, All-nil}
-use Rattle.anb_plays.specs.Plays.{Played, End, ends, says, SendsFirst}
+use Rattle.anb_plays.specs.Plays.{Played, End, ends, SendsFirst}
 use Rattle.anb_host.specs.declared.event.Notice.{Notice}
 use Rattle.anb_host.specs.declared.event.Notice.TheVariants.{Message}
 use Rattle.anb_host.specs.Own.{is_over, end_notices, notices}

@@ -1,6 +1,7 @@
 -- One turn of serving, by what was read, answered and written.
-use Rattle.std.proofs.Common.{◌≡◌, inl, inr, ◌⊎◌, ℕ, List, [], ◌∷◌, ◌++◌, length, Option, Result, Ok, Err, IfSome, sym, ap, ◌∙◌, subst}
+use Rattle.std.proofs.Common.{◌≡◌, inl, inr, ◌⊎◌, ℕ, ◌<◌, ◌≤◌, arith, List, [], ◌∷◌, ◌++◌, length, Option, Result, Ok, Err, IfSome, refl, sym, ap, ◌∙◌, subst}
 use Rattle.std.specs.Option.{IfNone}
+use Rattle.std.proofs.lemmas.Bool.{cases_lt}
 use Rattle.std.specs.Result.{OnOk, OnErr, IfErr, result_err}
 use Rattle.anb_base.specs.Moves.{Took, Put, PutPrefix, Stamped}
 use Rattle.anb_base.specs.Wires.{WireState}
@@ -13,7 +14,7 @@ use Rattle.anb_host.specs.declared.serving.HostEnd.TheVariants.{Ended, Truncated
 use Rattle.anb_host.specs.HostFrames.{IsFrame, out}
 use Rattle.anb_host.specs.Hosts.{HostValue, plays_of, StandsFor}
 use Rattle.anb_host.specs.Own.{answer}
-use Rattle.anb_host.specs.Turns.{ReadsOn, TakesOf, GoesOn, FailsIn, EndsAt}
+use Rattle.anb_host.specs.Turns.{ReadsOn, TakesOf, GoesOn, FailsIn, FailsAnswering, EndsAt}
 use Rattle.anb_host.proofs.Writing.{put_none}
 
 -- ---- what was read
@@ -32,11 +33,11 @@ module _ (h : HostValue) (s t : WireState) (n : ℕ) (told : (k : ℕ) → Stamp
     answers = λ past st. subst (λ w. PutPrefix s.written w (out (answer (plays_of h) past e))) (sym same) (put_none s.written (out (answer (plays_of h) past e)));
   }
 
-  pub read_ended : (end : HostEnd) → ReadsOn s.left t.left s.taken_at t.taken_at n [] (Err end) → EndsAt h s t end
-  read_ended Ended (z, took, says) = (same, (z, takes z took, says))
-  read_ended (Truncated have need) (z, took, says) = (same, (z, takes z took, says))
-  read_ended (BadKind kind) (z, took, says) = (same, (z, takes z took, says))
-  read_ended ReadFault (z, took, says) = (same, (z, takes z took, says))
+  pub read_ended : (end : HostEnd) → ReadsOn s.left t.left s.taken_at t.taken_at n [] (Err end) → EndsAt h h s t end
+  read_ended Ended (z, took, says) = (refl, (same, (z, takes z took, says)))
+  read_ended (Truncated have need) (z, took, says) = (refl, (same, (z, takes z took, says)))
+  read_ended (BadKind kind) (z, took, says) = (refl, (same, (z, takes z took, says)))
+  read_ended ReadFault (z, took, says) = (refl, (same, (z, takes z took, says)))
   read_ended WriteFault (z, took, says) = absurd says
   read_ended (Spent k) (z, took, says) = absurd says
   read_ended NoMemory (z, took, says) = elim says [
@@ -73,6 +74,11 @@ module _ (h : HostValue) (s t : WireState) (n : ℕ) (told : (k : ℕ) → Stamp
       answers = λ past st. subst (λ ns. PutPrefix s.written u.written (out ns)) (own past st) (subst (λ w. PutPrefix w u.written (out notices)) same put);
     }
 
+    pub answered_so : (h' : HostValue) → ((past : List HostEvent) → StandsFor h past → StandsFor h' (past ++ e ∷ [])) → PutPrefix t.written u.written (out notices)
+        → FailsAnswering h h' s u
+    unfolding answered_in_part
+    answered_so h' stands put = record { fails = answered_in_part put; stands = stands }
+
 pub same_plays : (h h' : HostValue) → h'.code ≡ h.code → h'.init ≡ h.init → h'.seed ≡ h.seed → plays_of h' ≡ plays_of h
 same_plays h h' code init seed =
     ap (λ c. λ s arrivals. run_bytes c h'.init h'.seed s arrivals) code ∙ ap (λ i. λ s arrivals. run_bytes h.code i h'.seed s arrivals) init ∙ ap (λ k. λ s arrivals. run_bytes h.code h.init k s arrivals) seed
@@ -83,10 +89,18 @@ pub no_error : {T E : Type 0} (r : Result T E) (o : Option E) (A B : Type 0) →
 no_error (Ok x) o A B e h f = rw e (f h)
 no_error (Err y) o A B e h f = rw e tt
 
-pub failed_so : {T : Type 0} (h : HostValue) (s u : WireState) (r : Result T HostEnd) (o : Option HostEnd) (A : Type 0) → o ≡ result_err r
-    → IfErr r (λ end. (end ≡ WriteFault) ⊎ (end ≡ NoMemory)) → OnErr r A → (A → FailsIn h s u) → IfSome o (EndsAt h s u)
-failed_so h s u (Ok x) o A e which put f = rw e tt
-failed_so h s u (Err end) o A e which put f = rw e (elim which [
-  | inl is ↦ subst (EndsAt h s u) (sym is) (f put)
-  | inr is ↦ subst (EndsAt h s u) (sym is) (inr (f put))
+pub failed_so : {T : Type 0} (h h' : HostValue) (s u : WireState) (r : Result T HostEnd) (o : Option HostEnd) (A : Type 0) → o ≡ result_err r
+    → IfErr r (λ end. (end ≡ WriteFault) ⊎ (end ≡ NoMemory)) → OnErr r A → (A → FailsAnswering h h' s u) → IfSome o (EndsAt h h' s u)
+failed_so h h' s u (Ok x) o A e which put f = rw e tt
+failed_so h h' s u (Err end) o A e which put f = rw e (elim which [
+  | inl is ↦ subst (EndsAt h h' s u) (sym is) (f put)
+  | inr is ↦ subst (EndsAt h h' s u) (sym is) (inr (f put).fails)
 ])
+
+-- ---- counts of faults
+
+pub same_count : (before old new : ℕ) → old ≡ before → old ≤ new → (old < new → ⊥) → new ≡ before
+same_count before old new same falls rises = elim (cases_lt old new) [
+  | inl more ↦ absurd (rises more)
+  | inr least ↦ omega (arith, same, falls, least)
+]

@@ -1,6 +1,6 @@
 -- What a host keeps, and which events it stands for.
 use Rattle.std.specs.Prelude.{◌≡◌, ℕ, ◌≤◌, List, [], ◌∷◌, ◌++◌, length, Bool, true, false, IfSome, slice_get}
-use Rattle.anb_plays.specs.Plays.{Played, Run, SendsFirst}
+use Rattle.anb_plays.specs.Plays.{Run, SendsFirst}
 use Rattle.anb_code.specs.CodeValue.{CodeValue}
 use Rattle.anb_machine.specs.ByteRuns.{run_bytes}
 use Rattle.anb_machine.specs.Machines.{gives}

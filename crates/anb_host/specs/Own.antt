@@ -1,7 +1,7 @@
 -- What each session is told: by its own play, over its own events, whatever stands between.
 use Rattle.std.specs.Prelude.{◌≡◌, ℕ, List, [], ◌∷◌, ◌++◌, length, map, drop, Bool, true, false, not, ◌&&◌, ◌||◌, ◌==◌, nat_lt, filter, if◌then◌else◌}
 use Rattle.std.specs.List.{list_any}
-use Rattle.anb_plays.specs.Plays.{Played, End, stopped, waiting, done, Run}
+use Rattle.anb_plays.specs.Plays.{End, stopped, waiting, done, Run}
 use Rattle.anb_host.specs.declared.event.HostEvent.{HostEvent}
 use Rattle.anb_host.specs.declared.event.HostEvent.TheVariants.{Start, Arrive, Oversize}
 use Rattle.anb_host.specs.declared.event.Notice.{Notice}

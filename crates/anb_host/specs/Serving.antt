@@ -8,6 +8,7 @@ use Rattle.anb_host.specs.declared.event.HostEvent.TheVariants.{Start, Arrive, O
 use Rattle.anb_host.specs.declared.serving.HostEnd.{HostEnd}
 use Rattle.anb_host.specs.declared.serving.HostEnd.TheVariants.{Ended, Truncated, BadKind, ReadFault, WriteFault, Spent, NoMemory}
 use Rattle.anb_host.specs.HostFrames.{Tail, End, Part, Bad, Ends, IsPart, HostFrames, out}
+use Rattle.anb_host.specs.Hosts.{HostValue, StandsFor}
 use Rattle.anb_host.specs.Own.{answer, told}
 
 -- how many bytes an event's frame has
@@ -19,6 +20,11 @@ size_of (Oversize s len) = 9 + len
 -- nothing, or the beginning of a frame
 abbrev pub IsBegun : List ℕ → Type 0
 IsBegun z = (z ≡ []) ⊎ ((need : ℕ) × IsPart z need)
+
+-- what may be taken behind the last frame: nothing, the beginning of one, or the one byte that is no
+-- kind of frame
+abbrev pub IsBehind : List ℕ → Type 0
+IsBehind z = IsBegun z ⊎ ((kind : ℕ) × (z ≡ kind ∷ []) × (1 < kind))
 
 module _ (plays : ℕ → Run) where
   -- for each byte of the frames of these events, how many bytes are written when it is taken: all
@@ -48,6 +54,12 @@ module _ (plays : ℕ → Run) where
     -- a prefix of it is
     abbrev pub AnswersInPart : (k : ℕ) → Type 0
     AnswersInPart k = PutPrefix old.written new.written (out (told plays past (take k events)))
+
+    -- the host stands then for those of which all was taken
+    abbrev pub StandsAfter : HostValue → Type 0
+    StandsAfter h =
+        (k : ℕ) × (z : List ℕ) × (k ≤ budget) × IsBehind z × Reads k z
+        × StandsFor h (past ++ take k events)
 
     -- the input came to this end before the budget was spent, and z was taken of it
     abbrev pub Concludes : Tail → (z : List ℕ) → Type 0

@@ -62,13 +62,18 @@ pub record FailsIn (h : HostValue) (s t : WireState) : Type 0 where
   pub answers : (past : List HostEvent) → StandsFor h past
       → PutPrefix s.written t.written (out (answer (plays_of h) past event))
 
+-- and the host stands for it
+pub record FailsAnswering (h h' : HostValue) (s t : WireState) : Type 0 where
+  pub fails : FailsIn h s t
+  pub stands : (past : List HostEvent) → StandsFor h past → StandsFor h' (past ++ fails.event ∷ [])
+
 -- no event was taken, and nothing written
 abbrev pub Stays : WireState → WireState → HostEnd → Type 0
 Stays s t end =
     (t.written ≡ s.written) × ((z : List ℕ) × TakesOf s t z × Says z t.left (Err end))
 
 -- serving came to this end
-abbrev pub EndsAt : HostValue → WireState → WireState → HostEnd → Type 0
-EndsAt h s t WriteFault = FailsIn h s t
-EndsAt h s t NoMemory = Stays s t ReadFault ⊎ FailsIn h s t
-EndsAt h s t end = Stays s t end
+abbrev pub EndsAt : (h h' : HostValue) → WireState → WireState → HostEnd → Type 0
+EndsAt h h' s t WriteFault = FailsAnswering h h' s t
+EndsAt h h' s t NoMemory = Stays s t ReadFault ⊎ FailsIn h s t
+EndsAt h h' s t end = (h' ≡ h) × Stays s t end

@@ -1,6 +1,6 @@
 //! The frames of events, read piece by piece, and the frames of notices.
 
-ghost use Rattle.std.specs.Prelude.{◌≡◌, ◌<◌, ◌≤◌, List, [], ◌∷◌, ◌++◌, length, IfOk, OnErr};
+ghost use Rattle.std.specs.Prelude.{◌≡◌, ◌<◌, ◌≤◌, List, [], ◌∷◌, ◌++◌, length, IfOk, OnOk, OnErr};
 ghost use Rattle.anb_base.specs.Moves.{Rose, TookLess, count_written};
 ghost use Rattle.anb_base.specs.declared.TheConstants.{ARRIVAL};
 ghost use Rattle.anb_host.specs.HostFrames.{number, notice_frame, cause_number};
@@ -16,6 +16,7 @@ pub(crate) fn read_event<S: Source>(alloc: Global, src: &mut S) -> Result<HostEv
     ensures reads { ReadsOn (S.left src.old) (S.left src.new)
         (S.taken_at src.old) (S.taken_at src.new) (count_written (S.kept src.old)) [] result }
     ensures cause { result ≡ Err HostEnd.ReadFault → Rose (S.faults src.old) (S.faults src.new) }
+    ensures told { S.faults src.old < S.faults src.new → result ≡ Err HostEnd.ReadFault }
     ensures never_falls { S.faults src.old ≤ S.faults src.new }
     ensures kept { S.kept src.new ≡ S.kept src.old }
 {
@@ -38,6 +39,7 @@ fn read_start<S: Source>(src: &mut S) -> Result<HostEvent, HostEnd>
     ensures reads { ReadsOn (S.left src.old) (S.left src.new)
         (S.taken_at src.old) (S.taken_at src.new) (count_written (S.kept src.old)) (0 ∷ []) result }
     ensures cause { result ≡ Err HostEnd.ReadFault → Rose (S.faults src.old) (S.faults src.new) }
+    ensures told { S.faults src.old < S.faults src.new → result ≡ Err HostEnd.ReadFault }
     ensures never_falls { S.faults src.old ≤ S.faults src.new }
     ensures kept { S.kept src.new ≡ S.kept src.old }
 {
@@ -59,6 +61,7 @@ fn read_arrival<S: Source>(alloc: Global, src: &mut S) -> Result<HostEvent, Host
     ensures reads { ReadsOn (S.left src.old) (S.left src.new)
         (S.taken_at src.old) (S.taken_at src.new) (count_written (S.kept src.old)) (1 ∷ []) result }
     ensures cause { result ≡ Err HostEnd.ReadFault → Rose (S.faults src.old) (S.faults src.new) }
+    ensures told { S.faults src.old < S.faults src.new → result ≡ Err HostEnd.ReadFault }
     ensures never_falls { S.faults src.old ≤ S.faults src.new }
     ensures kept { S.kept src.new ≡ S.kept src.old }
 {
@@ -87,6 +90,7 @@ fn read_body<S: Source>(alloc: Global, src: &mut S, s: u32, len: u32) -> Result<
         (S.taken_at src.old) (S.taken_at src.new) (count_written (S.kept src.old))
         (1 ∷ number s ++ number len) result }
     ensures cause { result ≡ Err HostEnd.ReadFault → Rose (S.faults src.old) (S.faults src.new) }
+    ensures told { S.faults src.old < S.faults src.new → result ≡ Err HostEnd.ReadFault }
     ensures never_falls { S.faults src.old ≤ S.faults src.new }
     ensures kept { S.kept src.new ≡ S.kept src.old }
 {
@@ -112,6 +116,7 @@ fn read_oversize<S: Source>(src: &mut S, s: u32, len: u32) -> Result<HostEvent, 
         (S.taken_at src.old) (S.taken_at src.new) (count_written (S.kept src.old))
         (1 ∷ number s ++ number len) result }
     ensures cause { result ≡ Err HostEnd.ReadFault → Rose (S.faults src.old) (S.faults src.new) }
+    ensures told { S.faults src.old < S.faults src.new → result ≡ Err HostEnd.ReadFault }
     ensures never_falls { S.faults src.old ≤ S.faults src.new }
     ensures kept { S.kept src.new ≡ S.kept src.old }
 {
@@ -134,6 +139,7 @@ fn skip<S: Source>(src: &mut S, len: u32) -> Result<u32, Failed>
     ensures failed { OnErr result (TookLess (S.left src.old) (S.left src.new)
         (S.taken_at src.old) (S.taken_at src.new) (count_written (S.kept src.old)) len) }
     ensures cause { OnErr result (Rose (S.faults src.old) (S.faults src.new)) }
+    ensures quiet { OnOk result (S.faults src.new ≡ S.faults src.old) }
     ensures never_falls { S.faults src.old ≤ S.faults src.new }
     ensures kept { S.kept src.new ≡ S.kept src.old }
 {

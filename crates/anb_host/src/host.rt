@@ -95,6 +95,23 @@ impl<'c> Host<'c> {
         told
     }
 
+    /// Whether memory was wanting before.
+    pub(crate) fn has_failed(&self) -> bool
+        ensures { result ≡ self.now.failed }
+    {
+        self.failed
+    }
+
+    /// Memory was wanting: so the host answers from then on.
+    pub(crate) fn fail(&mut self)
+        ensures failed { self.new.failed ≡ true }
+        ensures code { self.new.code ≡ self.old.code }
+        ensures init { self.new.init ≡ self.old.init }
+        ensures seed { self.new.seed ≡ self.old.seed }
+    {
+        self.failed = true;
+    }
+
     /// Answers an event, where memory was never wanting.
     fn answer(&mut self, alloc: Global, event: HostEvent) -> Result<Vec<Notice>, NoMemory>
         requires { Fits event }

@@ -1,11 +1,11 @@
 //! A host over a wire: events come in as frames, and notices go out as frames.
 
-ghost use Rattle.std.specs.Prelude.{◌≡◌, ◌≤◌, ◌⊎◌, List, All, OnOk, OnErr, IfErr, IfSome, IfNone};
+ghost use Rattle.std.specs.Prelude.{◌≡◌, ◌≢◌, ◌<◌, ◌≤◌, ◌⊎◌, List, All, Some, true, OnOk, OnErr, IfErr, IfSome, IfNone};
 ghost use Rattle.anb_base.specs.Moves.{Rose, Put, PutPrefix};
 ghost use Rattle.anb_host.specs.declared.event.HostEvent.{HostEvent};
 ghost use Rattle.anb_host.specs.HostFrames.{Tail, FramesLeft, out};
 ghost use Rattle.anb_host.specs.Hosts.{plays_of, StandsFor, IsNarrow};
-ghost use Rattle.anb_host.specs.Serving.{Serves};
+ghost use Rattle.anb_host.specs.Serving.{Serves, StandsAfter};
 ghost use Rattle.anb_host.specs.Turns.{GoesOn, EndsAt};
 
 use crate::frames::{notice_bytes, read_event};
@@ -33,22 +33,77 @@ pub enum HostEnd {
 }
 
 /// Serves the sessions of a host over a wire, for at most as many frames as the budget. What an
-/// event is answered is written before the next frame is read. No place is reached.
+/// event is answered is written before the next frame is read. No place is reached. A host can be
+/// served again, but where memory was wanting: then nothing is read or written any more.
 pub fn serve<W: Wire>(alloc: Global, host: &mut Host<'_>, wire: &mut W, budget: u32) -> HostEnd
     ensures serves { (past events : List HostEvent) (tail : Tail)
         → StandsFor host.old past → FramesLeft (W.left wire.old) events tail
         → Serves (plays_of host.old) past events tail budget
         (W.state wire.old) (W.state wire.new) result }
 
-    // A fault is answered only where its count rose.
+    // The host stands for the events so far, unless memory was wanting.
+    ensures stands { (past events : List HostEvent) (tail : Tail)
+        → StandsFor host.old past → FramesLeft (W.left wire.old) events tail
+        → result ≢ HostEnd.NoMemory
+        → StandsAfter (plays_of host.old) past events tail budget
+        (W.state wire.old) (W.state wire.new) host.new }
+    ensures failed { result ≡ HostEnd.NoMemory → host.new.failed ≡ true }
+    ensures stays { host.old.failed ≡ true
+        → (result ≡ HostEnd.NoMemory) × (wire.new ≡ wire.old) }
+    ensures code { host.new.code ≡ host.old.code }
+    ensures init { host.new.init ≡ host.old.init }
+    ensures seed { host.new.seed ≡ host.old.seed }
+
+    // A fault is answered where its count rose, and nowhere else.
     ensures read_fault { result ≡ HostEnd.ReadFault
         → Rose (W.Source.faults wire.old) (W.Source.faults wire.new) }
     ensures write_fault { result ≡ HostEnd.WriteFault
         → Rose (W.Sink.faults wire.old) (W.Sink.faults wire.new) }
+    ensures read_told { W.Source.faults wire.old < W.Source.faults wire.new
+        → result ≡ HostEnd.ReadFault }
+    ensures write_told { W.Sink.faults wire.old < W.Sink.faults wire.new
+        → result ≡ HostEnd.WriteFault }
     ensures reading_never_falls { W.Source.faults wire.old ≤ W.Source.faults wire.new }
     ensures writing_never_falls { W.Sink.faults wire.old ≤ W.Sink.faults wire.new }
 
     // No place is reached.
+    ensures reached { W.reached wire.new ≡ W.reached wire.old }
+    ensures reach_faults { W.reach_faults wire.new ≡ W.reach_faults wire.old }
+{
+    if host.has_failed() {
+        return HostEnd::NoMemory;
+    }
+    let end = serve_on(alloc, host, wire, budget);
+    if matches!(end, HostEnd::NoMemory) {
+        host.fail();
+    }
+    end
+}
+
+/// Serves a host for which memory was never wanting.
+fn serve_on<W: Wire>(alloc: Global, host: &mut Host<'_>, wire: &mut W, budget: u32) -> HostEnd
+    ensures serves { (past events : List HostEvent) (tail : Tail)
+        → StandsFor host.old past → FramesLeft (W.left wire.old) events tail
+        → Serves (plays_of host.old) past events tail budget
+        (W.state wire.old) (W.state wire.new) result }
+    ensures stands { (past events : List HostEvent) (tail : Tail)
+        → StandsFor host.old past → FramesLeft (W.left wire.old) events tail
+        → result ≢ HostEnd.NoMemory
+        → StandsAfter (plays_of host.old) past events tail budget
+        (W.state wire.old) (W.state wire.new) host.new }
+    ensures code { host.new.code ≡ host.old.code }
+    ensures init { host.new.init ≡ host.old.init }
+    ensures seed { host.new.seed ≡ host.old.seed }
+    ensures read_fault { result ≡ HostEnd.ReadFault
+        → Rose (W.Source.faults wire.old) (W.Source.faults wire.new) }
+    ensures write_fault { result ≡ HostEnd.WriteFault
+        → Rose (W.Sink.faults wire.old) (W.Sink.faults wire.new) }
+    ensures read_told { W.Source.faults wire.old < W.Source.faults wire.new
+        → result ≡ HostEnd.ReadFault }
+    ensures write_told { W.Sink.faults wire.old < W.Sink.faults wire.new
+        → result ≡ HostEnd.WriteFault }
+    ensures reading_never_falls { W.Source.faults wire.old ≤ W.Source.faults wire.new }
+    ensures writing_never_falls { W.Sink.faults wire.old ≤ W.Sink.faults wire.new }
     ensures reached { W.reached wire.new ≡ W.reached wire.old }
     ensures reach_faults { W.reach_faults wire.new ≡ W.reach_faults wire.old }
 {
@@ -64,11 +119,19 @@ pub fn serve<W: Wire>(alloc: Global, host: &mut Host<'_>, wire: &mut W, budget: 
 fn handle<W: Wire>(alloc: Global, host: &mut Host<'_>, wire: &mut W) -> Option<HostEnd>
     ensures goes_on { IfNone result
         (GoesOn host.old host.new (W.state wire.old) (W.state wire.new)) }
-    ensures ends { IfSome result (EndsAt host.old (W.state wire.old) (W.state wire.new)) }
+    ensures ends { IfSome result
+        (EndsAt host.old host.new (W.state wire.old) (W.state wire.new)) }
+    ensures code { host.new.code ≡ host.old.code }
+    ensures init { host.new.init ≡ host.old.init }
+    ensures seed { host.new.seed ≡ host.old.seed }
     ensures read_fault { IfSome result (λ end. end ≡ HostEnd.ReadFault
         → Rose (W.Source.faults wire.old) (W.Source.faults wire.new)) }
     ensures write_fault { IfSome result (λ end. end ≡ HostEnd.WriteFault
         → Rose (W.Sink.faults wire.old) (W.Sink.faults wire.new)) }
+    ensures read_told { W.Source.faults wire.old < W.Source.faults wire.new
+        → result ≡ Some HostEnd.ReadFault }
+    ensures write_told { W.Sink.faults wire.old < W.Sink.faults wire.new
+        → result ≡ Some HostEnd.WriteFault }
     ensures reading_never_falls { W.Source.faults wire.old ≤ W.Source.faults wire.new }
     ensures writing_never_falls { W.Sink.faults wire.old ≤ W.Sink.faults wire.new }
     ensures reached { W.reached wire.new ≡ W.reached wire.old }
@@ -93,6 +156,8 @@ fn write_notices<W: Wire>(alloc: Global, wire: &mut W, told: &[Notice]) -> Resul
         (PutPrefix (W.written wire.old) (W.written wire.new) (out told.now)) }
     ensures cause { result ≡ Err HostEnd.WriteFault
         → Rose (W.Sink.faults wire.old) (W.Sink.faults wire.new) }
+    ensures told { W.Sink.faults wire.old < W.Sink.faults wire.new
+        → result ≡ Err HostEnd.WriteFault }
     ensures never_falls { W.Sink.faults wire.old ≤ W.Sink.faults wire.new }
     ensures kept { W.Sink.kept wire.new ≡ W.Sink.kept wire.old }
 {

@@ -12,7 +12,7 @@ use Rattle.anb_host.specs.declared.serving.HostEnd.{HostEnd}
 use Rattle.anb_host.specs.declared.serving.HostEnd.TheVariants as ends
 use Rattle.anb_host.specs.HostFrames.{Tail, End, Part, Bad, HostFrames, out}
 use Rattle.anb_host.specs.Own.{told}
-use Rattle.anb_host.specs.Serving.{Answers, Reads, Serves, stamps}
+use Rattle.anb_host.specs.Serving.{Answers, IsBehind, Reads, Serves, stamps}
 use Rattle.anb_command.specs.declared.status.Status.{Status}
 use Rattle.anb_command.specs.declared.status.Status.TheVariants.{FileFault, Spent, NoMemory}
 use Rattle.anb_command.specs.Statuses.{is_fault}
@@ -21,7 +21,7 @@ use Rattle.anb_command.proofs.Ones.{RefusesQuietly, not_both, same_given, same_r
 use Rattle.anb_command.proofs.Written.{faulty}
 use Rattle.anb_role_commands.specs.Jobs.{Job}
 use Rattle.anb_host_commands.specs.declared.hosting.TheConstants.{FRAMES}
-use Rattle.anb_host_commands.specs.HostCommand.{ArePlays, IsBehind, IsInTime, IsServing, Outcome, Takes, TakesInTime, handled, read_of_input, read_of_tail, sizes, status_before, status_of_input}
+use Rattle.anb_host_commands.specs.HostCommand.{ArePlays, IsInTime, IsServing, Outcome, Takes, TakesInTime, handled, read_of_input, read_of_tail, sizes, status_before, status_of_input}
 use Rattle.anb_host_commands.specs.Serving.{IsIdle, status_of}
 use Rattle.anb_host_commands.proofs.Alike.{Alike, AreBytes, HaveBytes, same_stamps, same_told}
 use Rattle.anb_host_commands.proofs.Sizes.{bad_above, frames_size, take_bytes, took_rest}

@@ -8,7 +8,7 @@ use Rattle.anb_base.specs.Wires.{WireState}
 use Rattle.anb_host.specs.declared.event.HostEvent.{HostEvent}
 use Rattle.anb_host.specs.HostFrames.{Tail, End, Part, Bad, HostFrames, out}
 use Rattle.anb_host.specs.Own.{told}
-use Rattle.anb_host.specs.Serving.{IsBegun, size_of, stamps}
+use Rattle.anb_host.specs.Serving.{IsBegun, IsBehind, size_of, stamps}
 use Rattle.anb_resolve.specs.Plays.{IsPlay}
 use Rattle.anb_command.specs.declared.status.Status.{Status}
 use Rattle.anb_command.specs.declared.status.Status.TheVariants.{Done, FileFault, Unreached, Truncated, ReadFault, WriteFault, BadKind, Spent, NoMemory}
@@ -80,11 +80,6 @@ pub record Takes (job : Job) (left left_now : Option (List ℕ)) (events : List 
 abbrev pub due : {job : Job} → {left left_now : Option (List ℕ)} → {events : List HostEvent} → {z : List ℕ}
     → Takes job left left_now events z → List ℕ
 due {job} {left} {left_now} {events} {z} takes = out (told takes.plays [] events)
-
--- what may have been taken behind the frames of the last event: nothing, the beginning of one frame, or
--- the one byte that is no kind of frame
-abbrev pub IsBehind : List ℕ → Type 0
-IsBehind z = IsBegun z ⊎ ((kind : ℕ) × (z ≡ kind ∷ []) × (1 < kind))
 
 -- Each byte that was taken, of a frame or of what stands behind the frames, was taken when exactly the
 -- notices of the events before were written.

@@ -21,6 +21,7 @@ loop-left-preserved g c =
         TookAt-joined _ _ _ _ _ _ (count_written (g.S.Source.kept c.args.src.now)) was.taken.0 z was.taken.1 more,
         omega (arith, length-append was.taken.0 z, size, was.taken.2, c.in_ok-have.ensures.within, c.read_full.auto.buf, room, c.min-want.ensures),
       );
+      quiet = c.in_ok-have.ensures.quiet ∙ was.quiet;
       never_falls = omega (arith, was.never_falls, c.read_full.ensures.never_falls);
       kept = c.read_full.ensures.kept ∙ was.kept;
     }
@@ -40,6 +41,12 @@ returns-then-have-want-clause-skips g c =
       omega arith,
       λ short. c.in_ok-have.ensures.end (omega (arith, c.if-have-want.true, c.read_full.auto.buf, room)),
     )
+
+pub returns-then-have-want-clause-quiet : goal.returns-then-have-want-clause-quiet
+returns-then-have-want-clause-quiet g c = c.in_ok-have.ensures.quiet ∙ c.loop-left.invariant.quiet
+
+pub returns-clause-quiet : goal.returns-clause-quiet
+returns-clause-quiet g c = c.loop-left.invariant.quiet
 
 pub returns-in_err-have-clause-failed : goal.returns-in_err-have-clause-failed
 returns-in_err-have-clause-failed g c =

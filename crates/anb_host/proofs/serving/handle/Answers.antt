@@ -3,7 +3,7 @@ use Rattle.anb_base.specs.Moves.{Put, PutPrefix, count_written}
 use Rattle.anb_base.specs.Wires.{WireState}
 use Rattle.anb_base.proofs.Moving.{kept_first, kept_third, stamped_told}
 use Rattle.anb_host.specs.HostFrames.{out}
-use Rattle.anb_host.proofs.Turning.{unanswered, read_ended, answered_whole, answered_in_part, same_plays, no_error, failed_so}
+use Rattle.anb_host.proofs.Turning.{unanswered, read_ended, answered_so, answered_whole, same_plays, no_error, failed_so}
 use Rattle.anb_host.proofs.serving.handle.Goals as goal
 
 pub returns-in-Err-clause-ends : goal.returns-in-Err-clause-ends
@@ -55,6 +55,7 @@ returns-clause-ends g c =
     let reads = c.in-Ok.ensures.reads in
     let h = c.args.host.now in
     rw (g.met.W.Wire.state_tells c.args.wire.now, g.met.W.Wire.state_tells c.write_notices.new.wire)
-    (failed_so h s u c.write_notices.result c.err.result _ c.err.ensures.value c.write_notices.ensures.failed c.write_notices.ensures.prefix
-    (λ put. answered_in_part h s t n (λ k. stamped_told _ _ _ _ _ _ k (g.met.W.Wire.beside_source c.args.wire.now)) same u left taken_at c.in-Ok.event reads.0 reads.1 reads.2 c.in-Ok-event.told.items c.in-Ok-event.ensures.own
+    (failed_so h c.event.new.self s u c.write_notices.result c.err.result _ c.err.ensures.value c.write_notices.ensures.failed c.write_notices.ensures.prefix
+    (λ put. answered_so h s t n (λ k. stamped_told _ _ _ _ _ _ k (g.met.W.Wire.beside_source c.args.wire.now)) same u left taken_at c.in-Ok.event reads.0 reads.1 reads.2 c.in-Ok-event.told.items c.in-Ok-event.ensures.own
+    c.event.new.self c.in-Ok-event.ensures.stands
     (subst (λ ns. PutPrefix t.written u.written (out ns)) c.deref.ensures.value put)))

@@ -1,61 +1,7 @@
-use Rattle.std.proofs.Common.{arith, refl, sym, ap, ◌∙◌, subst, ◌≡◌}
-use Rattle.anb_base.specs.Wires.{WireState}
-use Rattle.anb_base.proofs.Moving.{Rose-later}
-use Rattle.anb_host.specs.HostFrames.{FramesLeft}
-use Rattle.anb_host.specs.Runs.{Handled}
-use Rattle.anb_host.proofs.Served.{handled_none, handled_further, served, spent}
+use Rattle.anb_host.specs.Hosts.{plays_of}
+use Rattle.anb_host.proofs.Served.{nothing_served}
 use Rattle.anb_host.proofs.serving.serve.Goals as goal
 
-pub loop-init : goal.loop-init
-loop-init g c = record {
-  handled = handled_none c.args.host.now (g.W.Wire.state c.args.wire.now);
-  reading = omega arith;
-  writing = omega arith;
-  reached = refl;
-  reach_faults = refl;
-}
-
-pub loop-preserved : goal.loop-preserved
-loop-preserved g c =
-    let was = c.loop.invariant in
-    let now = c.in_default.ensures in
-    record {
-      handled = handled_further c.args.host.now c.loop.host (g.W.Wire.state c.args.wire.now) (g.W.Wire.state c.loop.wire) (g.W.Wire.state c.handle.new.wire) c.loop.counter was.handled c.handle.new.host now.goes_on;
-      reading = omega (arith, was.reading, now.reading_never_falls);
-      writing = omega (arith, was.writing, now.writing_never_falls);
-      reached = now.reached ∙ was.reached;
-      reach_faults = now.reach_faults ∙ was.reach_faults;
-    }
-
-pub returns-in-Some : goal.returns-in-Some
-returns-in-Some g c =
-    let was = c.loop.invariant in
-    let now = c.in-Some.ensures in
-    record {
-      serves = λ past events tail st left.
-          served c.args.host.now c.loop.host (g.W.Wire.state c.args.wire.now) (g.W.Wire.state c.loop.wire) (g.W.Wire.state c.handle.new.wire) c.loop.counter was.handled c.args.budget c.loop-test.true past events tail st
-          (subst (λ l. FramesLeft l events tail) (sym (ap (λ (s : WireState). s.left) (g.met.W.Wire.state_tells c.args.wire.now))) left) c.in-Some.end now.ends;
-      read_fault = λ is. Rose-later _ _ _ was.reading (now.read_fault is);
-      write_fault = λ is. Rose-later _ _ _ was.writing (now.write_fault is);
-      reading_never_falls = omega (arith, was.reading, now.reading_never_falls);
-      writing_never_falls = omega (arith, was.writing, now.writing_never_falls);
-      reached = now.reached ∙ was.reached;
-      reach_faults = now.reach_faults ∙ was.reach_faults;
-    }
-
-pub returns : goal.returns
-returns g c =
-    let was = c.loop.invariant in
-    record {
-      serves = λ past events tail st left.
-          let all : c.loop.counter ≡ c.args.budget = omega (arith, c.loop.auto.counter-end, c.loop-test.false) in
-          spent c.args.host.now c.loop.host (g.W.Wire.state c.args.wire.now) (g.W.Wire.state c.loop.wire) c.args.budget
-          (subst (Handled c.args.host.now c.loop.host (g.W.Wire.state c.args.wire.now) (g.W.Wire.state c.loop.wire)) all was.handled) past events tail st
-          (subst (λ l. FramesLeft l events tail) (sym (ap (λ (s : WireState). s.left) (g.met.W.Wire.state_tells c.args.wire.now))) left);
-      read_fault = λ is. cc;
-      write_fault = λ is. cc;
-      reading_never_falls = was.reading;
-      writing_never_falls = was.writing;
-      reached = was.reached;
-      reach_faults = was.reach_faults;
-    }
+pub returns-then-has_failed-clause-serves : goal.returns-then-has_failed-clause-serves
+returns-then-has_failed-clause-serves g c = λ past events tail st left.
+    nothing_served (plays_of c.args.host.now) past events tail c.args.budget (g.W.Wire.state c.args.wire.now)
