@@ -63,8 +63,11 @@ module _ (narrated : ArmsAreNarrations) (choices : ChoicesAreUnique) (refusals :
     as_played : (j : BranchJob) → j ≡ job → IsPlayed BranchPlayOf j left arrivals tail status out rest → Played
     as_played j same played =
         let p = subst (λ (k : BranchJob). IsPlayed BranchPlayOf k left arrivals tail status out rest) same played in
-        inr (job_in job p.plays.arm, wanted p.plays.arm p.plays.taken,
-        record { play = p.play; plays = p.plays.plays; status_is = p.status_is; writes = p.writes; leaves = p.leaves })
+        inr (
+          job_in job p.plays.arm,
+          wanted p.plays.arm p.plays.taken,
+          record { play = p.play; plays = p.plays.plays; status_is = p.status_is; writes = p.writes; leaves = p.leaves },
+        )
 
     as_play : Outcome BranchPlayOf Asked left arrivals tail status out rest → Played
     as_play (inl refusal) = not_both status job (once (refused status) refusal.refuses)
@@ -80,13 +83,17 @@ module _ (narrated : ArmsAreNarrations) (choices : ChoicesAreUnique) (refusals :
     of_played : (j : Job) → j ≡ job_in job arm_there.0 → IsPlayed PlayOf j left arrivals tail status out rest → Outcome BranchPlayOf Asked left arrivals tail status out rest
     of_played j same played =
         let p = subst (λ (k : Job). IsPlayed PlayOf k left arrivals tail status out rest) same played in
-        inr (job, asks, record {
-          play = p.play;
-          plays = record { arm = arm_there.0; taken = arm_there.1; plays = p.plays };
-          status_is = p.status_is;
-          writes = p.writes;
-          leaves = p.leaves;
-        })
+        inr (
+          job,
+          asks,
+          record {
+            play = p.play;
+            plays = record { arm = arm_there.0; taken = arm_there.1; plays = p.plays };
+            status_is = p.status_is;
+            writes = p.writes;
+            leaves = p.leaves;
+          },
+        )
 
     of_play : Played → Outcome BranchPlayOf Asked left arrivals tail status out rest
     of_play (inl refusal) = not_both status (job_in job arm_there.0) (play_once (refused status) refusal.refuses)

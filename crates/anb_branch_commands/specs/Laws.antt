@@ -40,9 +40,9 @@ ArmsArePlayed = (files : Files) (branched role values : List ℕ) (told : Option
     → (text : List ℕ) → (tells : BranchedText text job.branched)
     → (left : List ℕ) (arrivals : List (List ℕ)) (tail : Tail) (straight : List ℕ)
     → slice_get (straights text tells.marks tells.spans)
-        (place_taken job.branched job.role job.told arrivals) ≡ Some straight
+    (place_taken job.branched job.role job.told arrivals) ≡ Some straight
     → (name : List ℕ) → HasFile files name NARRATION_LIMIT straight
     → (status : Status) (out rest : List ℕ)
     → Outcome BranchPlayOf (BranchJobIs files branched role values told host_seed)
-        left arrivals tail status out rest
+    left arrivals tail status out rest
     ↔ Outcome PlayOf (JobIs files name role values host_seed) left arrivals tail status out rest
