@@ -7,7 +7,7 @@ use Rattle.anb_compile.specs.Fitting.{FitsRole}
 use Rattle.anb_park.specs.Records.{Parked}
 use Rattle.anb_resolve.specs.Protocols.{ProtocolValue}
 use Rattle.anb_syntax.specs.Grammar.{Narration}
-use Rattle.anb_command.specs.declared.limits.TheConstants.{KEY_LIMIT, RECORD_LIMIT}
+use Rattle.anb_command.specs.declared.limits.TheConstants.{RECORD_LIMIT}
 use Rattle.anb_command.specs.declared.status.Status.{Status}
 use Rattle.anb_command.specs.declared.status.Status.TheVariants.{FileLong}
 use Rattle.anb_command.specs.Errands.{ErrandOf}
@@ -21,6 +21,7 @@ use Rattle.anb_role_commands.specs.Jobs.{JobIs, JobOf}
 use Rattle.anb_role_commands.proofs.Preparing.{job_given, role_refused}
 use Rattle.anb_park_commands.specs.Going.{HasSession, HaveBytes, IsAwake, PartOfNarration, RefusesAwake, RunsRole, begun}
 use Rattle.anb_park_commands.specs.Identities.{IdentityIs, identity}
+use Rattle.anb_park_commands.specs.Keys.{KeyIs}
 use Rattle.anb_park_commands.specs.ParkCommand.{IsReadToPark, NewSessionIs}
 use Rattle.anb_park_commands.specs.ResumeCommand.{IsReadToResume, ResumedIs}
 use Rattle.anb_park_commands.specs.Sessions.{RoleSession}
@@ -84,19 +85,19 @@ module _ (told : Option Files) (narration name values key : List ℕ) (host_seed
       pub key_read : (file : List ℕ) → file ≡ key → IfTold told (λ files. IsReadToPark narration name values key host_seed files file)
       key_read file at = told_map told (λ files job. inr (at, (_, job))) jobs
 
-      pub begun_no_key : (s : Status) → IfTold told (λ files. FileIs files key KEY_LIMIT (refused s)) → IfTold told (λ files. NewSessionIs narration name values key host_seed files (refused s))
+      pub begun_no_key : (s : Status) → IfTold told (λ files. KeyIs files key (refused s)) → IfTold told (λ files. NewSessionIs narration name values key host_seed files (refused s))
       begun_no_key s no_key = by told jobs no_key where
         by : (t : Option Files) → IfTold t (λ files. JobIs files narration name values host_seed (given (record { protocol = p; role = role; initial = initial; seed = seed })))
-            → IfTold t (λ files. FileIs files key KEY_LIMIT (refused s)) → IfTold t (λ files. NewSessionIs narration name values key host_seed files (refused s))
+            → IfTold t (λ files. KeyIs files key (refused s)) → IfTold t (λ files. NewSessionIs narration name values key host_seed files (refused s))
         by None j k = tt
         by (Some files) j k = inr (_, j, inl (s, k, refl))
 
       pub begun_given : (id secret : List ℕ) → RunsRole p role code → AllByRecursion IsBytes initial → IfTold told (λ files. IdentityIs files narration name (given id))
-          → IfTold told (λ files. FileIs files key KEY_LIMIT (given secret))
+          → IfTold told (λ files. KeyIs files key (given secret))
           → IfTold told (λ files. HasSession (NewSessionIs narration name values key host_seed files) same (begun id seed initial) secret)
       begun_given id secret runs bytes id_is key_is = by told jobs id_is key_is where
         by : (t : Option Files) → IfTold t (λ files. JobIs files narration name values host_seed (given (record { protocol = p; role = role; initial = initial; seed = seed })))
-            → IfTold t (λ files. IdentityIs files narration name (given id)) → IfTold t (λ files. FileIs files key KEY_LIMIT (given secret))
+            → IfTold t (λ files. IdentityIs files narration name (given id)) → IfTold t (λ files. KeyIs files key (given secret))
             → IfTold t (λ files. HasSession (NewSessionIs narration name values key host_seed files) same (begun id seed initial) secret)
         by None j i k = tt
         by (Some files) j i k = record {

@@ -10,7 +10,7 @@ use Rattle.anb_compile.specs.Fitting.{FitsRole}
 use Rattle.anb_compile.specs.Laws.{FittingCodesPlay}
 use Rattle.anb_frame.specs.Frames.{frames, length_bytes}
 use Rattle.anb_park.specs.Records.{IsWaiting, Parked, after, body_of, count_takes, marker, play_of}
-use Rattle.anb_plays.specs.Plays.{Played, waiting}
+use Rattle.anb_plays.specs.Plays.{Played}
 use Rattle.anb_plays.specs.Runs.{no_place, without_place}
 use Rattle.anb_plays.proofs.Runs.{waiting_placeless}
 use Rattle.anb_resolve.specs.Protocols.{ProtocolValue}

@@ -14,7 +14,6 @@ use Rattle.anb_park.specs.declared.resuming.ParkNo.{ParkNo}
 use Rattle.anb_park.specs.declared.resuming.ParkNo.TheVariants as cause
 use Rattle.anb_plays.specs.Plays.{Played}
 use Rattle.anb_plays.specs.Runs.{without_place}
-use Rattle.anb_machine.specs.ByteRuns.{run_bytes}
 use Rattle.anb_machine.specs.Machines.{gives}
 use Rattle.anb_resolve.specs.Protocols.{ProtocolValue}
 use Rattle.anb_session.specs.Sessions.{Reads}
@@ -22,7 +21,7 @@ use Rattle.anb_session.specs.declared.PlayEnd.{PlayEnd}
 use Rattle.anb_session.specs.declared.PlayEnd.TheVariants.{Done, Stopped, Waiting, Truncated, TooLarge}
 use Rattle.anb_session.specs.declared.PlayEnd.TheVariants as faults
 use Rattle.anb_syntax.specs.Grammar.{Narration}
-use Rattle.anb_command.specs.declared.limits.TheConstants.{KEY_LIMIT, RECORD_LIMIT}
+use Rattle.anb_command.specs.declared.limits.TheConstants.{RECORD_LIMIT}
 use Rattle.anb_command.specs.declared.status.Status.{Status}
 use Rattle.anb_command.specs.declared.status.Status.TheVariants.{Unreached, ReadFault, WriteFault, NoMemory}
 use Rattle.anb_command.specs.declared.status.Status.TheVariants as ended
@@ -31,6 +30,7 @@ use Rattle.anb_command.specs.Files.{FileIs, ProtocolIs}
 use Rattle.anb_command.specs.Prepared.{RunsTo}
 use Rattle.anb_command.specs.Roles.{Part, PartOf}
 use Rattle.anb_command.specs.Steps.{Answer, refused, given, InTurn}
+use Rattle.anb_park_commands.specs.Keys.{KeyIs}
 use Rattle.anb_park_commands.specs.Parking.{due, status_at}
 use Rattle.anb_park_commands.specs.Records.{RecordIs}
 use Rattle.anb_park_commands.specs.Sessions.{IsPlayOf, RoleSession, count_known}
@@ -132,11 +132,11 @@ PartOfNarration n name = InTurn (ProtocolIs n) (λ p. PartOf p name)
 -- a session that goes on from a record in a file
 abbrev pub IsAwake : Files → ProtocolValue → (role : ℕ) → (id saved key : List ℕ) → Parked → (secret : List ℕ) → Type 0
 IsAwake files p role id saved key s secret =
-    (bytes : List ℕ) × FileIs files saved RECORD_LIMIT (given bytes) × FileIs files key KEY_LIMIT (given secret)
+    (bytes : List ℕ) × FileIs files saved RECORD_LIMIT (given bytes) × KeyIs files key (given secret)
     × RecordIs p role id secret bytes (given s)
 
 -- what refuses a record in a file
 abbrev pub RefusesAwake : Files → ProtocolValue → (role : ℕ) → (id saved key : List ℕ) → Status → Type 0
 RefusesAwake files p role id saved key status =
-    InTurn (FileIs files saved RECORD_LIMIT) (λ bytes. InTurn (FileIs files key KEY_LIMIT) (λ secret.
+    InTurn (FileIs files saved RECORD_LIMIT) (λ bytes. InTurn (KeyIs files key) (λ secret.
     RecordIs p role id secret bytes)) (refused status)

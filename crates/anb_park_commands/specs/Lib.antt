@@ -1,4 +1,5 @@
 pub mod Identities
+pub mod Keys
 pub mod Laws
 pub mod ParkCommand
 pub mod Parking

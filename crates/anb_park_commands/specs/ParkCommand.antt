@@ -4,11 +4,10 @@ use Rattle.anb_base.specs.Wires.{WireState}
 use Rattle.anb_park.specs.Lives.{started}
 use Rattle.anb_command.specs.declared.status.Status.{Status}
 use Rattle.anb_command.specs.Fetches.{Files}
-use Rattle.anb_command.specs.Files.{FileIs}
 use Rattle.anb_command.specs.Steps.{Answer, given, InTurn, AnswersWith}
 use Rattle.anb_role_commands.specs.Jobs.{IsRead, Job, JobIs}
-use Rattle.anb_command.specs.declared.limits.TheConstants.{KEY_LIMIT}
 use Rattle.anb_park_commands.specs.Identities.{IdentityIs}
+use Rattle.anb_park_commands.specs.Keys.{KeyIs}
 use Rattle.anb_park_commands.specs.Parking.{CompletesOver, ParksOver}
 use Rattle.anb_park_commands.specs.Sessions.{Begins, RoleSession}
 
@@ -18,7 +17,7 @@ module _ (narration name values key : List ℕ) (host_seed : Option (List ℕ)) 
   abbrev pub NewSessionIs : Files → Answer RoleSession → Type 0
   NewSessionIs files =
       InTurn (JobIs files narration name values host_seed) (λ job.
-      InTurn (FileIs files key KEY_LIMIT) (λ secret.
+      InTurn (KeyIs files key) (λ secret.
       InTurn (IdentityIs files narration name) (λ id.
       AnswersWith (record {
         protocol = job.protocol;

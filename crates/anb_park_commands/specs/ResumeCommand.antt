@@ -7,8 +7,9 @@ use Rattle.anb_command.specs.Fetches.{Files}
 use Rattle.anb_command.specs.Files.{FileIs}
 use Rattle.anb_command.specs.Roles.{Part, PartInFile}
 use Rattle.anb_command.specs.Steps.{Answer, given, InTurn, AnswersWith}
-use Rattle.anb_command.specs.declared.limits.TheConstants.{KEY_LIMIT, RECORD_LIMIT}
+use Rattle.anb_command.specs.declared.limits.TheConstants.{RECORD_LIMIT}
 use Rattle.anb_park_commands.specs.Identities.{IdentityIs}
+use Rattle.anb_park_commands.specs.Keys.{KeyIs}
 use Rattle.anb_park_commands.specs.Parking.{CompletesOver, ParksOver}
 use Rattle.anb_park_commands.specs.Records.{RecordIs}
 use Rattle.anb_park_commands.specs.Sessions.{GoesOn, RoleSession}
@@ -20,7 +21,7 @@ module _ (narration name saved key : List ℕ) where
   ResumedIs files =
       InTurn (PartInFile files narration name) (λ part.
       InTurn (FileIs files saved RECORD_LIMIT) (λ bytes.
-      InTurn (FileIs files key KEY_LIMIT) (λ secret.
+      InTurn (KeyIs files key) (λ secret.
       InTurn (IdentityIs files narration name) (λ id.
       InTurn (RecordIs part.protocol part.role id secret bytes) (λ parked.
       AnswersWith (record {

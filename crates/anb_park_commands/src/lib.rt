@@ -5,6 +5,7 @@
 #![tactic(auto)]
 
 mod going;
+mod keys;
 mod laws;
 mod owning;
 mod parking;

@@ -17,9 +17,10 @@ ghost use Rattle.anb_park_commands.specs.Going.{HasSession, IsKept, ParksOn, beg
 ghost use Rattle.anb_park_commands.specs.ParkCommand.{CompletesPark, DoesPark, IsReadToPark, NewSessionIs};
 
 use crate::going::go_over;
+use crate::keys::key_in_file;
 use crate::owning::{Owner, owner_in_file};
 use anb_base::{Bytes, NoMemory, Shelf, Wire};
-use anb_command::{Endpoint, KEY_LIMIT, ParkWords, Prepared, Status, fetch_file, prepare_code};
+use anb_command::{Endpoint, ParkWords, Prepared, Status, prepare_code};
 use anb_park::Live;
 use anb_read::{narrations_are_unique, none_is_both, refusals_are_unique};
 use anb_values::one_fit;
@@ -143,7 +144,7 @@ fn prepare<F: Shelf>(
         Ok(prepared) => prepared,
         Err(status) => return Err(status),
     };
-    match fetch_file(alloc, shelf, words.key, KEY_LIMIT) {
+    match key_in_file(alloc, shelf, words.key) {
         Ok(key) => Ok(Beginning { prepared, id, key }),
         Err(status) => Err(status),
     }

@@ -18,9 +18,10 @@ ghost use Rattle.anb_park_commands.specs.Records.{RecordIs};
 ghost use Rattle.anb_park_commands.specs.ResumeCommand.{CompletesResume, DoesResume};
 
 use crate::going::go_over;
+use crate::keys::key_in_file;
 use crate::owning::{Owner, owner_in_file};
 use anb_base::{Bytes, Shelf, Wire};
-use anb_command::{KEY_LIMIT, RECORD_LIMIT, ResumeWords, Status, fetch_file};
+use anb_command::{RECORD_LIMIT, ResumeWords, Status, fetch_file};
 use anb_park::{Live, ParkNo};
 use anb_read::{narrations_are_unique, none_is_both, refusals_are_unique};
 use anb_seal::{gives_bytes, unseals_exactly};
@@ -107,7 +108,7 @@ fn wake<'c, F: Shelf>(
         Ok(parked) => parked,
         Err(status) => return Err(status),
     };
-    let key = match fetch_file(alloc, shelf, words.key, KEY_LIMIT) {
+    let key = match key_in_file(alloc, shelf, words.key) {
         Ok(key) => key,
         Err(status) => return Err(status),
     };

@@ -1,16 +1,15 @@
 use Rattle.std.proofs.Common.{Option, ◌∙◌, subst, inl, inr}
 use Rattle.anb_base.proofs.Moving.{Rose-later}
-use Rattle.anb_command.specs.declared.limits.TheConstants.{KEY_LIMIT}
 use Rattle.anb_command.specs.Errands.{ErrandOf}
 use Rattle.anb_command.specs.Fetches.{Files, IfTold}
-use Rattle.anb_command.specs.Files.{HasFile}
 use Rattle.anb_command.specs.Steps.{given}
 use Rattle.anb_command.proofs.Failing.{IsFailure-map}
-use Rattle.anb_park_commands.proofs.Chains.{begun_given, begun_no_key, begun_no_part, begun_no_values, file_refused, key_read, narration_read, values_read}
+use Rattle.anb_park_commands.specs.Keys.{KeyIs}
+use Rattle.anb_park_commands.proofs.Chains.{begun_given, begun_no_key, begun_no_part, begun_no_values, key_read, narration_read, values_read}
 use Rattle.anb_park_commands.proofs.parking.prepare.Goals as goal
 
-pub returns-in-Ok-fetch_file-clause-ready : goal.returns-in-Ok-fetch_file-clause-ready
-returns-in-Ok-fetch_file-clause-ready g c =
+pub returns-in-Ok-key_in_file-clause-ready : goal.returns-in-Ok-key_in_file-clause-ready
+returns-in-Ok-key_in_file-clause-ready g c =
     let told = g.F.Shelf.files c.args.shelf.now in
     let play = c.args.words.play in
     let role = c.in-Ok.owner.playable in
@@ -19,7 +18,7 @@ returns-in-Ok-fetch_file-clause-ready g c =
     let next = c.prepare_code.ensures.fetches.same_files in
     begun_given told play.narration.now play.name.now play.values.now c.args.words.key.now c.args.host_seed role.protocol role.role role.code c.in-Ok.ensures.fits
     p.code p.initial p.seed c.in-Ok-prepare_code.ensures.same c.in-Ok.ensures.given (subst (λ (t : Option Files). IfTold t (λ files. ErrandOf files play.values.now c.args.host_seed role.code (given (record { code = p.code; initial = p.initial; seed = p.seed })))) first c.in-Ok-prepare_code.ensures.given)
-    c.in-Ok.owner.id c.in-Ok-fetch_file.key c.in-Ok.ensures.runs c.in-Ok-prepare_code.ensures.bytes c.in-Ok.ensures.identity (subst (λ (t : Option Files). IfTold t (λ files. HasFile files c.args.words.key.now KEY_LIMIT c.in-Ok-fetch_file.key)) (next ∙ first) c.in-Ok-fetch_file.ensures.file)
+    c.in-Ok.owner.id c.in-Ok-key_in_file.key c.in-Ok.ensures.runs c.in-Ok-prepare_code.ensures.bytes c.in-Ok.ensures.identity (subst (λ (t : Option Files). IfTold t (λ files. KeyIs files c.args.words.key.now (given c.in-Ok-key_in_file.key))) (next ∙ first) c.in-Ok-key_in_file.ensures.given)
 
 pub returns-in-Err-clause-refused : goal.returns-in-Err-clause-refused
 returns-in-Err-clause-refused g c =
@@ -52,7 +51,7 @@ returns-clause-refused g c =
     let p = c.in-Ok-prepare_code.prepared in
     let kept = c.owner_in_file.ensures.fetches in
     let next = c.prepare_code.ensures.fetches in
-    let s = c.in-Err-fetch_file.status in
+    let s = c.in-Err-key_in_file.status in
     IsFailure-map s _ _ _ _
     (λ file at. (
       inr (inr (inl at.0)),
@@ -61,5 +60,5 @@ returns-clause-refused g c =
           p.code p.initial p.seed c.in-Ok-prepare_code.ensures.same c.in-Ok.ensures.given (subst (λ (t : Option Files). IfTold t (λ files. ErrandOf files play.values.now c.args.host_seed role.code (given (record { code = p.code; initial = p.initial; seed = p.seed })))) kept.same_files c.in-Ok-prepare_code.ensures.given) file at.0,
     ))
     (λ is. begun_no_key told play.narration.now play.name.now play.values.now c.args.words.key.now c.args.host_seed role.protocol role.role role.code c.in-Ok.ensures.fits
-    p.code p.initial p.seed c.in-Ok-prepare_code.ensures.same c.in-Ok.ensures.given (subst (λ (t : Option Files). IfTold t (λ files. ErrandOf files play.values.now c.args.host_seed role.code (given (record { code = p.code; initial = p.initial; seed = p.seed })))) kept.same_files c.in-Ok-prepare_code.ensures.given) s (file_refused told c.args.words.key.now _ s is))
-    (rw kept.same_files at (rw next.same_files at c.in-Err-fetch_file.ensures.err))
+    p.code p.initial p.seed c.in-Ok-prepare_code.ensures.same c.in-Ok.ensures.given (subst (λ (t : Option Files). IfTold t (λ files. ErrandOf files play.values.now c.args.host_seed role.code (given (record { code = p.code; initial = p.initial; seed = p.seed })))) kept.same_files c.in-Ok-prepare_code.ensures.given) s is)
+    (rw kept.same_files at (rw next.same_files at c.in-Err-key_in_file.ensures.refused))

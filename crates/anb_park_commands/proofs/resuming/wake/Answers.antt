@@ -1,9 +1,8 @@
 use Rattle.std.proofs.Common.{Option, refl, subst, inl, inr}
 use Rattle.anb_base.proofs.Moving.{Rose-later}
-use Rattle.anb_command.specs.declared.limits.TheConstants.{KEY_LIMIT}
 use Rattle.anb_command.specs.Fetches.{Files, IfTold}
-use Rattle.anb_command.specs.Files.{HasFile}
-use Rattle.anb_command.specs.Steps.{refused}
+use Rattle.anb_command.specs.Steps.{given, refused}
+use Rattle.anb_park_commands.specs.Keys.{KeyIs}
 use Rattle.anb_park_commands.specs.Records.{RecordIs}
 use Rattle.anb_command.proofs.Failing.{IsFailure-map}
 use Rattle.anb_command.proofs.Chains.{told_map}
@@ -17,15 +16,15 @@ returns-in-Err-clause-refused g c =
     let s = c.in-Err.status in
     IsFailure-map s _ _ _ _ (λ file at. (inl at.0, at.1)) (λ is. told_map told (λ files f. inl (s, f, refl)) (file_refused told c.args.words.parked.now _ s is)) c.in-Err.ensures.err
 
-pub returns-in-Err-fetch_file-clause-refused : goal.returns-in-Err-fetch_file-clause-refused
-returns-in-Err-fetch_file-clause-refused g c =
+pub returns-in-Err-key_in_file-clause-refused : goal.returns-in-Err-key_in_file-clause-refused
+returns-in-Err-key_in_file-clause-refused g c =
     let told = g.F.Shelf.files c.args.shelf.now in
     let kept = c.fetch_file.ensures.fetches in
-    let s = c.in-Err-fetch_file.status in
+    let s = c.in-Err-key_in_file.status in
     IsFailure-map s _ _ _ _
     (λ file at. (inr (at.0, told_map told (λ files f. (c.in-Ok.parked, f)) c.in-Ok.ensures.file), Rose-later _ _ _ (kept.never_falls file) at.1))
-    (λ is. told_both told (λ files f k. inr (c.in-Ok.parked, f, inl (s, k, refl))) c.in-Ok.ensures.file (file_refused told c.args.words.key.now _ s is))
-    (rw kept.same_files at c.in-Err-fetch_file.ensures.err)
+    (λ is. told_both told (λ files f k. inr (c.in-Ok.parked, f, inl (s, k, refl))) c.in-Ok.ensures.file is)
+    (rw kept.same_files at c.in-Err-key_in_file.ensures.refused)
 
 pub returns-clause-refused : goal.returns-clause-refused
 returns-clause-refused g c =
@@ -33,9 +32,9 @@ returns-clause-refused g c =
     let role = c.args.owner.now in
     let kept = c.fetch_file.ensures.fetches.same_files in
     let s = c.in-Err-live_in.status in
-    let key = c.in-Ok-fetch_file.key in
+    let key = c.in-Ok-key_in_file.key in
     IsFailure-map s _ _ _ _ (λ file never. absurd never)
     (λ (why : RecordIs role.playable.protocol role.playable.role role.id key c.in-Ok.parked (refused s)).
     told_both told (λ files f k. inr (c.in-Ok.parked, f, inr (key, k, why))) c.in-Ok.ensures.file
-    (subst (λ (t : Option Files). IfTold t (λ files. HasFile files c.args.words.key.now KEY_LIMIT key)) kept c.in-Ok-fetch_file.ensures.file))
+    (subst (λ (t : Option Files). IfTold t (λ files. KeyIs files c.args.words.key.now (given key))) kept c.in-Ok-key_in_file.ensures.given))
     (rw (c.as_slice.ensures, c.as_slice-2.ensures) at c.in-Err-live_in.ensures.refused)
