@@ -7,7 +7,7 @@ use std::net::{OpenListener, TcpListener, TcpStream};
 use std::process::{Child, Command, Stdio};
 use std::test::Fail;
 use std::time::Duration;
-use std::{env, fs, thread};
+use std::{env, fs, io, thread};
 
 const PING: &str =
     "Protocol: Ping; Types: Agent A, B; Number N; Knowledge: A: N; B: N; Actions: A -> B: N; B -> A: N;";
@@ -26,6 +26,27 @@ fn child(rt: HostRuntime) -> Result<(), Fail> {
     }
     fill_standard_descriptors(&rt);
     assert_eq!(rt; status(rt, 2).number(), 0);
+    Ok(())
+}
+
+/// The child of the next test. The runner of tests starts it without words.
+#[test]
+fn unread_child(rt: HostRuntime) -> Result<(), Fail> {
+    if !words(rt, 2)?.as_slice().is_empty() {
+        assert_eq!(rt; status(rt, 2).number(), 15);
+    }
+    Ok(())
+}
+
+#[test]
+fn a_reader_that_has_gone_is_a_fault_of_writing(rt: HostRuntime) -> Result<(), Fail> {
+    let program = env::args(&rt)?.next().ok_or("no name")?;
+    let (reader, writer) = io::pipe(&rt)?;
+    drop(reader);
+    let mut command = Command::new(rt.alloc(), program.as_str())?;
+    let command = command.arg("tests::unread_child")?.arg("help")?;
+    let mut unread = command.stdout(writer).spawn(&rt)?;
+    assert!(rt; unread.wait()?.success());
     Ok(())
 }
 

@@ -7,7 +7,11 @@ use std::os::unix::prelude::ExitStatusExt;
 use std::process::ExitStatus;
 
 /// Tells what a child ended with whose output ended too early, where it ended.
-pub(crate) fn tell_end(rt: &HostRuntime, name: &Text, status: Option<ExitStatus>) -> io::Result<()> {
+pub(crate) fn tell_end(
+    rt: &HostRuntime,
+    name: &Text,
+    status: Option<ExitStatus>,
+) -> io::Result<()> {
     let name = name.as_str();
     let line = match status {
         None => format!(in rt.alloc(); "anb: child {name} ended its output and ran on\n")?,

@@ -197,9 +197,7 @@ fn explain(rt: &HostRuntime, program: &ChildProgram) {
 
 /// The child of a role.
 fn child_in(children: &mut [Named], role: u32) -> Option<&mut Named> {
-    children
-        .iter_mut()
-        .find(|child| child.running.role == role)
+    children.iter_mut().find(|child| child.running.role == role)
 }
 
 impl Spawner for RealSpawner {

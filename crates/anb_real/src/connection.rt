@@ -176,11 +176,7 @@ impl Connection {
 }
 
 /// What is left of a time since then. Where nothing is left, that is an error.
-pub(crate) fn left_of(
-    rt: &HostRuntime,
-    time: Duration,
-    start: Instant,
-) -> io::Result<Duration> {
+pub(crate) fn left_of(rt: &HostRuntime, time: Duration, start: Instant) -> io::Result<Duration> {
     let left = time.saturating_sub(start.elapsed(rt)?);
     if left.is_zero() {
         return Err(io::Error::from(ErrorKind::TimedOut));
