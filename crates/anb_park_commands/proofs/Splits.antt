@@ -54,7 +54,8 @@ use Rattle.anb_park_commands.specs.ResumeCommand.{ResumedIs}
 use Rattle.anb_park_commands.specs.Sessions.{Begins, GoesOn, RoleSession, count_known}
 use Rattle.anb_park_commands.specs.Splits.{EndsAs, Finds, GoesOnAsPlayed, IsParked, IsSplitAsWhole, Parks, Plays, Resumes, Resuming, WereParked}
 use Rattle.anb_park_commands.proofs.Bounds.{few_known, few_receives, length_frames, sum_short}
-use Rattle.anb_park_commands.proofs.Tasks.{resumed_one}
+use Rattle.anb_park_commands.specs.Keys.{KeyIs, KeyOf}
+use Rattle.anb_park_commands.proofs.Tasks.{key_one, resumed_one}
 use Rattle.anb_park_commands.proofs.Walking.{Uses, count_receives, play_on, play_uses}
 
 -- ---- ends and what is left
@@ -124,6 +125,9 @@ module _ (f g : Files) where
 first_as : {A B : Type 0} (one also : Answer A → Type 0) (next : A → Answer B → Type 0) → ((a : Answer A) → one a → also a) → (answer : Answer B) → InTurn one next answer → InTurn also next answer
 first_as one also next by answer (inl (t, is, refuses)) = inl (t, by (refused t) is, refuses)
 first_as one also next by answer (inr (a, is, comes)) = inr (a, by (given a) is, comes)
+
+key_as : (f g : Files) (key : List ℕ) → g key ≡ f key → (answer : Answer (List ℕ)) → KeyIs g key answer → KeyIs f key answer
+key_as f g key same = first_as _ _ KeyOf (file_as f g key KEY_LIMIT same)
 
 module _ (f g : Files) (narration name : List ℕ) (same : g narration ≡ f narration) where
   narration_as : (answer : Answer Narration) → NarrationInFile g narration answer → NarrationInFile f narration answer
@@ -233,7 +237,7 @@ module _ (narrations : NarrationsAreUnique) (refusals : RefusalsAreUnique) (none
     job : Job
     asks : JobIs files narration name values host_seed (given job)
     secret : List ℕ
-    key_is : FileIs files key KEY_LIMIT (given secret)
+    key_is : KeyIs files key (given secret)
     id : List ℕ
     id_is : IdentityIs files narration name (given id)
     arrivals : List (List ℕ)
@@ -315,7 +319,7 @@ module _ (narrations : NarrationsAreUnique) (refusals : RefusalsAreUnique) (none
           record { holds = finds.kept_there; short = kept_short },
           inr (
             st.secret,
-            file_as r.files files key KEY_LIMIT (sym finds.same_key) (given st.secret) st.key_is,
+            key_as r.files files key (sym finds.same_key) (given st.secret) st.key_is,
             inr (st.id, identity_as r.files files narration name (sym finds.same_narration) (given st.id) st.id_is, inr (session_after st.job st.id st.arrivals, accepted, refl)),
           ),
         ),
@@ -440,7 +444,7 @@ module _ (narrations : NarrationsAreUnique) (refusals : RefusalsAreUnique) (none
   -- ---- where it begins
 
   session_is : (s : RoleSession) → NewSessionIs narration name values key host_seed files (given s)
-      → (job : Job) × (secret : List ℕ) × (id : List ℕ) × JobIs files narration name values host_seed (given job) × FileIs files key KEY_LIMIT (given secret) × IdentityIs files narration name (given id)
+      → (job : Job) × (secret : List ℕ) × (id : List ℕ) × JobIs files narration name values host_seed (given job) × KeyIs files key (given secret) × IdentityIs files narration name (given id)
       × (s ≡ record { protocol = job.protocol; role = job.role; parked = started id job.initial job.seed 0; key = secret })
   session_is s (inl (t, first, never)) = not_both t s (sym never)
   session_is s (inr (job, asks, inl (t, first, never))) = not_both t s (sym never)
@@ -468,14 +472,14 @@ module _ (narrations : NarrationsAreUnique) (refusals : RefusalsAreUnique) (none
         kept_is = parked.kept_is ∙ ap (λ (s : RoleSession). record_after s parked.arrivals) same;
       }
 
-  begins : (secret input : List ℕ) → FileIs files key KEY_LIMIT (given secret) → GoesOnAsPlayed narration name values key host_seed files [] [] input (Parks narration name values key host_seed files input)
+  begins : (secret input : List ℕ) → KeyIs files key (given secret) → GoesOnAsPlayed narration name values key host_seed files [] [] input (Parks narration name values key host_seed files input)
   begins secret input key_is = record { is = is; only = only } where
     early : (s : Status) → JobIs files narration name values host_seed (refused s) → phase_of s ≡ before_reach
     early s refuses = ((job_quiet files narration name values host_seed).each s refuses).1
 
     job_refused : (s : Status) → NewSessionIs narration name values key host_seed files (refused s) → JobIs files narration name values host_seed (refused s)
     job_refused s (inl (t, first, is)) = subst (λ (u : Status). JobIs files narration name values host_seed (refused u)) (sym (same_refusal s t is)) first
-    job_refused s (inr (job, asks, inl (t, no_key, is))) = not_both t secret (file_one files key KEY_LIMIT (refused t) (given secret) no_key key_is)
+    job_refused s (inr (job, asks, inl (t, no_key, is))) = not_both t secret (key_one files key (refused t) (given secret) no_key key_is)
     job_refused s (inr (job, asks, inr (other, also, inl (t, (n, in_file, never), is)))) = not_both t (identity n name) never
     job_refused s (inr (job, asks, inr (other, also, inr (id, id_is, never)))) = not_both s _ never
 

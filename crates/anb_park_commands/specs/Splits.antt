@@ -6,15 +6,15 @@ use Rattle.anb_base.specs.declared.TheConstants.{ARRIVAL}
 use Rattle.anb_frame.specs.Frames.{frame, frames}
 use Rattle.anb_frame.specs.Cuts.{Tail, Cut}
 use Rattle.anb_plays.specs.Plays.{Played}
-use Rattle.anb_command.specs.declared.limits.TheConstants.{KEY_LIMIT, RECORD_LIMIT}
+use Rattle.anb_command.specs.declared.limits.TheConstants.{RECORD_LIMIT}
 use Rattle.anb_command.specs.declared.status.Status.{Status}
 use Rattle.anb_command.specs.declared.status.Status.TheVariants.{Parked, Waiting}
 use Rattle.anb_command.specs.Fetches.{Files}
-use Rattle.anb_command.specs.Files.{FileIs}
 use Rattle.anb_command.specs.Outcomes as playing
 use Rattle.anb_command.specs.Steps.{Answer, given}
 use Rattle.anb_role_commands.specs.Jobs.{JobIs}
 use Rattle.anb_role_commands.specs.PlayCommand.{PlayOf}
+use Rattle.anb_park_commands.specs.Keys.{KeyIs}
 use Rattle.anb_park_commands.specs.ParkCommand.{NewSessionIs}
 use Rattle.anb_park_commands.specs.Parking.{IsPlayed, Outcome, record_after}
 use Rattle.anb_park_commands.specs.ResumeCommand.{ResumedIs}
@@ -104,7 +104,7 @@ module _ (narration name values key : List ℕ) (host_seed : Option (List ℕ)) 
   -- `park` does what `play` does; and wherever it and those after it were parked, `resume` reads the
   -- record, and goes on
   pub record IsSplitAsWhole : Type 0 where
-    pub begins : (secret input : List ℕ) → FileIs files key KEY_LIMIT (given secret)
+    pub begins : (secret input : List ℕ) → KeyIs files key (given secret)
         → GoesOnAsPlayed [] [] input (Parks input)
     pub short : (first : List ℕ) (resumed : List Resuming) (heard written kept : List ℕ)
         → WereParked first resumed heard written kept → length kept ≤ RECORD_LIMIT
