@@ -42,7 +42,7 @@ use Rattle.anb_command.specs.Statuses.{before_reach, phase_of}
 use Rattle.anb_command.specs.Steps.{Answer, refused, given, InTurn}
 use Rattle.anb_command.proofs.Cutting.{cut_behind}
 use Rattle.anb_command.proofs.Given.{fit_count, fit_seed, fit_short}
-use Rattle.anb_command.proofs.Ones.{file_one, not_both, same_given, same_refusal}
+use Rattle.anb_command.proofs.Ones.{not_both, same_given, same_refusal}
 use Rattle.anb_role_commands.specs.Jobs.{Job, JobIs, makes_names}
 use Rattle.anb_role_commands.specs.PlayCommand.{PlayOf}
 use Rattle.anb_role_commands.proofs.Tasks.{job_one, job_quiet}
