@@ -17,11 +17,11 @@ use Rattle.anb_algebra.specs.ByteMeaning.{byte_meaning}
 use Rattle.anb_plays.specs.Plans.{Event, know, recv, known}
 use Rattle.anb_plays.specs.Plays.{Played, Judge, Walk, Play}
 use Rattle.anb_plays.proofs.Plays.{known-append}
-use Rattle.anb_resolve.specs.Choices.{refuse_if}
-use Rattle.anb_resolve.specs.Protocols.{ProtocolValue, role_number}
-use Rattle.anb_resolve.specs.Plans.{PlanEvent, to_know, to_make, to_send, to_receive}
-use Rattle.anb_resolve.specs.Plays.{event_of, events_of, meaning_of, IsPlay}
-use Rattle.anb_resolve.proofs.PlanLaws.{knows_first}
+use Rattle.anb_protocol.specs.Choices.{refuse_if}
+use Rattle.anb_protocol.specs.Protocols.{ProtocolValue, role_number}
+use Rattle.anb_protocol.specs.Plans.{PlanEvent, to_know, to_make, to_send, to_receive}
+use Rattle.anb_protocol.specs.Plays.{event_of, events_of, meaning_of, IsPlay}
+use Rattle.anb_protocol.proofs.PlanLaws.{knows_first}
 use Rattle.anb_choice.specs.Lawful.{BranchedValue, IsLawful, IsLike, AreAlike, roles_in, plan_named, stem_len, stem_part, arm_part, is_free, received_format, told_by, tells, unseen_in, blind_in}
 use Rattle.anb_branch.specs.Taken.{count_receives, receives_in}
 use Rattle.anb_branch.specs.Laws.{ArmsPlayAlike}

@@ -2,9 +2,9 @@
 use Rattle.std.proofs.Common.{◌≡◌, ℕ, ◌+◌, ◌<◌, List, [], ◌∷◌, length, map, drop, get_or, Bool, true, false, refl, sym, ap, ◌∙◌, arith}
 use Rattle.std.specs.Prelude.{if◌then◌else◌}
 use Rattle.std.proofs.lemmas.List.{drop_more}
-use Rattle.anb_resolve.specs.declared.plans.Event.{Event}
-use Rattle.anb_resolve.specs.Plans.{PlanEvent}
-use Rattle.anb_resolve.specs.Views.{plan_event}
+use Rattle.anb_protocol.specs.declared.plans.Event.{Event}
+use Rattle.anb_protocol.specs.Plans.{PlanEvent}
+use Rattle.anb_protocol.specs.Views.{plan_event}
 use Rattle.anb_choice.specs.Lawful.{is_of_stem, stem_len}
 
 -- the stem's length where these events are left behind i, of which the first so many are of the stem

@@ -18,9 +18,9 @@ use Rattle.anb_code.specs.CodeValue.{CodeValue}
 use Rattle.anb_code.specs.Meaning.{acts_of}
 use Rattle.anb_code.specs.Taking.{take_texts}
 use Rattle.anb_machine.specs.ByteRuns.{run_bytes, meaning_of}
-use Rattle.anb_resolve.specs.Protocols.{ProtocolValue, role_number}
-use Rattle.anb_resolve.specs.Texts.{known_by}
-use Rattle.anb_resolve.specs.Plays.{IsPlay}
+use Rattle.anb_protocol.specs.Protocols.{ProtocolValue, role_number}
+use Rattle.anb_protocol.specs.Texts.{known_by}
+use Rattle.anb_protocol.specs.Plays.{IsPlay}
 use Rattle.anb_compile.specs.Fitting.{FitsRole}
 use Rattle.anb_compile.specs.Laws.{FittingCodesPlay}
 use Rattle.anb_choice.specs.Lawful.{BranchedValue, IsLawful, roles_in, is_free}

@@ -9,11 +9,11 @@ use Rattle.anb_term.specs.declared.term.Op.TheVariants.{Hash, Mac, Seal, Wrap, F
 use Rattle.anb_term.specs.Tree as term
 use Rattle.anb_syntax.specs.Grammar.{atom, apply, Trees, none, more}
 use Rattle.anb_syntax.specs.Canon.{canon_tree}
-use Rattle.anb_resolve.specs.declared.parts.Atom.{Atom}
-use Rattle.anb_resolve.specs.Choices.{each_after}
-use Rattle.anb_resolve.specs.Protocols.{ActionValue, ProtocolValue, role_number}
-use Rattle.anb_resolve.specs.Plans.{PlanEvent, to_know, to_make, to_send, to_receive, events_at, made, plan_of}
-use Rattle.anb_resolve.specs.Texts.{known_by, spelled, spelled_all, term_text, written}
+use Rattle.anb_protocol.specs.declared.parts.Atom.{Atom}
+use Rattle.anb_protocol.specs.Choices.{each_after}
+use Rattle.anb_protocol.specs.Protocols.{ActionValue, ProtocolValue, role_number}
+use Rattle.anb_protocol.specs.Plans.{PlanEvent, to_know, to_make, to_send, to_receive, events_at, made, plan_of}
+use Rattle.anb_protocol.specs.Texts.{known_by, spelled, spelled_all, term_text, written}
 use Rattle.anb_choice.specs.Lawful.{stem_len, stem_part}
 use Rattle.anb_branch.specs.Laws.{ArmsKnowAlike}
 use Rattle.anb_branch.proofs.Agreeing.{HasStem, first_arm}

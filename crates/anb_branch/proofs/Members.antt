@@ -6,7 +6,7 @@ use Rattle.std.specs.Str.{bytes_eq}
 use Rattle.anb_index.specs.Places.{among}
 use Rattle.anb_lemmas.proofs.Items.{bytes_are_one}
 use Rattle.anb_lemmas.proofs.Options.{or_is_none}
-use Rattle.anb_resolve.specs.Choices.{first, first_after}
+use Rattle.anb_protocol.specs.Choices.{first, first_after}
 
 pub zipped_at : {A B : Type 0} (R : A → B → Type 0) (xs : List A) (ys : List B) (i : ℕ) (x : A) (y : B) → AllZip R xs ys → slice_get xs i ≡ Some x → slice_get ys i ≡ Some y → R x y
 zipped_at R [] [] i x y z a b = cc

@@ -6,9 +6,9 @@ use Rattle.std.specs.List.{AllByRecursion, list_all}
 use Rattle.std.proofs.lemmas.List.Elements.{All-from_recursion}
 use Rattle.std.proofs.lemmas.Bool.{and_parts}
 use Rattle.anb_index.specs.Places.{among}
-use Rattle.anb_resolve.specs.Protocols.{ProtocolValue, role_number}
-use Rattle.anb_resolve.specs.Plays.{IsSendable}
-use Rattle.anb_resolve.proofs.Building.{role_below}
+use Rattle.anb_protocol.specs.Protocols.{ProtocolValue, role_number}
+use Rattle.anb_protocol.specs.Plays.{IsSendable}
+use Rattle.anb_protocol.proofs.Building.{role_below}
 use Rattle.anb_choice.specs.Lawful.{BranchedValue, IsLawful, IsLike, AreAlike, roles_in}
 use Rattle.anb_choice.proofs.Names.{among_others}
 use Rattle.anb_branch.specs.declared.compiling.ArmNo.{ArmNo}

@@ -6,7 +6,7 @@ use Rattle.std.specs.List.{list_any, position_from}
 use Rattle.std.proofs.lemmas.Option.{slice_get-get_or, get_or_from_slice_get}
 use Rattle.std.proofs.lemmas.List.{drop_more, drop_all}
 use Rattle.anb_format.specs.Formats.{FormatValue}
-use Rattle.anb_resolve.specs.Protocols.{ProtocolValue}
+use Rattle.anb_protocol.specs.Protocols.{ProtocolValue}
 use Rattle.anb_branch.specs.declared.signs.Sign.{Sign}
 use Rattle.anb_choice.specs.Lawful.{BranchedValue, is_free}
 use Rattle.anb_branch.specs.Taken.{receives_in, stem_receives, has_head, begins_arm}

@@ -2,9 +2,9 @@
 use Rattle.std.specs.Prelude.{◌≡◌, ◌<◌, ◌+◌, ℕ, List, length, take, Some, slice_get, All}
 use Rattle.std.specs.List.{AllZip}
 use Rattle.anb_code.specs.CodeValue.{CodeValue}
-use Rattle.anb_resolve.specs.Protocols.{ProtocolValue, role_number}
+use Rattle.anb_protocol.specs.Protocols.{ProtocolValue, role_number}
 use Rattle.anb_compile.specs.Fitting.{FitsRole}
-use Rattle.anb_resolve.specs.Plays.{IsSendable}
+use Rattle.anb_protocol.specs.Plays.{IsSendable}
 use Rattle.anb_compile.specs.Unsent.{IsFirstUnsentOfAll}
 use Rattle.anb_branch.specs.declared.compiling.ArmNo.{ArmNo}
 use Rattle.anb_branch.specs.declared.compiling.ArmNo.TheVariants.{CannotSend, NoMemory}

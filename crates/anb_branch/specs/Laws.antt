@@ -4,9 +4,9 @@ use Rattle.std.specs.List.{list_any}
 use Rattle.std.specs.Str.{bytes_eq}
 use Rattle.anb_index.specs.Places.{among}
 use Rattle.anb_plays.specs.Plays.{Played}
-use Rattle.anb_resolve.specs.Protocols.{ProtocolValue, role_number}
-use Rattle.anb_resolve.specs.Plays.{IsPlay}
-use Rattle.anb_resolve.specs.Texts.{known_texts}
+use Rattle.anb_protocol.specs.Protocols.{ProtocolValue, role_number}
+use Rattle.anb_protocol.specs.Plays.{IsPlay}
+use Rattle.anb_protocol.specs.Texts.{known_texts}
 use Rattle.anb_choice.specs.Lawful.{BranchedValue, IsLawful, roles_in, is_free}
 use Rattle.anb_branch.specs.Taken.{stem_receives}
 

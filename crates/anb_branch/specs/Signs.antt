@@ -1,7 +1,7 @@
 -- For proofs alone: what a role sees of each arm.
 use Rattle.std.specs.Prelude.{◌≡◌, ℕ, List}
 use Rattle.std.specs.List.{AllZip}
-use Rattle.anb_resolve.specs.Protocols.{ProtocolValue}
+use Rattle.anb_protocol.specs.Protocols.{ProtocolValue}
 use Rattle.anb_choice.specs.Lawful.{is_free, told_by}
 use Rattle.anb_branch.specs.declared.signs.Sign.{Sign}
 use Rattle.anb_branch.specs.Taken.{receives_in}

@@ -10,9 +10,9 @@ use Rattle.anb_plays.specs.Runs.{without_place}
 use Rattle.anb_code.specs.CodeValue.{CodeValue}
 use Rattle.anb_code.specs.Taking.{take_texts}
 use Rattle.anb_machine.specs.ByteRuns.{run_bytes}
-use Rattle.anb_resolve.specs.Protocols.{ProtocolValue, role_number}
-use Rattle.anb_resolve.specs.Plans.{PlanEvent, to_know, to_make, to_send, to_receive}
-use Rattle.anb_resolve.specs.Plays.{IsPlay}
+use Rattle.anb_protocol.specs.Protocols.{ProtocolValue, role_number}
+use Rattle.anb_protocol.specs.Plans.{PlanEvent, to_know, to_make, to_send, to_receive}
+use Rattle.anb_protocol.specs.Plays.{IsPlay}
 use Rattle.anb_choice.specs.Lawful.{BranchedValue, plan_named, stem_part, is_free, told_by}
 
 -- how many of these events are receives

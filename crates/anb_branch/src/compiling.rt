@@ -1,8 +1,8 @@
 //! The codes of a role in all arms.
 ghost use Rattle.std.specs.Prelude.{◌≡◌, ◌<◌, ◌≤◌, ◌+◌, length, true, All, IfOk, OnOk, IfErr};
 ghost use Rattle.anb_index.specs.Places.{among};
-ghost use Rattle.anb_resolve.specs.Protocols.{role_number};
-ghost use Rattle.anb_resolve.specs.Plays.{IsSendable};
+ghost use Rattle.anb_protocol.specs.Protocols.{role_number};
+ghost use Rattle.anb_protocol.specs.Plays.{IsSendable};
 ghost use Rattle.anb_compile.specs.Fitting.{FitsRole};
 ghost use Rattle.anb_compile.specs.Unsent.{IsFirstUnsentOfAll};
 ghost use Rattle.anb_choice.specs.Lawful.{IsLawful, roles_in};
@@ -14,7 +14,7 @@ use anb_base::{NoMemory, Text};
 use anb_choice::Branched;
 use anb_code::RoleCode;
 use anb_compile::{CompileNo, compile_all};
-use anb_resolve::Protocol;
+use anb_protocol::Protocol;
 use std::alloc::{AllocError, AllocFailed, Global};
 
 /// Why a role has no codes.

@@ -25,7 +25,7 @@ use anb_choice::Branched;
 use anb_code::RoleCode;
 use anb_compile::fitting_codes_play;
 use anb_machine::Machine;
-use anb_resolve::Protocol;
+use anb_protocol::Protocol;
 use anb_session::PlayEnd;
 use std::alloc::Global;
 

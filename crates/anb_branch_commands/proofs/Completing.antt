@@ -15,16 +15,16 @@ use Rattle.anb_seal.specs.Streams.{draw_of}
 use Rattle.anb_term.specs.Tree.{Tree}
 use Rattle.anb_term.specs.Value.{Meaning}
 use Rattle.anb_plays.specs.Plans.{Event, known, recv}
-use Rattle.anb_resolve.specs.Plans.{PlanEvent, to_know, to_make, to_send, to_receive}
-use Rattle.anb_resolve.specs.Plays.{IsPlay, event_of, events_of, meaning_of}
-use Rattle.anb_resolve.specs.Protocols.{ProtocolValue, role_number}
+use Rattle.anb_protocol.specs.Plans.{PlanEvent, to_know, to_make, to_send, to_receive}
+use Rattle.anb_protocol.specs.Plays.{IsPlay, event_of, events_of, meaning_of}
+use Rattle.anb_protocol.specs.Protocols.{ProtocolValue, role_number}
 use Rattle.anb_choice.specs.Lawful.{BranchedValue, IsLawful, is_free, plan_named, roles_in, stem_part}
 use Rattle.anb_branch.specs.Taken.{IsTold, count_receives, place_begun, place_taken, receives_in, stem_receives}
 use Rattle.anb_branch.proofs.Agreeing.{HasStem, Sees, first_arm, sees_each, split_plan}
-use Rattle.anb_command.specs.declared.status.Status.{Status}
-use Rattle.anb_command.specs.declared.status.Status.TheVariants.{NoMemory}
+use Rattle.anb_status.specs.declared.status.Status.{Status}
+use Rattle.anb_status.specs.declared.status.Status.TheVariants.{NoMemory}
 use Rattle.anb_command.specs.Fetches.{Files}
-use Rattle.anb_command.specs.Statuses.{is_fault}
+use Rattle.anb_status.specs.Statuses.{is_fault}
 use Rattle.anb_command.specs.Steps.{given, HasOneAnswer}
 use Rattle.anb_role_commands.specs.Completions.{AgreesAfterEach}
 use Rattle.anb_role_commands.proofs.Completing.{HearsEnough, completes_run, play_finishes}

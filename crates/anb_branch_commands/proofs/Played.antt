@@ -4,14 +4,14 @@ use Rattle.std.specs.Prelude.{slice_get}
 use Rattle.std.specs.List.{AllZip}
 use Rattle.anb_frame.specs.Cuts.{Tail}
 use Rattle.anb_read.specs.Laws.{NarrationsAreUnique, NoneIsBoth as NoTextIsBoth, RefusalsAreUnique as TextRefusalsAreUnique}
-use Rattle.anb_resolve.specs.Plays.{IsPlay}
-use Rattle.anb_resolve.specs.Protocols.{ProtocolValue, role_number}
+use Rattle.anb_protocol.specs.Plays.{IsPlay}
+use Rattle.anb_protocol.specs.Protocols.{ProtocolValue, role_number}
 use Rattle.anb_choice.specs.Branching.{BranchedText, Tells, straights}
 use Rattle.anb_choice.specs.Laws.{ChoicesAreUnique, NoneIsBoth, RefusalsAreUnique}
 use Rattle.anb_branch.specs.Taken.{place_taken}
 use Rattle.anb_values.specs.Fit.{FitIsUnique}
 use Rattle.anb_command.specs.declared.limits.TheConstants.{NARRATION_LIMIT}
-use Rattle.anb_command.specs.declared.status.Status.{Status}
+use Rattle.anb_status.specs.declared.status.Status.{Status}
 use Rattle.anb_command.specs.Fetches.{Files}
 use Rattle.anb_command.specs.Files.{HasFile}
 use Rattle.anb_command.specs.Outcomes.{IsPlayed, Outcome}

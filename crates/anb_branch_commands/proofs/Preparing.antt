@@ -3,11 +3,11 @@ use Rattle.std.proofs.Common.{◌≡◌, ℕ, Bool, true, List, Option, Some, No
 use Rattle.std.specs.Prelude.{All}
 use Rattle.anb_plays.specs.Plays.{Run}
 use Rattle.anb_index.specs.Places.{among}
-use Rattle.anb_resolve.specs.Plays.{IsSendable}
+use Rattle.anb_protocol.specs.Plays.{IsSendable}
 use Rattle.anb_choice.specs.Lawful.{BranchedValue, IsLawful, roles_in}
 use Rattle.anb_branch.specs.Taken.{IsTold, PlaysTaken}
 use Rattle.anb_values.specs.declared.fitted.Fitted.{Fitted}
-use Rattle.anb_command.specs.declared.status.Status.{Status}
+use Rattle.anb_status.specs.declared.status.Status.{Status}
 use Rattle.anb_command.specs.Fetches.{Files, IfTold}
 use Rattle.anb_command.specs.declared.limits.TheConstants.{NARRATION_LIMIT}
 use Rattle.anb_command.specs.Files.{FileIs, ValuesInFile}

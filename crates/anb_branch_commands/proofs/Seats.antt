@@ -11,11 +11,11 @@ use Rattle.std.proofs.lemmas.Option.{get_or_from_slice_get, slice_get_within}
 use Rattle.anb_index.specs.Places.{among}
 use Rattle.anb_code.specs.CodeValue.{CodeValue}
 use Rattle.anb_code.specs.Taking.{take_texts}
-use Rattle.anb_resolve.specs.Choices.{refuse_if}
-use Rattle.anb_resolve.specs.Plays.{IsSendable}
-use Rattle.anb_resolve.specs.Protocols.{ProtocolValue, role_number}
-use Rattle.anb_resolve.specs.Texts.{known_texts}
-use Rattle.anb_resolve.proofs.Building.{role_below}
+use Rattle.anb_protocol.specs.Choices.{refuse_if}
+use Rattle.anb_protocol.specs.Plays.{IsSendable}
+use Rattle.anb_protocol.specs.Protocols.{ProtocolValue, role_number}
+use Rattle.anb_protocol.specs.Texts.{known_texts}
+use Rattle.anb_protocol.proofs.Building.{role_below}
 use Rattle.anb_compile.specs.Fitting.{FitsRole}
 use Rattle.anb_compile.specs.Unsent.{IsFirstUnsentOfAll}
 use Rattle.anb_choice.specs.Lawful.{BranchedValue, IsLawful, roles_in}
@@ -24,7 +24,7 @@ use Rattle.anb_branch.specs.Laws.{ArmsKnowAlike}
 use Rattle.anb_branch.specs.Taken.{IsTold, TakeAll}
 use Rattle.anb_branch.specs.declared.compiling.ArmNo.TheVariants.{CannotSend}
 use Rattle.anb_branch.proofs.Agreeing.{first_arm}
-use Rattle.anb_command.specs.declared.status.Status.TheVariants.{ArmCannotSend, BadArm}
+use Rattle.anb_status.specs.declared.status.Status.TheVariants.{ArmCannotSend, BadArm}
 use Rattle.anb_command.specs.Errands.{draws}
 use Rattle.anb_command.specs.Steps.{refused, given, HasOneAnswer}
 use Rattle.anb_command.proofs.Senders.{first_one, none_unsent}

@@ -5,8 +5,8 @@ use Rattle.std.specs.List.{list_any}
 use Rattle.std.proofs.lemmas.Option.{get_or_from_slice_get, slice_get_within}
 use Rattle.anb_index.specs.Places.{among}
 use Rattle.anb_lemmas.proofs.Each.{each_got}
-use Rattle.anb_resolve.specs.Plays.{IsSendable}
-use Rattle.anb_resolve.specs.Protocols.{ProtocolValue, role_number, role_named}
+use Rattle.anb_protocol.specs.Plays.{IsSendable}
+use Rattle.anb_protocol.specs.Protocols.{ProtocolValue, role_number, role_named}
 use Rattle.anb_choice.specs.Branching.{BranchedText, Tells, straights}
 use Rattle.anb_choice.specs.Lawful.{BranchedValue}
 use Rattle.anb_branch.specs.Laws.{ArmsKnowAlike}

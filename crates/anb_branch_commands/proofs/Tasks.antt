@@ -5,7 +5,7 @@ use Rattle.anb_choice.specs.Lawful.{BranchedValue}
 use Rattle.anb_values.specs.Fit.{FitIsUnique}
 use Rattle.anb_values.specs.declared.fitted.Fitted.{Fitted}
 use Rattle.anb_command.specs.declared.limits.TheConstants.{NARRATION_LIMIT}
-use Rattle.anb_command.specs.declared.status.Status.TheVariants.{BadBranch}
+use Rattle.anb_status.specs.declared.status.Status.TheVariants.{BadBranch}
 use Rattle.anb_command.specs.Fetches.{Files}
 use Rattle.anb_command.specs.Files.{FileIs}
 use Rattle.anb_command.specs.Steps.{refused, given, HasOneAnswer}

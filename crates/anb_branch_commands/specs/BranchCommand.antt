@@ -3,10 +3,10 @@ use Rattle.std.specs.Prelude.{◌≡◌, ◌⊎◌, ℕ, List, Option, Some, sli
 use Rattle.anb_base.specs.Bytes.{IsBytes}
 use Rattle.anb_base.specs.Wires.{WireState}
 use Rattle.anb_plays.specs.Plays.{Played}
-use Rattle.anb_resolve.specs.Protocols.{ProtocolValue, role_number}
+use Rattle.anb_protocol.specs.Protocols.{ProtocolValue, role_number}
 use Rattle.anb_branch.specs.Taken.{IsPlayTaken, place_taken}
-use Rattle.anb_command.specs.declared.status.Status.{Status}
-use Rattle.anb_command.specs.declared.status.Status.TheVariants.{Done, NoMemory}
+use Rattle.anb_status.specs.declared.status.Status.{Status}
+use Rattle.anb_status.specs.declared.status.Status.TheVariants.{Done, NoMemory}
 use Rattle.anb_command.specs.Fetches.{Files, IfTold}
 use Rattle.anb_command.specs.Outcomes.{RunsOver}
 use Rattle.anb_command.specs.Steps.{given}

@@ -4,18 +4,18 @@ use Rattle.std.specs.Option.{option_map_or}
 use Rattle.std.specs.List.{list_any}
 use Rattle.std.specs.Str.{bytes_eq}
 use Rattle.anb_index.specs.Places.{among}
-use Rattle.anb_resolve.specs.Choices.{refuse_if}
-use Rattle.anb_resolve.specs.Plays.{IsSendable}
-use Rattle.anb_resolve.specs.Protocols.{ProtocolValue, role_number}
-use Rattle.anb_resolve.specs.Texts.{known_texts}
+use Rattle.anb_protocol.specs.Choices.{refuse_if}
+use Rattle.anb_protocol.specs.Plays.{IsSendable}
+use Rattle.anb_protocol.specs.Protocols.{ProtocolValue, role_number}
+use Rattle.anb_protocol.specs.Texts.{known_texts}
 use Rattle.anb_choice.specs.Branching.{BranchedText, IsRefusal}
 use Rattle.anb_choice.specs.Lawful.{BranchedValue, IsLawful, roles_in}
-use Rattle.anb_choice.specs.declared.refusal.BranchNo.{BranchNo}
+use Rattle.anb_outcomes.specs.declared.choices.BranchNo.{BranchNo}
 use Rattle.anb_branch.specs.Arms.{RefusesArms}
 use Rattle.anb_branch.specs.Taken.{IsTold}
 use Rattle.anb_branch.specs.declared.compiling.ArmNo.TheVariants.{CannotSend}
 use Rattle.anb_command.specs.declared.limits.TheConstants.{NARRATION_LIMIT}
-use Rattle.anb_command.specs.declared.status.Status.TheVariants.{ArmCannotSend, BadArm, BadBranch, NoRole}
+use Rattle.anb_status.specs.declared.status.Status.TheVariants.{ArmCannotSend, BadArm, BadBranch, NoRole}
 use Rattle.anb_command.specs.Fetches.{Files}
 use Rattle.anb_command.specs.Files.{FileIs, ValuesInFile}
 use Rattle.anb_command.specs.Seeds.{SeedIs}

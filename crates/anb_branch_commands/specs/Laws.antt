@@ -1,11 +1,11 @@
 -- What `branch` plays is what `play` plays of the narration of an arm.
 use Rattle.std.specs.Prelude.{◌≡◌, ◌↔◌, ℕ, List, Option, Some, slice_get}
 use Rattle.anb_frame.specs.Cuts.{Tail}
-use Rattle.anb_resolve.specs.Protocols.{ProtocolValue}
+use Rattle.anb_protocol.specs.Protocols.{ProtocolValue}
 use Rattle.anb_choice.specs.Branching.{BranchedText, straights}
 use Rattle.anb_branch.specs.Taken.{place_taken}
 use Rattle.anb_command.specs.declared.limits.TheConstants.{NARRATION_LIMIT}
-use Rattle.anb_command.specs.declared.status.Status.{Status}
+use Rattle.anb_status.specs.declared.status.Status.{Status}
 use Rattle.anb_command.specs.Fetches.{Files}
 use Rattle.anb_command.specs.Files.{HasFile}
 use Rattle.anb_command.specs.Outcomes.{Outcome}

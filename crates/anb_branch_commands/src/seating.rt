@@ -7,7 +7,7 @@ ghost use Rattle.anb_choice.specs.Views.{branched_of};
 ghost use Rattle.anb_branch.specs.Arms.{FitArms};
 ghost use Rattle.anb_command.specs.declared.limits.TheConstants.{NARRATION_LIMIT};
 ghost use Rattle.anb_command.specs.Fetches.{Fetches, IfTold};
-ghost use Rattle.anb_command.specs.Statuses.{IsEarly};
+ghost use Rattle.anb_status.specs.Statuses.{IsEarly};
 ghost use Rattle.anb_command.specs.Steps.{IsFailure, refused, given};
 ghost use Rattle.anb_branch_commands.specs.Arming.{IsSeated};
 ghost use Rattle.anb_branch_commands.specs.BranchJobs.{ArmsSend, BranchInFile, BranchIs, SeatOf, misfit};

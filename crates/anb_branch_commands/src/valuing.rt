@@ -8,7 +8,7 @@ ghost use Rattle.anb_choice.specs.Lawful.{IsLawful, roles_in};
 ghost use Rattle.anb_choice.specs.Views.{branched_of};
 ghost use Rattle.anb_command.specs.Errands.{draws};
 ghost use Rattle.anb_command.specs.Fetches.{Fetches, IfTold};
-ghost use Rattle.anb_command.specs.Statuses.{IsEarly};
+ghost use Rattle.anb_status.specs.Statuses.{IsEarly};
 ghost use Rattle.anb_command.specs.Steps.{IsFailure, refused, given};
 ghost use Rattle.anb_branch_commands.specs.Arming.{IsArmed, IsSeated};
 ghost use Rattle.anb_branch_commands.specs.BranchJobs.{BranchJobOf, known_in};
@@ -18,7 +18,7 @@ use anb_branch::arms_know_alike;
 use anb_choice::Branched;
 use anb_code::RoleCode;
 use anb_command::{BranchWords, Status, seed_of, values_in_file};
-use anb_resolve::known_texts_differ;
+use anb_protocol::known_texts_differ;
 use anb_values::ValueList;
 use std::alloc::Global;
 

@@ -3,10 +3,10 @@ use Rattle.std.proofs.Common.{◌≡◌, ℕ, List, Option, Some, None, inl, inr
 use Rattle.anb_base.specs.Moves.{Rose, last_count}
 use Rattle.anb_base.specs.Wires.{WireState}
 use Rattle.anb_base.specs.declared.place.Place.{Place}
-use Rattle.anb_command.specs.declared.status.Status.{Status}
-use Rattle.anb_command.specs.declared.status.Status.TheVariants as status
+use Rattle.anb_status.specs.declared.status.Status.{Status}
+use Rattle.anb_status.specs.declared.status.Status.TheVariants as status
 use Rattle.anb_command.specs.Causes.{HasCause}
-use Rattle.anb_command.specs.Statuses.{OnUnreached}
+use Rattle.anb_status.specs.Statuses.{OnUnreached}
 
 -- a wire that never fails, with this left
 abbrev pub unfailing : List ℕ → WireState

@@ -1,8 +1,8 @@
 //! Runs over a wire that never fails.
 
 ghost use Rattle.std.specs.Prelude.{◌≡◌};
-ghost use Rattle.anb_command.specs.Statuses.{OnUnreached};
-ghost use Rattle.anb_command.specs.declared.status.Status.TheVariants as status;
+ghost use Rattle.anb_status.specs.Statuses.{OnUnreached};
+ghost use Rattle.anb_status.specs.declared.status.Status.TheVariants as status;
 
 use anb_base::{NeverFails, Shelf, Sink, Text};
 use anb_run::{Status, run};

@@ -12,9 +12,9 @@ use Rattle.anb_term.specs.TreeSame.{op_same, op_itself, tree_itself}
 use Rattle.anb_term.specs.Composes.{Composes}
 use Rattle.anb_plays.specs.Codes.{Work, make, undo, equal}
 use Rattle.anb_certify.specs.Tied.{Did, InPairs, Ties, Tied, KeepsRules}
-use Rattle.anb_certify.specs.Decided.{composes}
+use Rattle.anb_reason.specs.Decided.{composes}
 use Rattle.anb_certify.specs.Classes.{both_are, in_class, Saturated, AreNamed, ClassesAreTied, RulesTie, all_below, hashes_it, knows_it, rule_test, register_test, RulesAreDecided}
-use Rattle.anb_certify.proofs.Deciding.{decides, decided, all_from, all_true, if_then, then_if}
+use Rattle.anb_reason.proofs.Deciding.{decides, decided, all_from, all_true, if_then, then_if}
 use Rattle.anb_certify.proofs.Falling.{back_tied, on_tied}
 
 both_parts : (x y : Option ℕ) → both_are x y ≡ true → (c : ℕ) × (x ≡ Some c) × (y ≡ Some c)

@@ -18,19 +18,19 @@ use Rattle.anb_code.specs.Meaning.{act_of, acts_of, IsOperator}
 use Rattle.anb_code.specs.Laws.{VerifiedIsRunnable}
 use Rattle.anb_code.specs.Taking.{take_texts, taken_text}
 use Rattle.anb_code.specs.Verified.{IsVerifiedCode}
-use Rattle.anb_resolve.specs.declared.plans.Event as plans
-use Rattle.anb_resolve.specs.Protocols.{ProtocolValue}
-use Rattle.anb_resolve.specs.Plans.{PlanEvent, to_know, to_make, to_send, to_receive, plan_of}
-use Rattle.anb_resolve.specs.Plays.{event_of, events_of, meaning_of}
-use Rattle.anb_resolve.specs.Texts.{term_text}
-use Rattle.anb_resolve.specs.Views.{plan_event}
+use Rattle.anb_protocol.specs.declared.plans.Event as plans
+use Rattle.anb_protocol.specs.Protocols.{ProtocolValue}
+use Rattle.anb_protocol.specs.Plans.{PlanEvent, to_know, to_make, to_send, to_receive, plan_of}
+use Rattle.anb_protocol.specs.Plays.{event_of, events_of, meaning_of}
+use Rattle.anb_protocol.specs.Texts.{term_text}
+use Rattle.anb_protocol.specs.Views.{plan_event}
 use Rattle.anb_compile.specs.Emitting.{known_in}
 use Rattle.anb_compile.specs.Fitting.{FitsRole}
 use Rattle.anb_compile.proofs.Events.{known_events}
 use Rattle.anb_compile.proofs.Protocols.{known_of_plan}
 use Rattle.anb_compile.proofs.Valuing.{left_events, is_operator}
-use Rattle.anb_certify.specs.declared.refusal.CertifyNo.{CertifyNo}
-use Rattle.anb_certify.specs.declared.refusal.CertifyNo.TheVariants.{Frame, Untrue, Sent, Loose, NoMemory}
+use Rattle.anb_outcomes.specs.declared.certificates.CertifyNo.{CertifyNo}
+use Rattle.anb_outcomes.specs.declared.certificates.CertifyNo.TheVariants.{Frame, Untrue, Sent, Loose, NoMemory}
 use Rattle.anb_certify.specs.Certified.{HasFrame, IsCertified, Refuses, is_work, does_event, stray}
 use Rattle.anb_certify.specs.Numbered.{TableValue, IsLoose}
 use Rattle.anb_certify.specs.Statements.{CertifiedFits}

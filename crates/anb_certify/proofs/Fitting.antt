@@ -29,7 +29,7 @@ use Rattle.anb_plays.specs.Fits.{Place, Along, after_take, after_label, after_wo
 use Rattle.anb_plays.proofs.Registers.{values_join, register, registers, part_values}
 use Rattle.anb_certify.specs.Tied.{Did, AreEnough}
 use Rattle.anb_certify.specs.Along.{then_did, IsTight, AtBorder, Finds}
-use Rattle.anb_certify.specs.declared.refusal.CertifyNo.{CertifyNo}
+use Rattle.anb_outcomes.specs.declared.certificates.CertifyNo.{CertifyNo}
 use Rattle.anb_certify.specs.Statements.{CertifiedFits}
 use Rattle.anb_certify.specs.Tables.{vals_in, Opened, Told}
 use Rattle.anb_certify.proofs.Tied.{tied_agree, pair_is, one_row}

@@ -10,10 +10,10 @@ use Rattle.anb_code.specs.declared.instr.Instr.TheVariants.{Take, Fresh, Recv, H
 use Rattle.anb_code.specs.CodeValue.{CodeValue}
 use Rattle.anb_code.specs.Meaning.{act_of}
 use Rattle.anb_code.specs.Taking.{take_texts}
-use Rattle.anb_resolve.specs.Protocols.{ProtocolValue}
-use Rattle.anb_resolve.specs.Plans.{PlanEvent, to_know, to_make, to_send, to_receive, plan_of}
-use Rattle.anb_resolve.specs.Plays.{event_of}
-use Rattle.anb_resolve.specs.Texts.{term_text}
+use Rattle.anb_protocol.specs.Protocols.{ProtocolValue}
+use Rattle.anb_protocol.specs.Plans.{PlanEvent, to_know, to_make, to_send, to_receive, plan_of}
+use Rattle.anb_protocol.specs.Plays.{event_of}
+use Rattle.anb_protocol.specs.Texts.{term_text}
 use Rattle.anb_compile.specs.Fitting.{FollowsRole}
 use Rattle.anb_compile.proofs.Protocols.{known_of_plan}
 use Rattle.anb_certify.specs.Certified.{HasFrame, stray}

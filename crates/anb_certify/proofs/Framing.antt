@@ -8,11 +8,11 @@ use Rattle.anb_plays.specs.Fits.{Place, Along, AnySend, AnyWork, AnyBorder, afte
 use Rattle.anb_code.specs.declared.instr.Instr.{Instr}
 use Rattle.anb_code.specs.declared.instr.Instr.TheVariants.{Take, Fresh, Recv, Hash, Mac, Seal, Unseal, Wrap, Unwrap, Build, Parse, Equal, Send}
 use Rattle.anb_code.specs.Meaning.{act_of}
-use Rattle.anb_resolve.specs.Protocols.{ProtocolValue}
-use Rattle.anb_resolve.specs.Plans.{PlanEvent, to_know, to_make, to_send, to_receive}
-use Rattle.anb_resolve.specs.Plays.{event_of}
-use Rattle.anb_resolve.specs.Views.{plan_event}
-use Rattle.anb_resolve.specs.declared.plans.Event as code
+use Rattle.anb_protocol.specs.Protocols.{ProtocolValue}
+use Rattle.anb_protocol.specs.Plans.{PlanEvent, to_know, to_make, to_send, to_receive}
+use Rattle.anb_protocol.specs.Plays.{event_of}
+use Rattle.anb_protocol.specs.Views.{plan_event}
+use Rattle.anb_protocol.specs.declared.plans.Event as code
 use Rattle.anb_term.proofs.Lists.{map-drop}
 use Rattle.anb_compile.proofs.Valuing.{left_events}
 use Rattle.anb_certify.specs.Certified.{is_work, does_event, stray}

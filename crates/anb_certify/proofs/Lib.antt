@@ -1,11 +1,5 @@
 pub mod Tied
 pub mod Fitting
-pub mod Shutting
-pub mod Deciding
-pub mod Flagging
-pub mod Reaching
-pub mod Finding
-pub mod Refusing
 pub mod Classing
 pub mod Unique
 pub mod Telling

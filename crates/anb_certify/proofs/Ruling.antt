@@ -17,15 +17,15 @@ use Rattle.anb_intern.specs.Nodes.{operands_at, tree_at, IsOver}
 use Rattle.anb_intern.proofs.Nodes.{under_take, operands_take}
 use Rattle.anb_plays.specs.Codes.{Work, make, undo, equal}
 use Rattle.anb_certify.specs.Classes.{in_class, Saturated}
-use Rattle.anb_certify.specs.Decided.{composes}
-use Rattle.anb_certify.specs.Flags.{all_flagged, is_wanted}
+use Rattle.anb_reason.specs.Decided.{composes}
+use Rattle.anb_reason.specs.Flags.{all_flagged, is_wanted}
 use Rattle.anb_certify.specs.Tied.{Did, InPairs, Tied, KeepsRules}
 use Rattle.anb_certify.specs.Numbered.{AreGrouped, IsKnown, AreKnown, Passes}
 use Rattle.anb_certify.specs.Progress.{wanted_test, HaveKnown}
 use Rattle.anb_certify.proofs.Classing.{Classed, classed, in_one}
-use Rattle.anb_certify.proofs.Deciding.{decides, decided, all_from, all_true}
+use Rattle.anb_reason.proofs.Deciding.{decides, decided, all_from, all_true}
 use Rattle.anb_certify.proofs.Fitting.{did_cases}
-use Rattle.anb_certify.proofs.Flagging.{flags_are}
+use Rattle.anb_reason.proofs.Flagging.{flags_are}
 use Rattle.anb_certify.proofs.Linking.{same_name}
 use Rattle.anb_certify.proofs.Telling.{tied_alike, built_alike, undone_alike}
 use Rattle.anb_certify.proofs.Tied.{node_is}

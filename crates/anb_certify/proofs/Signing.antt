@@ -9,7 +9,7 @@ use Rattle.anb_term.proofs.Lists.{slice_get-append}
 use Rattle.anb_intern.specs.declared.node.NodeId.{NodeId}
 use Rattle.anb_intern.specs.Nodes.{operands_at, AreUnder, AreDistinct, HasPut}
 use Rattle.anb_certify.specs.Signs.{sign_of, Owned, HasSigned}
-use Rattle.anb_certify.proofs.Flagging.{kept}
+use Rattle.anb_reason.proofs.Flagging.{kept}
 
 abbrev pub no_owner : Option ℕ
 no_owner = None

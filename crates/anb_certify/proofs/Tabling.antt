@@ -16,7 +16,7 @@ use Rattle.anb_intern.specs.Nodes.{operands_at, AreUnder, AreDistinct, HasPut}
 use Rattle.anb_intern.proofs.Putting.{under_last, operands_last}
 use Rattle.anb_intern.proofs.Nodes.{under_take, operands_long, operands_take}
 use Rattle.anb_certify.specs.Numbered.{IsWritten, Opens, TableValue}
-use Rattle.anb_certify.proofs.Flagging.{kept, operands_drop}
+use Rattle.anb_reason.proofs.Flagging.{kept, operands_drop}
 use Rattle.anb_certify.proofs.Grouping.{at_register}
 use Rattle.anb_certify.proofs.Tied.{node_is}
 

@@ -9,10 +9,10 @@ use Rattle.anb_plays.specs.Codes.{Act, takes, draws, receives, sends, works, Wor
 use Rattle.anb_plays.specs.Fits.{Place, start, after_take, after_label, after_work}
 use Rattle.anb_code.specs.CodeValue.{CodeValue}
 use Rattle.anb_code.specs.Meaning.{acts_of}
-use Rattle.anb_resolve.specs.Plays.{events_of, meaning_of}
-use Rattle.anb_resolve.specs.Protocols.{ProtocolValue}
-use Rattle.anb_certify.specs.declared.refusal.CertifyNo.{CertifyNo}
-use Rattle.anb_certify.specs.declared.refusal.CertifyNo.TheVariants.{Frame, Untrue, Sent, Loose, NoMemory}
+use Rattle.anb_protocol.specs.Plays.{events_of, meaning_of}
+use Rattle.anb_protocol.specs.Protocols.{ProtocolValue}
+use Rattle.anb_outcomes.specs.declared.certificates.CertifyNo.{CertifyNo}
+use Rattle.anb_outcomes.specs.declared.certificates.CertifyNo.TheVariants.{Frame, Untrue, Sent, Loose, NoMemory}
 use Rattle.anb_certify.specs.Along.{AtBorder, Finds, HaveTerms, IsFirstLoose, IsTight, then_did}
 use Rattle.anb_certify.specs.Certified.{FindsOf, HasFrame, IsCertified, Refuses}
 use Rattle.anb_certify.specs.Statements.{NoneIsBoth, RefusalsAreUnique}

@@ -17,10 +17,10 @@ use Rattle.anb_plays.specs.Fits.{Along, AnySend, AnyWork, AnyBorder, after_take,
 use Rattle.anb_plays.proofs.Registers.{values_join, register, work}
 use Rattle.anb_plays.proofs.Growing.{goes_on, no_next}
 use Rattle.anb_code.specs.CodeValue.{CodeValue}
-use Rattle.anb_resolve.specs.Protocols.{ProtocolValue}
-use Rattle.anb_resolve.specs.Plays.{meaning_of}
-use Rattle.anb_certify.specs.declared.refusal.CertifyNo.{CertifyNo}
-use Rattle.anb_certify.specs.declared.refusal.CertifyNo.TheVariants.{Untrue, Sent, Loose}
+use Rattle.anb_protocol.specs.Protocols.{ProtocolValue}
+use Rattle.anb_protocol.specs.Plays.{meaning_of}
+use Rattle.anb_outcomes.specs.declared.certificates.CertifyNo.{CertifyNo}
+use Rattle.anb_outcomes.specs.declared.certificates.CertifyNo.TheVariants.{Untrue, Sent, Loose}
 use Rattle.anb_certify.specs.Along.{IsTight, IsFirstLoose, Finds}
 use Rattle.anb_certify.specs.Certified.{FindsOf, Refuses}
 use Rattle.anb_certify.specs.Numbered.{TableValue, HasWorked, IsLoose}

@@ -6,8 +6,8 @@ use Rattle.anb_term.specs.FreeAlgebra.{terms_over}
 use Rattle.anb_plays.specs.Plans.{Event, know, fresh, send, recv}
 use Rattle.anb_plays.specs.Codes.{Act, takes, draws, receives, sends, works, Work}
 use Rattle.anb_plays.specs.Fits.{Place, after_take, after_label, after_work, SendsIt, IsSound}
-use Rattle.anb_certify.specs.declared.refusal.CertifyNo.{CertifyNo}
-use Rattle.anb_certify.specs.declared.refusal.CertifyNo.TheVariants.{Untrue, Sent, Loose}
+use Rattle.anb_outcomes.specs.declared.certificates.CertifyNo.{CertifyNo}
+use Rattle.anb_outcomes.specs.declared.certificates.CertifyNo.TheVariants.{Untrue, Sent, Loose}
 use Rattle.anb_certify.specs.Tied.{KeepsRules, AreEnough}
 
 -- the work done by now, with one more

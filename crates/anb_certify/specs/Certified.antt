@@ -6,12 +6,12 @@ use Rattle.anb_code.specs.declared.instr.Instr.{Instr}
 use Rattle.anb_code.specs.declared.instr.Instr.TheVariants.{Take, Fresh, Recv, Send}
 use Rattle.anb_code.specs.CodeValue.{CodeValue}
 use Rattle.anb_code.specs.Meaning.{acts_of}
-use Rattle.anb_resolve.specs.Protocols.{ProtocolValue}
-use Rattle.anb_resolve.specs.Texts.{term_text}
-use Rattle.anb_resolve.specs.Plans.{PlanEvent, to_know, to_make, to_send, to_receive, plan_of}
-use Rattle.anb_resolve.specs.Plays.{events_of, meaning_of}
-use Rattle.anb_certify.specs.declared.refusal.CertifyNo.{CertifyNo}
-use Rattle.anb_certify.specs.declared.refusal.CertifyNo.TheVariants.{Frame, Untrue, Sent, Loose, NoMemory}
+use Rattle.anb_protocol.specs.Protocols.{ProtocolValue}
+use Rattle.anb_protocol.specs.Texts.{term_text}
+use Rattle.anb_protocol.specs.Plans.{PlanEvent, to_know, to_make, to_send, to_receive, plan_of}
+use Rattle.anb_protocol.specs.Plays.{events_of, meaning_of}
+use Rattle.anb_outcomes.specs.declared.certificates.CertifyNo.{CertifyNo}
+use Rattle.anb_outcomes.specs.declared.certificates.CertifyNo.TheVariants.{Frame, Untrue, Sent, Loose, NoMemory}
 use Rattle.anb_certify.specs.Along.{Finds}
 
 -- ---- the frame of a code: its names, and the order of its takes, draws, receives and sends

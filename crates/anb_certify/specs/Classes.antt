@@ -7,7 +7,7 @@ use Rattle.anb_term.specs.Operator.{arity, keys, undoable, op_eqb}
 use Rattle.anb_term.specs.Tree.{Tree, leaf, node, list_of, tree_eqb}
 use Rattle.anb_plays.specs.Codes.{Work, make, undo, equal}
 use Rattle.anb_certify.specs.Tied.{Did, InPairs, Tied, KeepsRules}
-use Rattle.anb_certify.specs.Decided.{composes}
+use Rattle.anb_reason.specs.Decided.{composes}
 
 -- two that are there and equal
 abbrev pub both_are : Option ℕ → Option ℕ → Bool

@@ -2,10 +2,7 @@
 pub mod Tied
 pub mod Along
 pub mod Certified
-pub mod Shut
-pub mod Reach
 pub mod Statements
-pub mod Decided
 pub mod Classes
 -- for proofs alone
 pub mod Works
@@ -16,6 +13,3 @@ pub mod Links
 pub mod Falling
 pub mod Walking
 pub mod Tables
-pub mod Flags
-pub mod Found
-pub mod Stuck

@@ -8,7 +8,7 @@ use Rattle.anb_intern.specs.Nodes.{AreUnder}
 use Rattle.anb_plays.specs.Codes.{Work}
 use Rattle.anb_certify.specs.declared.progress.Progress.{Progress}
 use Rattle.anb_certify.specs.declared.table.Table.{Table}
-use Rattle.anb_certify.specs.Decided.{composes}
+use Rattle.anb_reason.specs.Decided.{composes}
 use Rattle.anb_certify.specs.Numbered.{did_in, terms_in, AreBelow, AreSeen, AreSettled, IsKnown}
 
 -- a term that is to be built or undone, where these are there: the operands of a hash or mac compose, or the keys of another

@@ -6,10 +6,10 @@ use Rattle.anb_plays.specs.Codes.{Act}
 use Rattle.anb_plays.specs.Fits.{start, Fits}
 use Rattle.anb_plays.specs.Exec.{HasTakes}
 use Rattle.anb_code.specs.CodeValue.{CodeValue}
-use Rattle.anb_resolve.specs.Protocols.{ProtocolValue}
+use Rattle.anb_protocol.specs.Protocols.{ProtocolValue}
 use Rattle.anb_compile.specs.Fitting.{FollowsRole}
-use Rattle.anb_certify.specs.declared.refusal.CertifyNo.{CertifyNo}
-use Rattle.anb_certify.specs.declared.refusal.CertifyNo.TheVariants.{NoMemory}
+use Rattle.anb_outcomes.specs.declared.certificates.CertifyNo.{CertifyNo}
+use Rattle.anb_outcomes.specs.declared.certificates.CertifyNo.TheVariants.{NoMemory}
 use Rattle.anb_certify.specs.Along.{Finds}
 use Rattle.anb_certify.specs.Certified.{HasFrame, IsCertified, Refuses}
 

@@ -6,10 +6,10 @@ use Rattle.anb_plays.specs.Exec.{HasTakes}
 use Rattle.anb_plays.specs.Fits.{Place, Along, AnySend, AnyWork, AnyBorder}
 use Rattle.anb_code.specs.CodeValue.{CodeValue}
 use Rattle.anb_code.specs.Meaning.{acts_of}
-use Rattle.anb_resolve.specs.Protocols.{ProtocolValue}
-use Rattle.anb_resolve.specs.Plays.{events_of, meaning_of}
+use Rattle.anb_protocol.specs.Protocols.{ProtocolValue}
+use Rattle.anb_protocol.specs.Plays.{events_of, meaning_of}
 use Rattle.anb_algebra.specs.ByteMeaning.{has_operator}
-use Rattle.anb_certify.specs.declared.refusal.CertifyNo.{CertifyNo}
+use Rattle.anb_outcomes.specs.declared.certificates.CertifyNo.{CertifyNo}
 use Rattle.anb_certify.specs.Along.{HaveTerms, Finds}
 use Rattle.anb_certify.specs.Certified.{HasFrame, FindsOf}
 use Rattle.anb_certify.specs.Numbered.{TableValue}

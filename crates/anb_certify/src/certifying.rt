@@ -3,15 +3,15 @@ ghost use Rattle.std.specs.Prelude.{◌≡◌, ◌≢◌, ◌<◌, ◌+◌, ◌+
 ghost use Rattle.anb_code.specs.CodeValue.{CodeValue};
 ghost use Rattle.anb_code.specs.Meaning.{act_of};
 ghost use Rattle.anb_compile.specs.Fitting.{FitsRole};
-ghost use Rattle.anb_resolve.specs.Plans.{plan_of};
-ghost use Rattle.anb_resolve.specs.Views.{plan_event};
+ghost use Rattle.anb_protocol.specs.Plans.{plan_of};
+ghost use Rattle.anb_protocol.specs.Views.{plan_event};
 ghost use Rattle.anb_plays.specs.Plans as plays;
 ghost use Rattle.anb_plays.specs.Codes.{Act, works};
-ghost use Rattle.anb_resolve.specs.Plays.{event_of};
-ghost use Rattle.anb_resolve.specs.Protocols.{ProtocolValue};
+ghost use Rattle.anb_protocol.specs.Plays.{event_of};
+ghost use Rattle.anb_protocol.specs.Protocols.{ProtocolValue};
 ghost use Rattle.anb_term.specs.View.{tree_of};
 ghost use Rattle.anb_certify.specs.Certified.{is_work, IsCertified, Refuses, HasFrame};
-ghost use Rattle.anb_certify.specs.declared.refusal.CertifyNo.TheVariants as refusal;
+ghost use Rattle.anb_outcomes.specs.declared.certificates.CertifyNo.TheVariants as refusal;
 ghost use Rattle.anb_certify.specs.Numbered.{did_in, terms_in, value_of, IsLoose};
 ghost use Rattle.anb_certify.specs.Progress.{IsTable};
 ghost use Rattle.anb_certify.specs.Tied.{AreEnough};
@@ -20,12 +20,12 @@ ghost use Rattle.anb_certify.specs.Works.{work_of, AreTold};
 
 use crate::frames::{has_names, stray};
 use crate::laws::certified_fits;
-use crate::refusal::CertifyNo;
 use crate::table::Table;
 use crate::works::{Job, job_of};
 use anb_algebra::ByteAlgebra;
 use anb_code::{Instr, RoleCode, verified_is_runnable};
-use anb_resolve::{Event, Protocol, terms_of_plans};
+use anb_outcomes::CertifyNo;
+use anb_protocol::{Event, Protocol, terms_of_plans};
 use anb_term::Term;
 use std::alloc::Global;
 

@@ -1,15 +1,15 @@
 //! The frame of a code: its names, and the order of its takes, draws, receives and sends.
 ghost use Rattle.std.specs.Prelude.{◌≡◌, ◌↔◌, ◌+◌, ◌<◌, ◌≤◌, ◌∷◌, ℕ, List, Some, drop, length, map, IsTrue, IfOk, MatchOption};
 ghost use Rattle.std.specs.List.{AllByRecursion};
-ghost use Rattle.anb_resolve.specs.Plans.{term_in};
-ghost use Rattle.anb_resolve.specs.Texts.{IsTermOf};
-ghost use Rattle.anb_resolve.specs.Views.{plan_event};
+ghost use Rattle.anb_protocol.specs.Plans.{term_in};
+ghost use Rattle.anb_protocol.specs.Texts.{IsTermOf};
+ghost use Rattle.anb_protocol.specs.Views.{plan_event};
 ghost use Rattle.anb_certify.specs.Certified.{does_event, is_work, stray, HasNames};
 
 use anb_base::{NoMemory, Text};
 use anb_code::{Instr, RoleCode};
 use anb_format::{Format, Piece};
-use anb_resolve::{Event, Protocol};
+use anb_protocol::{Event, Protocol};
 use std::alloc::Global;
 
 /// Whether suite, formats and names are the protocol's and the role's.

@@ -1,9 +1,7 @@
-//! What a certificate is worth, and what a shut list shows: laws, each a function that does nothing.
+//! What a certificate is worth: laws, each a function that does nothing.
 ghost use Rattle.anb_certify.specs.Classes.{ClassesAreTied, RulesAreDecided, RulesTie};
-ghost use Rattle.anb_certify.specs.Shut.{ShutHasNone};
 ghost use Rattle.anb_certify.specs.Statements.{CertifiedFits, FramesFollow, NoneIsBoth, RefusalsAreUnique};
 
-use anb_close::laws::every_recipe_composes;
 use anb_term::Algebra;
 
 /// A law: a verified code of which nothing is found fits its plan, in every lawful algebra.
@@ -11,13 +9,6 @@ pub fn certified_fits<A: Algebra>(a: &A)
     ensures { CertifiedFits (A.meaning a.now) }
 {
     let _ = a;
-}
-
-/// A law: where a list is shut for labels and a term, no recipe over the labels has the term.
-pub fn shut_has_none()
-    ensures { ShutHasNone }
-{
-    every_recipe_composes();
 }
 
 /// A law: classes of registers that only join what the rules tie, with nothing left to tie, tell

@@ -16,11 +16,11 @@ ghost use Rattle.anb_certify.specs.Works.{did_of, work_of, AreTold, TellsTerms};
 
 use crate::classes::all_set;
 use crate::firsts::settle;
-use crate::numbers::{composing, marks, same_flags};
 use crate::rules::{is_wanted, learn};
 use crate::works::Done;
 use anb_base::NoMemory;
 use anb_intern::{Node, NodeId, Pool};
+use anb_reason::{composing, marks, same_flags};
 use std::alloc::Global;
 
 /// What was found of the registers and the jobs so far.

@@ -3,7 +3,7 @@ ghost use Rattle.std.specs.Prelude.{◌≡◌, ◌↔◌, ◌<◌, ◌++◌, ◌
 ghost use Rattle.anb_basis.specs.Checks.{MarksStay};
 ghost use Rattle.anb_intern.specs.Nodes.{operands_at, AreUnder, IsOver};
 ghost use Rattle.anb_term.specs.Tree.{Tree};
-ghost use Rattle.anb_certify.specs.Flags.{is_wanted};
+ghost use Rattle.anb_reason.specs.Flags.{is_wanted};
 ghost use Rattle.anb_certify.specs.Numbered.{AreBelow, AreGrouped, AreKnown, AreSettled, IsLoose, Passes};
 ghost use Rattle.anb_plays.specs.Codes.{Work};
 ghost use Rattle.anb_certify.specs.Progress.{HaveKnown};
@@ -11,10 +11,10 @@ ghost use Rattle.anb_certify.specs.Tied.{AreEnough, Did};
 ghost use Rattle.anb_certify.specs.Works.{did_of, work_of, AreTold, TellsTerms};
 
 use crate::classes::classes;
-use crate::numbers::{all_flagged, composing, front, marks};
 use crate::works::{Done, Job};
 use anb_base::NoMemory;
 use anb_intern::{Node, NodeId, Pool};
+use anb_reason::{all_flagged, composing, front, marks};
 use std::alloc::Global;
 
 /// The first register that breaks a rule, if any, where the flagged ones are tied to the first of

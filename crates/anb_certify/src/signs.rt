@@ -3,10 +3,10 @@ ghost use Rattle.std.specs.Prelude.{◌≡◌, ◌+◌, ◌<◌, ◌≤◌, ℕ,
 ghost use Rattle.anb_term.specs.Tree.{leaf, Tree};
 ghost use Rattle.anb_certify.specs.Signs.{classes_in, sign_of, signs_in, HasSigned, IsSigns, Owned, Owns};
 
-use crate::numbers::put_all;
 use crate::table::numbers_at;
 use anb_base::NoMemory;
 use anb_intern::{Node, NodeId, Pool};
+use anb_reason::put_all;
 use anb_term::{Op, Term};
 use std::alloc::Global;
 

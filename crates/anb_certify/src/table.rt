@@ -17,12 +17,12 @@ ghost use Rattle.anb_certify.specs.Numbered.{terms_in, did_in, value_of, HasWork
 ghost use Rattle.anb_certify.specs.Progress.{IsTable};
 ghost use Rattle.anb_certify.specs.Tied.{AreEnough};
 
-use crate::numbers::{back, front};
 use crate::progress::Progress;
 use crate::rules::first_loose;
 use crate::works::{Done, Job};
 use anb_base::NoMemory;
 use anb_intern::{Node, NodeId, Pool};
+use anb_reason::{back, front};
 use anb_term::{Op, Term};
 use std::alloc::Global;
 

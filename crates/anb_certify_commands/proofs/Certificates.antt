@@ -4,14 +4,14 @@ use Rattle.std.specs.Prelude.{OnOk}
 use Rattle.anb_certify.specs.Statements.{NoneIsBoth, RefusalsAreUnique}
 use Rattle.anb_code.specs.CodeValue.{CodeValue}
 use Rattle.anb_read.specs.Laws as reading
-use Rattle.anb_resolve.specs.Protocols.{ProtocolValue}
+use Rattle.anb_protocol.specs.Protocols.{ProtocolValue}
 use Rattle.anb_text.specs.Laws as texts
-use Rattle.anb_command.specs.declared.status.Status.{Status}
-use Rattle.anb_command.specs.declared.status.Status.TheVariants.{FileFault, NotCertified}
+use Rattle.anb_status.specs.declared.status.Status.{Status}
+use Rattle.anb_status.specs.declared.status.Status.TheVariants.{FileFault, NotCertified}
 use Rattle.anb_command.specs.Fetches.{Files, IfTold}
 use Rattle.anb_command.specs.Files.{CodeInFile, ProtocolInFile}
 use Rattle.anb_command.specs.Roles.{RoleIs}
-use Rattle.anb_command.specs.Statuses.{OnFileFault}
+use Rattle.anb_status.specs.Statuses.{OnFileFault}
 use Rattle.anb_command.specs.Steps.{Answer, given, refused, HasOneAnswer, IsFailure}
 use Rattle.anb_command.specs.Writing.{IsWritten}
 use Rattle.anb_command.proofs.Chains.{told_map}

@@ -3,9 +3,9 @@ use Rattle.std.proofs.Common.{◌≡◌, ℕ, List, [], ◌++◌, ap, ◌∙◌,
 use Rattle.std.specs.Prelude.{codes, decimal}
 use Rattle.anb_term.specs.Tree.{Tree}
 use Rattle.anb_term.specs.View.{tree_of}
-use Rattle.anb_resolve.specs.Protocols.{ProtocolValue}
-use Rattle.anb_resolve.specs.Texts.{term_text}
-use Rattle.anb_certify.specs.declared.reasons.Refusal.{Refusal}
+use Rattle.anb_protocol.specs.Protocols.{ProtocolValue}
+use Rattle.anb_protocol.specs.Texts.{term_text}
+use Rattle.anb_reason.specs.declared.reasons.Refusal.{Refusal}
 use Rattle.anb_certify_commands.specs.WhyCommand.{refusal_text, term_lines}
 
 seven : (s t u v w x y : List ℕ) → (((((s ++ t) ++ u) ++ v) ++ w) ++ x) ++ y ≡ s ++ (t ++ (u ++ (v ++ (w ++ (x ++ y)))))

@@ -3,13 +3,13 @@ use Rattle.std.proofs.Common.{◌≡◌, ℕ, List, ◌∷◌, ◌++◌, Option,
 use Rattle.std.specs.Prelude.{slice_get}
 use Rattle.anb_term.specs.Tree.{Tree}
 use Rattle.anb_term.specs.View.{tree_of}
-use Rattle.anb_resolve.specs.Plans.{plan_of, to_send}
-use Rattle.anb_resolve.specs.Plays.{IsSendable}
-use Rattle.anb_resolve.specs.Protocols.{ProtocolValue}
-use Rattle.anb_resolve.specs.Texts.{term_text}
+use Rattle.anb_protocol.specs.Plans.{plan_of, to_send}
+use Rattle.anb_protocol.specs.Plays.{IsSendable}
+use Rattle.anb_protocol.specs.Protocols.{ProtocolValue}
+use Rattle.anb_protocol.specs.Texts.{term_text}
 use Rattle.anb_compile.specs.Unsent.{IsUnsent, IsFirstUnsentOfAll, labels_of}
-use Rattle.anb_certify.specs.declared.reasons.Refusal.{Refusal}
-use Rattle.anb_certify.specs.Reach.{IsReach, IsReason, IsBefore}
+use Rattle.anb_reason.specs.declared.reasons.Refusal.{Refusal}
+use Rattle.anb_reason.specs.Reach.{IsReach, IsReason, IsBefore}
 use Rattle.anb_command.specs.Steps.{given, refused, HasOneAnswer}
 use Rattle.anb_command.proofs.Senders.{first_one, none_unsent}
 use Rattle.anb_certify_commands.specs.WhyCommand.{IsReasonText, IsRefusalText, WhyOf, refusal_text}

@@ -3,10 +3,10 @@ use Rattle.std.proofs.Common.{◌≡◌, ℕ, ◌+◌, ◌≤◌, ◌<◌, List,
 use Rattle.std.specs.Prelude.{◌==◌, cond}
 use Rattle.std.proofs.lemmas.Bool.{eqb-true, eq-eqb, cases_order}
 use Rattle.anb_term.specs.Tree.{Tree, leaf}
-use Rattle.anb_resolve.specs.Choices.{each_after}
-use Rattle.anb_resolve.specs.Plans.{PlanEvent, to_know, to_make, to_send, to_receive, events_at, made, plan_of}
-use Rattle.anb_resolve.specs.Protocols.{ActionValue, ProtocolValue}
-use Rattle.anb_resolve.specs.Texts.{known_by}
+use Rattle.anb_protocol.specs.Choices.{each_after}
+use Rattle.anb_protocol.specs.Plans.{PlanEvent, to_know, to_make, to_send, to_receive, events_at, made, plan_of}
+use Rattle.anb_protocol.specs.Protocols.{ActionValue, ProtocolValue}
+use Rattle.anb_protocol.specs.Texts.{known_by}
 
 -- ---- how often an action is sent
 

@@ -1,9 +1,9 @@
 -- What is written where one text is due, by the files that are told.
 use Rattle.std.proofs.Common.{◌≡◌, ℕ, true, List, Option}
-use Rattle.anb_command.specs.declared.status.Status.{Status}
-use Rattle.anb_command.specs.declared.status.Status.TheVariants.{NoMemory}
+use Rattle.anb_status.specs.declared.status.Status.{Status}
+use Rattle.anb_status.specs.declared.status.Status.TheVariants.{NoMemory}
 use Rattle.anb_command.specs.Fetches.{Files, IfTold}
-use Rattle.anb_command.specs.Statuses.{is_fault}
+use Rattle.anb_status.specs.Statuses.{is_fault}
 use Rattle.anb_command.specs.Steps.{Answer, given, refused, HasOneAnswer, IsFailure}
 use Rattle.anb_command.specs.Writing.{CompletesText, IsWriting, IsWritingOne, IsWritten}
 use Rattle.anb_command.proofs.Chains.{told_map}

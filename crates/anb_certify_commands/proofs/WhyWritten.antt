@@ -1,7 +1,7 @@
 -- What `why` writes of the protocol in a file.
 use Rattle.std.proofs.Common.{◌≡◌, ℕ, List}
 use Rattle.anb_read.specs.Laws.{NarrationsAreUnique, RefusalsAreUnique, NoneIsBoth}
-use Rattle.anb_resolve.specs.Protocols.{ProtocolValue}
+use Rattle.anb_protocol.specs.Protocols.{ProtocolValue}
 use Rattle.anb_command.specs.Fetches.{Files}
 use Rattle.anb_command.specs.Files.{ProtocolInFile}
 use Rattle.anb_command.specs.Steps.{HasOneAnswer}

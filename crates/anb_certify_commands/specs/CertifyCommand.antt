@@ -2,18 +2,18 @@
 use Rattle.std.specs.Prelude.{◌≡◌, ◌≢◌, ◌⊎◌, ℕ, List, codes, Option}
 use Rattle.anb_base.specs.Wires.{WireState}
 use Rattle.anb_certify.specs.Certified.{IsCertified, Refuses}
-use Rattle.anb_certify.specs.declared.refusal.CertifyNo.{CertifyNo}
-use Rattle.anb_certify.specs.declared.refusal.CertifyNo.TheVariants as refusal
+use Rattle.anb_outcomes.specs.declared.certificates.CertifyNo.{CertifyNo}
+use Rattle.anb_outcomes.specs.declared.certificates.CertifyNo.TheVariants as refusal
 use Rattle.anb_code.specs.CodeValue.{CodeValue}
 use Rattle.anb_compile.specs.Fitting.{FitsRole}
 use Rattle.anb_compile.specs.Laws.{FittingCodesPlay}
-use Rattle.anb_resolve.specs.Protocols.{ProtocolValue}
-use Rattle.anb_command.specs.declared.status.Status.{Status}
-use Rattle.anb_command.specs.declared.status.Status.TheVariants.{NotCertified}
+use Rattle.anb_protocol.specs.Protocols.{ProtocolValue}
+use Rattle.anb_status.specs.declared.status.Status.{Status}
+use Rattle.anb_status.specs.declared.status.Status.TheVariants.{NotCertified}
 use Rattle.anb_command.specs.Fetches.{Files, IfTold}
 use Rattle.anb_command.specs.Files.{CodeInFile, ProtocolInFile}
 use Rattle.anb_command.specs.Roles.{RoleIs}
-use Rattle.anb_command.specs.Statuses.{OnFileFault}
+use Rattle.anb_status.specs.Statuses.{OnFileFault}
 use Rattle.anb_command.specs.Steps.{Answer, refused, given, InTurn}
 use Rattle.anb_command.specs.Writing.{CompletesText, IsWritingOne}
 

@@ -4,12 +4,12 @@ use Rattle.std.specs.List.{flat_map}
 use Rattle.anb_base.specs.Wires.{WireState}
 use Rattle.anb_term.specs.Tree.{Tree}
 use Rattle.anb_term.specs.View.{tree_of}
-use Rattle.anb_resolve.specs.Plays.{IsSendable}
-use Rattle.anb_resolve.specs.Protocols.{ProtocolValue}
-use Rattle.anb_resolve.specs.Texts.{term_text}
-use Rattle.anb_certify.specs.declared.reasons.Refusal.{Refusal}
-use Rattle.anb_certify.specs.Reach.{IsReason}
-use Rattle.anb_command.specs.declared.status.Status.{Status}
+use Rattle.anb_protocol.specs.Plays.{IsSendable}
+use Rattle.anb_protocol.specs.Protocols.{ProtocolValue}
+use Rattle.anb_protocol.specs.Texts.{term_text}
+use Rattle.anb_reason.specs.declared.reasons.Refusal.{Refusal}
+use Rattle.anb_reason.specs.Reach.{IsReason}
+use Rattle.anb_status.specs.declared.status.Status.{Status}
 use Rattle.anb_command.specs.Fetches.{Files, IfTold}
 use Rattle.anb_command.specs.Files.{ProtocolInFile}
 use Rattle.anb_command.specs.Steps.{Answer, refused, given, InTurn}

@@ -5,7 +5,7 @@ ghost use Rattle.anb_base.specs.declared.place.Place.TheVariants as place;
 ghost use Rattle.anb_command.specs.Causes.{HasCause, NoneRose};
 ghost use Rattle.anb_command.specs.Fetches.{Fetches, IfTold, IsOneOf};
 ghost use Rattle.anb_command.specs.Reaches.{Reaches};
-ghost use Rattle.anb_command.specs.Statuses.{IsEarly, phase_of};
+ghost use Rattle.anb_status.specs.Statuses.{IsEarly, phase_of};
 ghost use Rattle.anb_command.specs.Steps.{IsFailure, refused, given};
 ghost use Rattle.anb_command.specs.Touches.{Touches};
 ghost use Rattle.anb_certify_commands.specs.CertifyCommand.{CertificateIs, CertificateOf, CertifyText, CompletesCertify, DoesCertify, IsReadToCertify};
@@ -15,7 +15,7 @@ use anb_certify::CertifyNo;
 use anb_code::RoleCode;
 use anb_command::{CertifyWords, Status, code_in_file, protocol_in_file, role_named, write_text};
 use anb_compile::fitting_codes_play;
-use anb_resolve::Protocol;
+use anb_protocol::Protocol;
 use anb_text::{codes_are_unique, faults_are_unique, files_are_unique};
 use std::alloc::Global;
 

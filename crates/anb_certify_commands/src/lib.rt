@@ -7,12 +7,12 @@ ghost use Rattle.std.specs.List.{AllByRecursion};
 ghost use Rattle.anb_base.specs.Moves.{Rose};
 ghost use Rattle.anb_base.specs.declared.place.Place.TheVariants as place;
 ghost use Rattle.anb_term.specs.View.{tree_of};
-ghost use Rattle.anb_resolve.specs.Texts.{IsTermOf, term_text};
-ghost use Rattle.anb_certify.specs.Reach.{IsReason};
+ghost use Rattle.anb_protocol.specs.Texts.{IsTermOf, term_text};
+ghost use Rattle.anb_reason.specs.Reach.{IsReason};
 ghost use Rattle.anb_command.specs.Causes.{HasCause, NoneRose};
 ghost use Rattle.anb_command.specs.Fetches.{Fetches, IfTold};
 ghost use Rattle.anb_command.specs.Reaches.{Reaches};
-ghost use Rattle.anb_command.specs.Statuses.{IsEarly, phase_of};
+ghost use Rattle.anb_status.specs.Statuses.{IsEarly, phase_of};
 ghost use Rattle.anb_command.specs.Steps.{IsFailure, refused, given};
 ghost use Rattle.anb_command.specs.Touches.{Touches};
 ghost use Rattle.anb_certify_commands.specs.WhyCommand.{CompletesWhy, DoesWhy};
@@ -21,10 +21,10 @@ ghost use Rattle.anb_certify_commands.specs.WhyCommand.{IsReasonText, IsRefusalT
 mod certifying;
 
 use anb_base::{Bytes, NoMemory, Shelf, Text, Wire};
-use anb_certify::{Refusal, reason};
 use anb_command::{Status, protocol_in_file, write_text};
+use anb_protocol::Protocol;
 use anb_read::{narrations_are_unique, none_is_both, refusals_are_unique};
-use anb_resolve::Protocol;
+use anb_reason::{Refusal, reason};
 use anb_term::Term;
 pub use certifying::certify;
 use itoa::Buffer;

@@ -4,13 +4,13 @@ use Rattle.std.specs.Prelude.{slice_get}
 use Rattle.anb_lemmas.proofs.Each.{each_in_parts, each_got}
 use Rattle.anb_lemmas.proofs.Lists.{drop_got, drop_next}
 use Rattle.anb_term.proofs.Lists.{slice_get-map, slice_get-at}
-use Rattle.anb_resolve.specs.declared.parts.Action.{Action}
-use Rattle.anb_resolve.specs.Choices.{each_after}
-use Rattle.anb_resolve.specs.Laws.{HoldsOf, IsActionOf}
-use Rattle.anb_resolve.specs.Plans.{made_at, messages, names_made_at}
-use Rattle.anb_resolve.specs.Protocols.{ActionValue, ProtocolValue}
-use Rattle.anb_resolve.specs.Texts.{IsTermOf, atom_name, known_terms}
-use Rattle.anb_resolve.specs.Views.{action_value}
+use Rattle.anb_protocol.specs.declared.parts.Action.{Action}
+use Rattle.anb_protocol.specs.Choices.{each_after}
+use Rattle.anb_protocol.specs.Laws.{HoldsOf, IsActionOf}
+use Rattle.anb_protocol.specs.Plans.{made_at, messages, names_made_at}
+use Rattle.anb_protocol.specs.Protocols.{ActionValue, ProtocolValue}
+use Rattle.anb_protocol.specs.Texts.{IsTermOf, atom_name, known_terms}
+use Rattle.anb_protocol.specs.Views.{action_value}
 use Rattle.anb_chart.specs.Charts.{action_lines, action_text}
 
 -- an item there, whatever stands for a missing one

@@ -2,10 +2,10 @@
 use Rattle.std.specs.Prelude.{ℕ, ◌+◌, List, [], ◌∷◌, ◌++◌, length, map, codes, decimal, slice_get}
 use Rattle.std.specs.List.{flat_map, join_by}
 use Rattle.std.specs.Option.{option_map_or}
-use Rattle.anb_resolve.specs.Choices.{each_after}
-use Rattle.anb_resolve.specs.Plans.{made_at}
-use Rattle.anb_resolve.specs.Protocols.{ActionValue, ProtocolValue}
-use Rattle.anb_resolve.specs.Texts.{atom_name, term_text}
+use Rattle.anb_protocol.specs.Choices.{each_after}
+use Rattle.anb_protocol.specs.Plans.{made_at}
+use Rattle.anb_protocol.specs.Protocols.{ActionValue, ProtocolValue}
+use Rattle.anb_protocol.specs.Texts.{atom_name, term_text}
 use Rattle.anb_chart.specs.Participants.{escaped}
 
 -- a line of the diagram, which stands four spaces in and ends with the byte 0A

@@ -6,7 +6,7 @@ use Rattle.anb_format.specs.declared.pieces.Piece.TheVariants.{Lit, Field}
 use Rattle.anb_syntax.specs.declared.narration.Sort.TheVariants.{Agent, Number, Key}
 use Rattle.anb_term.specs.declared.term.Op.TheVariants.{Mac, Seal, Format}
 use Rattle.anb_term.specs.Tree.{leaf, node, trees_of}
-use Rattle.anb_resolve.specs.Protocols.{ProtocolValue}
+use Rattle.anb_protocol.specs.Protocols.{ProtocolValue}
 use Rattle.anb_chart.specs.Charts.{chart}
 
 -- A and B prove to each other that they have a key: each makes a number

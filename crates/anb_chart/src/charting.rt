@@ -2,17 +2,17 @@
 ghost use Rattle.std.specs.Prelude.{◌≡◌, ◌<◌, ◌++◌, [], length, map, IfOk, OnOk};
 ghost use Rattle.std.specs.List.{flat_map};
 ghost use Rattle.anb_term.specs.View.{tree_of};
-ghost use Rattle.anb_resolve.specs.Choices.{each_after};
-ghost use Rattle.anb_resolve.specs.Laws.{HoldsOf};
-ghost use Rattle.anb_resolve.specs.Plans.{names_made};
-ghost use Rattle.anb_resolve.specs.Texts.{IsTermOf};
-ghost use Rattle.anb_resolve.specs.Views.{action_value};
+ghost use Rattle.anb_protocol.specs.Choices.{each_after};
+ghost use Rattle.anb_protocol.specs.Laws.{HoldsOf};
+ghost use Rattle.anb_protocol.specs.Plans.{names_made};
+ghost use Rattle.anb_protocol.specs.Texts.{IsTermOf};
+ghost use Rattle.anb_protocol.specs.Views.{action_value};
 ghost use Rattle.anb_text.specs.Writing.{IsWritten};
 ghost use Rattle.anb_chart.specs.Charts.{action_lines, action_text, arrow_line, chart, note_line, participant, participant_line};
 
 use crate::participants::put_escaped;
 use anb_base::{NoMemory, Sink, Text};
-use anb_resolve::{Action, Names, Protocol, protocols_hold};
+use anb_protocol::{Action, Names, Protocol, protocols_hold};
 use anb_text::{WriteNo, write_bytes, write_part};
 use itoa::Buffer;
 use std::alloc::Global;

@@ -1,13 +1,13 @@
 -- What is written of the chart of a protocol.
 use Rattle.std.proofs.Common.{◌≡◌, ℕ, true, List, Option, refl, sym, inl, inr, ◌∙◌}
 use Rattle.anb_read.specs.Laws.{NarrationsAreUnique, RefusalsAreUnique, NoneIsBoth}
-use Rattle.anb_resolve.specs.Protocols.{ProtocolValue}
+use Rattle.anb_protocol.specs.Protocols.{ProtocolValue}
 use Rattle.anb_chart.specs.Charts.{chart}
-use Rattle.anb_command.specs.declared.status.Status.{Status}
-use Rattle.anb_command.specs.declared.status.Status.TheVariants.{ChildFault, FileFault, Unreached, WriteFault, NoMemory}
+use Rattle.anb_status.specs.declared.status.Status.{Status}
+use Rattle.anb_status.specs.declared.status.Status.TheVariants.{ChildFault, FileFault, Unreached, WriteFault, NoMemory}
 use Rattle.anb_command.specs.Fetches.{Files, IfTold}
 use Rattle.anb_command.specs.Files.{ProtocolInFile}
-use Rattle.anb_command.specs.Statuses.{is_fault}
+use Rattle.anb_status.specs.Statuses.{is_fault}
 use Rattle.anb_command.specs.Steps.{Answer, AnswersWith, refused, given, HasOneAnswer, InTurn, IsFailure}
 use Rattle.anb_command.specs.Writing.{Writes, WritesLess, IsWriting, IsWritingOne, IsWritten}
 use Rattle.anb_command.proofs.Chains.{first_refused, told_map}

@@ -1,11 +1,11 @@
 -- What is written of the chart for a role.
 use Rattle.std.proofs.Common.{◌≡◌, true, List, ℕ, Option}
 use Rattle.anb_read.specs.Laws.{NarrationsAreUnique, RefusalsAreUnique, NoneIsBoth}
-use Rattle.anb_command.specs.declared.status.Status.{Status}
-use Rattle.anb_command.specs.declared.status.Status.TheVariants.{NoMemory}
+use Rattle.anb_status.specs.declared.status.Status.{Status}
+use Rattle.anb_status.specs.declared.status.Status.TheVariants.{NoMemory}
 use Rattle.anb_command.specs.Fetches.{Files, IfTold}
 use Rattle.anb_command.specs.Roles.{Part, PartInFile}
-use Rattle.anb_command.specs.Statuses.{is_fault}
+use Rattle.anb_status.specs.Statuses.{is_fault}
 use Rattle.anb_command.specs.Steps.{refused, given, IsFailure}
 use Rattle.anb_command.specs.Writing.{IsWriting, IsWritten}
 use Rattle.anb_command.proofs.Chains.{told_map}

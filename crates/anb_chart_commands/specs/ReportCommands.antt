@@ -1,9 +1,9 @@
 -- Commands that show a protocol to a person.
 use Rattle.std.specs.Prelude.{◌≡◌, ℕ, List, Option, Some, None}
 use Rattle.anb_base.specs.Wires.{WireState}
-use Rattle.anb_resolve.specs.Protocols.{ProtocolValue}
+use Rattle.anb_protocol.specs.Protocols.{ProtocolValue}
 use Rattle.anb_chart.specs.Charts.{chart}
-use Rattle.anb_command.specs.declared.status.Status.{Status}
+use Rattle.anb_status.specs.declared.status.Status.{Status}
 use Rattle.anb_command.specs.Fetches.{Files, IfTold}
 use Rattle.anb_command.specs.Files.{ProtocolInFile}
 use Rattle.anb_command.specs.Roles.{Part, PartInFile}

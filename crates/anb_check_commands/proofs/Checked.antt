@@ -4,12 +4,12 @@ use Rattle.anb_base.specs.Moves.{Put}
 use Rattle.anb_base.proofs.Moving.{put_nothing}
 use Rattle.anb_read.specs.Laws.{NarrationsAreUnique, RefusalsAreUnique, NoneIsBoth}
 use Rattle.anb_command.specs.declared.limits.TheConstants.{NARRATION_LIMIT}
-use Rattle.anb_command.specs.declared.status.Status.{Status}
-use Rattle.anb_command.specs.declared.status.Status.TheVariants.{Done, FileFault, FileLong, Unreached, WriteFault, NoMemory}
+use Rattle.anb_status.specs.declared.status.Status.{Status}
+use Rattle.anb_status.specs.declared.status.Status.TheVariants.{Done, FileFault, FileLong, Unreached, WriteFault, NoMemory}
 use Rattle.anb_command.specs.Fetches.{Files, IfTold}
 use Rattle.anb_command.specs.Files.{FileIs, HasFile, HasLonger, NarrationIs, ProtocolIs}
 use Rattle.anb_command.specs.Roles.{SendableOf}
-use Rattle.anb_command.specs.Statuses.{is_fault}
+use Rattle.anb_status.specs.Statuses.{is_fault}
 use Rattle.anb_command.specs.Steps.{HasOneAnswer, IsFailure, refused, given}
 use Rattle.anb_command.specs.Writing.{IsWritten}
 use Rattle.anb_command.proofs.Chains.{told_map}

@@ -2,11 +2,11 @@
 use Rattle.std.proofs.Common.{◌≡◌, ℕ, List, subst}
 use Rattle.anb_command.specs.Roles.{AllSend}
 use Rattle.anb_command.specs.Steps.{IsFailure, refused}
-use Rattle.anb_command.specs.declared.status.Status.{Status}
-use Rattle.anb_command.specs.declared.status.Status.TheVariants.{CannotSend}
+use Rattle.anb_status.specs.declared.status.Status.{Status}
+use Rattle.anb_status.specs.declared.status.Status.TheVariants.{CannotSend}
 use Rattle.anb_command.proofs.Senders.{none_unsent}
-use Rattle.anb_resolve.specs.Plays.{IsSendable}
-use Rattle.anb_resolve.specs.Protocols.{ProtocolValue}
+use Rattle.anb_protocol.specs.Plays.{IsSendable}
+use Rattle.anb_protocol.specs.Protocols.{ProtocolValue}
 
 pub not_sendable : (p : ProtocolValue) (s : Status) → AllSend p (refused s) → IsSendable p → ⊥
 not_sendable p s (role, action, sender, first, named, is) sendable = none_unsent p role action (sendable role first.is_role) first.unsent

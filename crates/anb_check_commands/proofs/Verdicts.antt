@@ -5,15 +5,15 @@ use Rattle.anb_syntax.specs.Grammar.{Narration}
 use Rattle.anb_syntax.specs.Text.{Text}
 use Rattle.anb_read.specs.Refusals.{IsRefusal}
 use Rattle.anb_read.specs.declared.refusal.ReadNo.{ReadNo}
-use Rattle.anb_resolve.specs.Checks.{fault}
-use Rattle.anb_resolve.specs.Protocols.{ProtocolValue, protocol_of}
-use Rattle.anb_resolve.specs.declared.refusals.ResolveNo.{ResolveNo}
+use Rattle.anb_protocol.specs.Checks.{fault}
+use Rattle.anb_protocol.specs.Protocols.{ProtocolValue, protocol_of}
+use Rattle.anb_protocol.specs.declared.refusals.ResolveNo.{ResolveNo}
 use Rattle.anb_mistakes.specs.Unread.{IsUnreadText}
 use Rattle.anb_mistakes.specs.Unresolved.{IsUnresolvedText}
-use Rattle.anb_command.specs.declared.status.NarrationNo.TheVariants.{Read, Resolve}
-use Rattle.anb_command.specs.declared.status.Status.{Status}
-use Rattle.anb_command.specs.declared.status.Status.TheVariants.{BadNarration}
-use Rattle.anb_command.specs.Statuses.{why_ill_formed}
+use Rattle.anb_status.specs.declared.status.NarrationNo.TheVariants.{Read, Resolve}
+use Rattle.anb_status.specs.declared.status.Status.{Status}
+use Rattle.anb_status.specs.declared.status.Status.TheVariants.{BadNarration}
+use Rattle.anb_status.specs.Statuses.{why_ill_formed}
 use Rattle.anb_check_commands.specs.CheckCommand.{IsVerdict, SaidOf}
 use Rattle.anb_check_commands.specs.Telling.{IsVerdictOnNarration, IsVerdictOnProtocol}
 

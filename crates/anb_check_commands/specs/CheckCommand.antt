@@ -4,7 +4,7 @@ use Rattle.anb_base.specs.Moves.{Put}
 use Rattle.anb_base.specs.Wires.{WireState}
 use Rattle.anb_syntax.specs.Grammar.{Narration}
 use Rattle.anb_syntax.specs.Text.{Text}
-use Rattle.anb_resolve.specs.Protocols.{ProtocolValue, protocol_of}
+use Rattle.anb_protocol.specs.Protocols.{ProtocolValue, protocol_of}
 use Rattle.anb_code.specs.CodeValue.{CodeValue}
 use Rattle.anb_compile.specs.Fitting.{FitRoles}
 use Rattle.anb_lack.specs.Lacking.{IsLackText}
@@ -12,13 +12,13 @@ use Rattle.anb_mistakes.specs.Unread.{IsUnreadText}
 use Rattle.anb_mistakes.specs.Unresolved.{IsUnresolvedText}
 use Rattle.anb_report.specs.Reporting.{report}
 use Rattle.anb_command.specs.declared.limits.TheConstants.{NARRATION_LIMIT}
-use Rattle.anb_command.specs.declared.status.NarrationNo.TheVariants.{Read, Resolve}
-use Rattle.anb_command.specs.declared.status.Status.{Status}
-use Rattle.anb_command.specs.declared.status.Status.TheVariants.{Done, FileFault, BadNarration, CannotSend, Unreached, WriteFault, NoMemory}
+use Rattle.anb_status.specs.declared.status.NarrationNo.TheVariants.{Read, Resolve}
+use Rattle.anb_status.specs.declared.status.Status.{Status}
+use Rattle.anb_status.specs.declared.status.Status.TheVariants.{Done, FileFault, BadNarration, CannotSend, Unreached, WriteFault, NoMemory}
 use Rattle.anb_command.specs.Fetches.{Files, IfTold}
 use Rattle.anb_command.specs.Files.{FileIs, NarrationIs, ProtocolIs}
 use Rattle.anb_command.specs.Roles.{SendableOf}
-use Rattle.anb_command.specs.Statuses.{is_fault, why_ill_formed}
+use Rattle.anb_status.specs.Statuses.{is_fault, why_ill_formed}
 use Rattle.anb_command.specs.Steps.{Answer, refused, given, InTurn}
 
 -- the protocol that a text tells, where all its roles can send

@@ -2,18 +2,18 @@
 use Rattle.std.specs.Prelude.{◌≡◌, ◌⊎◌, ℕ, false, List, Option, Some, None}
 use Rattle.anb_base.specs.declared.TheConstants.{ARRIVAL, WIDE}
 use Rattle.anb_syntax.specs.Grammar.{Narration}
-use Rattle.anb_resolve.specs.Checks.{fault}
-use Rattle.anb_resolve.specs.Plays.{IsSendable}
-use Rattle.anb_resolve.specs.Protocols.{ProtocolValue, protocol_of}
-use Rattle.anb_resolve.specs.declared.refusals.ResolveNo.{ResolveNo}
+use Rattle.anb_protocol.specs.Checks.{fault}
+use Rattle.anb_protocol.specs.Plays.{IsSendable}
+use Rattle.anb_protocol.specs.Protocols.{ProtocolValue, protocol_of}
+use Rattle.anb_protocol.specs.declared.refusals.ResolveNo.{ResolveNo}
 use Rattle.anb_lack.specs.Lacking.{IsLackText}
 use Rattle.anb_mistakes.specs.Unresolved.{IsUnresolvedText}
-use Rattle.anb_command.specs.declared.status.NarrationNo.TheVariants.{Resolve}
-use Rattle.anb_command.specs.declared.status.Status.{Status}
-use Rattle.anb_command.specs.declared.status.Status.TheVariants.{BadNarration, Done}
+use Rattle.anb_status.specs.declared.status.NarrationNo.TheVariants.{Resolve}
+use Rattle.anb_status.specs.declared.status.Status.{Status}
+use Rattle.anb_status.specs.declared.status.Status.TheVariants.{BadNarration, Done}
 use Rattle.anb_command.specs.Phases.{told_phase}
 use Rattle.anb_command.specs.Roles.{AllSend}
-use Rattle.anb_command.specs.Statuses.{after_reach, is_fault, why_ill_formed}
+use Rattle.anb_status.specs.Statuses.{after_reach, is_fault, why_ill_formed}
 use Rattle.anb_command.specs.Steps.{refused}
 use Rattle.anb_command.specs.Writing.{IsWritten}
 use Rattle.anb_check_commands.specs.CheckCommand.{IsReport}

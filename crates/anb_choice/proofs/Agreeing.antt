@@ -11,16 +11,16 @@ use Rattle.anb_lemmas.proofs.Numbers.{nat_eq-same, nat_eq-differs}
 use Rattle.anb_index.specs.Places.{among}
 use Rattle.anb_syntax.specs.Grammar.{ActionItem, FormatItem, KnowItem, Narration, TypeItem}
 use Rattle.anb_term.specs.Tree.{Tree, leaf, list_of}
-use Rattle.anb_resolve.specs.Choices.{each_after}
-use Rattle.anb_resolve.specs.declared.parts.Atom.{Atom}
-use Rattle.anb_resolve.specs.Checks.{is_agent}
-use Rattle.anb_resolve.specs.Names.{atoms, distinct, item_atoms, roles}
-use Rattle.anb_resolve.specs.Plans.{PlanEvent, to_know, to_make, to_send, to_receive, events_at, is_made, made, messages, names_number_or_key, occurs, plan_of}
-use Rattle.anb_resolve.specs.Protocols.{ActionValue, action_of, format_value, formats_of, line_of, protocol_of, resolved, resolved_all, role_number}
-use Rattle.anb_resolve.specs.Texts.{atoms_in, known_by, known_terms}
-use Rattle.anb_resolve.proofs.Building.{ends_are_roles}
-use Rattle.anb_resolve.proofs.PlaceLemmas.{name_placed, place_none}
-use Rattle.anb_resolve.proofs.SeenLemmas.{occurs-append}
+use Rattle.anb_protocol.specs.Choices.{each_after}
+use Rattle.anb_protocol.specs.declared.parts.Atom.{Atom}
+use Rattle.anb_protocol.specs.Checks.{is_agent}
+use Rattle.anb_protocol.specs.Names.{atoms, distinct, item_atoms, roles}
+use Rattle.anb_protocol.specs.Plans.{PlanEvent, to_know, to_make, to_send, to_receive, events_at, is_made, made, messages, names_number_or_key, occurs, plan_of}
+use Rattle.anb_protocol.specs.Protocols.{ActionValue, action_of, format_value, formats_of, line_of, protocol_of, resolved, resolved_all, role_number}
+use Rattle.anb_protocol.specs.Texts.{atoms_in, known_by, known_terms}
+use Rattle.anb_protocol.proofs.Building.{ends_are_roles}
+use Rattle.anb_protocol.proofs.PlaceLemmas.{name_placed, place_none}
+use Rattle.anb_protocol.proofs.SeenLemmas.{occurs-append}
 use Rattle.anb_choice.specs.Lawful.{IsLike, are_same_names, is_of_stem, plan_named, stem_len, stem_part}
 use Rattle.anb_choice.proofs.Names.{same_names_have}
 use Rattle.anb_choice.proofs.Straights.{stem_of}

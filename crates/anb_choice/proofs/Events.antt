@@ -5,9 +5,9 @@ use Rattle.anb_lemmas.proofs.Lists.{map_drop_next}
 use Rattle.anb_term.specs.declared.term.Term.{Term}
 use Rattle.anb_term.specs.View.{tree_of}
 use Rattle.anb_term.proofs.Lists.{one_term}
-use Rattle.anb_resolve.specs.declared.plans.Event.{Event}
-use Rattle.anb_resolve.specs.Plans.{PlanEvent, to_know, to_make, to_send, to_receive, term_in}
-use Rattle.anb_resolve.specs.Views.{plan_event}
+use Rattle.anb_protocol.specs.declared.plans.Event.{Event}
+use Rattle.anb_protocol.specs.Plans.{PlanEvent, to_know, to_make, to_send, to_receive, term_in}
+use Rattle.anb_protocol.specs.Views.{plan_event}
 use Rattle.anb_choice.specs.Lawful.{arm_part, is_of_stem, stem_len, stem_part}
 
 pub next_event : (xs : List Event) (i : ℕ) (x : Event) → i < length xs → x ≡ get_or xs i x → drop i (map plan_event xs) ≡ plan_event x ∷ drop (i + 1) (map plan_event xs)

@@ -3,9 +3,9 @@ use Rattle.std.proofs.Common.{◌≡◌, ◌≢◌, ◌⊎◌, inl, inr, ℕ, Li
 use Rattle.std.specs.Prelude.{not}
 use Rattle.std.specs.Option.{option_map, option_or}
 use Rattle.anb_index.specs.Places.{among}
-use Rattle.anb_resolve.specs.Choices.{refuse_if}
-use Rattle.anb_choice.specs.declared.refusal.BranchNo.{BranchNo}
-use Rattle.anb_choice.specs.declared.refusal.BranchNo.TheVariants.{Token, Shape, ArmRead, ArmResolve, Roles, Chooser, Blind, NoMemory}
+use Rattle.anb_protocol.specs.Choices.{refuse_if}
+use Rattle.anb_outcomes.specs.declared.choices.BranchNo.{BranchNo}
+use Rattle.anb_outcomes.specs.declared.choices.BranchNo.TheVariants.{Token, Shape, ArmRead, ArmResolve, Roles, Chooser, Blind, NoMemory}
 use Rattle.anb_choice.specs.Branching.{BranchedText, IsRefusal, blind_refusal, choice_fault, other_roles}
 use Rattle.anb_choice.specs.Laws.{NoneIsBoth, RefusalsAreUnique}
 use Rattle.anb_choice.specs.Lawful.{BranchedValue, IsLawful, blind, roles_in}

@@ -17,14 +17,14 @@ use Rattle.anb_syntax.specs.Words.{Tok}
 use Rattle.anb_read.specs.Laws.{EachIsEither as EachTextIsEither, NarrationsAreUnique}
 use Rattle.anb_read.specs.Refusals as read
 use Rattle.anb_read.specs.declared.refusal.ReadNo.{ReadNo}
-use Rattle.anb_resolve.specs.declared.refusals.ResolveNo.{ResolveNo}
-use Rattle.anb_resolve.specs.Checks.{fault}
-use Rattle.anb_resolve.specs.Choices.{refuse_if}
-use Rattle.anb_resolve.specs.Protocols.{ProtocolValue, protocol_of}
+use Rattle.anb_protocol.specs.declared.refusals.ResolveNo.{ResolveNo}
+use Rattle.anb_protocol.specs.Checks.{fault}
+use Rattle.anb_protocol.specs.Choices.{refuse_if}
+use Rattle.anb_protocol.specs.Protocols.{ProtocolValue, protocol_of}
 use Rattle.anb_choice.specs.declared.marks.Mark.{Mark}
 use Rattle.anb_choice.specs.declared.order.Span.{Span}
-use Rattle.anb_choice.specs.declared.refusal.BranchNo.{BranchNo}
-use Rattle.anb_choice.specs.declared.refusal.BranchNo.TheVariants.{ArmRead, ArmResolve, Chooser, Roles, Shape, Token}
+use Rattle.anb_outcomes.specs.declared.choices.BranchNo.{BranchNo}
+use Rattle.anb_outcomes.specs.declared.choices.BranchNo.TheVariants.{ArmRead, ArmResolve, Chooser, Roles, Shape, Token}
 use Rattle.anb_choice.specs.Branching.{ArmIsRefused, BranchedText, FirstRefused, IsOrdered, IsRefusal, Tells, blind_refusal, choice_fault, other_roles, straights}
 use Rattle.anb_choice.specs.Laws.{EachIsEither, FaultlessIsLawful}
 use Rattle.anb_choice.specs.Lawful.{AreAlike, BranchedValue, IsLawful, IsLike, are_same_names, blind, roles_in}

@@ -8,8 +8,8 @@ use Rattle.std.proofs.lemmas.Bool.{and_parts, not-false, and_from}
 use Rattle.anb_index.specs.Places.{among}
 use Rattle.anb_lemmas.proofs.Items.{bytes_are_one, bytes_eq-same}
 use Rattle.anb_lemmas.proofs.Bools.{or_true}
-use Rattle.anb_resolve.specs.Choices.{first_after, refuse_if}
-use Rattle.anb_resolve.specs.Protocols.{ProtocolValue}
+use Rattle.anb_protocol.specs.Choices.{first_after, refuse_if}
+use Rattle.anb_protocol.specs.Protocols.{ProtocolValue}
 use Rattle.anb_choice.specs.Lawful.{AreAlike, IsLike, are_same_names}
 
 among_next : (b : Bool) (z x : List ℕ) (xs ys : List (List ℕ)) → bytes_eq z x ≡ b → among ys z ≡ true → (among xs x ≡ true → among ys x ≡ true) → (b || among xs x) ≡ true → among ys x ≡ true

@@ -4,9 +4,9 @@ use Rattle.std.specs.List.{AllZip}
 use Rattle.std.proofs.lemmas.List.{drop_more, get_or_default, length-map, length-take-le, take-append-drop}
 use Rattle.std.proofs.Math.ListN.{get_or-map}
 use Rattle.anb_lemmas.proofs.Each.{take_next, zip_and_last}
-use Rattle.anb_resolve.specs.Protocols.{ProtocolValue}
-use Rattle.anb_choice.specs.declared.refusal.BranchNo.{BranchNo}
-use Rattle.anb_choice.specs.declared.refusal.BranchNo.TheVariants.{Token, Shape, ArmRead, ArmResolve, Roles, Chooser, Blind, NoMemory}
+use Rattle.anb_protocol.specs.Protocols.{ProtocolValue}
+use Rattle.anb_outcomes.specs.declared.choices.BranchNo.{BranchNo}
+use Rattle.anb_outcomes.specs.declared.choices.BranchNo.TheVariants.{Token, Shape, ArmRead, ArmResolve, Roles, Chooser, Blind, NoMemory}
 use Rattle.anb_choice.specs.declared.marks.Mark.{Mark}
 use Rattle.anb_choice.specs.declared.order.Span.{Span}
 use Rattle.anb_choice.specs.Branching.{ArmIsRefused, Tells, straights}

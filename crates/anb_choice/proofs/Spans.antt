@@ -4,7 +4,7 @@ use Rattle.std.proofs.lemmas.List.{append-nil}
 use Rattle.std.specs.Prelude.{not}
 use Rattle.std.specs.List.{AllByRecursion}
 use Rattle.anb_syntax.specs.Words.{is_name}
-use Rattle.anb_resolve.specs.Choices.{refuse_if}
+use Rattle.anb_protocol.specs.Choices.{refuse_if}
 use Rattle.anb_choice.specs.declared.marks.Kind.{Kind}
 use Rattle.anb_choice.specs.declared.marks.Kind.TheVariants.{Choice, Actions, Colon, Semicolon, Name, Other, Stop, Bad}
 use Rattle.anb_choice.specs.declared.marks.Mark.{Mark}

@@ -6,12 +6,12 @@ use Rattle.std.proofs.lemmas.Option.{same_Some}
 use Rattle.anb_base.specs.declared.TheConstants.{ARRIVAL, WIDE}
 use Rattle.anb_syntax.specs.Laws.{TokensAreUnique}
 use Rattle.anb_read.specs.Laws as read
-use Rattle.anb_resolve.specs.Checks.{fault}
-use Rattle.anb_resolve.specs.Protocols.{ProtocolValue, protocol_of}
+use Rattle.anb_protocol.specs.Checks.{fault}
+use Rattle.anb_protocol.specs.Protocols.{ProtocolValue, protocol_of}
 use Rattle.anb_choice.specs.declared.marks.Mark.{Mark}
 use Rattle.anb_choice.specs.declared.order.Span.{Span}
-use Rattle.anb_choice.specs.declared.refusal.BranchNo.{BranchNo}
-use Rattle.anb_choice.specs.declared.refusal.BranchNo.TheVariants.{Token, Shape, ArmRead, ArmResolve, Roles, Chooser, Blind, NoMemory}
+use Rattle.anb_outcomes.specs.declared.choices.BranchNo.{BranchNo}
+use Rattle.anb_outcomes.specs.declared.choices.BranchNo.TheVariants.{Token, Shape, ArmRead, ArmResolve, Roles, Chooser, Blind, NoMemory}
 use Rattle.anb_choice.specs.Branching.{ArmIsRefused, BranchedText, FirstRefused, IsOrdered, IsRefusal, Tells, choice_fault, straights}
 use Rattle.anb_choice.specs.ArmRefusals.{IsRefusedAs}
 use Rattle.anb_choice.specs.Lawful.{BranchedValue}

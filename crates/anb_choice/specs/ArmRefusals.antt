@@ -4,9 +4,9 @@ use Rattle.anb_base.specs.declared.TheConstants.{ARRIVAL, WIDE}
 use Rattle.anb_syntax.specs.Grammar.{Narration}
 use Rattle.anb_syntax.specs.Text.{Text}
 use Rattle.anb_read.specs.Refusals as read
-use Rattle.anb_resolve.specs.Checks.{fault}
-use Rattle.anb_choice.specs.declared.refusal.BranchNo.{BranchNo}
-use Rattle.anb_choice.specs.declared.refusal.BranchNo.TheVariants.{ArmRead, ArmResolve}
+use Rattle.anb_protocol.specs.Checks.{fault}
+use Rattle.anb_outcomes.specs.declared.choices.BranchNo.{BranchNo}
+use Rattle.anb_outcomes.specs.declared.choices.BranchNo.TheVariants.{ArmRead, ArmResolve}
 
 -- the text of this arm is refused so
 abbrev pub IsRefusedAs : List ℕ → ℕ → BranchNo → Type 0

@@ -7,13 +7,13 @@ use Rattle.anb_base.specs.declared.TheConstants.{ARRIVAL, WIDE}
 use Rattle.anb_syntax.specs.Grammar.{Narration}
 use Rattle.anb_syntax.specs.Text.{Text}
 use Rattle.anb_read.specs.Refusals as read
-use Rattle.anb_resolve.specs.Checks.{IsWellFormed, fault}
-use Rattle.anb_resolve.specs.Choices.{refuse_if, first_after}
-use Rattle.anb_resolve.specs.Protocols.{ProtocolValue, protocol_of}
+use Rattle.anb_protocol.specs.Checks.{IsWellFormed, fault}
+use Rattle.anb_protocol.specs.Choices.{refuse_if, first_after}
+use Rattle.anb_protocol.specs.Protocols.{ProtocolValue, protocol_of}
 use Rattle.anb_choice.specs.declared.marks.Mark.{Mark}
 use Rattle.anb_choice.specs.declared.order.Span.{Span}
-use Rattle.anb_choice.specs.declared.refusal.BranchNo.{BranchNo}
-use Rattle.anb_choice.specs.declared.refusal.BranchNo.TheVariants.{Token, Shape, ArmRead, ArmResolve, Roles, Chooser, Blind, NoMemory}
+use Rattle.anb_outcomes.specs.declared.choices.BranchNo.{BranchNo}
+use Rattle.anb_outcomes.specs.declared.choices.BranchNo.TheVariants.{Token, Shape, ArmRead, ArmResolve, Roles, Chooser, Blind, NoMemory}
 use Rattle.anb_choice.specs.Lawful.{BranchedValue, roles_in, are_same_names, blind}
 use Rattle.anb_choice.specs.Parsing.{order}
 use Rattle.anb_choice.specs.Order.{AreMarks, HasOrder, bad_at, chooser_in, stem_actions, straight}

@@ -6,9 +6,9 @@ use Rattle.std.specs.Str.{bytes_eq}
 use Rattle.anb_index.specs.Places.{among}
 use Rattle.anb_term.specs.declared.term.Op.TheVariants.{Format}
 use Rattle.anb_term.specs.Tree.{Tree, node}
-use Rattle.anb_resolve.specs.Choices.{refuse_if, first, first_after}
-use Rattle.anb_resolve.specs.Protocols.{ProtocolValue, role_number}
-use Rattle.anb_resolve.specs.Plans.{PlanEvent, to_know, to_make, to_send, to_receive, plan_of}
+use Rattle.anb_protocol.specs.Choices.{refuse_if, first, first_after}
+use Rattle.anb_protocol.specs.Protocols.{ProtocolValue, role_number}
+use Rattle.anb_protocol.specs.Plans.{PlanEvent, to_know, to_make, to_send, to_receive, plan_of}
 
 -- The role that chooses, how many actions are common, and the protocol of each arm behind these. The
 -- common actions are called the stem.

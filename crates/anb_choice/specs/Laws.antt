@@ -1,6 +1,6 @@
 -- What holds of branched texts, whatever they are.
 use Rattle.std.specs.Prelude.{◌≡◌, ◌⊎◌, ℕ, List, None}
-use Rattle.anb_choice.specs.declared.refusal.BranchNo.{BranchNo}
+use Rattle.anb_outcomes.specs.declared.choices.BranchNo.{BranchNo}
 use Rattle.anb_choice.specs.Branching.{BranchedText, IsRefusal, choice_fault}
 use Rattle.anb_choice.specs.Lawful.{BranchedValue, IsLawful}
 

@@ -5,7 +5,7 @@ use Rattle.std.specs.List.{AllByRecursion, AllZip, count_by, flat_map, list_any,
 use Rattle.std.specs.Str.{bytes_eq}
 use Rattle.anb_syntax.specs.Words.{Word, name, literal, sign, end, bad, Tok, actions_word, choice_word, goals_word, is_name}
 use Rattle.anb_syntax.specs.Lexing.{Lexes, token_here}
-use Rattle.anb_resolve.specs.Choices.{first, refuse_if}
+use Rattle.anb_protocol.specs.Choices.{first, refuse_if}
 use Rattle.anb_choice.specs.declared.marks.Kind.{Kind}
 use Rattle.anb_choice.specs.declared.marks.Kind.TheVariants.{Choice, Actions, Colon, Semicolon, Name, Other, Stop, Bad}
 use Rattle.anb_choice.specs.declared.marks.Mark.{Mark}

@@ -1,6 +1,6 @@
 -- The order of the tokens as it is looked at: the arms, or the first token that is out of order.
 use Rattle.std.specs.Prelude.{ℕ, zero, suc, ◌+◌, ◌-◌, ◌&&◌, ◌||◌, not, List, [], ◌∷◌, ◌++◌, drop, Bool, false, Option, Some, None, Result, Ok, Err, if◌then◌else◌}
-use Rattle.anb_resolve.specs.Choices.{refuse_if}
+use Rattle.anb_protocol.specs.Choices.{refuse_if}
 use Rattle.anb_choice.specs.declared.marks.Kind.{Kind}
 use Rattle.anb_choice.specs.declared.marks.Kind.TheVariants.{Choice, Actions, Colon, Semicolon, Name, Stop, Bad}
 use Rattle.anb_choice.specs.declared.marks.Mark.{Mark}

@@ -4,9 +4,10 @@ ghost use Rattle.anb_base.specs.declared.TheConstants.{SMALL_FILE};
 ghost use Rattle.anb_choice.specs.Branching.{Tells};
 ghost use Rattle.anb_choice.specs.ArmRefusals.{IsRefusedAs};
 
-use crate::refusal::BranchNo;
+use anb_outcomes::BranchNo;
+use anb_protocol::{Protocol, ResolveNo};
 use anb_read::{ReadNo, read};
-use anb_resolve::{Protocol, ResolveNo, resolve, small_is_countable};
+use anb_resolve::{resolve, small_is_countable};
 use std::alloc::Global;
 
 /// The protocol of this arm, which the text of the stem and the arm tells.

@@ -4,15 +4,15 @@ ghost use Rattle.std.specs.List.{AllByRecursion, list_any};
 ghost use Rattle.std.specs.Option.{option_map};
 ghost use Rattle.anb_index.specs.Places.{among};
 ghost use Rattle.anb_term.specs.View.{tree_of};
-ghost use Rattle.anb_resolve.specs.Protocols.{ProtocolValue};
-ghost use Rattle.anb_resolve.specs.Views.{plan_event};
+ghost use Rattle.anb_protocol.specs.Protocols.{ProtocolValue};
+ghost use Rattle.anb_protocol.specs.Views.{plan_event};
 ghost use Rattle.anb_choice.specs.Lawful.{are_same_names, arm_part, blind, blind_in, is_format, is_free, plan_named, received_format, root_format, roles_in, stem_len, tells, told_by, unseen_in};
 ghost use Rattle.anb_choice.specs.Views.{branched_of};
 
 use crate::branched::{Branched, roles_in};
 use crate::plans::{behind, plan_named, stem_len};
 use anb_base::{NoMemory, Text};
-use anb_resolve::{Event, Protocol};
+use anb_protocol::{Event, Protocol};
 use anb_term::{Op, Term};
 use std::alloc::Global;
 

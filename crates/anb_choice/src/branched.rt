@@ -5,7 +5,7 @@ ghost use Rattle.anb_choice.specs.Views.{branched_of};
 
 use crate::alike::among;
 use anb_base::Text;
-use anb_resolve::Protocol;
+use anb_protocol::Protocol;
 
 /// A choice at the end: the role that chooses, how many actions come before the choice, and for
 /// each arm the protocol of the common actions with those of the arm. Arms are numbered from 1.

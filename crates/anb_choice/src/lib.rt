@@ -13,13 +13,12 @@ mod marks;
 mod order;
 mod parts;
 mod plans;
-mod refusal;
 mod splitting;
 
+pub use anb_outcomes::BranchNo;
 pub use branched::Branched;
 pub use laws::{
     branch_refusals_are_unique, choices_are_unique, each_is_either, faultless_is_lawful,
     no_choice_is_refused,
 };
-pub use refusal::BranchNo;
 pub use splitting::split;

@@ -1,11 +1,11 @@
 //! Plans of roles by name, and their parts before and behind the choice.
 ghost use Rattle.std.specs.Prelude.{◌≡◌, ◌≤◌, length, drop, map, true, IfOk};
 ghost use Rattle.anb_index.specs.Places.{among};
-ghost use Rattle.anb_resolve.specs.Views.{plan_event};
+ghost use Rattle.anb_protocol.specs.Views.{plan_event};
 ghost use Rattle.anb_choice.specs.Lawful.{is_of_stem, plan_named, stem_len};
 
 use anb_base::{NoMemory, Text};
-use anb_resolve::{Event, Plan, Protocol};
+use anb_protocol::{Event, Plan, Protocol};
 use std::alloc::Global;
 
 /// The plan of the role with this name.

@@ -3,7 +3,7 @@ ghost use Rattle.std.specs.Prelude.{◌≡◌, ◌≢◌, ◌⊎◌, ◌≤◌, 
 ghost use Rattle.std.specs.List.{AllByRecursion, AllZip};
 ghost use Rattle.anb_base.specs.declared.TheConstants.{SMALL_FILE};
 ghost use Rattle.anb_choice.specs.declared.order.Span.{Span as SpanValue};
-ghost use Rattle.anb_choice.specs.declared.refusal.BranchNo.{BranchNo as No};
+ghost use Rattle.anb_outcomes.specs.declared.choices.BranchNo.{BranchNo as No};
 ghost use Rattle.anb_choice.specs.Branching.{ArmIsRefused, BranchedText, IsOrdered, IsRefusal, Tells, choice_fault, straights};
 ghost use Rattle.anb_choice.specs.Lawful.{BranchedValue, IsLawful};
 ghost use Rattle.anb_choice.specs.Order.{chooser_in, stem_end};
@@ -20,9 +20,9 @@ use crate::laws::{
 use crate::marks::{Mark, bad_at, marks};
 use crate::order::{Span, order, past_at, place_at, stem_actions, stem_size};
 use crate::parts::{bytes_between, straight};
-use crate::refusal::BranchNo;
 use anb_base::{NoMemory, Text};
-use anb_resolve::Protocol;
+use anb_outcomes::BranchNo;
+use anb_protocol::Protocol;
 use anb_syntax::name_text;
 use std::alloc::Global;
 

@@ -8,13 +8,13 @@ use Rattle.anb_base.proofs.Moving.{put_nothing}
 use Rattle.anb_frame.specs.Cuts.{Tail, Cut, CutLeft}
 use Rattle.anb_plays.specs.Plays.{Played}
 use Rattle.anb_session.specs.Sessions.{IsPrompt}
-use Rattle.anb_command.specs.declared.status.Status.{Status}
-use Rattle.anb_command.specs.declared.status.Status.TheVariants.{FileFault, NoMemory}
+use Rattle.anb_status.specs.declared.status.Status.{Status}
+use Rattle.anb_status.specs.declared.status.Status.TheVariants.{FileFault, NoMemory}
 use Rattle.anb_command.specs.Fetches.{Files, IfTold}
 use Rattle.anb_command.specs.Refusing.{IsRefusing}
 use Rattle.anb_command.specs.Outcomes.{IsInTime, IsOutcome, Outcome, RunsOver}
 use Rattle.anb_command.specs.Prepared.{IsReady, RunsOn, RunsTo}
-use Rattle.anb_command.specs.Statuses.{OnFileFault, before_reach, is_fault, phase_of}
+use Rattle.anb_status.specs.Statuses.{OnFileFault, before_reach, is_fault, phase_of}
 use Rattle.anb_command.specs.Steps.{Answer, refused, given, HasOneAnswer, IsFailure}
 use Rattle.anb_command.proofs.Chains.{told_map}
 use Rattle.anb_command.proofs.Ones.{RefusesQuietly, same_refusal, not_both}

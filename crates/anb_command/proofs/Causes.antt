@@ -5,13 +5,13 @@ use Rattle.anb_base.specs.Wires.{WireState}
 use Rattle.anb_base.specs.declared.place.Place.{Place}
 use Rattle.anb_session.specs.declared.PlayEnd.{PlayEnd}
 use Rattle.anb_session.specs.declared.PlayEnd.TheVariants as ends
-use Rattle.anb_command.specs.declared.status.Status.{Status}
-use Rattle.anb_command.specs.declared.status.Status.TheVariants.{Usage, FileFault, Unreached, ReadFault, WriteFault, ChildFault, NoMemory}
+use Rattle.anb_status.specs.declared.status.Status.{Status}
+use Rattle.anb_status.specs.declared.status.Status.TheVariants.{Usage, FileFault, Unreached, ReadFault, WriteFault, ChildFault, NoMemory}
 use Rattle.anb_command.specs.Causes.{HasCause, HasWireCause, NoneRose}
 use Rattle.anb_command.specs.Fetches.{IsOneOf}
 use Rattle.anb_command.specs.Prepared.{status_of}
 use Rattle.anb_command.specs.Reaches.{Reaches}
-use Rattle.anb_command.specs.Statuses.{IsEarly, Phase, after_reach, is_fault, phase_of}
+use Rattle.anb_status.specs.Statuses.{IsEarly, Phase, after_reach, is_fault, phase_of}
 use Rattle.anb_command.specs.Steps.{IsFailure}
 
 -- ---- the end of a run

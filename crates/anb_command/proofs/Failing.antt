@@ -1,7 +1,7 @@
 -- Why a step fails.
 use Rattle.std.proofs.Common.{ℕ, List}
-use Rattle.anb_command.specs.declared.status.Status.{Status}
-use Rattle.anb_command.specs.declared.status.Status.TheVariants.{FileFault, NoMemory}
+use Rattle.anb_status.specs.declared.status.Status.{Status}
+use Rattle.anb_status.specs.declared.status.Status.TheVariants.{FileFault, NoMemory}
 use Rattle.anb_command.specs.Steps.{IsFailure}
 
 -- a failure with a cause is one with a cause that follows

@@ -4,7 +4,6 @@ pub mod Chains
 pub mod Cutting
 pub mod Failing
 pub mod Given
-pub mod Lines
 pub mod Ones
 pub mod OverWire
 pub mod Preparing

@@ -22,19 +22,19 @@ use Rattle.anb_text.specs.Stages.{Spells, refusal_of}
 use Rattle.anb_text.proofs.Loaded.{handed_on, not_a_code}
 use Rattle.anb_text.specs.declared.refusal.LoadNo.{LoadNo}
 use Rattle.anb_text.specs.declared.refusal.LoadNo.TheVariants as loading
-use Rattle.anb_resolve.specs.Protocols.{ProtocolValue}
+use Rattle.anb_protocol.specs.Protocols.{ProtocolValue}
 use Rattle.anb_values.specs.Fit.{FitIsUnique}
 use Rattle.anb_values.specs.declared.fitted.Fitted.{Fitted}
 use Rattle.anb_values.specs.declared.refusal.ValuesNo.{ValuesNo}
 use Rattle.anb_command.specs.declared.limits.TheConstants.{NARRATION_LIMIT, ROLE_FILE_LIMIT, VALUES_LIMIT}
-use Rattle.anb_command.specs.declared.status.NarrationNo.TheVariants.{Read, Resolve}
-use Rattle.anb_command.specs.declared.status.Status.{Status}
-use Rattle.anb_command.specs.declared.status.Status.TheVariants.{BadNarration, BadRoleFile, BadValues, CannotSend}
+use Rattle.anb_status.specs.declared.status.NarrationNo.TheVariants.{Read, Resolve}
+use Rattle.anb_status.specs.declared.status.Status.{Status}
+use Rattle.anb_status.specs.declared.status.Status.TheVariants.{BadNarration, BadRoleFile, BadValues, CannotSend}
 use Rattle.anb_command.specs.Errands.{ErrandOf, draws}
 use Rattle.anb_command.specs.Files.{CodeInFile, CodeIs, FileIs, NarrationIs, NarrationInFile, ProtocolIs, ProtocolInFile, ValuesAre, ValuesInFile}
 use Rattle.anb_command.specs.Roles.{AllSend, PartInFile, PartOf, RoleIs, SendableInFile, SendableOf}
 use Rattle.anb_command.specs.Seeds.{SeedIs}
-use Rattle.anb_command.specs.Statuses.{is_fault, phase_of, before_reach}
+use Rattle.anb_status.specs.Statuses.{is_fault, phase_of, before_reach}
 use Rattle.anb_command.specs.Steps.{Answer, refused, given, InTurn, AnswersWith, HasOneAnswer}
 use Rattle.anb_command.proofs.Senders.{first_one, none_unsent}
 

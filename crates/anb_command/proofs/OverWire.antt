@@ -9,13 +9,13 @@ use Rattle.anb_frame.specs.Cuts.{CutLeft}
 use Rattle.anb_base.specs.declared.TheConstants.{ARRIVAL}
 use Rattle.anb_base.proofs.Moving.{put_nothing}
 use Rattle.anb_plays.specs.Plays.{Played}
-use Rattle.anb_command.specs.declared.status.Status.{Status}
-use Rattle.anb_command.specs.declared.status.Status.TheVariants.{Done, Usage, FileFault, Unreached, ReadFault, WriteFault, ChildFault, NoMemory}
+use Rattle.anb_status.specs.declared.status.Status.{Status}
+use Rattle.anb_status.specs.declared.status.Status.TheVariants.{Done, Usage, FileFault, Unreached, ReadFault, WriteFault, ChildFault, NoMemory}
 use Rattle.anb_command.specs.Causes.{HasWireCause}
 use Rattle.anb_command.specs.OverWire.{DidNotReach, HasReached, OnlyWrites, OverWire, StaysReached}
 use Rattle.anb_command.specs.Prepared.{RunsOn, RunsTo}
 use Rattle.anb_command.specs.Reaches.{Reaches}
-use Rattle.anb_command.specs.Statuses.{Phase, before_reach, at_reach, after_reach, at_any_time, phase_of}
+use Rattle.anb_status.specs.Statuses.{Phase, before_reach, at_reach, after_reach, at_any_time, phase_of}
 use Rattle.anb_command.specs.Touches.{Touches}
 
 -- what holds of all that two wires tell holds of their states

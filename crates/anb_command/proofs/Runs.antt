@@ -14,11 +14,11 @@ use Rattle.anb_machine.specs.declared.turn.Halt.{Halt}
 use Rattle.anb_session.specs.Sessions.{Runs, Concludes, Reads, end_at}
 use Rattle.anb_session.specs.declared.PlayEnd.{PlayEnd}
 use Rattle.anb_session.specs.declared.PlayEnd.TheVariants as ends
-use Rattle.anb_command.specs.declared.status.Status.{Status}
-use Rattle.anb_command.specs.declared.status.Status.TheVariants.{Unreached, Stopped, ReadFault, WriteFault, NoMemory}
+use Rattle.anb_status.specs.declared.status.Status.{Status}
+use Rattle.anb_status.specs.declared.status.Status.TheVariants.{Unreached, Stopped, ReadFault, WriteFault, NoMemory}
 use Rattle.anb_command.specs.Outcomes.{status_at, LeavesAt, Outcome, IsOutcome}
 use Rattle.anb_command.specs.Prepared.{IsReady, RunsTo, status_of}
-use Rattle.anb_command.specs.Statuses.{is_fault}
+use Rattle.anb_status.specs.Statuses.{is_fault}
 use Rattle.anb_command.specs.Steps.{Answer, refused, given, HasOneAnswer}
 use Rattle.anb_command.proofs.Cutting.{bytes_in_cut, bytes_taken}
 use Rattle.anb_command.proofs.Ones.{same_given, not_both}

@@ -9,11 +9,11 @@ use Rattle.anb_term.specs.Tree.{Tree, leaf}
 use Rattle.anb_term.specs.Agree.{HasRecipe}
 use Rattle.anb_algebra.specs.ByteMeaning.{has_operator}
 use Rattle.anb_plays.specs.Plans.{known, CanSend, Sendable}
-use Rattle.anb_resolve.specs.Choices.{each_after}
-use Rattle.anb_resolve.specs.Plans.{PlanEvent, to_know, to_make, to_send, to_receive, events_at, own_events, made, plan_of}
-use Rattle.anb_resolve.specs.Plays.{event_of, events_of}
-use Rattle.anb_resolve.specs.Protocols.{ActionValue, ProtocolValue}
-use Rattle.anb_resolve.specs.Texts.{known_by}
+use Rattle.anb_protocol.specs.Choices.{each_after}
+use Rattle.anb_protocol.specs.Plans.{PlanEvent, to_know, to_make, to_send, to_receive, events_at, own_events, made, plan_of}
+use Rattle.anb_protocol.specs.Plays.{event_of, events_of}
+use Rattle.anb_protocol.specs.Protocols.{ActionValue, ProtocolValue}
+use Rattle.anb_protocol.specs.Texts.{known_by}
 use Rattle.anb_compile.specs.Unsent.{IsUnsent, IsFirstUnsentOfAll, label_of, labels_of}
 use Rattle.anb_compile.proofs.Protocols.{knows_labels}
 

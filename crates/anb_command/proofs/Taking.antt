@@ -11,9 +11,9 @@ use Rattle.anb_code.specs.Verified.{EachAfter, IsInstrAfter, IsOtherTake, IsVeri
 use Rattle.anb_code.specs.declared.instr.Instr.{Instr}
 use Rattle.anb_code.specs.declared.instr.Instr.TheVariants.{Take}
 use Rattle.anb_format.specs.Formats.{FormatValue}
-use Rattle.anb_resolve.proofs.Distinct.{AllApart, pairs}
+use Rattle.anb_protocol.proofs.Distinct.{AllApart, pairs}
 use Rattle.anb_values.specs.declared.fitted.Fitted.{Fitted}
-use Rattle.anb_command.specs.declared.status.Status.{Status}
+use Rattle.anb_status.specs.declared.status.Status.{Status}
 use Rattle.anb_command.specs.Errands.{ErrandOf, draws}
 use Rattle.anb_command.specs.Fetches.{Files, IfTold}
 use Rattle.anb_command.specs.Files.{ValuesInFile}

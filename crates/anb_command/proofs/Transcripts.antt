@@ -10,7 +10,7 @@ use Rattle.anb_transcript.specs.declared.transcript.TranscriptLine.TheVariants.{
 use Rattle.anb_transcript.specs.declared.transcript.TranscriptNo.{TranscriptNo}
 use Rattle.anb_transcript.specs.declared.transcript.TranscriptNo.TheVariants as reading
 use Rattle.anb_command.specs.declared.limits.TheConstants.{TRANSCRIPT_LIMIT}
-use Rattle.anb_command.specs.declared.status.Status.TheVariants.{BadTranscript}
+use Rattle.anb_status.specs.declared.status.Status.TheVariants.{BadTranscript}
 use Rattle.anb_command.specs.Files.{FileIs, TranscriptIs, TranscriptInFile}
 use Rattle.anb_command.specs.Steps.{refused, given, HasOneAnswer}
 use Rattle.anb_command.proofs.Ones.{RefusesQuietly, file_one, file_quiet, quiet_as, then_one, then_quiet}

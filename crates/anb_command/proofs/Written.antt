@@ -2,10 +2,10 @@
 use Rattle.std.proofs.Common.{◌≡◌, ◌⊎◌, ℕ, Bool, true, false, List, [], take, Option, Some, None, refl, ap, sym, ◌∙◌, subst, inl, inr}
 use Rattle.anb_base.specs.Moves.{Put}
 use Rattle.anb_base.proofs.Moving.{put_nothing}
-use Rattle.anb_command.specs.declared.status.Status.{Status}
-use Rattle.anb_command.specs.declared.status.Status.TheVariants.{Done, FileFault, Unreached, WriteFault, NoMemory}
+use Rattle.anb_status.specs.declared.status.Status.{Status}
+use Rattle.anb_status.specs.declared.status.Status.TheVariants.{Done, FileFault, Unreached, WriteFault, NoMemory}
 use Rattle.anb_command.specs.Fetches.{Files, IfTold}
-use Rattle.anb_command.specs.Statuses.{is_fault}
+use Rattle.anb_status.specs.Statuses.{is_fault}
 use Rattle.anb_command.specs.Steps.{Answer, refused, given, HasOneAnswer, IsFailure}
 use Rattle.anb_command.specs.Writing.{CompletesText, Writes, IsWriting, IsWritingOne, IsWritten}
 use Rattle.anb_command.proofs.Chains.{told_map}

@@ -3,8 +3,8 @@ use Rattle.std.specs.Prelude.{◌≡◌, ℕ, List, Option, Some, None}
 use Rattle.anb_base.specs.Moves.{Rose}
 use Rattle.anb_base.specs.Wires.{WireState}
 use Rattle.anb_base.specs.declared.place.Place.{Place}
-use Rattle.anb_command.specs.declared.status.Status.{Status}
-use Rattle.anb_command.specs.declared.status.Status.TheVariants.{Usage, FileFault, Unreached, ReadFault, WriteFault, ChildFault}
+use Rattle.anb_status.specs.declared.status.Status.{Status}
+use Rattle.anb_status.specs.declared.status.Status.TheVariants.{Usage, FileFault, Unreached, ReadFault, WriteFault, ChildFault}
 use Rattle.anb_command.specs.Fetches.{IsOneOf}
 
 -- of the wire, which is reached at this place; words that fit no command have none. No child is there

@@ -5,9 +5,9 @@ use Rattle.anb_syntax.specs.Grammar.{Narration}
 use Rattle.anb_syntax.specs.Text.{Text}
 use Rattle.anb_read.specs.Refusals.{IsRefusal}
 use Rattle.anb_read.specs.declared.refusal.ReadNo.{ReadNo}
-use Rattle.anb_resolve.specs.Checks.{fault}
-use Rattle.anb_resolve.specs.Protocols.{ProtocolValue, protocol_of}
-use Rattle.anb_resolve.specs.declared.refusals.ResolveNo.{ResolveNo}
+use Rattle.anb_protocol.specs.Checks.{fault}
+use Rattle.anb_protocol.specs.Protocols.{ProtocolValue, protocol_of}
+use Rattle.anb_protocol.specs.declared.refusals.ResolveNo.{ResolveNo}
 use Rattle.anb_code.specs.CodeValue.{CodeValue}
 use Rattle.anb_code.specs.Verified.{IsVerifiedCode}
 use Rattle.anb_text.specs.Refusals.{IsRefusal as IsLoadRefusal}
@@ -21,8 +21,8 @@ use Rattle.anb_values.specs.Fit.{Fit}
 use Rattle.anb_values.specs.declared.fitted.Fitted.{Fitted}
 use Rattle.anb_values.specs.declared.refusal.ValuesNo.{ValuesNo}
 use Rattle.anb_command.specs.declared.limits.TheConstants.{NARRATION_LIMIT, ROLE_FILE_LIMIT, TRANSCRIPT_LIMIT, VALUES_LIMIT}
-use Rattle.anb_command.specs.declared.status.NarrationNo.TheVariants.{Read, Resolve}
-use Rattle.anb_command.specs.declared.status.Status.TheVariants.{FileLong, BadNarration, BadValues, BadRoleFile, BadTranscript}
+use Rattle.anb_status.specs.declared.status.NarrationNo.TheVariants.{Read, Resolve}
+use Rattle.anb_status.specs.declared.status.Status.TheVariants.{FileLong, BadNarration, BadValues, BadRoleFile, BadTranscript}
 use Rattle.anb_command.specs.Steps.{Answer, refused, given, InTurn}
 
 -- a file of at most so many bytes

@@ -2,20 +2,14 @@ pub mod Causes
 pub mod Errands
 pub mod Fetches
 pub mod Files
-pub mod Lines
 pub mod Outcomes
 pub mod Phases
 pub mod Reaches
 pub mod Refusing
 pub mod Roles
 pub mod Seeds
-pub mod Statuses
 pub mod Steps
 pub mod Touches
-pub mod Words
 pub mod Writing
 pub mod OverWire
-pub mod Commands
 pub mod Prepared
--- for proofs alone
-pub mod Pieces

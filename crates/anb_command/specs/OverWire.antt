@@ -4,10 +4,10 @@ use Rattle.anb_base.specs.Moves.{Rose, Put}
 use Rattle.anb_base.specs.Places.{line_of}
 use Rattle.anb_base.specs.Wires.{WireState}
 use Rattle.anb_base.specs.declared.place.Place.{Place}
-use Rattle.anb_command.specs.declared.status.Status.{Status}
+use Rattle.anb_status.specs.declared.status.Status.{Status}
 use Rattle.anb_command.specs.Causes.{HasWireCause}
 use Rattle.anb_command.specs.Reaches.{Reaches}
-use Rattle.anb_command.specs.Statuses.{phase_of}
+use Rattle.anb_status.specs.Statuses.{phase_of}
 use Rattle.anb_command.specs.Touches.{Touches}
 
 pub record HasReached (place : Place) (old new : WireState) : Type 0 where

@@ -1,9 +1,9 @@
 -- When a status may come, by what is asked for.
 use Rattle.std.specs.Prelude.{Option, Some}
-use Rattle.anb_command.specs.declared.status.Status.{Status}
-use Rattle.anb_command.specs.declared.status.Status.TheVariants.{BadNarration, CannotSend}
-use Rattle.anb_command.specs.Statuses.{Phase, after_reach, phase_of}
-use Rattle.anb_command.specs.Words.{Asked, check}
+use Rattle.anb_status.specs.declared.status.Status.{Status}
+use Rattle.anb_status.specs.declared.status.Status.TheVariants.{BadNarration, CannotSend}
+use Rattle.anb_status.specs.Statuses.{Phase, after_reach, phase_of}
+use Rattle.anb_words.specs.Words.{Asked, check}
 
 -- of a command that first says why a narration is refused
 abbrev pub told_phase : Status → Phase

@@ -13,9 +13,9 @@ use Rattle.anb_session.specs.Sessions.{Reads}
 use Rattle.anb_session.specs.declared.PlayEnd.{PlayEnd}
 use Rattle.anb_session.specs.declared.PlayEnd.TheVariants.{Done, Stopped, Waiting, Truncated, TooLarge}
 use Rattle.anb_session.specs.declared.PlayEnd.TheVariants as faults
-use Rattle.anb_command.specs.declared.status.Status.{Status}
-use Rattle.anb_command.specs.declared.status.Status.TheVariants as ended
-use Rattle.anb_command.specs.declared.status.Status.TheVariants.{Unreached, ReadFault, WriteFault, NoMemory}
+use Rattle.anb_status.specs.declared.status.Status.{Status}
+use Rattle.anb_status.specs.declared.status.Status.TheVariants as ended
+use Rattle.anb_status.specs.declared.status.Status.TheVariants.{Unreached, ReadFault, WriteFault, NoMemory}
 use Rattle.anb_command.specs.Outcomes.{status_at}
 use Rattle.anb_command.specs.Steps.{Answer, given}
 

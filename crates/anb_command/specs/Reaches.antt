@@ -3,7 +3,7 @@ use Rattle.std.specs.Prelude.{◌≡◌, ℕ, ◌⊎◌, List, Option, Some, Non
 use Rattle.anb_base.specs.Moves.{Put}
 use Rattle.anb_base.specs.Places.{line_of}
 use Rattle.anb_base.specs.declared.place.Place.{Place}
-use Rattle.anb_command.specs.Statuses.{Phase, before_reach, at_reach, after_reach, at_any_time}
+use Rattle.anb_status.specs.Statuses.{Phase, before_reach, at_reach, after_reach, at_any_time}
 
 -- What is told of the places that were reached, by when the status comes: nothing more, or the line of
 -- this place more. Where the words ask for nothing, nothing is reached.

@@ -1,7 +1,7 @@
 -- What is refused before the wire is reached.
 use Rattle.std.specs.Prelude.{◌≡◌, ℕ, List, false}
-use Rattle.anb_command.specs.declared.status.Status.{Status}
-use Rattle.anb_command.specs.Statuses.{is_fault, phase_of, before_reach, OnFileFault}
+use Rattle.anb_status.specs.declared.status.Status.{Status}
+use Rattle.anb_status.specs.Statuses.{is_fault, phase_of, before_reach, OnFileFault}
 use Rattle.anb_command.specs.Steps.{Answer, refused, IsFailure}
 
 -- the refusals of words and files are those that are asked for, in both directions

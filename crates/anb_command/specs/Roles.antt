@@ -2,10 +2,10 @@
 use Rattle.std.specs.Prelude.{◌≡◌, ℕ, List, slice_get, Option, Some, None}
 use Rattle.std.specs.List.{position_from}
 use Rattle.std.specs.Str.{bytes_eq}
-use Rattle.anb_resolve.specs.Plays.{IsSendable}
-use Rattle.anb_resolve.specs.Protocols.{ProtocolValue, role_named}
+use Rattle.anb_protocol.specs.Plays.{IsSendable}
+use Rattle.anb_protocol.specs.Protocols.{ProtocolValue, role_named}
 use Rattle.anb_compile.specs.Unsent.{IsFirstUnsentOfAll}
-use Rattle.anb_command.specs.declared.status.Status.TheVariants.{NoRole, CannotSend}
+use Rattle.anb_status.specs.declared.status.Status.TheVariants.{NoRole, CannotSend}
 use Rattle.anb_command.specs.Files.{ProtocolInFile}
 use Rattle.anb_command.specs.Steps.{Answer, refused, given, InTurn, AnswersWith}
 

@@ -1,6 +1,6 @@
 -- The seed of the draws.
 use Rattle.std.specs.Prelude.{◌≡◌, ℕ, List, Bool, true, false, replicate, Option, Some, None}
-use Rattle.anb_command.specs.declared.status.Status.TheVariants.{NoSeed}
+use Rattle.anb_status.specs.declared.status.Status.TheVariants.{NoSeed}
 use Rattle.anb_command.specs.Steps.{Answer, refused, given}
 
 -- The seed: that of the values file, else the one that is handed in. A plan that makes no name needs

@@ -1,7 +1,7 @@
 -- Work before the wire is reached, as steps in order: each refuses with a status, or hands a value on.
 use Rattle.std.specs.Prelude.{◌≡◌, ◌⊎◌, ℕ, List}
-use Rattle.anb_command.specs.declared.status.Status.{Status}
-use Rattle.anb_command.specs.declared.status.Status.TheVariants.{FileFault, NoMemory}
+use Rattle.anb_status.specs.declared.status.Status.{Status}
+use Rattle.anb_status.specs.declared.status.Status.TheVariants.{FileFault, NoMemory}
 
 pub data Answer (A : Type 0) : Type 0 where
   refused : Status → Answer A

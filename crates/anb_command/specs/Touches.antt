@@ -1,7 +1,7 @@
 -- What a command leaves of a wire that it doesn't read, or that it hasn't reached.
 use Rattle.std.specs.Prelude.{◌≡◌, ◌<◌, ◌≤◌, Bool, false}
 use Rattle.anb_base.specs.Wires.{WireState}
-use Rattle.anb_command.specs.Statuses.{Phase, before_reach, at_reach}
+use Rattle.anb_status.specs.Statuses.{Phase, before_reach, at_reach}
 
 -- by whether the command reads input, and by when its status comes
 pub record Touches (reading : Bool) (phase : Phase) (old new : WireState) : Type 0 where

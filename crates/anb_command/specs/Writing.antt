@@ -1,9 +1,9 @@
 -- Writing one text, and reading nothing from the wire.
 use Rattle.std.specs.Prelude.{◌≡◌, ℕ, ◌⊎◌, true, false, List, [], take, Option}
 use Rattle.anb_base.specs.Moves.{Put, PutPrefix}
-use Rattle.anb_command.specs.declared.status.Status.{Status}
-use Rattle.anb_command.specs.declared.status.Status.TheVariants.{Done, FileFault, Unreached, WriteFault, ChildFault, NoMemory}
-use Rattle.anb_command.specs.Statuses.{is_fault}
+use Rattle.anb_status.specs.declared.status.Status.{Status}
+use Rattle.anb_status.specs.declared.status.Status.TheVariants.{Done, FileFault, Unreached, WriteFault, ChildFault, NoMemory}
+use Rattle.anb_status.specs.Statuses.{is_fault}
 use Rattle.anb_command.specs.Steps.{Answer, refused, given}
 
 -- an outcome, where no fault comes: a refusal that is due, or a whole text that is

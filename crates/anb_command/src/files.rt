@@ -10,17 +10,17 @@ ghost use Rattle.anb_syntax.specs.Views.{narration_of};
 ghost use Rattle.anb_transcript.specs.Replays.{arrivals_of};
 ghost use Rattle.anb_command.specs.Fetches.{Fetches, IfTold};
 ghost use Rattle.anb_command.specs.Files.{CodeInFile, CodeIs, HasFile, HasLonger, NarrationIs, NarrationInFile, ProtocolIs, ProtocolInFile, TranscriptIs, TranscriptInFile, ValuesAre, ValuesInFile};
-ghost use Rattle.anb_command.specs.Statuses.{IsEarly};
+ghost use Rattle.anb_status.specs.Statuses.{IsEarly};
 ghost use Rattle.anb_command.specs.Steps.{IsFailure, refused, given};
-ghost use Rattle.anb_command.specs.declared.status.Status.TheVariants as status;
+ghost use Rattle.anb_status.specs.declared.status.Status.TheVariants as status;
 
-use crate::{
-    NARRATION_LIMIT, NarrationNo, ROLE_FILE_LIMIT, Status, TRANSCRIPT_LIMIT, VALUES_LIMIT,
-};
+use crate::{NARRATION_LIMIT, ROLE_FILE_LIMIT, TRANSCRIPT_LIMIT, VALUES_LIMIT};
 use anb_base::{Bytes, NoMemory, Shelf, ShelfNo, Text};
 use anb_code::RoleCode;
+use anb_protocol::{Protocol, ResolveNo};
 use anb_read::{ReadNo, read};
-use anb_resolve::{Protocol, ResolveNo, resolve, small_is_countable};
+use anb_resolve::{resolve, small_is_countable};
+use anb_status::{NarrationNo, Status};
 use anb_syntax::Narration;
 use anb_text::{LoadNo, load};
 use anb_transcript::{Transcript, TranscriptNo, read_transcript};

@@ -1,18 +1,22 @@
-//! What commands share: the words and what they ask for, the ends of commands and their lines, the
-//! files that are read, and what goes over the wire.
+//! What commands share: the files that are read, the steps before the wire, and what goes over the
+//! wire. The words are those of anb_words, and the ends those of anb_status.
 #![tactic(auto)]
 
 mod files;
 mod limits;
-mod line;
 mod over;
 mod playable;
 mod prepare;
 mod reaching;
-mod status;
 mod text;
-mod words;
 
+pub use anb_status::{
+    BranchNo, CertifyNo, Due, Halt, NarrationNo, ParkNo, Report, Status, ill_formed, tell,
+};
+pub use anb_words::{
+    BranchWords, CertifyWords, Command, EnactWords, Endpoint, ParkWords, PlayWords, RehearseWords,
+    ReplayWords, ResumeWords, RoleText, is_operand,
+};
 pub use files::{
     code_in_file, fetch_file, narration_in_file, protocol_in_file, protocol_of_narration,
     transcript_in_file, values_in_file,
@@ -21,16 +25,10 @@ pub use limits::{
     KEY_LIMIT, NARRATION_LIMIT, RECORD_LIMIT, ROLE_FILE_LIMIT, SCHEDULE_LIMIT, TRANSCRIPT_LIMIT,
     VALUES_LIMIT,
 };
-pub use line::tell;
 pub use over::{run_over, status_of};
 pub use playable::{
     Playable, codes_of, no_role, playable_in_file, playable_of, role_named, sendable_in_file,
 };
 pub use prepare::{Prepared, prepare_code, seed_of};
 pub use reaching::{reach, reach_stdio};
-pub use status::{BranchNo, CertifyNo, Due, Halt, NarrationNo, ParkNo, Report, Status, ill_formed};
 pub use text::{reach_streams, write_text};
-pub use words::{
-    BranchWords, CertifyWords, Command, EnactWords, Endpoint, ParkWords, PlayWords, RehearseWords,
-    ReplayWords, ResumeWords, RoleText, is_operand,
-};

@@ -7,19 +7,19 @@ ghost use Rattle.anb_machine.specs.ByteRuns.{run_bytes};
 ghost use Rattle.anb_machine.specs.Machines.{gives};
 ghost use Rattle.anb_session.specs.Sessions.{IsPrompt};
 ghost use Rattle.anb_command.specs.Causes.{HasWireCause};
-ghost use Rattle.anb_command.specs.Commands.{place_by};
+ghost use Rattle.anb_words.specs.Commands.{place_by};
 ghost use Rattle.anb_command.specs.OverWire.{OverWire, StaysReached};
 ghost use Rattle.anb_command.specs.Prepared.{RunsOn, status_of};
-ghost use Rattle.anb_command.specs.Statuses.{after_reach, before_reach, phase_of};
-ghost use Rattle.anb_command.specs.declared.status.Status.TheVariants as status;
+ghost use Rattle.anb_status.specs.Statuses.{after_reach, before_reach, phase_of};
+ghost use Rattle.anb_status.specs.declared.status.Status.TheVariants as status;
 
-use crate::Status;
 use crate::prepare::Prepared;
 use crate::reaching::reach;
-use crate::words::Endpoint;
 use anb_base::{Failed, NoMemory, Wire};
 use anb_machine::Machine;
 use anb_session::PlayEnd;
+use anb_status::Status;
+use anb_words::Endpoint;
 use std::alloc::Global;
 
 /// Runs the code over the wire, which it reaches at the place.

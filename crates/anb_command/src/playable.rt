@@ -4,16 +4,16 @@ ghost use Rattle.anb_base.specs.Moves.{Rose};
 ghost use Rattle.anb_compile.specs.Fitting.{FitRoles, FitsRole};
 ghost use Rattle.anb_command.specs.Fetches.{Fetches, IfTold};
 ghost use Rattle.anb_command.specs.Roles.{AllSend, PartInFile, PartOf, RoleIs, SendableInFile};
-ghost use Rattle.anb_command.specs.Statuses.{IsEarly};
+ghost use Rattle.anb_status.specs.Statuses.{IsEarly};
 ghost use Rattle.anb_command.specs.Steps.{IsFailure, refused, given};
-ghost use Rattle.anb_command.specs.declared.status.Status.TheVariants as status;
+ghost use Rattle.anb_status.specs.declared.status.Status.TheVariants as status;
 
-use crate::Status;
 use crate::files::protocol_in_file;
 use anb_base::{NoMemory, Shelf, Text};
 use anb_code::RoleCode;
 use anb_compile::{CompileNo, compile_all};
-use anb_resolve::Protocol;
+use anb_protocol::Protocol;
+use anb_status::Status;
 use std::alloc::Global;
 
 /// A role of a protocol whose roles can all send what they must, and its code.

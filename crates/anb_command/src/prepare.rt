@@ -8,13 +8,13 @@ ghost use Rattle.anb_code.specs.Taking.{take_texts};
 ghost use Rattle.anb_command.specs.Errands.{ErrandOf};
 ghost use Rattle.anb_command.specs.Fetches.{Fetches, IfTold};
 ghost use Rattle.anb_command.specs.Seeds.{SeedIs};
-ghost use Rattle.anb_command.specs.Statuses.{IsEarly};
+ghost use Rattle.anb_status.specs.Statuses.{IsEarly};
 ghost use Rattle.anb_command.specs.Steps.{IsFailure, refused, given};
 
-use crate::Status;
 use crate::files::values_in_file;
 use anb_base::{NoMemory, Shelf, Text};
 use anb_code::RoleCode;
+use anb_status::Status;
 use anb_values::ValueList;
 use std::alloc::Global;
 

@@ -3,10 +3,10 @@ ghost use Rattle.std.specs.Prelude.{◌≡◌, OnOk, OnErr, IfErr};
 ghost use Rattle.anb_base.specs.Moves.{Rose, Put, PutPrefix};
 ghost use Rattle.anb_base.specs.declared.place.Place.TheVariants as place;
 ghost use Rattle.anb_command.specs.OverWire.{DidNotReach, HasReached, OnlyWrites};
-ghost use Rattle.anb_command.specs.declared.status.Status.TheVariants.{Unreached};
+ghost use Rattle.anb_status.specs.declared.status.Status.TheVariants.{Unreached};
 
-use crate::Status;
 use anb_base::{Failed, Place, Wire, write_whole};
+use anb_status::Status;
 
 /// Reaches the place. Reaching it, and each wait from then on, may take so many seconds.
 pub fn reach<W: Wire>(wire: &mut W, place: &Place, timeout: Option<u32>) -> Result<(), Failed>

@@ -4,9 +4,9 @@ ghost use Rattle.anb_base.specs.declared.place.Place.TheVariants as place;
 ghost use Rattle.anb_command.specs.OverWire.{DidNotReach, HasReached, OverWire};
 ghost use Rattle.anb_command.specs.Writing.{IsWritten};
 
-use crate::Status;
 use crate::reaching::{reach, write_now};
 use anb_base::{Failed, Place, Wire};
+use anb_status::Status;
 
 /// Reaches the standard streams.
 pub fn reach_streams<W: Wire>(wire: &mut W) -> Result<(), Failed>

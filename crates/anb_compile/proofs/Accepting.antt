@@ -16,11 +16,11 @@ use Rattle.anb_code.specs.CodeValue.{CodeValue}
 use Rattle.anb_code.specs.Registers.{register_widths}
 use Rattle.anb_code.specs.Taking.{take_texts}
 use Rattle.anb_code.specs.Verified.{EachAfter, IsFormatAfter, IsVerifiedCode}
-use Rattle.anb_resolve.specs.Protocols.{ProtocolValue}
-use Rattle.anb_resolve.specs.Texts.{known_texts}
-use Rattle.anb_resolve.specs.Plans.{plan_of}
-use Rattle.anb_resolve.specs.Plays.{event_of, events_of}
-use Rattle.anb_resolve.specs.Laws.{HoldsOf}
+use Rattle.anb_protocol.specs.Protocols.{ProtocolValue}
+use Rattle.anb_protocol.specs.Texts.{known_texts}
+use Rattle.anb_protocol.specs.Plans.{plan_of}
+use Rattle.anb_protocol.specs.Plays.{event_of, events_of}
+use Rattle.anb_protocol.specs.Laws.{HoldsOf}
 use Rattle.anb_compile.specs.Fitting.{FitsRole}
 use Rattle.anb_compile.specs.Unsent.{labels_of}
 use Rattle.anb_compile.specs.Counted.{count_demands, count_builds, count_subterms}

@@ -43,7 +43,7 @@ use Rattle.anb_code.specs.declared.instr.Instr.{Instr}
 use Rattle.anb_code.specs.declared.instr.Instr.TheVariants.{Send}
 use Rattle.anb_code.specs.Meaning.{act_of}
 use Rattle.anb_code.specs.Registers.{register_widths}
-use Rattle.anb_resolve.specs.Plans.{PlanEvent, to_know, to_make, to_send, to_receive, term_in}
+use Rattle.anb_protocol.specs.Plans.{PlanEvent, to_know, to_make, to_send, to_receive, term_in}
 use Rattle.anb_compile.specs.declared.writer.Writer.{Writer}
 use Rattle.anb_compile.specs.declared.emission.Emission.{Emission}
 use Rattle.anb_compile.specs.Unsent.{label_of, labels_of}

@@ -6,8 +6,8 @@ use Rattle.anb_term.specs.declared.term.Op.{Op}
 use Rattle.anb_term.specs.Tree.{Tree, leaf, node, Trees, none, more, trees_of, tree_size, nodes, IsFormed, AreFormed}
 use Rattle.anb_close.proofs.Growing.{nodes_append}
 use Rattle.anb_plays.specs.Plans.{know, fresh, send, recv, known}
-use Rattle.anb_resolve.specs.Plans.{PlanEvent, to_know, to_make, to_send, to_receive, term_in}
-use Rattle.anb_resolve.specs.Plays.{event_of}
+use Rattle.anb_protocol.specs.Plans.{PlanEvent, to_know, to_make, to_send, to_receive, term_in}
+use Rattle.anb_protocol.specs.Plays.{event_of}
 use Rattle.anb_compile.specs.Unsent.{label_of, labels_of}
 use Rattle.anb_compile.specs.Emitting.{others, known_in, KnowsLead}
 

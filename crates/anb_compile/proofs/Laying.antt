@@ -29,7 +29,7 @@ use Rattle.anb_code.specs.Taking.{taken_text}
 use Rattle.anb_code.specs.Verified.{EachAfter, HasItsFormat, IsOtherTake, IsTakeAfter, IsInstrAfter, count_registers}
 use Rattle.anb_code.proofs.Steps.{register_widths-push}
 use Rattle.anb_code.proofs.Taking.{got}
-use Rattle.anb_resolve.specs.Widths.{op_width, width, widths, fits_width, fit_width}
+use Rattle.anb_protocol.specs.Widths.{op_width, width, widths, fits_width, fit_width}
 use Rattle.anb_compile.specs.declared.built.Built.{Built}
 use Rattle.anb_compile.specs.declared.writer.Writer.{Writer}
 use Rattle.anb_compile.specs.Sharing.{key, register_at, Keeps}

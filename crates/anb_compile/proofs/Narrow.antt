@@ -16,7 +16,7 @@ use Rattle.anb_term.specs.Operator.{arity}
 use Rattle.anb_term.specs.Tree.{Tree, leaf, node, Trees, none, more, list_of, IsFormed, AreFormed}
 use Rattle.anb_close.specs.Rows.{place, made_for, mades_for}
 use Rattle.anb_close.proofs.Rows.{optional, both_some, built_some}
-use Rattle.anb_resolve.specs.Widths.{sealed_width, op_width, width, widths, fits_width, fit_width}
+use Rattle.anb_protocol.specs.Widths.{sealed_width, op_width, width, widths, fits_width, fit_width}
 
 -- each is at most the one beside it
 abbrev pub Below : List ℕ → List ℕ → Type 0

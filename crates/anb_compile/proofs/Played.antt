@@ -14,10 +14,10 @@ use Rattle.anb_plays.specs.Plays.{Played}
 use Rattle.anb_plays.specs.Runs.{run, without_place}
 use Rattle.anb_plays.specs.Statements.{RunsAsPlayed}
 use Rattle.anb_code.specs.Meaning.{acts_of}
-use Rattle.anb_resolve.specs.Protocols.{ProtocolValue}
-use Rattle.anb_resolve.specs.Plans.{plan_of}
-use Rattle.anb_resolve.specs.Plays.{events_of, meaning_of, IsPlay}
-use Rattle.anb_resolve.specs.Laws.{MadeIsNew}
+use Rattle.anb_protocol.specs.Protocols.{ProtocolValue}
+use Rattle.anb_protocol.specs.Plans.{plan_of}
+use Rattle.anb_protocol.specs.Plays.{events_of, meaning_of, IsPlay}
+use Rattle.anb_protocol.specs.Laws.{MadeIsNew}
 use Rattle.anb_compile.specs.Laws.{FittingCodesPlay}
 use Rattle.anb_compile.proofs.Events.{known_events}
 use Rattle.anb_compile.proofs.Protocols.{known_of_plan}

@@ -11,13 +11,13 @@ use Rattle.anb_close.proofs.Growing.{nodes_append}
 use Rattle.anb_close.proofs.Closing.{all_back}
 use Rattle.anb_algebra.specs.ByteMeaning.{has_operator}
 use Rattle.anb_plays.specs.Plans.{known, CanSend, Sendable}
-use Rattle.anb_resolve.specs.Choices.{each_after}
-use Rattle.anb_resolve.specs.Names.{distinct, first_new}
-use Rattle.anb_resolve.specs.Protocols.{ActionValue, ProtocolValue}
-use Rattle.anb_resolve.specs.Texts.{atoms_in, atoms_in_all, known_by, known_terms, known_texts}
-use Rattle.anb_resolve.specs.Plans.{PlanEvent, to_know, to_make, to_send, to_receive, plan_of, messages, is_made, made, own_events, events_at, term_in}
-use Rattle.anb_resolve.specs.Plays.{event_of, events_of}
-use Rattle.anb_resolve.specs.Laws.{HoldsOf}
+use Rattle.anb_protocol.specs.Choices.{each_after}
+use Rattle.anb_protocol.specs.Names.{distinct, first_new}
+use Rattle.anb_protocol.specs.Protocols.{ActionValue, ProtocolValue}
+use Rattle.anb_protocol.specs.Texts.{atoms_in, atoms_in_all, known_by, known_terms, known_texts}
+use Rattle.anb_protocol.specs.Plans.{PlanEvent, to_know, to_make, to_send, to_receive, plan_of, messages, is_made, made, own_events, events_at, term_in}
+use Rattle.anb_protocol.specs.Plays.{event_of, events_of}
+use Rattle.anb_protocol.specs.Laws.{HoldsOf}
 use Rattle.anb_code.specs.declared.instr.Instr.{Instr}
 use Rattle.anb_compile.specs.declared.refusal.CompileNo.{CompileNo}
 use Rattle.anb_compile.specs.declared.refusal.CompileNo.TheVariants.{CannotSend, NoMemory}

@@ -4,8 +4,8 @@ use Rattle.std.specs.Prelude.{slice_get}
 use Rattle.anb_term.specs.Tree.{nodes}
 use Rattle.anb_term.proofs.Lists.{slice_get-last}
 use Rattle.anb_code.specs.CodeValue.{CodeValue}
-use Rattle.anb_resolve.specs.Protocols.{ProtocolValue}
-use Rattle.anb_resolve.specs.Plans.{plan_of}
+use Rattle.anb_protocol.specs.Protocols.{ProtocolValue}
+use Rattle.anb_protocol.specs.Plans.{plan_of}
 use Rattle.anb_compile.specs.declared.compiling.Unsent.{Unsent}
 use Rattle.anb_compile.specs.Fitting.{FitsRole}
 use Rattle.anb_compile.specs.Unsent.{IsUnsent, SendsAll, labels_of}

@@ -20,8 +20,8 @@ use Rattle.anb_close.proofs.Finding.{rows_append}
 use Rattle.anb_basis.specs.declared.check.Check.{Check}
 use Rattle.anb_code.specs.declared.instr.Instr.{Instr}
 use Rattle.anb_code.specs.declared.instr.Instr.TheVariants.{Take, Fresh, Recv}
-use Rattle.anb_resolve.specs.Plans.{PlanEvent, to_know, to_make, to_send, to_receive, term_in}
-use Rattle.anb_resolve.specs.Plays.{event_of}
+use Rattle.anb_protocol.specs.Plans.{PlanEvent, to_know, to_make, to_send, to_receive, term_in}
+use Rattle.anb_protocol.specs.Plays.{event_of}
 use Rattle.anb_compile.specs.Writing.{Context}
 use Rattle.anb_compile.proofs.Laying.{IsLabelling}
 use Rattle.anb_compile.specs.declared.built.Built.{Built}

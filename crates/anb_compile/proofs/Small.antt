@@ -24,7 +24,7 @@ use Rattle.anb_close.proofs.Closing.{opened_row}
 use Rattle.anb_basis.specs.declared.check.Check.{Check}
 use Rattle.anb_basis.specs.declared.check.Check.TheVariants.{Open, Equal}
 use Rattle.anb_basis.specs.Checks.{Fits, AllFit}
-use Rattle.anb_resolve.specs.Widths.{fits_width, fit_width}
+use Rattle.anb_protocol.specs.Widths.{fits_width, fit_width}
 use Rattle.anb_compile.specs.Verifying.{IsNarrow, AreNarrow, IsNarrowCheck, room_for}
 use Rattle.anb_compile.specs.Once.{IsChosen, AreChosen, IsChosenCheck, AllAmong}
 use Rattle.anb_compile.proofs.Sharing.{made_chosen, mades_chosen, mades_kept, built_chosen, operands_among, all_among}

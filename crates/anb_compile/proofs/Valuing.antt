@@ -31,10 +31,10 @@ use Rattle.anb_plays.specs.Exec.{worked, IsReady, IsVerified, NoTakes, HasTakes,
 use Rattle.anb_plays.specs.Fits.{Place, Along, AnySend, AnyBorder, IsSound, start, after_take, after_label, after_work}
 use Rattle.anb_plays.proofs.Registers.{values_join, work}
 use Rattle.anb_plays.proofs.Growing.{goes_on, no_next}
-use Rattle.anb_resolve.specs.Plans.{PlanEvent, to_know, to_make, to_send, to_receive, term_in}
-use Rattle.anb_resolve.specs.declared.plans.Event as code
-use Rattle.anb_resolve.specs.Plays.{event_of}
-use Rattle.anb_resolve.specs.Views.{plan_event}
+use Rattle.anb_protocol.specs.Plans.{PlanEvent, to_know, to_make, to_send, to_receive, term_in}
+use Rattle.anb_protocol.specs.declared.plans.Event as code
+use Rattle.anb_protocol.specs.Plays.{event_of}
+use Rattle.anb_protocol.specs.Views.{plan_event}
 use Rattle.anb_compile.specs.Registers.{is_take, recipes_after, later_labels}
 use Rattle.anb_code.specs.declared.instr.Instr.{Instr}
 use Rattle.anb_code.specs.CodeValue.{CodeValue}

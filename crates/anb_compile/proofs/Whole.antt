@@ -17,7 +17,7 @@ use Rattle.anb_code.specs.declared.instr.Instr.{Instr}
 use Rattle.anb_code.specs.declared.instr.Instr.TheVariants.{Take}
 use Rattle.anb_code.specs.Meaning.{act_of}
 use Rattle.anb_code.specs.Taking.{take_texts}
-use Rattle.anb_resolve.specs.Plans.{PlanEvent, to_send}
+use Rattle.anb_protocol.specs.Plans.{PlanEvent, to_send}
 use Rattle.anb_compile.specs.declared.refusal.CompileNo.{CompileNo}
 use Rattle.anb_compile.specs.declared.refusal.CompileNo.TheVariants.{CannotSend, NoMemory}
 use Rattle.anb_compile.specs.declared.emission.Emission.{Emission}

@@ -22,8 +22,8 @@ use Rattle.anb_code.specs.declared.instr.Instr.TheVariants.{Take}
 use Rattle.anb_code.specs.Meaning.{act_of}
 use Rattle.anb_code.specs.Registers.{register_widths}
 use Rattle.anb_code.specs.Verified.{EachAfter, IsInstrAfter, count_registers}
-use Rattle.anb_resolve.specs.Plans.{PlanEvent, to_know, to_make, to_send, to_receive, term_in}
-use Rattle.anb_resolve.specs.Plays.{event_of}
+use Rattle.anb_protocol.specs.Plans.{PlanEvent, to_know, to_make, to_send, to_receive, term_in}
+use Rattle.anb_protocol.specs.Plays.{event_of}
 use Rattle.anb_compile.specs.declared.refusal.CompileNo.{CompileNo}
 use Rattle.anb_compile.specs.declared.refusal.CompileNo.TheVariants.{CannotSend, NoMemory}
 use Rattle.anb_compile.specs.declared.writer.Writer.{Writer}

@@ -5,10 +5,10 @@ use Rattle.anb_plays.specs.Fits.{Fits, Follows}
 use Rattle.anb_code.specs.CodeValue.{CodeValue}
 use Rattle.anb_code.specs.Meaning.{acts_of}
 use Rattle.anb_code.specs.Taking.{take_texts}
-use Rattle.anb_resolve.specs.Protocols.{ProtocolValue}
-use Rattle.anb_resolve.specs.Texts.{known_texts}
-use Rattle.anb_resolve.specs.Plans.{plan_of}
-use Rattle.anb_resolve.specs.Plays.{events_of, meaning_of}
+use Rattle.anb_protocol.specs.Protocols.{ProtocolValue}
+use Rattle.anb_protocol.specs.Texts.{known_texts}
+use Rattle.anb_protocol.specs.Plans.{plan_of}
+use Rattle.anb_protocol.specs.Plays.{events_of, meaning_of}
 use Rattle.anb_compile.specs.Unsent.{labels_of}
 use Rattle.anb_compile.specs.Counted.{count_demands, count_builds, count_subterms}
 

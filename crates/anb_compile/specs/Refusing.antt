@@ -1,6 +1,6 @@
 -- The first action of all roles that can't be sent, role by role.
 use Rattle.std.specs.Prelude.{ℕ, ◌+◌, ◌<◌, Option, Some, None}
-use Rattle.anb_resolve.specs.Protocols.{ProtocolValue}
+use Rattle.anb_protocol.specs.Protocols.{ProtocolValue}
 use Rattle.anb_compile.specs.declared.compiling.Unsent.{Unsent}
 use Rattle.anb_compile.specs.Unsent.{IsUnsent, IsFirstUnsent}
 

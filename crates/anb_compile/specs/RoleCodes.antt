@@ -3,7 +3,7 @@ use Rattle.std.specs.Prelude.{ℕ, List, [], slice_get}
 use Rattle.std.specs.Option.{option_map_or}
 use Rattle.anb_code.specs.declared.instr.Instr.{Instr}
 use Rattle.anb_code.specs.CodeValue.{CodeValue}
-use Rattle.anb_resolve.specs.Protocols.{ProtocolValue}
+use Rattle.anb_protocol.specs.Protocols.{ProtocolValue}
 
 -- with the names, formats and suite that it has
 abbrev pub role_code : ProtocolValue → ℕ → List Instr → CodeValue

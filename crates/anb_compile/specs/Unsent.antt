@@ -4,8 +4,8 @@ use Rattle.std.specs.List.{flat_map}
 use Rattle.anb_term.specs.Tree.{Tree}
 use Rattle.anb_term.specs.Agree.{HasRecipe}
 use Rattle.anb_algebra.specs.ByteMeaning.{has_operator}
-use Rattle.anb_resolve.specs.Protocols.{ProtocolValue}
-use Rattle.anb_resolve.specs.Plans.{PlanEvent, to_know, to_make, to_send, to_receive, plan_of}
+use Rattle.anb_protocol.specs.Protocols.{ProtocolValue}
+use Rattle.anb_protocol.specs.Plans.{PlanEvent, to_know, to_make, to_send, to_receive, plan_of}
 use Rattle.anb_compile.specs.declared.refusal.CompileNo.{CompileNo}
 use Rattle.anb_compile.specs.declared.refusal.CompileNo.TheVariants.{CannotSend, NoMemory}
 

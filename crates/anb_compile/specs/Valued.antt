@@ -12,9 +12,9 @@ use Rattle.anb_plays.specs.Plans.{Event, known}
 use Rattle.anb_plays.specs.Codes.{Act, takes, Work}
 use Rattle.anb_plays.specs.Exec.{HasTakes, worked}
 use Rattle.anb_plays.specs.Fits.{Place, Along, AnySend, AnyBorder, IsSound}
-use Rattle.anb_resolve.specs.declared.plans.Event as code
-use Rattle.anb_resolve.specs.Plays.{event_of}
-use Rattle.anb_resolve.specs.Views.{plan_event}
+use Rattle.anb_protocol.specs.declared.plans.Event as code
+use Rattle.anb_protocol.specs.Plays.{event_of}
+use Rattle.anb_protocol.specs.Views.{plan_event}
 use Rattle.anb_compile.specs.Registers.{recipes_after, register_recipes, later_labels, all_labels}
 
 -- A place in a code, with the acts and the events that are left. What they demand is true, each register so far has its term,

@@ -14,7 +14,7 @@ use Rattle.anb_basis.specs.declared.check.Check.TheVariants.{Open, Equal}
 use Rattle.anb_code.specs.declared.instr.Instr.{Instr}
 use Rattle.anb_code.specs.Registers.{operands, count_written, width_of, register_widths}
 use Rattle.anb_code.specs.Verified.{EachAfter, HasItsFormat, IsInstrAfter}
-use Rattle.anb_resolve.specs.Widths.{op_width, width, widths, fits_width, fit_width}
+use Rattle.anb_protocol.specs.Widths.{op_width, width, widths, fits_width, fit_width}
 use Rattle.anb_compile.specs.declared.built.Built.{Built}
 use Rattle.anb_compile.specs.declared.writer.Writer.{Writer}
 use Rattle.anb_compile.specs.Sharing.{key, register_at}

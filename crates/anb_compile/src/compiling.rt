@@ -3,9 +3,9 @@ ghost use Rattle.std.specs.Prelude.{◌≡◌, ◌<◌, ◌≤◌, length, IfOk,
 ghost use Rattle.anb_term.specs.Tree.{nodes};
 ghost use Rattle.anb_plays.specs.Plans.{Sendable};
 ghost use Rattle.anb_algebra.specs.ByteMeaning.{has_operator};
-ghost use Rattle.anb_resolve.specs.Laws.{HoldsOf};
-ghost use Rattle.anb_resolve.specs.Plans.{plan_of};
-ghost use Rattle.anb_resolve.specs.Plays.{events_of, IsSendable};
+ghost use Rattle.anb_protocol.specs.Laws.{HoldsOf};
+ghost use Rattle.anb_protocol.specs.Plans.{plan_of};
+ghost use Rattle.anb_protocol.specs.Plays.{events_of, IsSendable};
 ghost use Rattle.anb_compile.specs.Fitting.{FitsRole, FitRoles};
 ghost use Rattle.anb_compile.specs.Unsent.{SendsAll, AllSendAll, RefusesRole, RefusesRoles, labels_of};
 ghost use Rattle.anb_compile.specs.Counted.{count_demands, count_builds, count_subterms};
@@ -18,7 +18,7 @@ use crate::emission::emit;
 use anb_base::NoMemory;
 use anb_code::{Instr, RoleCode};
 use anb_format::Format;
-use anb_resolve::{Protocol, known_texts_differ, protocols_hold};
+use anb_protocol::{Protocol, known_texts_differ, protocols_hold};
 use std::alloc::Global;
 
 /// The code of a role.

@@ -11,7 +11,7 @@ use crate::writer::Writer;
 use anb_base::{NoMemory, Text};
 use anb_basis::{Basis, Check};
 use anb_code::Instr;
-use anb_resolve::{Event, Plan};
+use anb_protocol::{Event, Plan};
 use anb_term::Term;
 use std::alloc::Global;
 
@@ -29,8 +29,8 @@ impl Emission {
     ghost use Rattle.anb_term.specs.View.{tree_of};
     ghost use Rattle.anb_code.specs.declared.instr.Instr.TheVariants as instr;
     ghost use Rattle.anb_code.specs.Taking.{take_texts};
-    ghost use Rattle.anb_resolve.specs.Plans.{PlanEvent, to_know, to_make, to_send, to_receive, term_in};
-    ghost use Rattle.anb_resolve.specs.Views.{plan_event};
+    ghost use Rattle.anb_protocol.specs.Plans.{PlanEvent, to_know, to_make, to_send, to_receive, term_in};
+    ghost use Rattle.anb_protocol.specs.Views.{plan_event};
     ghost use Rattle.anb_compile.specs.Writing.{Context};
     ghost use Rattle.anb_close.specs.Entries.{HasAdded, IsKnown};
     ghost use Rattle.anb_basis.specs.Checks.{InOrder};

@@ -3,7 +3,7 @@ ghost use Rattle.anb_compile.specs.Laws.{FittingCodesPlay};
 
 use anb_algebra::ByteAlgebra;
 use anb_plays::laws::runs_as_played;
-use anb_resolve::{Protocol, made_is_new};
+use anb_protocol::{Protocol, made_is_new};
 
 /// A law: the run of a code that fits a role of a protocol is the role's play, and its only one.
 pub fn fitting_codes_play(p: &Protocol)

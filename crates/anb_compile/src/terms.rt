@@ -15,17 +15,17 @@ ghost use Rattle.anb_plays.specs.Codes.{Act, make, undo};
 ghost use Rattle.anb_plays.specs.Fits.{Follows, Along, AnySend, AnyBorder, IsSound, start};
 ghost use Rattle.anb_code.specs.Meaning.{act_of, acts_of};
 ghost use Rattle.anb_code.specs.Verified.{HasItsFormat};
-ghost use Rattle.anb_resolve.specs.declared.plans.Event as code;
-ghost use Rattle.anb_resolve.specs.Plays.{event_of};
-ghost use Rattle.anb_resolve.specs.Views.{plan_event};
-ghost use Rattle.anb_resolve.specs.Plans.{term_in};
+ghost use Rattle.anb_protocol.specs.declared.plans.Event as code;
+ghost use Rattle.anb_protocol.specs.Plays.{event_of};
+ghost use Rattle.anb_protocol.specs.Views.{plan_event};
+ghost use Rattle.anb_protocol.specs.Plans.{term_in};
 ghost use Rattle.anb_compile.specs.Registers.{register_recipes, all_labels};
 ghost use Rattle.anb_compile.specs.Valued.{HasWalked, Writes};
 
 use anb_base::NoMemory;
 use anb_code::{Instr, RoleCode, verified_is_runnable};
 use anb_format::Format;
-use anb_resolve::{Event, Plan};
+use anb_protocol::{Event, Plan};
 use anb_term::{Algebra, Op, Term, TermAlgebra};
 use std::alloc::Global;
 

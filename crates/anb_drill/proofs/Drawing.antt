@@ -11,12 +11,12 @@ use Rattle.anb_term.proofs.Lists.{slice_get-append}
 use Rattle.anb_code.specs.CodeValue.{CodeValue}
 use Rattle.anb_plays.specs.Plans.{Event, know, fresh, send, recv}
 use Rattle.anb_plays.specs.Honest as honest
-use Rattle.anb_resolve.specs.Choices.{each_after}
-use Rattle.anb_resolve.specs.Protocols.{ActionValue, ProtocolValue}
-use Rattle.anb_resolve.specs.Texts.{known_by}
-use Rattle.anb_resolve.specs.Plans.{to_make, to_send, to_receive, events_at, made}
-use Rattle.anb_resolve.specs.Plays.{event_of, events_of}
-use Rattle.anb_resolve.proofs.PlanLaws.{events_are}
+use Rattle.anb_protocol.specs.Choices.{each_after}
+use Rattle.anb_protocol.specs.Protocols.{ActionValue, ProtocolValue}
+use Rattle.anb_protocol.specs.Texts.{known_by}
+use Rattle.anb_protocol.specs.Plans.{to_make, to_send, to_receive, events_at, made}
+use Rattle.anb_protocol.specs.Plays.{event_of, events_of}
+use Rattle.anb_protocol.proofs.PlanLaws.{events_are}
 use Rattle.anb_honest.specs.Honest.{AreHonest}
 use Rattle.anb_honest.specs.Joint.{cast}
 use Rattle.anb_drill.proofs.Numbered.{all_actions, all_made, exchanged, first_action, last_action}

@@ -26,12 +26,12 @@ use Rattle.anb_plays.specs.Honest.{honest}
 use Rattle.anb_syntax.specs.Grammar.{ActionItem}
 use Rattle.anb_gen.specs.Drill.{back, closing, drill_narration, exchange, exchange_message, forth, pair_format}
 use Rattle.anb_gen.specs.Turns.{action_turns, turns_of}
-use Rattle.anb_resolve.specs.Choices.{each_after, first}
-use Rattle.anb_resolve.specs.Names.{distinct}
-use Rattle.anb_resolve.specs.Protocols.{ActionValue, protocol_of}
-use Rattle.anb_resolve.specs.Plays.{honest_bytes, meaning_of}
-use Rattle.anb_resolve.specs.Schedules.{Turn, next_of, taken, was_sent}
-use Rattle.anb_resolve.specs.Texts.{atom_name, atoms_in_each, known_names, known_terms}
+use Rattle.anb_protocol.specs.Choices.{each_after, first}
+use Rattle.anb_protocol.specs.Names.{distinct}
+use Rattle.anb_protocol.specs.Protocols.{ActionValue, protocol_of}
+use Rattle.anb_protocol.specs.Plays.{honest_bytes, meaning_of}
+use Rattle.anb_protocol.specs.Schedules.{Turn, next_of, taken, was_sent}
+use Rattle.anb_protocol.specs.Texts.{atom_name, atoms_in_each, known_names, known_terms}
 use Rattle.anb_honest.specs.declared.report.RehearseEnd.TheVariants.{AllDone, Part, LongMessage}
 use Rattle.anb_honest.specs.Honest.{AreHonest, honest_end, honest_message, honest_report, honest_sent, long_turn, term_at}
 use Rattle.anb_honest.specs.Joint.{Cast, all_reported, cast, is_complete, known_atoms, long_end, reported}

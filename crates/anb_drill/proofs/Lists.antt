@@ -7,11 +7,11 @@ use Rattle.std.specs.Str.{bytes_eq}
 use Rattle.anb_index.specs.Places.{among}
 use Rattle.anb_lemmas.proofs.Each.{each_in_both}
 use Rattle.anb_lemmas.proofs.Items.{bytes_differ}
-use Rattle.anb_resolve.specs.declared.refusals.ResolveNo.TheVariants.{Twice}
-use Rattle.anb_resolve.specs.Choices.{refuse_if, first, first_after}
-use Rattle.anb_resolve.specs.Checks.{twice_among}
-use Rattle.anb_resolve.proofs.Afters.{any-append}
-use Rattle.anb_resolve.proofs.Distinct.{AllApart}
+use Rattle.anb_protocol.specs.declared.refusals.ResolveNo.TheVariants.{Twice}
+use Rattle.anb_protocol.specs.Choices.{refuse_if, first, first_after}
+use Rattle.anb_protocol.specs.Checks.{twice_among}
+use Rattle.anb_protocol.proofs.Afters.{any-append}
+use Rattle.anb_protocol.proofs.Distinct.{AllApart}
 
 -- what holds of f at each number of a range holds of each value
 pub over_from : {X : Type 0} (P : X → Type 0) (f : ℕ → X) (a n : ℕ) → ((i : ℕ) → a ≤ i → i < a + n → P (f i)) → AllByRecursion P (map f (range_with_len a n))

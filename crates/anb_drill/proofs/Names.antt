@@ -11,10 +11,10 @@ use Rattle.anb_lemmas.proofs.Items.{bytes_eq-same}
 use Rattle.anb_syntax.specs.Grammar.{ActionItem}
 use Rattle.anb_gen.specs.Drill.{closing, drill_actions, drill_know, drill_narration, exchange, number_name, role_names}
 use Rattle.anb_gen.proofs.Each.{either_way}
-use Rattle.anb_resolve.specs.Checks.{is_miscounted, is_missorted}
-use Rattle.anb_resolve.specs.Names.{Use, as_atom, as_format, as_role, used_name, action_uses, atoms, declared_names, know_uses, uses}
-use Rattle.anb_resolve.proofs.Afters.{any-append}
-use Rattle.anb_resolve.proofs.Distinct.{AllApart}
+use Rattle.anb_protocol.specs.Checks.{is_miscounted, is_missorted}
+use Rattle.anb_protocol.specs.Names.{Use, as_atom, as_format, as_role, used_name, action_uses, atoms, declared_names, know_uses, uses}
+use Rattle.anb_protocol.proofs.Afters.{any-append}
+use Rattle.anb_protocol.proofs.Distinct.{AllApart}
 use Rattle.anb_drill.proofs.Lists.{over_flat, over_from}
 
 -- ---- the names differ

@@ -10,9 +10,9 @@ use Rattle.anb_term.specs.declared.term.Op.TheVariants.{Hash, Seal, Format}
 use Rattle.anb_term.specs.Tree.{Tree, leaf, node, none, more}
 use Rattle.anb_syntax.specs.declared.narration.Sort.TheVariants.{Number, Key}
 use Rattle.anb_gen.specs.Drill.{back, closing, drill_narration, exchange, exchange_message, forth, number_name, opening}
-use Rattle.anb_resolve.specs.declared.parts.Atom.{Atom}
-use Rattle.anb_resolve.specs.Names.{atoms}
-use Rattle.anb_resolve.specs.Protocols.{ActionValue, atom_number, format_op, formats_of, protocol_of, resolved}
+use Rattle.anb_protocol.specs.declared.parts.Atom.{Atom}
+use Rattle.anb_protocol.specs.Names.{atoms}
+use Rattle.anb_protocol.specs.Protocols.{ActionValue, atom_number, format_op, formats_of, protocol_of, resolved}
 use Rattle.anb_drill.proofs.Lists.{here, not_here}
 use Rattle.anb_drill.proofs.Names.{numbers, numbers_differ}
 use Rattle.anb_drill.proofs.WellFormed.{actions_are, has_name, k_is, made_action, many, no_number, number_atoms}

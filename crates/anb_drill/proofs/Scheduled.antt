@@ -4,10 +4,10 @@ use Rattle.std.specs.Prelude.{◌==◌, ◌&&◌, ◌||◌, count_by, slice_get,
 use Rattle.std.specs.List.{AllByRecursion, flat_map}
 use Rattle.std.proofs.lemmas.Bool.Decides.{nat_tests}
 use Rattle.std.proofs.lemmas.List.Sums.{sum_by_push}
-use Rattle.anb_resolve.specs.Choices.{each_after}
-use Rattle.anb_resolve.specs.Protocols.{ActionValue, ProtocolValue}
-use Rattle.anb_resolve.specs.Schedules.{Turn, append_if, if_ready, next_of, part_in, parts_of, taken, taken_after, turn_of, was_sent}
-use Rattle.anb_resolve.proofs.Afters.{any-append, each_after_last}
+use Rattle.anb_protocol.specs.Choices.{each_after}
+use Rattle.anb_protocol.specs.Protocols.{ActionValue, ProtocolValue}
+use Rattle.anb_protocol.specs.Schedules.{Turn, append_if, if_ready, next_of, part_in, parts_of, taken, taken_after, turn_of, was_sent}
+use Rattle.anb_protocol.proofs.Afters.{any-append, each_after_last}
 
 -- between roles 0 and 1
 abbrev pub IsBetween : ActionValue → Type 0

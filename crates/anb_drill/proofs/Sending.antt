@@ -15,13 +15,13 @@ use Rattle.anb_term.proofs.Frames.{value_more}
 use Rattle.anb_algebra.specs.ByteMeaning.{has_operator}
 use Rattle.anb_plays.specs.Plans.{Event, CanSend}
 use Rattle.anb_gen.specs.Drill.{pair_format}
-use Rattle.anb_resolve.specs.Choices.{each_after}
-use Rattle.anb_resolve.specs.Names.{distinct, first_new}
-use Rattle.anb_resolve.specs.Protocols.{ActionValue, ProtocolValue}
-use Rattle.anb_resolve.specs.Texts.{atoms_in}
-use Rattle.anb_resolve.specs.Plans.{to_make, to_send, is_made, made}
-use Rattle.anb_resolve.specs.Plays.{event_of}
-use Rattle.anb_resolve.proofs.Afters.{any-append}
+use Rattle.anb_protocol.specs.Choices.{each_after}
+use Rattle.anb_protocol.specs.Names.{distinct, first_new}
+use Rattle.anb_protocol.specs.Protocols.{ActionValue, ProtocolValue}
+use Rattle.anb_protocol.specs.Texts.{atoms_in}
+use Rattle.anb_protocol.specs.Plans.{to_make, to_send, is_made, made}
+use Rattle.anb_protocol.specs.Plays.{event_of}
+use Rattle.anb_protocol.proofs.Afters.{any-append}
 use Rattle.anb_drill.proofs.Numbered.{pair, sealed}
 
 -- ---- recipes over the operators of a drill

@@ -15,14 +15,14 @@ use Rattle.anb_term.specs.Value.{label}
 use Rattle.anb_algebra.specs.ByteMeaning.{has_operator}
 use Rattle.anb_plays.specs.Plans.{Event, know, recv, known, CanSend, Sendable}
 use Rattle.anb_gen.specs.Drill.{drill_narration, number_name}
-use Rattle.anb_resolve.specs.declared.parts.Atom.{Atom}
-use Rattle.anb_resolve.specs.Choices.{each_after}
-use Rattle.anb_resolve.specs.Checks.{is_agent}
-use Rattle.anb_resolve.specs.Protocols.{ActionValue, ProtocolValue, protocol_of}
-use Rattle.anb_resolve.specs.Texts.{atoms_in, atoms_in_each, known_by, known_terms}
-use Rattle.anb_resolve.specs.Plans.{PlanEvent, to_know, to_make, to_send, to_receive, events_at, is_made, made, messages, names_number_or_key, occurs, plan_of}
-use Rattle.anb_resolve.specs.Plays.{event_of, events_of, IsSendable}
-use Rattle.anb_resolve.proofs.PlanLaws.{events_are}
+use Rattle.anb_protocol.specs.declared.parts.Atom.{Atom}
+use Rattle.anb_protocol.specs.Choices.{each_after}
+use Rattle.anb_protocol.specs.Checks.{is_agent}
+use Rattle.anb_protocol.specs.Protocols.{ActionValue, ProtocolValue, protocol_of}
+use Rattle.anb_protocol.specs.Texts.{atoms_in, atoms_in_each, known_by, known_terms}
+use Rattle.anb_protocol.specs.Plans.{PlanEvent, to_know, to_make, to_send, to_receive, events_at, is_made, made, messages, names_number_or_key, occurs, plan_of}
+use Rattle.anb_protocol.specs.Plays.{event_of, events_of, IsSendable}
+use Rattle.anb_protocol.proofs.PlanLaws.{events_are}
 use Rattle.anb_drill.proofs.Names.{numbers}
 use Rattle.anb_drill.proofs.Numbered.{all_actions, all_made, exchanged, first_action, last_action, last_atoms, mark, pair, sealed}
 use Rattle.anb_drill.proofs.Sending.{exchange_has, has, is_among_made, last_has, made_has, number_had, pair_formats, seal_has, sends_first, still}

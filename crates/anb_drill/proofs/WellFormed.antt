@@ -19,20 +19,20 @@ use Rattle.anb_syntax.specs.declared.narration.Sort.TheVariants.{Number}
 use Rattle.anb_gen.specs.Drill.{closing, drill_actions, drill_know, drill_narration, exchange, number_name, role_names}
 use Rattle.anb_gen.proofs.Alternating.{how_many}
 use Rattle.anb_gen.proofs.Each.{either_way}
-use Rattle.anb_resolve.specs.declared.parts.Atom.{Atom}
-use Rattle.anb_resolve.specs.declared.refusals.Kind.{Kind}
-use Rattle.anb_resolve.specs.declared.refusals.Kind.TheVariants as kind
-use Rattle.anb_resolve.specs.declared.refusals.Item.TheVariants.{Know, Action}
-use Rattle.anb_resolve.specs.declared.refusals.ResolveNo.{ResolveNo}
-use Rattle.anb_resolve.specs.declared.refusals.ResolveNo.TheVariants.{KnowledgeTwice, Limit, SelfSend, Unknown, Wide, WrongCount, WrongSort}
-use Rattle.anb_resolve.specs.Choices.{each_after, first, refuse_if, first_after}
-use Rattle.anb_resolve.specs.Checks.{IsWellFormed, above, action_limit, all_limit, declared_twice, fault, field_limit, first_fault, format_checks, format_limit, is_miscounted, is_missorted, known_again, known_twice, limit_checks, line_twice, name_checks, name_limit, protocol_checks, role_limit, self_send, term_limit, tree_nodes, unknown, wide_knowledge, wide_message, wrong_count, wrong_sort}
-use Rattle.anb_resolve.specs.Names.{action_roles, all_names, atoms, declared_names, first_new, roles, terms, used_name, uses}
-use Rattle.anb_resolve.specs.Protocols.{ActionValue, ProtocolValue, action_of, atom_number, formats_of, line_of, protocol_of, resolved_all}
-use Rattle.anb_resolve.specs.Texts.{term_text}
-use Rattle.anb_resolve.specs.Widths.{all_fit_width, fits_width}
-use Rattle.anb_resolve.proofs.Afters.{any-append}
-use Rattle.anb_resolve.proofs.Distinct.{AllApart}
+use Rattle.anb_protocol.specs.declared.parts.Atom.{Atom}
+use Rattle.anb_protocol.specs.declared.refusals.Kind.{Kind}
+use Rattle.anb_protocol.specs.declared.refusals.Kind.TheVariants as kind
+use Rattle.anb_protocol.specs.declared.refusals.Item.TheVariants.{Know, Action}
+use Rattle.anb_protocol.specs.declared.refusals.ResolveNo.{ResolveNo}
+use Rattle.anb_protocol.specs.declared.refusals.ResolveNo.TheVariants.{KnowledgeTwice, Limit, SelfSend, Unknown, Wide, WrongCount, WrongSort}
+use Rattle.anb_protocol.specs.Choices.{each_after, first, refuse_if, first_after}
+use Rattle.anb_protocol.specs.Checks.{IsWellFormed, above, action_limit, all_limit, declared_twice, fault, field_limit, first_fault, format_checks, format_limit, is_miscounted, is_missorted, known_again, known_twice, limit_checks, line_twice, name_checks, name_limit, protocol_checks, role_limit, self_send, term_limit, tree_nodes, unknown, wide_knowledge, wide_message, wrong_count, wrong_sort}
+use Rattle.anb_protocol.specs.Names.{action_roles, all_names, atoms, declared_names, first_new, roles, terms, used_name, uses}
+use Rattle.anb_protocol.specs.Protocols.{ActionValue, ProtocolValue, action_of, atom_number, formats_of, line_of, protocol_of, resolved_all}
+use Rattle.anb_protocol.specs.Texts.{term_text}
+use Rattle.anb_protocol.specs.Widths.{all_fit_width, fits_width}
+use Rattle.anb_protocol.proofs.Afters.{any-append}
+use Rattle.anb_protocol.proofs.Distinct.{AllApart}
 use Rattle.anb_drill.proofs.Lists.{none_first, none_first_after, none_twice, not_here, over_flat, over_from}
 use Rattle.anb_drill.proofs.Names.{IsRight, all_declared, declared_apart, declared_are, number_short, numbers, other_than_numbers, uses_right}
 

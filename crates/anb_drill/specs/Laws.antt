@@ -7,14 +7,14 @@ use Rattle.anb_code.specs.CodeValue.{CodeValue}
 use Rattle.anb_gen.specs.Counts.{drill_counts}
 use Rattle.anb_gen.specs.Drill.{drill_narration, role_names}
 use Rattle.anb_gen.specs.Turns.{turns_of}
-use Rattle.anb_honest.specs.declared.report.Report.{Report}
+use Rattle.anb_outcomes.specs.declared.rehearsals.Report.{Report}
 use Rattle.anb_honest.specs.declared.report.RehearseEnd.TheVariants.{AllDone}
 use Rattle.anb_honest.specs.Honest.{AreHonest, honest_end, honest_report}
 use Rattle.anb_honest.specs.Joint.{cast}
-use Rattle.anb_resolve.specs.Checks.{IsWellFormed}
-use Rattle.anb_resolve.specs.Plays.{IsSendable}
-use Rattle.anb_resolve.specs.Protocols.{protocol_of}
-use Rattle.anb_resolve.specs.Texts.{known_names}
+use Rattle.anb_protocol.specs.Checks.{IsWellFormed}
+use Rattle.anb_protocol.specs.Plays.{IsSendable}
+use Rattle.anb_protocol.specs.Protocols.{protocol_of}
+use Rattle.anb_protocol.specs.Texts.{known_names}
 
 -- the narration of a drill is well formed
 abbrev pub DrillsAreWellFormed : Type 0

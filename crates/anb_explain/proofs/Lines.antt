@@ -13,9 +13,9 @@ use Rattle.anb_term.specs.declared.term.Term.{Term}
 use Rattle.anb_term.specs.Tree.{Tree}
 use Rattle.anb_term.specs.View.{tree_of}
 use Rattle.anb_term.proofs.Lists.{slice_get-map, map-take, map-drop}
-use Rattle.anb_resolve.specs.Protocols.{ProtocolValue}
-use Rattle.anb_resolve.specs.Texts.{term_text}
-use Rattle.anb_resolve.specs.Plans.{PlanEvent}
+use Rattle.anb_protocol.specs.Protocols.{ProtocolValue}
+use Rattle.anb_protocol.specs.Texts.{term_text}
+use Rattle.anb_protocol.specs.Plans.{PlanEvent}
 use Rattle.anb_code.specs.declared.instr.Instr.{Instr}
 use Rattle.anb_code.specs.RawValue.{RawInstrValue}
 use Rattle.anb_code.specs.Registers.{count_written}

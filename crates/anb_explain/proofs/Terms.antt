@@ -21,10 +21,10 @@ use Rattle.anb_algebra.specs.ByteMeaning.{has_operator}
 use Rattle.anb_plays.specs.Plans.{known}
 use Rattle.anb_plays.specs.Codes.{at_register, parts}
 use Rattle.anb_plays.proofs.Registers.{length-parts}
-use Rattle.anb_resolve.specs.Protocols.{ProtocolValue}
-use Rattle.anb_resolve.specs.Texts.{IsTermOf, AreTermsOf}
-use Rattle.anb_resolve.specs.Plans.{PlanEvent, to_know, to_make, to_send, to_receive, term_in}
-use Rattle.anb_resolve.specs.Plays.{event_of}
+use Rattle.anb_protocol.specs.Protocols.{ProtocolValue}
+use Rattle.anb_protocol.specs.Texts.{IsTermOf, AreTermsOf}
+use Rattle.anb_protocol.specs.Plans.{PlanEvent, to_know, to_make, to_send, to_receive, term_in}
+use Rattle.anb_protocol.specs.Plays.{event_of}
 use Rattle.anb_code.specs.declared.instr.Instr.{Instr}
 use Rattle.anb_code.specs.declared.instr.Instr.TheVariants.{Take, Fresh, Recv, Hash, Mac, Build, Parse, Equal, Send}
 use Rattle.anb_code.specs.declared.instr.Instr.TheVariants as instr

@@ -10,7 +10,7 @@ use Rattle.anb_term.specs.Tree.{leaf, node, trees_of}
 use Rattle.anb_code.specs.declared.instr.Instr.TheVariants.{Take, Fresh, Recv, Unseal, Build, Parse, Equal, Send}
 use Rattle.anb_code.specs.declared.instr.Instr.TheVariants as instr
 use Rattle.anb_code.specs.CodeValue.{CodeValue}
-use Rattle.anb_resolve.specs.Protocols.{ProtocolValue}
+use Rattle.anb_protocol.specs.Protocols.{ProtocolValue}
 use Rattle.anb_explain.specs.Explained.{explained, register_terms}
 
 -- the text has the terms of the registers

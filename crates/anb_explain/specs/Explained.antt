@@ -5,11 +5,11 @@ use Rattle.anb_term.specs.Tree.{Tree}
 use Rattle.anb_term.specs.Value.{values, recipe_trees}
 use Rattle.anb_term.specs.FreeAlgebra.{terms_over}
 use Rattle.anb_algebra.specs.ByteMeaning.{has_operator}
-use Rattle.anb_resolve.specs.Choices.{each_after}
-use Rattle.anb_resolve.specs.Protocols.{ProtocolValue}
-use Rattle.anb_resolve.specs.Texts.{IsTermOf, term_text}
-use Rattle.anb_resolve.specs.Plans.{PlanEvent, to_know, to_make, to_send, to_receive, plan_of}
-use Rattle.anb_resolve.specs.Plays.{events_of}
+use Rattle.anb_protocol.specs.Choices.{each_after}
+use Rattle.anb_protocol.specs.Protocols.{ProtocolValue}
+use Rattle.anb_protocol.specs.Texts.{IsTermOf, term_text}
+use Rattle.anb_protocol.specs.Plans.{PlanEvent, to_know, to_make, to_send, to_receive, plan_of}
+use Rattle.anb_protocol.specs.Plays.{events_of}
 use Rattle.anb_code.specs.CodeValue.{CodeValue}
 use Rattle.anb_code.specs.RawValue.{RawInstrValue}
 use Rattle.anb_code.specs.Meaning.{acts_of}

@@ -4,10 +4,10 @@ use Rattle.std.specs.Coded.{Coded, code_by, coded×, coded_list}
 use Rattle.std.specs.List.{AllByRecursion}
 use Rattle.anb_term.specs.Tree.{Tree}
 use Rattle.anb_term.specs.TreeCode.{coded_tree}
-use Rattle.anb_resolve.specs.Codes.{coded_event}
-use Rattle.anb_resolve.specs.Protocols.{ProtocolValue}
-use Rattle.anb_resolve.specs.Plans.{PlanEvent, term_in}
-use Rattle.anb_resolve.specs.Texts.{IsTermOf}
+use Rattle.anb_protocol.specs.Codes.{coded_event}
+use Rattle.anb_protocol.specs.Protocols.{ProtocolValue}
+use Rattle.anb_protocol.specs.Plans.{PlanEvent, term_in}
+use Rattle.anb_protocol.specs.Texts.{IsTermOf}
 use Rattle.anb_code.specs.CodeValue.{CodeValue}
 use Rattle.anb_code.specs.Verified.{count_registers}
 

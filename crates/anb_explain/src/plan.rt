@@ -2,15 +2,15 @@
 ghost use Rattle.std.specs.Prelude.{◌≡◌, ◌≤◌, ◌<◌, ◌++◌, ◌∷◌, ◌^◌, [], map, IfOk, decimal};
 ghost use Rattle.std.specs.List.{AllByRecursion};
 ghost use Rattle.anb_term.specs.View.{tree_of};
-ghost use Rattle.anb_resolve.specs.Plans.{term_in};
-ghost use Rattle.anb_resolve.specs.Texts.{IsTermOf, term_text};
-ghost use Rattle.anb_resolve.specs.Views.{plan_event};
+ghost use Rattle.anb_protocol.specs.Plans.{term_in};
+ghost use Rattle.anb_protocol.specs.Texts.{IsTermOf, term_text};
+ghost use Rattle.anb_protocol.specs.Views.{plan_event};
 ghost use Rattle.anb_explain.specs.Explained.{spaced, line, has_label, is_message, event_words, plan_text};
 ghost use Rattle.anb_text.specs.Writing.{IsWritten};
 
 use crate::writing::{put_number, put_term};
 use anb_base::{NoMemory, Sink};
-use anb_resolve::{Event, Protocol};
+use anb_protocol::{Event, Protocol};
 use anb_term::Term;
 use anb_text::{WriteNo, write_part};
 use std::alloc::Global;

@@ -1,10 +1,10 @@
 //! Numbers and terms behind a space.
 ghost use Rattle.std.specs.Prelude.{◌≡◌, ◌++◌, ◌∷◌, OnOk, decimal};
 ghost use Rattle.anb_term.specs.View.{tree_of};
-ghost use Rattle.anb_resolve.specs.Texts.{IsTermOf, term_text};
+ghost use Rattle.anb_protocol.specs.Texts.{IsTermOf, term_text};
 
 use anb_base::NoMemory;
-use anb_resolve::Protocol;
+use anb_protocol::Protocol;
 use anb_term::Term;
 use itoa::Buffer;
 use std::alloc::Global;

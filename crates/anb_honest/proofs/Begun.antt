@@ -25,12 +25,12 @@ use Rattle.anb_compile.proofs.Protocols.{known_of_plan}
 use Rattle.anb_machine.specs.ByteRuns.{run_bytes}
 use Rattle.anb_machine.specs.Machines.{gives}
 use Rattle.anb_machine.proofs.Verified.{has_takes}
-use Rattle.anb_resolve.specs.Protocols.{ProtocolValue}
-use Rattle.anb_resolve.specs.Texts.{known_by, known_terms, term_text}
-use Rattle.anb_resolve.specs.Choices.{first}
-use Rattle.anb_resolve.specs.Plans.{PlanEvent, plan_of}
-use Rattle.anb_resolve.specs.Plays.{events_of}
-use Rattle.anb_resolve.specs.Schedules.{parts_of}
+use Rattle.anb_protocol.specs.Protocols.{ProtocolValue}
+use Rattle.anb_protocol.specs.Texts.{known_by, known_terms, term_text}
+use Rattle.anb_protocol.specs.Choices.{first}
+use Rattle.anb_protocol.specs.Plans.{PlanEvent, plan_of}
+use Rattle.anb_protocol.specs.Plays.{events_of}
+use Rattle.anb_protocol.specs.Schedules.{parts_of}
 use Rattle.anb_honest.specs.declared.player.Player.{Player}
 use Rattle.anb_compile.specs.Fitting.{FollowsRole}
 use Rattle.anb_honest.specs.Given.{items_of}

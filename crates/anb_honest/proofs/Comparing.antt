@@ -8,19 +8,19 @@ use Rattle.std.proofs.lemmas.List.Elements.{filter_map-append}
 use Rattle.anb_format.specs.Formats.{FormatValue}
 use Rattle.anb_code.specs.declared.instr.Instr.{Instr}
 use Rattle.anb_code.specs.Meaning.{act_of}
-use Rattle.anb_resolve.specs.declared.plans.Event as code
-use Rattle.anb_resolve.specs.Plays.{event_of}
-use Rattle.anb_resolve.specs.Views.{plan_event}
+use Rattle.anb_protocol.specs.declared.plans.Event as code
+use Rattle.anb_protocol.specs.Plays.{event_of}
+use Rattle.anb_protocol.specs.Views.{plan_event}
 use Rattle.std.proofs.lemmas.Option.{slice_get-map, slice_get_read, slice_get_past, same_Some, none-some}
 use Rattle.std.specs.Prelude.{option_map}
 use Rattle.anb_plays.specs.Fits.{start}
 use Rattle.anb_code.specs.CodeValue.{CodeValue}
 use Rattle.anb_code.specs.Meaning.{acts_of}
 use Rattle.anb_code.specs.Taking.{take_texts}
-use Rattle.anb_resolve.specs.Protocols.{ProtocolValue}
-use Rattle.anb_resolve.specs.Texts.{known_texts}
-use Rattle.anb_resolve.specs.Plans.{PlanEvent, plan_of}
-use Rattle.anb_resolve.specs.Plays.{events_of}
+use Rattle.anb_protocol.specs.Protocols.{ProtocolValue}
+use Rattle.anb_protocol.specs.Texts.{known_texts}
+use Rattle.anb_protocol.specs.Plans.{PlanEvent, plan_of}
+use Rattle.anb_protocol.specs.Plays.{events_of}
 use Rattle.anb_compile.specs.Fitting.{FollowsRole}
 use Rattle.std.proofs.lemmas.List.{take_all}
 use Rattle.anb_lemmas.proofs.Each.{take_next}

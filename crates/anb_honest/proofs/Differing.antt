@@ -3,15 +3,15 @@ use Rattle.std.proofs.Common.{ℕ, ◌<◌, List, [], ◌∷◌, ◌++◌, lengt
 use Rattle.std.specs.Prelude.{nat_eq}
 use Rattle.std.specs.List.{AllByRecursion, list_any}
 use Rattle.anb_lemmas.proofs.Each.{each_in_parts}
-use Rattle.anb_resolve.specs.declared.parts.Atom.{Atom}
-use Rattle.anb_resolve.specs.Choices.{each_after}
-use Rattle.anb_resolve.specs.Names.{first_new}
-use Rattle.anb_resolve.specs.Plans.{messages}
-use Rattle.anb_resolve.specs.Texts.{IsTermOf, atom_name, atoms_in_each, known_names, known_terms}
-use Rattle.anb_resolve.proofs.AtomLemmas.{atoms_below_each}
-use Rattle.anb_resolve.proofs.Differing.{names_of}
-use Rattle.anb_resolve.proofs.Distinct.{apart-map, one_place, pairs}
-use Rattle.anb_resolve.proofs.Holding.{facts}
+use Rattle.anb_protocol.specs.declared.parts.Atom.{Atom}
+use Rattle.anb_protocol.specs.Choices.{each_after}
+use Rattle.anb_protocol.specs.Names.{first_new}
+use Rattle.anb_protocol.specs.Plans.{messages}
+use Rattle.anb_protocol.specs.Texts.{IsTermOf, atom_name, atoms_in_each, known_names, known_terms}
+use Rattle.anb_protocol.proofs.AtomLemmas.{atoms_below_each}
+use Rattle.anb_protocol.proofs.Differing.{names_of}
+use Rattle.anb_protocol.proofs.Distinct.{apart-map, one_place, pairs}
+use Rattle.anb_protocol.proofs.Holding.{facts}
 use Rattle.anb_honest.specs.Joint.{known_atoms}
 use Rattle.anb_honest.specs.Laws.{KnownNamesDiffer}
 use Rattle.anb_honest.proofs.Existing.{distinct_apart}

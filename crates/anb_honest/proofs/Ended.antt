@@ -8,11 +8,11 @@ use Rattle.std.proofs.lemmas.Bool.Decides.{nat_tests}
 use Rattle.anb_lemmas.proofs.Lists.{take_suc_got}
 use Rattle.anb_base.specs.declared.content.Sent.{Sent}
 use Rattle.anb_term.proofs.Lists.{slice_get-there}
-use Rattle.anb_resolve.specs.Choices.{first}
-use Rattle.anb_resolve.specs.Schedules.{next_of}
+use Rattle.anb_protocol.specs.Choices.{first}
+use Rattle.anb_protocol.specs.Schedules.{next_of}
 use Rattle.anb_honest.specs.declared.player.Player.{Player}
 use Rattle.anb_honest.specs.declared.stage.Stage.{Stage}
-use Rattle.anb_honest.specs.declared.report.Report.{Report}
+use Rattle.anb_outcomes.specs.declared.rehearsals.Report.{Report}
 use Rattle.anb_honest.specs.declared.report.RehearseEnd.{RehearseEnd}
 use Rattle.anb_honest.specs.declared.report.RehearseEnd.TheVariants.{AllDone, Part as Partly, Stopped}
 use Rattle.anb_honest.specs.Joint.{Cast, Course, Move, turns_of, told, stuck, is_complete, reported, all_reported, report, end_behind}

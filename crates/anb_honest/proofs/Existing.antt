@@ -15,16 +15,16 @@ use Rattle.anb_plays.specs.Honest.{made}
 use Rattle.anb_lemmas.proofs.Each.{each_in_both, each_got, each_by, each_of_map}
 use Rattle.anb_lemmas.proofs.Numbers.{nat_eq-same}
 use Rattle.anb_lemmas.proofs.Lists.{get_either, got_within}
-use Rattle.anb_resolve.specs.Choices.{each_after}
-use Rattle.anb_resolve.specs.Names.{first_new, distinct}
-use Rattle.anb_resolve.specs.Protocols.{ActionValue, ProtocolValue}
-use Rattle.anb_resolve.specs.Texts.{atoms_in, atoms_in_each, known_by, known_terms}
-use Rattle.anb_resolve.specs.Plans.{PlanEvent, to_know, to_make, to_send, to_receive, events_at, is_made, messages, names_number_or_key, occurs, plan_of}
-use Rattle.anb_resolve.specs.Plans as plans
-use Rattle.anb_resolve.specs.Plays.{event_of, events_of, honest_bytes}
-use Rattle.anb_resolve.proofs.Afters.{any-append}
-use Rattle.anb_resolve.proofs.AtomLemmas.{each-append}
-use Rattle.anb_resolve.proofs.Distinct.{AllApart, apart-map}
+use Rattle.anb_protocol.specs.Choices.{each_after}
+use Rattle.anb_protocol.specs.Names.{first_new, distinct}
+use Rattle.anb_protocol.specs.Protocols.{ActionValue, ProtocolValue}
+use Rattle.anb_protocol.specs.Texts.{atoms_in, atoms_in_each, known_by, known_terms}
+use Rattle.anb_protocol.specs.Plans.{PlanEvent, to_know, to_make, to_send, to_receive, events_at, is_made, messages, names_number_or_key, occurs, plan_of}
+use Rattle.anb_protocol.specs.Plans as plans
+use Rattle.anb_protocol.specs.Plays.{event_of, events_of, honest_bytes}
+use Rattle.anb_protocol.proofs.Afters.{any-append}
+use Rattle.anb_protocol.proofs.AtomLemmas.{each-append}
+use Rattle.anb_protocol.proofs.Distinct.{AllApart, apart-map}
 use Rattle.anb_honest.specs.Joint.{Cast, given, known_atoms}
 use Rattle.anb_honest.specs.Honest.{AreHonest}
 

@@ -6,7 +6,7 @@ use Rattle.anb_plays.specs.Plans.{CanSend, Event, know, fresh, send, recv}
 use Rattle.anb_plays.specs.Codes.{Act, takes, draws, receives, sends, works, at_register}
 use Rattle.anb_plays.specs.Fits.{Along, AnyBorder, AnyWork, Place, SendsIt, after_label, after_take, after_work, start}
 use Rattle.anb_code.specs.Meaning.{acts_of}
-use Rattle.anb_resolve.specs.Plays.{IsSendable, events_of, meaning_of}
+use Rattle.anb_protocol.specs.Plays.{IsSendable, events_of, meaning_of}
 use Rattle.anb_honest.specs.Joint.{Cast}
 use Rattle.anb_honest.specs.Laws.{IsFitting}
 

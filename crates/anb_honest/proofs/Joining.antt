@@ -4,8 +4,8 @@ use Rattle.std.specs.Prelude.{flat_map, unwrap_or, All, Vec}
 use Rattle.std.specs.Global.{Global}
 use Rattle.std.specs.List.{range_with_len}
 use Rattle.anb_lemmas.proofs.Lists.{drop_next}
-use Rattle.anb_resolve.specs.Choices.{first}
-use Rattle.anb_resolve.specs.Schedules.{turn_of}
+use Rattle.anb_protocol.specs.Choices.{first}
+use Rattle.anb_protocol.specs.Schedules.{turn_of}
 use Rattle.anb_honest.specs.declared.stage.Stage.{Stage}
 use Rattle.anb_honest.specs.declared.report.RehearseEnd.{RehearseEnd}
 use Rattle.anb_honest.specs.Given.{items_of}

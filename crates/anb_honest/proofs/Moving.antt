@@ -6,7 +6,7 @@ use Rattle.std.proofs.lemmas.List.{append-nil, map-append}
 use Rattle.std.proofs.lemmas.List.Elements.{filter-append}
 use Rattle.std.proofs.lemmas.List.Sums.{sum_by_push}
 use Rattle.anb_lemmas.proofs.Options.{or_none}
-use Rattle.anb_resolve.specs.Schedules.{Turn, was_sent}
+use Rattle.anb_protocol.specs.Schedules.{Turn, was_sent}
 use Rattle.anb_honest.specs.Joint.{Move, turns_of, bytes_of, is_report, is_receipt, gave, took, told, told_by}
 
 or_assoc : {A : Type 0} (a b d : Option A) → option_or (option_or a b) d ≡ option_or a (option_or b d)

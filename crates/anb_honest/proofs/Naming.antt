@@ -8,7 +8,7 @@ use Rattle.std.proofs.lemmas.List.Elements.{filter-append, All-nil, All-cons}
 use Rattle.anb_lemmas.proofs.Each.{take_next}
 use Rattle.anb_lemmas.proofs.Lists.{drop_next}
 use Rattle.anb_base.specs.declared.TheConstants.{SMALL_FILE}
-use Rattle.anb_resolve.specs.Protocols.{ProtocolValue, role_named}
+use Rattle.anb_protocol.specs.Protocols.{ProtocolValue, role_named}
 use Rattle.anb_honest.specs.declared.TheConstants.{TURNS}
 use Rattle.anb_honest.specs.Words.{is_blank, is_word, words_of, names_none}
 use Rattle.anb_honest.proofs.Wording.{few_words}

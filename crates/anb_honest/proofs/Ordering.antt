@@ -10,9 +10,9 @@ use Rattle.anb_plays.specs.Runs.{says_if}
 use Rattle.anb_plays.specs.Exec.{exec, worked, on_written, IsVerified, count_written}
 use Rattle.anb_plays.specs.Fits.{Place, Along, AnySend, AnyWork, AnyBorder, after_take, after_label, after_work}
 use Rattle.anb_machine.proofs.Works.{written_count}
-use Rattle.anb_resolve.specs.Plans.{PlanEvent, to_know, to_make, to_send, to_receive}
-use Rattle.anb_resolve.specs.Plays.{event_of}
-use Rattle.anb_resolve.specs.Schedules.{Turn}
+use Rattle.anb_protocol.specs.Plans.{PlanEvent, to_know, to_make, to_send, to_receive}
+use Rattle.anb_protocol.specs.Plays.{event_of}
+use Rattle.anb_protocol.specs.Schedules.{Turn}
 use Rattle.anb_honest.specs.Acting.{StopsNow, ActsFirst, KeepsOrder}
 use Rattle.anb_honest.specs.Inside.{part_of}
 

@@ -5,11 +5,11 @@ use Rattle.std.specs.List.{AllByRecursion}
 use Rattle.std.proofs.lemmas.List.Elements.{filter_map-append}
 use Rattle.anb_term.specs.Tree.{Tree, leaf}
 use Rattle.anb_lemmas.proofs.Each.{each_in_both}
-use Rattle.anb_resolve.specs.Choices.{each_after}
-use Rattle.anb_resolve.specs.Protocols.{ActionValue, ProtocolValue}
-use Rattle.anb_resolve.specs.Texts.{known_by}
-use Rattle.anb_resolve.specs.Plans.{to_know, to_make, to_send, to_receive, events_at, made, plan_of}
-use Rattle.anb_resolve.specs.Schedules.{Turn, part_in, parts_of}
+use Rattle.anb_protocol.specs.Choices.{each_after}
+use Rattle.anb_protocol.specs.Protocols.{ActionValue, ProtocolValue}
+use Rattle.anb_protocol.specs.Texts.{known_by}
+use Rattle.anb_protocol.specs.Plans.{to_know, to_make, to_send, to_receive, events_at, made, plan_of}
+use Rattle.anb_protocol.specs.Schedules.{Turn, part_in, parts_of}
 use Rattle.anb_honest.specs.Inside.{part_of}
 
 knows_none : (role : ℕ) (ts : List Tree) → filter_map (part_of role) (map to_know ts) ≡ []

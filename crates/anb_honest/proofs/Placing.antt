@@ -7,9 +7,9 @@ use Rattle.std.proofs.lemmas.Bool.{eqb-true, eq-eqb}
 use Rattle.std.proofs.lemmas.Bool.Decides.{nat_tests}
 use Rattle.std.proofs.lemmas.List.{append-nil}
 use Rattle.anb_lemmas.proofs.Bools.{or_false}
-use Rattle.anb_resolve.specs.Choices.{each_after}
-use Rattle.anb_resolve.specs.Names.{distinct, first_new}
-use Rattle.anb_resolve.proofs.Afters.{any-append, each_after_last}
+use Rattle.anb_protocol.specs.Choices.{each_after}
+use Rattle.anb_protocol.specs.Names.{distinct, first_new}
+use Rattle.anb_protocol.proofs.Afters.{any-append, each_after_last}
 use Rattle.anb_honest.specs.declared.given.Given.{Given}
 use Rattle.anb_honest.specs.Given.{IsTable, value_in, Gives}
 use Rattle.anb_honest.specs.Joint.{Cast, known_atoms, given}

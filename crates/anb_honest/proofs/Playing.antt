@@ -15,12 +15,12 @@ use Rattle.anb_plays.specs.Plans.{Event, know, fresh, send, recv}
 use Rattle.anb_plays.specs.Plays.{End, stopped, waiting, done}
 use Rattle.anb_plays.specs.Honest.{honest, honest_all, honest_from, heard, LabelsAreFormed}
 use Rattle.anb_plays.specs.Runs.{no_place}
-use Rattle.anb_resolve.specs.Choices.{each_after, first}
-use Rattle.anb_resolve.specs.Protocols.{ActionValue, ProtocolValue}
-use Rattle.anb_resolve.specs.Texts.{atoms_in, atoms_in_all, atoms_in_each, known_by, known_terms}
-use Rattle.anb_resolve.specs.Plans.{PlanEvent, to_know, to_make, to_send, to_receive, events_at, plan_of, messages}
-use Rattle.anb_resolve.specs.Plans as plans
-use Rattle.anb_resolve.specs.Plays.{event_of, events_of, honest_bytes, meaning_of}
+use Rattle.anb_protocol.specs.Choices.{each_after, first}
+use Rattle.anb_protocol.specs.Protocols.{ActionValue, ProtocolValue}
+use Rattle.anb_protocol.specs.Texts.{atoms_in, atoms_in_all, atoms_in_each, known_by, known_terms}
+use Rattle.anb_protocol.specs.Plans.{PlanEvent, to_know, to_make, to_send, to_receive, events_at, plan_of, messages}
+use Rattle.anb_protocol.specs.Plans as plans
+use Rattle.anb_protocol.specs.Plays.{event_of, events_of, honest_bytes, meaning_of}
 use Rattle.anb_honest.specs.Joint.{Cast, known_atoms, given, given_bytes, halt_behind, long_end}
 use Rattle.anb_honest.specs.Honest.{AreHonest}
 use Rattle.anb_honest.proofs.Placing.{any_distinct}

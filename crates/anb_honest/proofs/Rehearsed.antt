@@ -20,14 +20,14 @@ use Rattle.anb_compile.proofs.Protocols.{known_of_plan}
 use Rattle.anb_compile.proofs.Events.{known_events}
 use Rattle.anb_machine.specs.ByteRuns.{run_bytes}
 use Rattle.anb_machine.specs.declared.turn.Halt.{Halt}
-use Rattle.anb_resolve.specs.Choices.{first}
-use Rattle.anb_resolve.specs.Laws.{HoldsOf, HonestAgrees}
-use Rattle.anb_resolve.specs.Protocols.{ProtocolValue}
-use Rattle.anb_resolve.specs.Texts.{known_by, known_terms}
-use Rattle.anb_resolve.specs.Plans.{plan_of}
-use Rattle.anb_resolve.specs.Plays.{events_of, honest_bytes, meaning_of, IsSendable, IsPlay}
-use Rattle.anb_resolve.specs.Schedules.{Turn, next_of, turn_of, append_if, taken, was_sent}
-use Rattle.anb_honest.specs.declared.report.Report.{Report}
+use Rattle.anb_protocol.specs.Choices.{first}
+use Rattle.anb_protocol.specs.Laws.{HoldsOf, HonestAgrees}
+use Rattle.anb_protocol.specs.Protocols.{ProtocolValue}
+use Rattle.anb_protocol.specs.Texts.{known_by, known_terms}
+use Rattle.anb_protocol.specs.Plans.{plan_of}
+use Rattle.anb_protocol.specs.Plays.{events_of, honest_bytes, meaning_of, IsSendable, IsPlay}
+use Rattle.anb_protocol.specs.Schedules.{Turn, next_of, turn_of, append_if, taken, was_sent}
+use Rattle.anb_outcomes.specs.declared.rehearsals.Report.{Report}
 use Rattle.anb_honest.specs.declared.report.RehearseEnd.{RehearseEnd}
 use Rattle.anb_honest.specs.declared.report.RehearseEnd.TheVariants.{AllDone, Part, Stopped}
 use Rattle.anb_honest.specs.Joint.{Cast, Course, Move, turns_of, bytes_of, is_report, is_receipt, gave, took, told, told_by, run_of, unreported, stuck, message_of, long_end, passes, moves_on, turn_with, walk, end_behind, init_of, is_complete, all_reported, reported, report, outset, joint}

@@ -12,12 +12,12 @@ use Rattle.anb_lemmas.proofs.Each.{each_in_both, each_got}
 use Rattle.anb_lemmas.proofs.Lists.{get_seam, take_got}
 use Rattle.anb_plays.specs.Honest.{honest, honest_from, heard}
 use Rattle.std.proofs.lemmas.Bool.Decides.{nat_tests}
-use Rattle.anb_resolve.specs.Choices.{each_after}
-use Rattle.anb_resolve.specs.Protocols.{ActionValue, ProtocolValue}
-use Rattle.anb_resolve.specs.Texts.{known_by}
-use Rattle.anb_resolve.specs.Plans.{PlanEvent, to_know, to_make, to_send, to_receive, events_at, made, plan_of}
-use Rattle.anb_resolve.specs.Plays.{event_of}
-use Rattle.anb_resolve.specs.Schedules.{Turn, parts_of, next_of, turn_of, append_if, taken_after, taken, IsComplete}
+use Rattle.anb_protocol.specs.Choices.{each_after}
+use Rattle.anb_protocol.specs.Protocols.{ActionValue, ProtocolValue}
+use Rattle.anb_protocol.specs.Texts.{known_by}
+use Rattle.anb_protocol.specs.Plans.{PlanEvent, to_know, to_make, to_send, to_receive, events_at, made, plan_of}
+use Rattle.anb_protocol.specs.Plays.{event_of}
+use Rattle.anb_protocol.specs.Schedules.{Turn, parts_of, next_of, turn_of, append_if, taken_after, taken, IsComplete}
 use Rattle.anb_honest.specs.Joint.{Cast, is_complete}
 use Rattle.anb_honest.specs.Honest.{term_at}
 use Rattle.anb_honest.specs.Inside.{part_of}

@@ -8,7 +8,7 @@ use Rattle.std.proofs.lemmas.Bool.Decides.{nat_tests}
 use Rattle.std.proofs.lemmas.List.Elements.{All-nil, All-cons}
 use Rattle.std.proofs.lemmas.List.FromFn.{get_or-map-range_with_len}
 use Rattle.anb_base.specs.declared.TheConstants.{ARRIVAL}
-use Rattle.anb_resolve.specs.Choices.{first}
+use Rattle.anb_protocol.specs.Choices.{first}
 use Rattle.anb_honest.specs.declared.stage.Stage.{Stage}
 use Rattle.anb_honest.specs.declared.player.Player.{Player}
 use Rattle.anb_honest.specs.declared.report.RehearseEnd.{RehearseEnd}
@@ -27,12 +27,12 @@ use Rattle.anb_compile.specs.Emitting.{known_in}
 use Rattle.anb_compile.proofs.Protocols.{known_of_plan, all_known}
 use Rattle.anb_lemmas.proofs.Each.{each_in_front}
 use Rattle.anb_lemmas.proofs.Lists.{drop_next}
-use Rattle.anb_resolve.specs.declared.plans.Event.{Event}
-use Rattle.anb_resolve.specs.Laws.{HoldsOf}
-use Rattle.anb_resolve.specs.Protocols.{ProtocolValue}
-use Rattle.anb_resolve.specs.Texts.{known_terms}
-use Rattle.anb_resolve.specs.Plans.{PlanEvent, to_know, to_make, to_send, to_receive, plan_of, messages}
-use Rattle.anb_resolve.specs.Views.{plan_event}
+use Rattle.anb_protocol.specs.declared.plans.Event.{Event}
+use Rattle.anb_protocol.specs.Laws.{HoldsOf}
+use Rattle.anb_protocol.specs.Protocols.{ProtocolValue}
+use Rattle.anb_protocol.specs.Texts.{known_terms}
+use Rattle.anb_protocol.specs.Plans.{PlanEvent, to_know, to_make, to_send, to_receive, plan_of, messages}
+use Rattle.anb_protocol.specs.Views.{plan_event}
 use Rattle.anb_honest.specs.Joint.{given}
 use Rattle.anb_honest.proofs.Begun.{initial_all}
 

@@ -5,7 +5,7 @@ use Rattle.anb_term.proofs.Lists.{slice_get-there}
 use Rattle.std.proofs.lemmas.Option.{get_or_from_slice_get, slice_get_read, slice_get-map}
 use Rattle.anb_lemmas.proofs.Each.{each_got}
 use Rattle.anb_machine.specs.Machines.{gives}
-use Rattle.anb_resolve.specs.Schedules.{Turn, parts_of, next_of, if_ready, turn_of, was_sent}
+use Rattle.anb_protocol.specs.Schedules.{Turn, parts_of, next_of, if_ready, turn_of, was_sent}
 use Rattle.anb_honest.specs.declared.player.Player.{Player}
 use Rattle.anb_honest.specs.declared.player.Part.{Part}
 use Rattle.anb_honest.specs.declared.stage.Stage.{Stage}

@@ -11,7 +11,7 @@ use Rattle.anb_plays.proofs.Grows.{sends_saying, sends_on}
 use Rattle.anb_machine.specs.Machines.{gives}
 use Rattle.std.proofs.lemmas.Bool.Decides.{nat_tests}
 use Rattle.anb_lemmas.proofs.Lists.{drop_at_got, set_gets, set_apart}
-use Rattle.anb_resolve.specs.Schedules.{Turn, parts_of, next_of}
+use Rattle.anb_protocol.specs.Schedules.{Turn, parts_of, next_of}
 use Rattle.anb_honest.specs.declared.player.Player.{Player}
 use Rattle.anb_honest.specs.Joint.{Cast, Move, turns_of, gave, took, told, run_over, run_of, unreported, halt_behind, stuck}
 use Rattle.anb_honest.specs.Acting.{StopsNow, KeepsOrder, ActsFirst, halt_of}

@@ -9,7 +9,7 @@ use Rattle.anb_machine.specs.Machines.{gives}
 use Rattle.anb_machine.specs.declared.turn.Halt.{Halt}
 use Rattle.std.proofs.lemmas.Bool.Decides.{nat_tests}
 use Rattle.anb_lemmas.proofs.Lists.{set_long}
-use Rattle.anb_resolve.specs.Schedules.{Turn, next_of, if_ready, turn_of, was_sent}
+use Rattle.anb_protocol.specs.Schedules.{Turn, next_of, if_ready, turn_of, was_sent}
 use Rattle.anb_honest.specs.declared.player.Player.{Player}
 use Rattle.anb_honest.specs.declared.stage.Stage.{Stage}
 use Rattle.anb_honest.specs.declared.report.RehearseEnd.{RehearseEnd}

@@ -20,10 +20,10 @@ use Rattle.anb_term.proofs.Places.{picked_first}
 use Rattle.anb_plays.specs.Honest.{honest, honest_all}
 use Rattle.anb_compile.specs.Emitting.{known_in}
 use Rattle.anb_compile.proofs.Events.{known_append}
-use Rattle.anb_resolve.specs.declared.plans.Event.{Event}
-use Rattle.anb_resolve.specs.Texts.{atoms_in_each}
-use Rattle.anb_resolve.specs.Views.{plan_event}
-use Rattle.anb_resolve.proofs.AtomLemmas.{each-append}
+use Rattle.anb_protocol.specs.declared.plans.Event.{Event}
+use Rattle.anb_protocol.specs.Texts.{atoms_in_each}
+use Rattle.anb_protocol.specs.Views.{plan_event}
+use Rattle.anb_protocol.proofs.AtomLemmas.{each-append}
 use Rattle.anb_honest.specs.declared.player.Part.{Part}
 use Rattle.anb_honest.specs.Inside.{part_of, turn_value}
 

@@ -3,7 +3,7 @@ use Rattle.std.specs.Prelude.{◌≡◌, ◌⊎◌, ℕ, ◌==◌, List, [], ◌
 use Rattle.anb_plays.specs.Plays.{Played, stopped, waiting, ends, says, Run}
 use Rattle.anb_machine.specs.Machines.{gives}
 use Rattle.anb_machine.specs.declared.turn.Halt.{Halt}
-use Rattle.anb_resolve.specs.Schedules.{Turn}
+use Rattle.anb_protocol.specs.Schedules.{Turn}
 use Rattle.anb_honest.specs.declared.player.Player.{Player}
 use Rattle.anb_honest.specs.declared.player.Stop.{Stop}
 use Rattle.anb_honest.specs.declared.player.Stop.TheVariants.{Stuck, NoMemory}

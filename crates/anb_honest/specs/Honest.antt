@@ -6,12 +6,12 @@ use Rattle.anb_term.specs.Tree.{Tree, leaf}
 use Rattle.anb_seal.specs.Streams.{draw_of}
 use Rattle.anb_plays.specs.Plays.{Played}
 use Rattle.anb_plays.specs.Honest.{honest_play, made}
-use Rattle.anb_resolve.specs.Choices.{first}
-use Rattle.anb_resolve.specs.Protocols.{ActionValue, ProtocolValue}
-use Rattle.anb_resolve.specs.Texts.{known_by, known_terms}
-use Rattle.anb_resolve.specs.Plays.{events_of, honest_bytes, meaning_of}
-use Rattle.anb_resolve.specs.Schedules.{Turn, taken, was_sent}
-use Rattle.anb_honest.specs.declared.report.Report.{Report}
+use Rattle.anb_protocol.specs.Choices.{first}
+use Rattle.anb_protocol.specs.Protocols.{ActionValue, ProtocolValue}
+use Rattle.anb_protocol.specs.Texts.{known_by, known_terms}
+use Rattle.anb_protocol.specs.Plays.{events_of, honest_bytes, meaning_of}
+use Rattle.anb_protocol.specs.Schedules.{Turn, taken, was_sent}
+use Rattle.anb_outcomes.specs.declared.rehearsals.Report.{Report}
 use Rattle.anb_honest.specs.declared.report.RehearseEnd.{RehearseEnd}
 use Rattle.anb_honest.specs.declared.report.RehearseEnd.TheVariants.{AllDone, Part}
 use Rattle.anb_honest.specs.Joint.{Cast, known_atoms, long_end, is_complete, all_reported}

@@ -5,8 +5,8 @@ use Rattle.anb_base.specs.declared.TheConstants.{ARRIVAL}
 use Rattle.anb_base.specs.declared.content.Sent.{Sent}
 use Rattle.anb_plays.specs.Plays.{Played, SendsFirst}
 use Rattle.anb_machine.specs.Machines.{gives}
-use Rattle.anb_resolve.specs.Plans.{PlanEvent, to_know, to_make, to_send, to_receive}
-use Rattle.anb_resolve.specs.Schedules.{Turn, parts_of, turn_of}
+use Rattle.anb_protocol.specs.Plans.{PlanEvent, to_know, to_make, to_send, to_receive}
+use Rattle.anb_protocol.specs.Schedules.{Turn, parts_of, turn_of}
 use Rattle.anb_honest.specs.declared.player.Part.{Part}
 use Rattle.anb_honest.specs.declared.player.Player.{Player}
 use Rattle.anb_honest.specs.declared.stage.Stage.{Stage}

@@ -9,13 +9,13 @@ use Rattle.anb_plays.specs.Plays.{Played, End, stopped, done, ends}
 use Rattle.anb_code.specs.CodeValue.{CodeValue}
 use Rattle.anb_machine.specs.ByteRuns.{run_bytes}
 use Rattle.anb_machine.specs.declared.turn.Halt.{Halt}
-use Rattle.anb_resolve.specs.Choices.{first}
-use Rattle.anb_resolve.specs.Names.{distinct}
-use Rattle.anb_resolve.specs.Protocols.{ProtocolValue}
-use Rattle.anb_resolve.specs.Texts.{atoms_in_each, known_by, known_terms}
-use Rattle.anb_resolve.specs.Plays.{honest_bytes}
-use Rattle.anb_resolve.specs.Schedules.{Turn, next_of, turn_of}
-use Rattle.anb_honest.specs.declared.report.Report.{Report}
+use Rattle.anb_protocol.specs.Choices.{first}
+use Rattle.anb_protocol.specs.Names.{distinct}
+use Rattle.anb_protocol.specs.Protocols.{ProtocolValue}
+use Rattle.anb_protocol.specs.Texts.{atoms_in_each, known_by, known_terms}
+use Rattle.anb_protocol.specs.Plays.{honest_bytes}
+use Rattle.anb_protocol.specs.Schedules.{Turn, next_of, turn_of}
+use Rattle.anb_outcomes.specs.declared.rehearsals.Report.{Report}
 use Rattle.anb_honest.specs.declared.report.RehearseEnd.{RehearseEnd}
 use Rattle.anb_honest.specs.declared.report.RehearseEnd.TheVariants.{AllDone, Part, Stopped, LongMessage}
 

@@ -1,8 +1,8 @@
 -- for proofs alone: the kinds of acts and events.
 use Rattle.std.specs.Prelude.{List, map, Option, Some, None}
-use Rattle.anb_resolve.specs.declared.plans.Event as code
-use Rattle.anb_resolve.specs.Plays.{event_of}
-use Rattle.anb_resolve.specs.Views.{plan_event}
+use Rattle.anb_protocol.specs.declared.plans.Event as code
+use Rattle.anb_protocol.specs.Plays.{event_of}
+use Rattle.anb_protocol.specs.Views.{plan_event}
 use Rattle.anb_plays.specs.Plans.{Event, know, fresh, send, recv}
 use Rattle.anb_plays.specs.Codes.{Act, takes, draws, receives, sends, works}
 use Rattle.anb_honest.specs.declared.kind.Kind.{Kind}

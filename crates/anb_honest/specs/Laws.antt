@@ -4,11 +4,11 @@ use Rattle.std.specs.List.{AllByRecursion}
 use Rattle.anb_base.specs.Bytes.{IsBytes}
 use Rattle.anb_code.specs.CodeValue.{CodeValue}
 use Rattle.anb_compile.specs.Fitting.{FitsRole, FollowsRole}
-use Rattle.anb_resolve.specs.Protocols.{ProtocolValue}
-use Rattle.anb_resolve.specs.Texts.{known_names}
-use Rattle.anb_resolve.specs.WellFormed.{IsProtocol}
-use Rattle.anb_resolve.specs.Plays.{IsSendable, IsPlay}
-use Rattle.anb_resolve.specs.Schedules.{taken, IsComplete}
+use Rattle.anb_protocol.specs.Protocols.{ProtocolValue}
+use Rattle.anb_protocol.specs.Texts.{known_names}
+use Rattle.anb_protocol.specs.WellFormed.{IsProtocol}
+use Rattle.anb_protocol.specs.Plays.{IsSendable, IsPlay}
+use Rattle.anb_protocol.specs.Schedules.{taken, IsComplete}
 use Rattle.anb_honest.specs.Joint.{Cast, cast, is_complete, joint, known_atoms}
 use Rattle.anb_honest.specs.Honest.{AreHonest, honest_end, honest_known, honest_taken, play_so_far}
 

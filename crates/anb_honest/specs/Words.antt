@@ -2,7 +2,7 @@
 use Rattle.std.specs.Prelude.{ℕ, List, length, Bool, not, ◌==◌, ◌||◌, Option, filter, is_none}
 use Rattle.std.specs.List.{position_from, slice_split}
 use Rattle.std.specs.Str.{bytes_eq}
-use Rattle.anb_resolve.specs.Protocols.{ProtocolValue, role_named}
+use Rattle.anb_protocol.specs.Protocols.{ProtocolValue, role_named}
 
 -- a space, a tab, and the bytes 0A and 0D
 abbrev pub is_blank : ℕ → Bool

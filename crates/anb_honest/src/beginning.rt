@@ -7,11 +7,11 @@ ghost use Rattle.anb_plays.specs.Honest.{honest};
 ghost use Rattle.anb_algebra.specs.ByteMeaning.{byte_meaning, has_operator};
 ghost use Rattle.anb_code.specs.CodeValue.{CodeValue};
 ghost use Rattle.anb_compile.specs.Emitting.{known_in};
-ghost use Rattle.anb_resolve.specs.Choices.{first};
-ghost use Rattle.anb_resolve.specs.Laws.{HoldsOf};
-ghost use Rattle.anb_resolve.specs.Texts.{atoms_in_each};
-ghost use Rattle.anb_resolve.specs.Plans.{plan_of};
-ghost use Rattle.anb_resolve.specs.Views.{plan_event};
+ghost use Rattle.anb_protocol.specs.Choices.{first};
+ghost use Rattle.anb_protocol.specs.Laws.{HoldsOf};
+ghost use Rattle.anb_protocol.specs.Texts.{atoms_in_each};
+ghost use Rattle.anb_protocol.specs.Plans.{plan_of};
+ghost use Rattle.anb_protocol.specs.Views.{plan_event};
 ghost use Rattle.anb_honest.specs.Given.{Gives, items_of};
 ghost use Rattle.anb_honest.specs.Order.{FollowRoles};
 ghost use Rattle.anb_honest.specs.Joint.{cast, init_of, long_end, outset};
@@ -25,7 +25,7 @@ use anb_algebra::ByteAlgebra;
 use anb_base::{ARRIVAL, Bytes, NoMemory};
 use anb_code::RoleCode;
 use anb_machine::Machine;
-use anb_resolve::{Event, Plan, Protocol};
+use anb_protocol::{Event, Plan, Protocol};
 use std::alloc::Global;
 
 /// The plans of all roles, in order.

@@ -5,8 +5,8 @@ ghost use Rattle.anb_term.specs.View.{tree_of};
 ghost use Rattle.anb_term.specs.Tree.{trees_of, IsFormed, AreFormed};
 ghost use Rattle.anb_plays.specs.Honest.{honest, honest_all};
 ghost use Rattle.anb_algebra.specs.ByteMeaning.{byte_meaning, has_operator};
-ghost use Rattle.anb_resolve.specs.Names.{distinct};
-ghost use Rattle.anb_resolve.specs.Texts.{atoms_in, atoms_in_all};
+ghost use Rattle.anb_protocol.specs.Names.{distinct};
+ghost use Rattle.anb_protocol.specs.Texts.{atoms_in, atoms_in_all};
 ghost use Rattle.anb_honest.specs.Given.{Gives, IsTable, value_in};
 
 use anb_algebra::ByteAlgebra;

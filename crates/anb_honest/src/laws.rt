@@ -4,7 +4,7 @@ ghost use Rattle.anb_honest.specs.Laws.{CompleteIsTested, FittingCodesFollow, Ho
 use anb_algebra::ByteAlgebra;
 use anb_compile::fitting_codes_play;
 use anb_plays::laws::honest_plays;
-use anb_resolve::{Protocol, honest_agrees, protocols_hold};
+use anb_protocol::{Protocol, honest_agrees, protocols_hold};
 
 /// A law: a code that fits a role keeps the order of the role's plan.
 pub fn fitting_codes_follow()

@@ -14,13 +14,14 @@ mod report;
 mod stage;
 mod words;
 
+pub use anb_outcomes::{Messages, Report};
 pub use laws::{
     complete_is_tested, fitting_codes_follow, honest_bytes_exist, known_names_differ,
     plays_are_honest, rehearsals_are_honest,
 };
 pub use order::follows;
 pub use rehearsing::rehearse;
-pub use report::{Messages, RehearseEnd, Report};
+pub use report::RehearseEnd;
 pub use words::{ScheduleNo, schedule};
 
 /// The most turns of a schedule: a name and a blank have two bytes, and a schedule is a small file.

@@ -3,8 +3,8 @@ ghost use Rattle.std.specs.Prelude.{◌≡◌, ◌≢◌, ◌<◌, ◌≤◌, �
 ghost use Rattle.anb_format.specs.Formats.{FormatValue};
 ghost use Rattle.anb_code.specs.Meaning.{act_of};
 ghost use Rattle.anb_code.specs.Taking.{take_texts};
-ghost use Rattle.anb_resolve.specs.Plays.{event_of};
-ghost use Rattle.anb_resolve.specs.Views.{plan_event};
+ghost use Rattle.anb_protocol.specs.Plays.{event_of};
+ghost use Rattle.anb_protocol.specs.Views.{plan_event};
 ghost use Rattle.anb_honest.specs.declared.kind.Kind.{Kind};
 ghost use Rattle.anb_honest.specs.Kinds.{kind_of, kinds_of, event_kind};
 ghost use Rattle.anb_compile.specs.Fitting.{FollowsRole};
@@ -13,7 +13,7 @@ use crate::kind::Kind;
 use anb_base::{NoMemory, Suite, Text};
 use anb_code::{Instr, RoleCode};
 use anb_format::{Format, Piece};
-use anb_resolve::{Event, Protocol};
+use anb_protocol::{Event, Protocol};
 use std::alloc::Global;
 
 /// Whether a code has the suite, the formats and the names of a role of a protocol, and its takes,

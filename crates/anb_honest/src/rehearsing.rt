@@ -1,7 +1,7 @@
 //! Rehearsals.
 ghost use Rattle.std.specs.Prelude.{◌≡◌, ◌<◌, ◌≤◌, length, All, IfOk};
 ghost use Rattle.anb_base.specs.declared.TheConstants.{ARRIVAL};
-ghost use Rattle.anb_resolve.specs.Texts.{known_names};
+ghost use Rattle.anb_protocol.specs.Texts.{known_names};
 ghost use Rattle.anb_honest.specs.declared.TheConstants.{TURNS};
 ghost use Rattle.anb_honest.specs.Order.{FollowRoles};
 ghost use Rattle.anb_honest.specs.Joint.{cast, joint};
@@ -11,7 +11,7 @@ use crate::beginning::{first_long, initial_values, plans, stage};
 use crate::ending::end_of;
 use anb_base::{ARRIVAL, Bytes, NoMemory};
 use anb_code::RoleCode;
-use anb_resolve::{Protocol, protocols_hold};
+use anb_protocol::{Protocol, protocols_hold};
 use std::alloc::Global;
 
 /// Plays all roles over a schedule of turns, each by the code that is given for it, with the honest

@@ -15,7 +15,7 @@ pub(crate) struct Stage<'c> {
 
 impl<'c> Stage<'c> {
     ghost use Rattle.std.specs.Prelude.{◌≡◌, ◌+◌, ◌^◌, ◌<◌, length, option_map, true, false, Some, IfOk};
-    ghost use Rattle.anb_resolve.specs.Schedules.{turn_of};
+    ghost use Rattle.anb_protocol.specs.Schedules.{turn_of};
     ghost use Rattle.anb_honest.specs.Joint.{Cast, Course, turns_of};
     ghost use Rattle.anb_honest.specs.Inside.{IsAtTurn, IsStage, Stands, Takes, turn_at, turn_value};
 

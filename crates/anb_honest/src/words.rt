@@ -1,13 +1,13 @@
 //! Schedules from their texts.
 ghost use Rattle.std.specs.Prelude.{◌≡◌, ◌<◌, ◌≤◌, ◌+◌, ◌++◌, ℕ, [], ◌∷◌, length, map, filter, true, All, IfOk, OnOk, Some, None, Err};
 ghost use Rattle.std.specs.List.{position_from};
-ghost use Rattle.anb_resolve.specs.Protocols.{role_named};
+ghost use Rattle.anb_protocol.specs.Protocols.{role_named};
 ghost use Rattle.anb_base.specs.declared.TheConstants.{SMALL_FILE};
 ghost use Rattle.anb_honest.specs.declared.TheConstants.{TURNS};
 ghost use Rattle.anb_honest.specs.declared.words.ScheduleNo.TheVariants as refusal;
 ghost use Rattle.anb_honest.specs.Words.{is_blank, is_word, names_none, words_of};
 
-use anb_resolve::Protocol;
+use anb_protocol::Protocol;
 use std::alloc::{AllocFailed, Global};
 
 /// Why a text is no schedule.

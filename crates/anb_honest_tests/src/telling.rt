@@ -7,7 +7,7 @@ ghost use Rattle.anb_honest.specs.Order.{FollowRoles};
 use anb_base::{ARRIVAL, Bytes, SMALL_FILE};
 use anb_code::RoleCode;
 use anb_honest::{RehearseEnd, Report, follows, rehearse, schedule};
-use anb_resolve::Protocol;
+use anb_protocol::Protocol;
 use anb_test_protocols::protocol_in;
 use anb_text::load;
 use std::alloc::Global;

@@ -6,10 +6,10 @@ use Rattle.anb_base.specs.Bytes.{IsBytes}
 use Rattle.anb_base.specs.Wires.{WireState}
 use Rattle.anb_host.specs.declared.event.HostEvent.{HostEvent}
 use Rattle.anb_host.specs.HostFrames.{Tail, End, HostFrames}
-use Rattle.anb_command.specs.declared.status.Status.{Status}
-use Rattle.anb_command.specs.declared.status.Status.TheVariants.{Done, Spent, NoMemory}
+use Rattle.anb_status.specs.declared.status.Status.{Status}
+use Rattle.anb_status.specs.declared.status.Status.TheVariants.{Done, Spent, NoMemory}
 use Rattle.anb_command.specs.Fetches.{Files, IfTold}
-use Rattle.anb_command.specs.Statuses.{is_fault}
+use Rattle.anb_status.specs.Statuses.{is_fault}
 use Rattle.anb_command.specs.Steps.{Answer, refused, given, HasOneAnswer}
 use Rattle.anb_command.proofs.Chains.{told_map}
 use Rattle.anb_command.proofs.Ones.{not_both}

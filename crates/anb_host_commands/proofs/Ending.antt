@@ -13,9 +13,9 @@ use Rattle.anb_host.specs.declared.serving.HostEnd.TheVariants as ends
 use Rattle.anb_host.specs.HostFrames.{Tail, End, Part, Bad, HostFrames, out}
 use Rattle.anb_host.specs.Own.{told}
 use Rattle.anb_host.specs.Serving.{Answers, IsBehind, Reads, Serves, stamps}
-use Rattle.anb_command.specs.declared.status.Status.{Status}
-use Rattle.anb_command.specs.declared.status.Status.TheVariants.{FileFault, Spent, NoMemory}
-use Rattle.anb_command.specs.Statuses.{is_fault}
+use Rattle.anb_status.specs.declared.status.Status.{Status}
+use Rattle.anb_status.specs.declared.status.Status.TheVariants.{FileFault, Spent, NoMemory}
+use Rattle.anb_status.specs.Statuses.{is_fault}
 use Rattle.anb_command.specs.Steps.{Answer, refused, given, HasOneAnswer, IsFailure}
 use Rattle.anb_command.proofs.Ones.{RefusesQuietly, not_both, same_given, same_refusal}
 use Rattle.anb_command.proofs.Written.{faulty}

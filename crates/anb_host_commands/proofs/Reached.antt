@@ -11,11 +11,11 @@ use Rattle.anb_host.specs.declared.serving.HostEnd.TheVariants as ends
 use Rattle.anb_host.specs.HostFrames.{Tail, FramesLeft}
 use Rattle.anb_host.specs.Hosts.{HostValue, plays_of}
 use Rattle.anb_host.specs.Serving.{Serves}
-use Rattle.anb_command.specs.declared.status.Status.{Status}
-use Rattle.anb_command.specs.declared.status.Status.TheVariants.{Unreached, NoMemory}
+use Rattle.anb_status.specs.declared.status.Status.{Status}
+use Rattle.anb_status.specs.declared.status.Status.TheVariants.{Unreached, NoMemory}
 use Rattle.anb_command.specs.Causes.{HasWireCause}
 use Rattle.anb_command.specs.OverWire.{DidNotReach, HasReached}
-use Rattle.anb_command.specs.Statuses.{after_reach, phase_of}
+use Rattle.anb_status.specs.Statuses.{after_reach, phase_of}
 use Rattle.anb_command.proofs.OverWire.{left_unreached, taken_unreached, written_unreached}
 use Rattle.anb_host_commands.specs.declared.hosting.TheConstants.{FRAMES}
 use Rattle.anb_host_commands.specs.Serving.{EndsSo, IsIdle, ServesOn, runs_by, status_of}

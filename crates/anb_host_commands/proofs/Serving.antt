@@ -5,9 +5,9 @@ use Rattle.anb_base.specs.Wires.{WireState}
 use Rattle.anb_code.specs.CodeValue.{CodeValue}
 use Rattle.anb_host.specs.declared.event.HostEvent.{HostEvent}
 use Rattle.anb_host.specs.HostFrames.{Tail, FramesLeft, HostFrames}
-use Rattle.anb_command.specs.declared.status.Status.{Status}
+use Rattle.anb_status.specs.declared.status.Status.{Status}
 use Rattle.anb_command.specs.Fetches.{Files, IfTold}
-use Rattle.anb_command.specs.Statuses.{before_reach, phase_of}
+use Rattle.anb_status.specs.Statuses.{before_reach, phase_of}
 use Rattle.anb_command.specs.Steps.{Answer, refused, HasOneAnswer, IsFailure}
 use Rattle.anb_command.proofs.Answering.{late, refusing}
 use Rattle.anb_command.proofs.Chains.{told_map}

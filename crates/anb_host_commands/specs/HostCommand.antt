@@ -9,13 +9,13 @@ use Rattle.anb_host.specs.declared.event.HostEvent.{HostEvent}
 use Rattle.anb_host.specs.HostFrames.{Tail, End, Part, Bad, HostFrames, out}
 use Rattle.anb_host.specs.Own.{told}
 use Rattle.anb_host.specs.Serving.{IsBegun, IsBehind, size_of, stamps}
-use Rattle.anb_resolve.specs.Plays.{IsPlay}
-use Rattle.anb_command.specs.declared.status.Status.{Status}
-use Rattle.anb_command.specs.declared.status.Status.TheVariants.{Done, FileFault, Unreached, Truncated, ReadFault, WriteFault, BadKind, Spent, NoMemory}
+use Rattle.anb_protocol.specs.Plays.{IsPlay}
+use Rattle.anb_status.specs.declared.status.Status.{Status}
+use Rattle.anb_status.specs.declared.status.Status.TheVariants.{Done, FileFault, Unreached, Truncated, ReadFault, WriteFault, BadKind, Spent, NoMemory}
 use Rattle.anb_command.specs.Fetches.{Files, IfTold}
 use Rattle.anb_command.specs.Outcomes.{IsRefused}
 use Rattle.anb_command.specs.Refusing.{IsRefusing}
-use Rattle.anb_command.specs.Statuses.{is_fault}
+use Rattle.anb_status.specs.Statuses.{is_fault}
 use Rattle.anb_command.specs.Steps.{Answer, given}
 use Rattle.anb_role_commands.specs.Jobs.{IsRead, Job, JobIs}
 use Rattle.anb_host_commands.specs.declared.hosting.TheConstants.{FRAMES}

@@ -10,8 +10,8 @@ use Rattle.anb_host.specs.declared.serving.HostEnd.TheVariants.{Ended, Truncated
 use Rattle.anb_host.specs.HostFrames.{FramesLeft, Tail}
 use Rattle.anb_host.specs.Serving.{Serves}
 use Rattle.anb_machine.specs.ByteRuns.{run_bytes}
-use Rattle.anb_command.specs.declared.status.Status.{Status}
-use Rattle.anb_command.specs.declared.status.Status.TheVariants as ended
+use Rattle.anb_status.specs.declared.status.Status.{Status}
+use Rattle.anb_status.specs.declared.status.Status.TheVariants as ended
 use Rattle.anb_host_commands.specs.declared.hosting.TheConstants.{FRAMES}
 
 -- the status of serving that ended so

@@ -7,13 +7,13 @@ ghost use Rattle.anb_host.specs.declared.event.HostEvent.{HostEvent};
 ghost use Rattle.anb_host.specs.HostFrames.{FramesLeft, Tail};
 ghost use Rattle.anb_host.specs.Hosts.{StandsFor, plays_of};
 ghost use Rattle.anb_command.specs.Causes.{HasCause, HasWireCause, NoneRose};
-ghost use Rattle.anb_command.specs.Commands.{place_by};
+ghost use Rattle.anb_words.specs.Commands.{place_by};
 ghost use Rattle.anb_command.specs.Fetches.{Fetches};
 ghost use Rattle.anb_command.specs.OverWire.{OverWire, StaysReached};
 ghost use Rattle.anb_command.specs.Reaches.{Reaches};
-ghost use Rattle.anb_command.specs.Statuses.{after_reach, before_reach, phase_of};
+ghost use Rattle.anb_status.specs.Statuses.{after_reach, before_reach, phase_of};
 ghost use Rattle.anb_command.specs.Touches.{Touches};
-ghost use Rattle.anb_command.specs.declared.status.Status.TheVariants as status;
+ghost use Rattle.anb_status.specs.declared.status.Status.TheVariants as status;
 ghost use Rattle.anb_host_commands.specs.HostCommand.{CompletesHost, DoesHost};
 ghost use Rattle.anb_host_commands.specs.Serving.{EndsSo, ServesOn, runs_by, status_of};
 

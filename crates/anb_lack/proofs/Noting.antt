@@ -15,9 +15,9 @@ use Rattle.anb_intern.specs.declared.node.NodeId.{NodeId}
 use Rattle.anb_intern.specs.Nodes.{AreBefore, AreDistinct, AreUnder, Below, operands_at}
 use Rattle.anb_intern.proofs.Nodes.{operands_stay}
 use Rattle.anb_intern.proofs.Putting.{operands_last, under_last}
-use Rattle.anb_resolve.specs.Views.{plan_event}
-use Rattle.anb_resolve.specs.declared.plans.Event.{Event}
-use Rattle.anb_certify.proofs.Deciding.{among_from, among_true}
+use Rattle.anb_protocol.specs.Views.{plan_event}
+use Rattle.anb_protocol.specs.declared.plans.Event.{Event}
+use Rattle.anb_reason.proofs.Deciding.{among_from, among_true}
 use Rattle.anb_lack.specs.declared.origins.Origin.{Origin}
 use Rattle.anb_lack.specs.Lacking.{brought, first_from}
 use Rattle.anb_lack.specs.Noted.{Grows, Has, IsNoted}

@@ -17,10 +17,10 @@ use Rattle.anb_intern.specs.declared.node.Node.{Node}
 use Rattle.anb_intern.specs.declared.node.Node.TheVariants.{Atom}
 use Rattle.anb_intern.specs.Nodes.{AreDistinct, operands_at, tree_at}
 use Rattle.anb_intern.proofs.Putting.{operands_last}
-use Rattle.anb_resolve.specs.Names.{distinct, first_new}
-use Rattle.anb_resolve.proofs.Afters.{any-append, each_after_last}
-use Rattle.anb_certify.specs.Decided.{composes, is_among}
-use Rattle.anb_certify.proofs.Flagging.{among_last as among_itself, among_other}
+use Rattle.anb_protocol.specs.Names.{distinct, first_new}
+use Rattle.anb_protocol.proofs.Afters.{any-append, each_after_last}
+use Rattle.anb_reason.specs.Decided.{composes, is_among}
+use Rattle.anb_reason.proofs.Flagging.{among_last as among_itself, among_other}
 use Rattle.anb_lack.specs.Listing.{IsListing}
 use Rattle.anb_lack.specs.Parts.{lacks, parts, parts_of_all}
 

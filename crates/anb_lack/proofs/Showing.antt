@@ -7,17 +7,17 @@ use Rattle.anb_term.specs.Tree.{Tree, leaf, node, Trees, none, more, tree_eqb}
 use Rattle.anb_term.specs.View.{tree_of}
 use Rattle.anb_term.specs.Composes.{Among, Composes}
 use Rattle.anb_algebra.specs.ByteMeaning.{has_operator}
-use Rattle.anb_resolve.specs.Choices.{each_after}
-use Rattle.anb_resolve.specs.Names.{distinct, first_new}
-use Rattle.anb_resolve.specs.Plans.{PlanEvent, to_know, to_make, to_send, to_receive, plan_of}
-use Rattle.anb_resolve.specs.Protocols.{ProtocolValue}
-use Rattle.anb_resolve.specs.Texts.{IsTermOf, AreTermsOf}
+use Rattle.anb_protocol.specs.Choices.{each_after}
+use Rattle.anb_protocol.specs.Names.{distinct, first_new}
+use Rattle.anb_protocol.specs.Plans.{PlanEvent, to_know, to_make, to_send, to_receive, plan_of}
+use Rattle.anb_protocol.specs.Protocols.{ProtocolValue}
+use Rattle.anb_protocol.specs.Texts.{IsTermOf, AreTermsOf}
 use Rattle.anb_compile.specs.Unsent.{labels_of}
-use Rattle.anb_certify.specs.declared.reasons.Refusal.{Refusal}
-use Rattle.anb_certify.specs.Decided.{composes}
-use Rattle.anb_certify.specs.Reach.{IsReason, OccursInOne}
-use Rattle.anb_certify.specs.Shut.{Occurs, OccursIn, ShutHasNone}
-use Rattle.anb_certify.proofs.Deciding.{among_all, among_true, decided, decides}
+use Rattle.anb_reason.specs.declared.reasons.Refusal.{Refusal}
+use Rattle.anb_reason.specs.Decided.{composes}
+use Rattle.anb_reason.specs.Reach.{IsReason, OccursInOne}
+use Rattle.anb_reason.specs.Shut.{Occurs, OccursIn, ShutHasNone}
+use Rattle.anb_reason.proofs.Deciding.{among_all, among_true, decided, decides}
 use Rattle.anb_lack.specs.declared.origins.Origin.{Origin}
 use Rattle.anb_lack.specs.Lacking.{brought, first_from, first_origin}
 use Rattle.anb_lack.specs.Laws.{HadIsFrom, HadIsMade, IsMade, LackingIsNotMade, MessageIsLacking}

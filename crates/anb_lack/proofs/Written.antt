@@ -7,8 +7,8 @@ use Rattle.std.proofs.lemmas.Option.{slice_get-get_or}
 use Rattle.anb_term.specs.declared.term.Term.{Term}
 use Rattle.anb_term.specs.View.{tree_of}
 use Rattle.anb_term.proofs.Lists.{slice_get-at, slice_get-map}
-use Rattle.anb_resolve.specs.Plans.{PlanEvent}
-use Rattle.anb_resolve.specs.Protocols.{ProtocolValue}
+use Rattle.anb_protocol.specs.Plans.{PlanEvent}
+use Rattle.anb_protocol.specs.Protocols.{ProtocolValue}
 use Rattle.anb_lack.specs.declared.origins.Origin.{Origin}
 use Rattle.anb_lack.specs.Lacking.{first_origin, had_line, origin_line}
 

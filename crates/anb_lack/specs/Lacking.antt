@@ -3,11 +3,11 @@ use Rattle.std.specs.Prelude.{◌≡◌, ℕ, List, [], ◌∷◌, ◌++◌, cod
 use Rattle.std.specs.List.{flat_map}
 use Rattle.anb_term.specs.Tree.{Tree}
 use Rattle.anb_term.specs.View.{tree_of}
-use Rattle.anb_resolve.specs.Plans.{PlanEvent, to_know, to_make, to_send, to_receive}
-use Rattle.anb_resolve.specs.Protocols.{ProtocolValue}
-use Rattle.anb_resolve.specs.Texts.{term_text}
-use Rattle.anb_certify.specs.declared.reasons.Refusal.{Refusal}
-use Rattle.anb_certify.specs.Reach.{IsReason}
+use Rattle.anb_protocol.specs.Plans.{PlanEvent, to_know, to_make, to_send, to_receive}
+use Rattle.anb_protocol.specs.Protocols.{ProtocolValue}
+use Rattle.anb_protocol.specs.Texts.{term_text}
+use Rattle.anb_reason.specs.declared.reasons.Refusal.{Refusal}
+use Rattle.anb_reason.specs.Reach.{IsReason}
 use Rattle.anb_lack.specs.declared.origins.Origin.{Origin}
 use Rattle.anb_lack.specs.declared.origins.Origin.TheVariants.{Known, Made, Received}
 use Rattle.anb_lack.specs.Parts.{is_part, lacking}

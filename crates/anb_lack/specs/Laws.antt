@@ -5,10 +5,10 @@ use Rattle.anb_term.specs.Agree.{HasRecipe}
 use Rattle.anb_term.specs.Tree.{Tree}
 use Rattle.anb_term.specs.View.{tree_of}
 use Rattle.anb_algebra.specs.ByteMeaning.{has_operator}
-use Rattle.anb_resolve.specs.Protocols.{ProtocolValue}
+use Rattle.anb_protocol.specs.Protocols.{ProtocolValue}
 use Rattle.anb_compile.specs.Unsent.{labels_of}
-use Rattle.anb_certify.specs.declared.reasons.Refusal.{Refusal}
-use Rattle.anb_certify.specs.Reach.{IsReason}
+use Rattle.anb_reason.specs.declared.reasons.Refusal.{Refusal}
+use Rattle.anb_reason.specs.Reach.{IsReason}
 use Rattle.anb_lack.specs.declared.origins.Origin.{Origin}
 use Rattle.anb_lack.specs.Lacking.{first_origin}
 use Rattle.anb_lack.specs.Parts.{lacking}

@@ -1,8 +1,8 @@
 -- For proofs alone: parts that are listed, each once.
 use Rattle.std.specs.Prelude.{◌≡◌, ◌||◌, ℕ, List, filter, slice_get, Some, Bool}
 use Rattle.anb_term.specs.Tree.{Tree, tree_eqb}
-use Rattle.anb_resolve.specs.Names.{distinct}
-use Rattle.anb_certify.specs.Decided.{composes, is_among}
+use Rattle.anb_protocol.specs.Names.{distinct}
+use Rattle.anb_reason.specs.Decided.{composes, is_among}
 use Rattle.anb_lack.specs.Parts.{lacks}
 
 -- The flags tell of each term whether it composes, or is one of the lacking among those that were seen;

@@ -1,8 +1,8 @@
 -- The parts of a term, and which of them don't compose from other terms.
 use Rattle.std.specs.Prelude.{List, [], ◌∷◌, ◌++◌, filter, Bool, not}
 use Rattle.anb_term.specs.Tree.{Tree, leaf, node, Trees, none, more, tree_eqb}
-use Rattle.anb_resolve.specs.Names.{distinct}
-use Rattle.anb_certify.specs.Decided.{is_among, composes}
+use Rattle.anb_protocol.specs.Names.{distinct}
+use Rattle.anb_reason.specs.Decided.{is_among, composes}
 
 abbrev mutual
   -- a term and all that it is made of, outside first, from left to right

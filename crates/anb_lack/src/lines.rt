@@ -2,15 +2,15 @@
 ghost use Rattle.std.specs.Prelude.{◌≡◌, ◌++◌, List, OnOk, codes, decimal, length, map};
 ghost use Rattle.std.specs.List.{AllByRecursion, flat_map};
 ghost use Rattle.anb_term.specs.View.{tree_of};
-ghost use Rattle.anb_resolve.specs.Plans.{PlanEvent};
-ghost use Rattle.anb_resolve.specs.Texts.{IsTermOf};
+ghost use Rattle.anb_protocol.specs.Plans.{PlanEvent};
+ghost use Rattle.anb_protocol.specs.Texts.{IsTermOf};
 ghost use Rattle.anb_lack.specs.Lacking.{first_origin, had_line, had_text, lacking_line};
 ghost use Rattle.anb_lack.specs.Lacking.{lacking_text, origin_line, origin_text, refused_line};
 
 use crate::origins::Origin;
 use anb_base::{NoMemory, Text};
-use anb_certify::Refusal;
-use anb_resolve::Protocol;
+use anb_protocol::Protocol;
+use anb_reason::Refusal;
 use anb_term::Term;
 use itoa::Buffer;
 use std::alloc::Global;

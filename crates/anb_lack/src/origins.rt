@@ -2,13 +2,13 @@
 ghost use Rattle.std.specs.Prelude.{◌≡◌, [], ◌∷◌, List, Some, length, map, slice_get, IfOk, MatchOption, OnOk};
 ghost use Rattle.std.specs.List.{flat_map};
 ghost use Rattle.anb_term.specs.View.{tree_of};
-ghost use Rattle.anb_resolve.specs.Views.{plan_event};
+ghost use Rattle.anb_protocol.specs.Views.{plan_event};
 ghost use Rattle.anb_lack.specs.Lacking.{brought, first_from, first_origin};
 ghost use Rattle.anb_lack.specs.Noted.{IsNoted};
 
 use anb_base::NoMemory;
 use anb_intern::{Node, NodeId, Pool};
-use anb_resolve::Event;
+use anb_protocol::Event;
 use anb_term::Term;
 use std::alloc::Global;
 
@@ -92,7 +92,7 @@ impl Noted {
     ghost use Rattle.anb_term.specs.Composes.{Among};
     ghost use Rattle.anb_term.specs.View.{tree_of};
     ghost use Rattle.anb_intern.specs.Nodes.{operands_at, AreUnder, IsOver, tree_at};
-    ghost use Rattle.anb_resolve.specs.Views.{plan_event};
+    ghost use Rattle.anb_protocol.specs.Views.{plan_event};
     ghost use Rattle.anb_lack.specs.Lacking.{brought, first_from};
     ghost use Rattle.anb_lack.specs.Noted.{Grows, IsNoted};
     ghost use Rattle.anb_lack.specs.Parts.{parts, parts_of_all};

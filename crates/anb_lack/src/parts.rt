@@ -3,14 +3,14 @@ ghost use Rattle.std.specs.Prelude.{◌≡◌, ◌<◌, ◌++◌, ◌∷◌, [],
 ghost use Rattle.anb_term.specs.Tree.{Tree, tree_eqb, trees_of};
 ghost use Rattle.anb_term.specs.View.{tree_of};
 ghost use Rattle.anb_intern.specs.Nodes.{operands_at, AreUnder};
-ghost use Rattle.anb_resolve.specs.Names.{distinct};
-ghost use Rattle.anb_certify.specs.Decided.{composes};
+ghost use Rattle.anb_protocol.specs.Names.{distinct};
+ghost use Rattle.anb_reason.specs.Decided.{composes};
 ghost use Rattle.anb_lack.specs.Listing.{IsListing};
 ghost use Rattle.anb_lack.specs.Parts.{lacking, lacks, parts, parts_of_all};
 
 use anb_base::NoMemory;
-use anb_certify::{composing, marks, put_all};
 use anb_intern::{Node, NodeId, Pool};
+use anb_reason::{composing, marks, put_all};
 use anb_term::Term;
 use std::alloc::Global;
 

@@ -2,17 +2,17 @@
 ghost use Rattle.std.specs.Prelude.{◌≡◌, ◌++◌, IfOk, MatchOption, OnOk, map};
 ghost use Rattle.std.specs.List.{AllByRecursion};
 ghost use Rattle.anb_term.specs.View.{tree_of};
-ghost use Rattle.anb_resolve.specs.Plays.{IsSendable};
-ghost use Rattle.anb_resolve.specs.Texts.{IsTermOf};
-ghost use Rattle.anb_certify.specs.Reach.{IsReason};
+ghost use Rattle.anb_protocol.specs.Plays.{IsSendable};
+ghost use Rattle.anb_protocol.specs.Texts.{IsTermOf};
+ghost use Rattle.anb_reason.specs.Reach.{IsReason};
 ghost use Rattle.anb_lack.specs.Lacking.{IsLackText};
 
 use crate::lines::{put_had, put_lacking, put_refused};
 use crate::origins::origins;
 use crate::parts::lacking;
 use anb_base::{Bytes, NoMemory};
-use anb_certify::{Refusal, reason};
-use anb_resolve::Protocol;
+use anb_protocol::Protocol;
+use anb_reason::{Refusal, reason};
 use std::alloc::Global;
 
 /// What the sender of the first message that can't be sent lacks, or None where each role can send what

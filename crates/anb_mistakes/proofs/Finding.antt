@@ -11,7 +11,7 @@ use Rattle.anb_syntax.specs.declared.tokens.Next.TheVariants as next
 use Rattle.anb_syntax.specs.declared.tokens.Token.{Token}
 use Rattle.anb_syntax.proofs.Unique.{lexes_once}
 use Rattle.anb_syntax.specs.Grammar.{Narration}
-use Rattle.anb_resolve.specs.declared.refusals.ResolveNo.{ResolveNo}
+use Rattle.anb_protocol.specs.declared.refusals.ResolveNo.{ResolveNo}
 use Rattle.anb_read.proofs.Lexed.{lexed_end, lexed_bad}
 use Rattle.anb_mistakes.specs.Mends.{mend}
 use Rattle.anb_mistakes.specs.Pointing.{pointed}

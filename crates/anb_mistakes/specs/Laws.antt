@@ -1,7 +1,7 @@
 -- What holds of the texts that are written.
 use Rattle.std.specs.Prelude.{◌≡◌, ℕ, List}
 use Rattle.anb_read.specs.declared.refusal.ReadNo.{ReadNo}
-use Rattle.anb_resolve.specs.declared.refusals.ResolveNo.{ResolveNo}
+use Rattle.anb_protocol.specs.declared.refusals.ResolveNo.{ResolveNo}
 use Rattle.anb_syntax.specs.Grammar.{Narration}
 use Rattle.anb_mistakes.specs.Unread.{IsUnreadText}
 use Rattle.anb_mistakes.specs.Unresolved.{IsUnresolvedText}

@@ -10,10 +10,10 @@ use Rattle.anb_syntax.specs.Canon.{word_bytes}
 use Rattle.anb_syntax.specs.Grammar.{FormatItem, Narration, TypeItem}
 use Rattle.anb_syntax.specs.Words.{Tok, literal, sort_word, tail}
 use Rattle.anb_syntax.specs.declared.narration.Sort.{Sort}
-use Rattle.anb_resolve.specs.declared.refusals.Kind.{Kind}
-use Rattle.anb_resolve.specs.declared.refusals.Kind.TheVariants as kind
-use Rattle.anb_resolve.specs.declared.refusals.ResolveNo.{ResolveNo}
-use Rattle.anb_resolve.specs.declared.refusals.ResolveNo.TheVariants as resolving
+use Rattle.anb_protocol.specs.declared.refusals.Kind.{Kind}
+use Rattle.anb_protocol.specs.declared.refusals.Kind.TheVariants as kind
+use Rattle.anb_protocol.specs.declared.refusals.ResolveNo.{ResolveNo}
+use Rattle.anb_protocol.specs.declared.refusals.ResolveNo.TheVariants as resolving
 use Rattle.anb_mistakes.specs.Items.{is_format, pieces_of, sort_of}
 use Rattle.anb_mistakes.specs.Spots.{arguments}
 

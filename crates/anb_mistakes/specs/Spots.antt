@@ -7,11 +7,11 @@ use Rattle.anb_format.specs.Formats.{field_count}
 use Rattle.anb_syntax.specs.declared.narration.Sort.{Sort}
 use Rattle.anb_syntax.specs.declared.narration.Sort.TheVariants.{Agent}
 use Rattle.anb_mistakes.specs.Items.{is_format, pieces_of, sort_of}
-use Rattle.anb_resolve.specs.declared.refusals.Item.TheVariants.{Know, Action}
-use Rattle.anb_resolve.specs.declared.refusals.Kind.{Kind}
-use Rattle.anb_resolve.specs.declared.refusals.Kind.TheVariants as kind
-use Rattle.anb_resolve.specs.declared.refusals.ResolveNo.{ResolveNo}
-use Rattle.anb_resolve.specs.declared.refusals.ResolveNo.TheVariants as resolving
+use Rattle.anb_protocol.specs.declared.refusals.Item.TheVariants.{Know, Action}
+use Rattle.anb_protocol.specs.declared.refusals.Kind.{Kind}
+use Rattle.anb_protocol.specs.declared.refusals.Kind.TheVariants as kind
+use Rattle.anb_protocol.specs.declared.refusals.ResolveNo.{ResolveNo}
+use Rattle.anb_protocol.specs.declared.refusals.ResolveNo.TheVariants as resolving
 use Rattle.anb_mistakes.specs.declared.spots.Follower.{Follower}
 
 -- the tokens of a text, but for what stands behind the last

@@ -2,7 +2,7 @@
 use Rattle.std.specs.Prelude.{◌≡◌, ℕ, List, length, min}
 use Rattle.anb_syntax.specs.Grammar.{Narration}
 use Rattle.anb_syntax.specs.Words.{Tok, place}
-use Rattle.anb_resolve.specs.declared.refusals.ResolveNo.{ResolveNo}
+use Rattle.anb_protocol.specs.declared.refusals.ResolveNo.{ResolveNo}
 use Rattle.anb_mistakes.specs.Mends.{mend}
 use Rattle.anb_mistakes.specs.Pointing.{pointed}
 use Rattle.anb_mistakes.specs.Spots.{HasTokens, spot}

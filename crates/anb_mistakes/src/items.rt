@@ -3,7 +3,7 @@ ghost use Rattle.std.specs.Prelude.{◌≡◌, ◌≤◌, ◌||◌, List, ℕ, b
 ghost use Rattle.anb_index.specs.Places.{among};
 ghost use Rattle.anb_format.specs.Formats.{field_count};
 ghost use Rattle.anb_syntax.specs.Views.{format_of, type_of};
-ghost use Rattle.anb_resolve.specs.Checks.{names_format};
+ghost use Rattle.anb_protocol.specs.Checks.{names_format};
 ghost use Rattle.anb_mistakes.specs.Items.{is_format, pieces_of, sort_of};
 
 use anb_base::Text;

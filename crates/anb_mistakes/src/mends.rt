@@ -9,7 +9,7 @@ use crate::pointing::put;
 use crate::tokens::{arguments, others};
 use anb_base::{NoMemory, Text};
 use anb_format::{FormatNo, Piece};
-use anb_resolve::{Kind, ResolveNo};
+use anb_protocol::{Kind, ResolveNo};
 use anb_syntax::{FormatItem, Narration, Sort, Token, TypeItem, put_piece};
 use itoa::Buffer;
 use std::alloc::Global;

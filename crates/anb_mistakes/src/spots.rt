@@ -7,7 +7,7 @@ ghost use Rattle.anb_mistakes.specs.Spots.{a_format, a_line, a_sender, action as
 
 use crate::items::{field_count, is_format, pieces_of, sort_of};
 use crate::tokens::{arguments, begins, is_word, others};
-use anb_resolve::{Item, Kind, ResolveNo};
+use anb_protocol::{Item, Kind, ResolveNo};
 use anb_syntax::{Narration, Sort, Token, TokenKind};
 
 /// What stands behind a name that is sought: a colon, an arrow, an opening sign, an equals sign, or

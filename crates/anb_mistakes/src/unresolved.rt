@@ -10,7 +10,7 @@ use crate::pointing::pointed;
 use crate::spots::spot;
 use crate::tokens::tokens;
 use anb_base::{Bytes, NoMemory, Text};
-use anb_resolve::ResolveNo;
+use anb_protocol::ResolveNo;
 use anb_syntax::{Narration, Token};
 use std::alloc::Global;
 

@@ -7,11 +7,11 @@ use Rattle.anb_frame.specs.Cuts.{Tail, Cut, CutLeft}
 use Rattle.anb_park.specs.Records.{after}
 use Rattle.anb_plays.specs.Plays.{Played}
 use Rattle.anb_session.specs.Sessions.{IsPrompt}
-use Rattle.anb_command.specs.declared.status.Status.{Status}
-use Rattle.anb_command.specs.declared.status.Status.TheVariants.{Parked}
+use Rattle.anb_status.specs.declared.status.Status.{Status}
+use Rattle.anb_status.specs.declared.status.Status.TheVariants.{Parked}
 use Rattle.anb_command.specs.Fetches.{Files, IfTold}
 use Rattle.anb_command.specs.Outcomes.{IsInTime}
-use Rattle.anb_command.specs.Statuses.{before_reach, phase_of}
+use Rattle.anb_status.specs.Statuses.{before_reach, phase_of}
 use Rattle.anb_command.specs.Steps.{Answer, refused, given, HasOneAnswer, IsFailure}
 use Rattle.anb_command.proofs.Answering.{late, refusing}
 use Rattle.anb_command.proofs.Cutting.{bytes_in_cut}

@@ -9,12 +9,12 @@ use Rattle.std.proofs.lemmas.List.Elements.{All-head, All-tail}
 use Rattle.anb_frame.specs.Frames.{frame, frames, length_bytes}
 use Rattle.anb_frame.proofs.Lengths.{length-length_bytes}
 use Rattle.anb_term.specs.Tree.{Tree, leaf, node, tree_size, nodes}
-use Rattle.anb_resolve.specs.Choices.{each_after}
-use Rattle.anb_resolve.specs.Laws.{HoldsOf}
-use Rattle.anb_resolve.specs.Plans.{PlanEvent, to_know, to_make, to_send, to_receive, events_at, made, messages, own_events, plan_of}
-use Rattle.anb_resolve.specs.Plays.{event_of, events_of}
-use Rattle.anb_resolve.specs.Protocols.{ActionValue, ProtocolValue}
-use Rattle.anb_resolve.specs.Texts.{known_by, known_terms, known_texts, term_text}
+use Rattle.anb_protocol.specs.Choices.{each_after}
+use Rattle.anb_protocol.specs.Laws.{HoldsOf}
+use Rattle.anb_protocol.specs.Plans.{PlanEvent, to_know, to_make, to_send, to_receive, events_at, made, messages, own_events, plan_of}
+use Rattle.anb_protocol.specs.Plays.{event_of, events_of}
+use Rattle.anb_protocol.specs.Protocols.{ActionValue, ProtocolValue}
+use Rattle.anb_protocol.specs.Texts.{known_by, known_terms, known_texts, term_text}
 use Rattle.anb_park_commands.proofs.Walking.{count_receives}
 
 -- ---- frames

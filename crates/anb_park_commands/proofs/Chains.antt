@@ -5,11 +5,11 @@ use Rattle.anb_base.specs.Bytes.{IsBytes}
 use Rattle.anb_code.specs.CodeValue.{CodeValue}
 use Rattle.anb_compile.specs.Fitting.{FitsRole}
 use Rattle.anb_park.specs.Records.{Parked}
-use Rattle.anb_resolve.specs.Protocols.{ProtocolValue}
+use Rattle.anb_protocol.specs.Protocols.{ProtocolValue}
 use Rattle.anb_syntax.specs.Grammar.{Narration}
 use Rattle.anb_command.specs.declared.limits.TheConstants.{RECORD_LIMIT}
-use Rattle.anb_command.specs.declared.status.Status.{Status}
-use Rattle.anb_command.specs.declared.status.Status.TheVariants.{FileLong}
+use Rattle.anb_status.specs.declared.status.Status.{Status}
+use Rattle.anb_status.specs.declared.status.Status.TheVariants.{FileLong}
 use Rattle.anb_command.specs.Errands.{ErrandOf}
 use Rattle.anb_command.specs.Fetches.{Files, IfTold}
 use Rattle.anb_command.specs.Files.{FileIs, HasLonger, NarrationInFile}

@@ -6,11 +6,11 @@ use Rattle.anb_base.specs.declared.TheConstants.{ARRIVAL}
 use Rattle.anb_frame.specs.Cuts.{Tail, Cut}
 use Rattle.anb_plays.specs.Plays as plays
 use Rattle.anb_plays.specs.Plays.{Played}
-use Rattle.anb_command.specs.declared.status.Status.{Status}
-use Rattle.anb_command.specs.declared.status.Status.TheVariants.{Done, NoMemory}
-use Rattle.anb_command.specs.declared.status.Status.TheVariants as status
+use Rattle.anb_status.specs.declared.status.Status.{Status}
+use Rattle.anb_status.specs.declared.status.Status.TheVariants.{Done, NoMemory}
+use Rattle.anb_status.specs.declared.status.Status.TheVariants as status
 use Rattle.anb_command.specs.Fetches.{Files, IfTold}
-use Rattle.anb_command.specs.Statuses.{is_fault}
+use Rattle.anb_status.specs.Statuses.{is_fault}
 use Rattle.anb_command.specs.Steps.{Answer, refused, given, HasOneAnswer, IsFailure}
 use Rattle.anb_command.proofs.Cutting.{bytes_in_cut}
 use Rattle.anb_command.proofs.Ones.{not_both, same_given}

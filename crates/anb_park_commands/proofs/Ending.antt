@@ -9,10 +9,10 @@ use Rattle.anb_frame.specs.Cuts.{Tail, End, Short, Long, Cut}
 use Rattle.anb_plays.specs.Plays as plays
 use Rattle.anb_plays.specs.Plays.{Played}
 use Rattle.anb_session.specs.Sessions.{Reads}
-use Rattle.anb_command.specs.declared.status.Status.{Status}
-use Rattle.anb_command.specs.declared.status.Status.TheVariants.{FileFault, Unreached, ReadFault, WriteFault, NoMemory}
+use Rattle.anb_status.specs.declared.status.Status.{Status}
+use Rattle.anb_status.specs.declared.status.Status.TheVariants.{FileFault, Unreached, ReadFault, WriteFault, NoMemory}
 use Rattle.anb_command.specs.Outcomes.{LeavesAt}
-use Rattle.anb_command.specs.Statuses.{is_fault}
+use Rattle.anb_status.specs.Statuses.{is_fault}
 use Rattle.anb_command.specs.Steps.{Answer, refused, given, HasOneAnswer, IsFailure}
 use Rattle.anb_command.proofs.Cutting.{bytes_in_cut, bytes_taken}
 use Rattle.anb_command.proofs.Ones.{RefusesQuietly, not_both, same_given, same_refusal}

@@ -18,11 +18,11 @@ use Rattle.anb_plays.specs.Plays.{Run}
 use Rattle.anb_session.specs.Sessions.{IsPrompt, Runs, due_at}
 use Rattle.anb_session.specs.declared.PlayEnd.{PlayEnd}
 use Rattle.anb_session.specs.declared.PlayEnd.TheVariants as ends
-use Rattle.anb_command.specs.declared.status.Status.{Status}
-use Rattle.anb_command.specs.declared.status.Status.TheVariants as ended
+use Rattle.anb_status.specs.declared.status.Status.{Status}
+use Rattle.anb_status.specs.declared.status.Status.TheVariants as ended
 use Rattle.anb_command.specs.Causes.{HasWireCause}
 use Rattle.anb_command.specs.OverWire.{HasReached, OnlyWrites, StaysReached}
-use Rattle.anb_command.specs.Statuses.{after_reach, phase_of}
+use Rattle.anb_status.specs.Statuses.{after_reach, phase_of}
 use Rattle.anb_park_commands.specs.Going.{IsKept, ParksOn, ParksTo, Writes, begun, ended_so, plays_on}
 use Rattle.anb_park_commands.proofs.Written.{kept_to, parks_to}
 

@@ -6,9 +6,9 @@ use Rattle.anb_park.specs.Records.{Accepts, HasSizes, IsNoBody, IsWaiting, Parke
 use Rattle.anb_park.specs.declared.resuming.ParkNo.{ParkNo}
 use Rattle.anb_park.specs.declared.resuming.ParkNo.TheVariants.{Damaged, Body, Other, NotWaiting, NoMemory}
 use Rattle.anb_park.proofs.Bodies.{not_refused, one_cause, records_apart}
-use Rattle.anb_resolve.specs.Protocols.{ProtocolValue}
+use Rattle.anb_protocol.specs.Protocols.{ProtocolValue}
 use Rattle.anb_seal.specs.Laws.{GivesBytes, UnsealsExactly}
-use Rattle.anb_command.specs.declared.status.Status.TheVariants.{BadRecord}
+use Rattle.anb_status.specs.declared.status.Status.TheVariants.{BadRecord}
 use Rattle.anb_command.specs.Steps.{refused, given, HasOneAnswer, IsFailure}
 use Rattle.anb_command.proofs.Ones.{RefusesQuietly, quiet_as}
 use Rattle.anb_park_commands.specs.Going.{HaveBytes, RunsRole, status_of}

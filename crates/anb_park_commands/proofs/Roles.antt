@@ -13,8 +13,8 @@ use Rattle.anb_park.specs.Records.{IsWaiting, Parked, after, body_of, count_take
 use Rattle.anb_plays.specs.Plays.{Played}
 use Rattle.anb_plays.specs.Runs.{no_place, without_place}
 use Rattle.anb_plays.proofs.Runs.{waiting_placeless}
-use Rattle.anb_resolve.specs.Protocols.{ProtocolValue}
-use Rattle.anb_resolve.specs.Texts.{known_by, term_text}
+use Rattle.anb_protocol.specs.Protocols.{ProtocolValue}
+use Rattle.anb_protocol.specs.Texts.{known_by, term_text}
 use Rattle.anb_seal.specs.Laws.{GivesBytes, UnsealsExactly}
 use Rattle.anb_seal.specs.Primitives.{sealed}
 use Rattle.anb_command.proofs.Cutting.{bytes_in_frames}

@@ -17,11 +17,11 @@ use Rattle.anb_plays.specs.Plays as plays
 use Rattle.anb_plays.specs.Plays.{Played}
 use Rattle.anb_plays.proofs.Plays.{plays_are_one}
 use Rattle.anb_read.specs.Laws.{NarrationsAreUnique, NoneIsBoth, RefusalsAreUnique}
-use Rattle.anb_resolve.specs.Laws.{KnownTextsDiffer, ProtocolsHold}
-use Rattle.anb_resolve.specs.Plays.{events_of, meaning_of}
-use Rattle.anb_resolve.specs.Protocols.{ProtocolValue}
-use Rattle.anb_resolve.specs.Texts.{known_texts}
-use Rattle.anb_resolve.specs.WellFormed.{IsProtocol}
+use Rattle.anb_protocol.specs.Laws.{KnownTextsDiffer, ProtocolsHold}
+use Rattle.anb_protocol.specs.Plays.{events_of, meaning_of}
+use Rattle.anb_protocol.specs.Protocols.{ProtocolValue}
+use Rattle.anb_protocol.specs.Texts.{known_texts}
+use Rattle.anb_protocol.specs.WellFormed.{IsProtocol}
 use Rattle.anb_seal.specs.Laws.{SealsLonger}
 use Rattle.anb_seal.specs.Streams.{draw_of}
 use Rattle.anb_syntax.specs.Canon.{canon}
@@ -30,15 +30,15 @@ use Rattle.anb_values.specs.Fit.{Fit, FitIsUnique}
 use Rattle.anb_values.specs.declared.fitted.Fitted.{Fitted}
 use Rattle.anb_values.proofs.Sizes.{entries_fit, values_fit}
 use Rattle.anb_command.specs.declared.limits.TheConstants.{KEY_LIMIT, RECORD_LIMIT, VALUES_LIMIT}
-use Rattle.anb_command.specs.declared.status.Status.{Status}
-use Rattle.anb_command.specs.declared.status.Status.TheVariants as status
+use Rattle.anb_status.specs.declared.status.Status.{Status}
+use Rattle.anb_status.specs.declared.status.Status.TheVariants as status
 use Rattle.anb_command.specs.Fetches.{Files}
 use Rattle.anb_command.specs.Files.{FileIs, NarrationInFile, NarrationIs, ProtocolInFile, ProtocolIs}
 use Rattle.anb_command.specs.Outcomes as playing
 use Rattle.anb_command.specs.Outcomes.{LeavesAt}
 use Rattle.anb_command.specs.Roles.{Part, PartInFile, PartOf}
 use Rattle.anb_command.specs.Seeds.{seed_of}
-use Rattle.anb_command.specs.Statuses.{before_reach, phase_of}
+use Rattle.anb_status.specs.Statuses.{before_reach, phase_of}
 use Rattle.anb_command.specs.Steps.{Answer, refused, given, InTurn}
 use Rattle.anb_command.proofs.Cutting.{cut_behind}
 use Rattle.anb_command.proofs.Given.{fit_count, fit_seed, fit_short}
@@ -373,8 +373,7 @@ module _ (narrations : NarrationsAreUnique) (refusals : RefusalsAreUnique) (none
       is s out rest (bs, tail, cut, inr (asked, asks, it)) =
           let same = same_session r finds asked asks in
           let q = it.play in
-          let goes : GoesOn session bs q = subst (λ (a : RoleSession). GoesOn a bs q) same it.plays in
-          (
+          let goes : GoesOn session bs q = subst (λ (a : RoleSession). GoesOn a bs q) same it.plays in (
             playing.status_at q.end tail,
             frames q.sent,
             subst (λ (o : List ℕ). EndsAs (playing.status_at q.end tail) (frames q.sent) s o) (sym it.writes)
@@ -411,8 +410,7 @@ module _ (narrations : NarrationsAreUnique) (refusals : RefusalsAreUnique) (none
             was = st.it_plays;
             plays = subst (λ (p : Played (List ℕ)). PlayOf st.job (st.arrivals ++ bs) p) (ap (λ (l : List (List ℕ)). made l w.end w.left) went.sent) plays_it;
           } in
-          let kept_now = record_after session bs in
-          (
+          let kept_now = record_after session bs in (
             status_at w.end tail,
             frames went.later,
             frames (due q tail kept_now),
@@ -491,8 +489,7 @@ module _ (narrations : NarrationsAreUnique) (refusals : RefusalsAreUnique) (none
     is s out rest (bs, tail, cut, inr (asked, asks, it)) =
         let (job, other, id, job_asks, also, id_is, same) = session_is asked asks in
         let q = it.play in
-        let plays_it : PlayOf job bs q = subst (λ (a : RoleSession). Begins a bs q) same it.plays in
-        (
+        let plays_it : PlayOf job bs q = subst (λ (a : RoleSession). Begins a bs q) same it.plays in (
           playing.status_at q.end tail,
           frames q.sent,
           subst (λ (o : List ℕ). EndsAs (playing.status_at q.end tail) (frames q.sent) s o) (sym it.writes)
@@ -515,8 +512,7 @@ module _ (narrations : NarrationsAreUnique) (refusals : RefusalsAreUnique) (none
         let id = identity of.n name in
         let s : RoleSession = record { protocol = job.protocol; role = job.role; parked = started id job.initial job.seed 0; key = secret } in
         let q = it.play in
-        let kept_now = record_after s bs in
-        (
+        let kept_now = record_after s bs in (
           status_at q.end tail,
           frames q.sent,
           frames (due q tail kept_now),

@@ -14,8 +14,8 @@ use Rattle.anb_plays.specs.Runs.{no_place, without_place}
 use Rattle.anb_session.specs.Sessions.{Reads, Runs, end_at}
 use Rattle.anb_session.specs.declared.PlayEnd.{PlayEnd}
 use Rattle.anb_session.specs.declared.PlayEnd.TheVariants as ends
-use Rattle.anb_command.specs.declared.status.Status.{Status}
-use Rattle.anb_command.specs.declared.status.Status.TheVariants as ended
+use Rattle.anb_status.specs.declared.status.Status.{Status}
+use Rattle.anb_status.specs.declared.status.Status.TheVariants as ended
 use Rattle.anb_command.proofs.Runs.{reads_untold}
 use Rattle.anb_park_commands.specs.Going.{ParksTo, Writes, ended_so}
 use Rattle.anb_park_commands.specs.Parking.{due, is_parked, status_at}

@@ -15,16 +15,16 @@ use Rattle.anb_park.specs.declared.resuming.ParkNo.TheVariants as cause
 use Rattle.anb_plays.specs.Plays.{Played}
 use Rattle.anb_plays.specs.Runs.{without_place}
 use Rattle.anb_machine.specs.Machines.{gives}
-use Rattle.anb_resolve.specs.Protocols.{ProtocolValue}
+use Rattle.anb_protocol.specs.Protocols.{ProtocolValue}
 use Rattle.anb_session.specs.Sessions.{Reads}
 use Rattle.anb_session.specs.declared.PlayEnd.{PlayEnd}
 use Rattle.anb_session.specs.declared.PlayEnd.TheVariants.{Done, Stopped, Waiting, Truncated, TooLarge}
 use Rattle.anb_session.specs.declared.PlayEnd.TheVariants as faults
 use Rattle.anb_syntax.specs.Grammar.{Narration}
 use Rattle.anb_command.specs.declared.limits.TheConstants.{RECORD_LIMIT}
-use Rattle.anb_command.specs.declared.status.Status.{Status}
-use Rattle.anb_command.specs.declared.status.Status.TheVariants.{Unreached, ReadFault, WriteFault, NoMemory}
-use Rattle.anb_command.specs.declared.status.Status.TheVariants as ended
+use Rattle.anb_status.specs.declared.status.Status.{Status}
+use Rattle.anb_status.specs.declared.status.Status.TheVariants.{Unreached, ReadFault, WriteFault, NoMemory}
+use Rattle.anb_status.specs.declared.status.Status.TheVariants as ended
 use Rattle.anb_command.specs.Fetches.{Files}
 use Rattle.anb_command.specs.Files.{FileIs, ProtocolIs}
 use Rattle.anb_command.specs.Prepared.{RunsTo}

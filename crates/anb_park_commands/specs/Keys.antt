@@ -2,7 +2,7 @@
 use Rattle.std.specs.Prelude.{◌≡◌, ℕ, List, [], ◌∷◌}
 use Rattle.anb_park.specs.declared.resuming.ParkNo.TheVariants.{Damaged}
 use Rattle.anb_command.specs.declared.limits.TheConstants.{KEY_LIMIT}
-use Rattle.anb_command.specs.declared.status.Status.TheVariants.{BadRecord}
+use Rattle.anb_status.specs.declared.status.Status.TheVariants.{BadRecord}
 use Rattle.anb_command.specs.Fetches.{Files}
 use Rattle.anb_command.specs.Files.{FileIs}
 use Rattle.anb_command.specs.Steps.{Answer, refused, InTurn, AnswersWith}

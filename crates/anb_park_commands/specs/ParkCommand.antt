@@ -2,7 +2,7 @@
 use Rattle.std.specs.Prelude.{◌≡◌, ◌⊎◌, ℕ, List, Option}
 use Rattle.anb_base.specs.Wires.{WireState}
 use Rattle.anb_park.specs.Lives.{started}
-use Rattle.anb_command.specs.declared.status.Status.{Status}
+use Rattle.anb_status.specs.declared.status.Status.{Status}
 use Rattle.anb_command.specs.Fetches.{Files}
 use Rattle.anb_command.specs.Steps.{Answer, given, InTurn, AnswersWith}
 use Rattle.anb_role_commands.specs.Jobs.{IsRead, Job, JobIs}

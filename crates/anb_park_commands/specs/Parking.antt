@@ -10,13 +10,13 @@ use Rattle.anb_frame.specs.Cuts.{Tail, End, Cut}
 use Rattle.anb_park.specs.Records.{after, record_of}
 use Rattle.anb_plays.specs.Plays as plays
 use Rattle.anb_plays.specs.Plays.{Played}
-use Rattle.anb_command.specs.declared.status.Status.{Status}
-use Rattle.anb_command.specs.declared.status.Status.TheVariants.{Done, Parked, WriteFault, NoMemory}
+use Rattle.anb_status.specs.declared.status.Status.{Status}
+use Rattle.anb_status.specs.declared.status.Status.TheVariants.{Done, Parked, WriteFault, NoMemory}
 use Rattle.anb_command.specs.Fetches.{Files, IfTold}
 use Rattle.anb_command.specs.Outcomes as playing
 use Rattle.anb_command.specs.Outcomes.{IsInTime, IsRefused, LeavesAt}
 use Rattle.anb_command.specs.Refusing.{IsRefusing}
-use Rattle.anb_command.specs.Statuses.{is_fault}
+use Rattle.anb_status.specs.Statuses.{is_fault}
 use Rattle.anb_command.specs.Steps.{Answer, given}
 use Rattle.anb_park_commands.specs.Records.{RecordIs}
 use Rattle.anb_park_commands.specs.Sessions.{RoleSession}

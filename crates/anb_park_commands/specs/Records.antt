@@ -3,8 +3,8 @@ use Rattle.std.specs.Prelude.{◌≡◌, ◌≢◌, ℕ, List}
 use Rattle.anb_park.specs.Records.{Parked, Accepts, Refuses}
 use Rattle.anb_park.specs.declared.resuming.ParkNo.{ParkNo}
 use Rattle.anb_park.specs.declared.resuming.ParkNo.TheVariants as cause
-use Rattle.anb_resolve.specs.Protocols.{ProtocolValue}
-use Rattle.anb_command.specs.declared.status.Status.TheVariants.{BadRecord}
+use Rattle.anb_protocol.specs.Protocols.{ProtocolValue}
+use Rattle.anb_status.specs.declared.status.Status.TheVariants.{BadRecord}
 use Rattle.anb_command.specs.Steps.{Answer, refused, given}
 use Rattle.anb_park_commands.specs.Sessions.{WaitsIn, count_known}
 

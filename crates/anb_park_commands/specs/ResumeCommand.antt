@@ -2,7 +2,7 @@
 -- it waits.
 use Rattle.std.specs.Prelude.{◌≡◌, ◌⊎◌, ℕ, List, Option}
 use Rattle.anb_base.specs.Wires.{WireState}
-use Rattle.anb_command.specs.declared.status.Status.{Status}
+use Rattle.anb_status.specs.declared.status.Status.{Status}
 use Rattle.anb_command.specs.Fetches.{Files}
 use Rattle.anb_command.specs.Files.{FileIs}
 use Rattle.anb_command.specs.Roles.{Part, PartInFile}

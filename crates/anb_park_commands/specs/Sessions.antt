@@ -2,9 +2,9 @@
 use Rattle.std.specs.Prelude.{◌≡◌, ℕ, List, [], ◌++◌, length}
 use Rattle.anb_park.specs.Records.{Parked, after}
 use Rattle.anb_plays.specs.Plays.{Played, waiting}
-use Rattle.anb_resolve.specs.Plays.{IsPlay}
-use Rattle.anb_resolve.specs.Protocols.{ProtocolValue}
-use Rattle.anb_resolve.specs.Texts.{known_texts}
+use Rattle.anb_protocol.specs.Plays.{IsPlay}
+use Rattle.anb_protocol.specs.Protocols.{ProtocolValue}
+use Rattle.anb_protocol.specs.Texts.{known_texts}
 
 -- a session of a role, and the key of its records
 pub record RoleSession : Type 0 where

@@ -7,8 +7,8 @@ use Rattle.anb_frame.specs.Frames.{frame, frames}
 use Rattle.anb_frame.specs.Cuts.{Tail, Cut}
 use Rattle.anb_plays.specs.Plays.{Played}
 use Rattle.anb_command.specs.declared.limits.TheConstants.{RECORD_LIMIT}
-use Rattle.anb_command.specs.declared.status.Status.{Status}
-use Rattle.anb_command.specs.declared.status.Status.TheVariants.{Parked, Waiting}
+use Rattle.anb_status.specs.declared.status.Status.{Status}
+use Rattle.anb_status.specs.declared.status.Status.TheVariants.{Parked, Waiting}
 use Rattle.anb_command.specs.Fetches.{Files}
 use Rattle.anb_command.specs.Outcomes as playing
 use Rattle.anb_command.specs.Steps.{Answer, given}

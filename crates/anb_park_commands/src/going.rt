@@ -9,10 +9,10 @@ ghost use Rattle.anb_park.specs.Lives.{Stands};
 ghost use Rattle.anb_park.specs.Records.{Parked, record_of};
 ghost use Rattle.anb_session.specs.Sessions.{IsPrompt};
 ghost use Rattle.anb_command.specs.Causes.{HasWireCause};
-ghost use Rattle.anb_command.specs.Commands.{place_by};
+ghost use Rattle.anb_words.specs.Commands.{place_by};
 ghost use Rattle.anb_command.specs.OverWire.{OnlyWrites, OverWire, StaysReached};
-ghost use Rattle.anb_command.specs.Statuses.{after_reach, before_reach, phase_of};
-ghost use Rattle.anb_command.specs.declared.status.Status.TheVariants as status;
+ghost use Rattle.anb_status.specs.Statuses.{after_reach, before_reach, phase_of};
+ghost use Rattle.anb_status.specs.declared.status.Status.TheVariants as status;
 ghost use Rattle.anb_park_commands.specs.Going.{IsKept, ParksOn, Writes, ended_so, plays_on, saved};
 
 use anb_base::{Failed, NoMemory, Wire};

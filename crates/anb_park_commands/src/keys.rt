@@ -2,7 +2,7 @@
 ghost use Rattle.std.specs.Prelude.{◌≡◌, [], ◌∷◌, IfOk, IfErr};
 ghost use Rattle.anb_base.specs.Moves.{Rose};
 ghost use Rattle.anb_command.specs.Fetches.{Fetches, IfTold};
-ghost use Rattle.anb_command.specs.Statuses.{IsEarly};
+ghost use Rattle.anb_status.specs.Statuses.{IsEarly};
 ghost use Rattle.anb_command.specs.Steps.{IsFailure, refused, given};
 ghost use Rattle.anb_park_commands.specs.Keys.{KeyIs};
 

@@ -4,8 +4,8 @@ ghost use Rattle.anb_park_commands.specs.Splits.{SplitPlaysAreWhole};
 
 use anb_base::ARRIVAL;
 use anb_frame::one_cut;
+use anb_protocol::{known_texts_differ, protocols_hold};
 use anb_read::{narrations_are_unique, none_is_both, refusals_are_unique};
-use anb_resolve::{known_texts_differ, protocols_hold};
 use anb_seal::seals_longer;
 use anb_values::one_fit;
 

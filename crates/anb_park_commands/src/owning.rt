@@ -8,7 +8,7 @@ ghost use Rattle.anb_syntax.specs.Views.{narration_of};
 ghost use Rattle.anb_command.specs.declared.limits.TheConstants.{NARRATION_LIMIT};
 ghost use Rattle.anb_command.specs.Fetches.{Fetches, IfTold};
 ghost use Rattle.anb_command.specs.Roles.{PartInFile};
-ghost use Rattle.anb_command.specs.Statuses.{IsEarly};
+ghost use Rattle.anb_status.specs.Statuses.{IsEarly};
 ghost use Rattle.anb_command.specs.Steps.{IsFailure, refused, given};
 ghost use Rattle.anb_park_commands.specs.Going.{PartOfNarration, RunsRole};
 ghost use Rattle.anb_park_commands.specs.Identities.{IdentityIs, identity};

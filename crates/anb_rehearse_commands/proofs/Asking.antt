@@ -6,13 +6,13 @@ use Rattle.anb_base.specs.Moves.{Rose}
 use Rattle.anb_read.specs.Laws.{NarrationsAreUnique, RefusalsAreUnique, NoneIsBoth}
 use Rattle.anb_values.specs.Fit.{FitIsUnique}
 use Rattle.anb_values.specs.declared.fitted.Fitted.{Fitted}
-use Rattle.anb_resolve.specs.Plans.{MakesNames}
-use Rattle.anb_resolve.specs.Protocols.{ProtocolValue, role_named}
-use Rattle.anb_resolve.specs.Texts.{known_names}
+use Rattle.anb_protocol.specs.Plans.{MakesNames}
+use Rattle.anb_protocol.specs.Protocols.{ProtocolValue, role_named}
+use Rattle.anb_protocol.specs.Texts.{known_names}
 use Rattle.anb_honest.specs.Words.{names_none, words_of}
 use Rattle.anb_command.specs.declared.limits.TheConstants.{SCHEDULE_LIMIT}
-use Rattle.anb_command.specs.declared.status.Status.{Status}
-use Rattle.anb_command.specs.declared.status.Status.TheVariants.{BadTurn}
+use Rattle.anb_status.specs.declared.status.Status.{Status}
+use Rattle.anb_status.specs.declared.status.Status.TheVariants.{BadTurn}
 use Rattle.anb_command.specs.Fetches.{Files, IfTold, IsOneOf}
 use Rattle.anb_command.specs.Files.{FileIs, ProtocolInFile, ValuesInFile}
 use Rattle.anb_command.specs.Roles.{AllSend, SendableInFile, SendableOf}

@@ -3,16 +3,16 @@ use Rattle.std.proofs.Common.{◌≡◌, ◌⊎◌, ℕ, Bool, true, false, List
 use Rattle.anb_base.specs.Moves.{Put, PutPrefix}
 use Rattle.anb_base.specs.Wires.{WireState}
 use Rattle.anb_base.proofs.Moving.{put_nothing}
-use Rattle.anb_honest.specs.declared.report.Report.{Report}
+use Rattle.anb_outcomes.specs.declared.rehearsals.Report.{Report}
 use Rattle.anb_honest.specs.declared.report.RehearseEnd.{RehearseEnd}
 use Rattle.anb_honest.specs.declared.report.RehearseEnd.TheVariants as ended
 use Rattle.anb_honest.specs.Honest.{AreHonest, honest_end}
 use Rattle.anb_honest.specs.Joint.{is_complete}
-use Rattle.anb_resolve.specs.Schedules.{IsComplete, taken}
-use Rattle.anb_command.specs.declared.status.Status.{Status}
-use Rattle.anb_command.specs.declared.status.Status.TheVariants.{Done, FileFault, Unreached, ReadFault, WriteFault, NotAll, ChildFault, NoMemory}
+use Rattle.anb_protocol.specs.Schedules.{IsComplete, taken}
+use Rattle.anb_status.specs.declared.status.Status.{Status}
+use Rattle.anb_status.specs.declared.status.Status.TheVariants.{Done, FileFault, Unreached, ReadFault, WriteFault, NotAll, ChildFault, NoMemory}
 use Rattle.anb_command.specs.Fetches.{Files, IfTold}
-use Rattle.anb_command.specs.Statuses.{before_reach, is_fault, phase_of}
+use Rattle.anb_status.specs.Statuses.{before_reach, is_fault, phase_of}
 use Rattle.anb_command.specs.Steps.{Answer, refused, given, HasOneAnswer, IsFailure}
 use Rattle.anb_command.proofs.Answering.{late, refusing}
 use Rattle.anb_command.proofs.Chains.{told_map}

@@ -9,9 +9,9 @@ use Rattle.anb_honest.specs.Honest.{AreHonest, honest_end}
 use Rattle.anb_honest.specs.Joint.{Cast, cast, joint, known_atoms}
 use Rattle.anb_honest.specs.Laws.{CompleteIsTested, FittingCodesFollow, HonestBytesExist, IsFitting, PlaysAreHonest, RehearsalsAreHonest}
 use Rattle.anb_honest.specs.Order.{FollowRoles}
-use Rattle.anb_resolve.specs.Protocols.{ProtocolValue}
-use Rattle.anb_resolve.specs.Texts.{atom_name}
-use Rattle.anb_command.specs.declared.status.Status.{Status}
+use Rattle.anb_protocol.specs.Protocols.{ProtocolValue}
+use Rattle.anb_protocol.specs.Texts.{atom_name}
+use Rattle.anb_status.specs.declared.status.Status.{Status}
 use Rattle.anb_rehearse_commands.specs.Rehearsals.{Rehearsal}
 use Rattle.anb_rehearse_commands.specs.RehearseCommand.{RolesPlay, cast_of}
 use Rattle.anb_rehearse_commands.specs.Telling.{CanRehearse, GoesOn, IsRehearsedTo, IsTold, asked_by}

@@ -3,17 +3,17 @@ use Rattle.std.proofs.Common.{◌≡◌, ◌⊎◌, ℕ, Bool, true, false, cond
 use Rattle.std.specs.Prelude.{unwrap_or}
 use Rattle.std.specs.Option.{option_or}
 use Rattle.anb_base.specs.declared.TheConstants.{ARRIVAL}
-use Rattle.anb_honest.specs.declared.report.Report.{Report}
+use Rattle.anb_outcomes.specs.declared.rehearsals.Report.{Report}
 use Rattle.anb_honest.specs.declared.report.RehearseEnd.{RehearseEnd}
 use Rattle.anb_honest.specs.declared.report.RehearseEnd.TheVariants as ended
 use Rattle.anb_honest.specs.Honest.{AreHonest, honest_end, honest_message, honest_report, long_turn}
 use Rattle.anb_honest.specs.Joint.{Cast, cast, is_complete, is_long, long_end}
-use Rattle.anb_resolve.specs.Choices.{first}
-use Rattle.anb_resolve.specs.Plays.{honest_bytes}
-use Rattle.anb_resolve.specs.Schedules.{Turn, taken}
-use Rattle.anb_resolve.specs.Texts.{known_terms}
-use Rattle.anb_command.specs.declared.status.Status.{Status}
-use Rattle.anb_command.specs.declared.status.Status.TheVariants.{Done, LongMessage, NotAll}
+use Rattle.anb_protocol.specs.Choices.{first}
+use Rattle.anb_protocol.specs.Plays.{honest_bytes}
+use Rattle.anb_protocol.specs.Schedules.{Turn, taken}
+use Rattle.anb_protocol.specs.Texts.{known_terms}
+use Rattle.anb_status.specs.declared.status.Status.{Status}
+use Rattle.anb_status.specs.declared.status.Status.TheVariants.{Done, LongMessage, NotAll}
 use Rattle.anb_rehearse_commands.specs.RehearseCommand.{Tells, cast_of}
 use Rattle.anb_rehearse_commands.specs.Telling.{GoesOn}
 

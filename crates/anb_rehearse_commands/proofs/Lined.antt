@@ -1,8 +1,8 @@
 -- The line of a drill is what is written.
 use Rattle.std.proofs.Common.{ℕ, List, Option, refl, sym, ◌∙◌}
 use Rattle.anb_base.proofs.Moving.{put_nothing}
-use Rattle.anb_command.specs.declared.status.Status.{Status}
-use Rattle.anb_command.specs.declared.status.Status.TheVariants.{NoMemory}
+use Rattle.anb_status.specs.declared.status.Status.{Status}
+use Rattle.anb_status.specs.declared.status.Status.TheVariants.{NoMemory}
 use Rattle.anb_command.specs.Steps.{HasOneAnswer}
 use Rattle.anb_command.specs.Writing.{IsWritingOne, IsWritten}
 use Rattle.anb_command.proofs.Ones.{is_quiet, one_settled}

@@ -3,11 +3,11 @@ use Rattle.std.proofs.Common.{◌≡◌, ◌⊎◌, ℕ, List, false, Option, So
 use Rattle.anb_base.specs.Wires.{WireState}
 use Rattle.anb_base.specs.declared.place.Place.TheVariants.{Stdio}
 use Rattle.anb_honest.specs.declared.report.RehearseEnd.{RehearseEnd}
-use Rattle.anb_command.specs.declared.status.Status.{Status}
-use Rattle.anb_command.specs.declared.status.Status.TheVariants.{Unreached, NoMemory}
+use Rattle.anb_status.specs.declared.status.Status.{Status}
+use Rattle.anb_status.specs.declared.status.Status.TheVariants.{Unreached, NoMemory}
 use Rattle.anb_command.specs.Causes.{HasWireCause}
 use Rattle.anb_command.specs.OverWire.{DidNotReach, HasReached, OnlyWrites, OverWire, StaysReached}
-use Rattle.anb_command.specs.Statuses.{after_reach, at_reach, before_reach, phase_of}
+use Rattle.anb_status.specs.Statuses.{after_reach, at_reach, before_reach, phase_of}
 use Rattle.anb_command.proofs.OverWire.{not_before, not_reached, ran, written_unreached}
 use Rattle.anb_rehearse_commands.specs.Telling.{IsTold}
 

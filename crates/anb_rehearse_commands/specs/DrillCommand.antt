@@ -3,7 +3,7 @@
 use Rattle.std.specs.Prelude.{◌≡◌, ℕ, List, [], ◌∷◌, ◌++◌, codes, decimal}
 use Rattle.anb_base.specs.Wires.{WireState}
 use Rattle.anb_gen.specs.Counts.{Counts, drill_counts}
-use Rattle.anb_command.specs.declared.status.Status.{Status}
+use Rattle.anb_status.specs.declared.status.Status.{Status}
 use Rattle.anb_command.specs.Steps.{Answer, given}
 use Rattle.anb_command.specs.Writing.{CompletesText, IsWritingOne}
 

@@ -2,11 +2,11 @@
 use Rattle.std.specs.Prelude.{◌≡◌, ◌↔◌, ◌⊎◌, ℕ, List, map, Bool, IsTrue, Option, Some}
 use Rattle.std.specs.List.{position_from}
 use Rattle.anb_honest.specs.Words.{names_none, words_of}
-use Rattle.anb_resolve.specs.Plans.{MakesNames}
-use Rattle.anb_resolve.specs.Protocols.{ProtocolValue, role_named}
-use Rattle.anb_resolve.specs.Texts.{known_names}
+use Rattle.anb_protocol.specs.Plans.{MakesNames}
+use Rattle.anb_protocol.specs.Protocols.{ProtocolValue, role_named}
+use Rattle.anb_protocol.specs.Texts.{known_names}
 use Rattle.anb_command.specs.declared.limits.TheConstants.{SCHEDULE_LIMIT}
-use Rattle.anb_command.specs.declared.status.Status.TheVariants.{BadTurn}
+use Rattle.anb_status.specs.declared.status.Status.TheVariants.{BadTurn}
 use Rattle.anb_command.specs.Fetches.{Files}
 use Rattle.anb_command.specs.Files.{FileIs, ValuesInFile}
 use Rattle.anb_command.specs.Roles.{SendableInFile}

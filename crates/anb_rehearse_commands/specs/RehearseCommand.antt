@@ -2,18 +2,18 @@
 use Rattle.std.specs.Prelude.{◌≡◌, ◌⊎◌, ℕ, ◌<◌, true, false, List, [], length, take, Option}
 use Rattle.anb_base.specs.Moves.{Put}
 use Rattle.anb_base.specs.Wires.{WireState}
-use Rattle.anb_honest.specs.declared.report.Report.{Report}
+use Rattle.anb_outcomes.specs.declared.rehearsals.Report.{Report}
 use Rattle.anb_honest.specs.declared.report.RehearseEnd.{RehearseEnd}
 use Rattle.anb_honest.specs.declared.report.RehearseEnd.TheVariants as ended
 use Rattle.anb_honest.specs.Honest.{AreHonest, honest_end, honest_known, honest_taken, play_so_far}
 use Rattle.anb_honest.specs.Joint.{Cast, cast}
-use Rattle.anb_resolve.specs.Plays.{IsPlay}
-use Rattle.anb_resolve.specs.Schedules.{IsComplete}
-use Rattle.anb_command.specs.declared.status.Status.{Status}
-use Rattle.anb_command.specs.declared.status.Status.TheVariants.{Done, FileFault, Unreached, WriteFault, LongMessage, NotAll, NoMemory}
+use Rattle.anb_protocol.specs.Plays.{IsPlay}
+use Rattle.anb_protocol.specs.Schedules.{IsComplete}
+use Rattle.anb_status.specs.declared.status.Status.{Status}
+use Rattle.anb_status.specs.declared.status.Status.TheVariants.{Done, FileFault, Unreached, WriteFault, LongMessage, NotAll, NoMemory}
 use Rattle.anb_command.specs.Fetches.{Files, IfTold}
 use Rattle.anb_command.specs.Refusing.{IsRefusing}
-use Rattle.anb_command.specs.Statuses.{is_fault}
+use Rattle.anb_status.specs.Statuses.{is_fault}
 use Rattle.anb_command.specs.Steps.{Answer, refused, given}
 use Rattle.anb_rehearse_commands.specs.Rehearsals.{IsReadToRehearse, Rehearsal, RehearsalIs}
 use Rattle.anb_rehearse_commands.specs.Reports.{report_text}

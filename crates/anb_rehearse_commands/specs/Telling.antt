@@ -11,11 +11,11 @@ use Rattle.anb_honest.specs.declared.report.RehearseEnd.{RehearseEnd}
 use Rattle.anb_honest.specs.declared.report.RehearseEnd.TheVariants.{AllDone, Part, Stopped, LongMessage}
 use Rattle.anb_honest.specs.Honest.{AreHonest, honest_end}
 use Rattle.anb_honest.specs.Laws.{CompleteIsTested}
-use Rattle.anb_resolve.specs.Plays.{IsSendable}
-use Rattle.anb_resolve.specs.Protocols.{ProtocolValue}
-use Rattle.anb_resolve.specs.Texts.{known_names}
-use Rattle.anb_command.specs.declared.status.Status.{Status}
-use Rattle.anb_command.specs.declared.status.Status.TheVariants.{FileFault, Unreached, ReadFault, WriteFault, ChildFault, NoMemory}
+use Rattle.anb_protocol.specs.Plays.{IsSendable}
+use Rattle.anb_protocol.specs.Protocols.{ProtocolValue}
+use Rattle.anb_protocol.specs.Texts.{known_names}
+use Rattle.anb_status.specs.declared.status.Status.{Status}
+use Rattle.anb_status.specs.declared.status.Status.TheVariants.{FileFault, Unreached, ReadFault, WriteFault, ChildFault, NoMemory}
 use Rattle.anb_rehearse_commands.specs.Rehearsals.{Rehearsal, Setting}
 use Rattle.anb_rehearse_commands.specs.RehearseCommand.{RolesPlay, Tells, cast_of}
 

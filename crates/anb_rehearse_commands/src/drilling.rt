@@ -2,8 +2,8 @@
 ghost use Rattle.std.specs.Prelude.{◌≡◌, ◌<◌, ◌^◌, IfOk, true, false};
 ghost use Rattle.anb_base.specs.declared.place.Place.TheVariants as place;
 ghost use Rattle.anb_command.specs.OverWire.{OverWire};
-ghost use Rattle.anb_command.specs.Statuses.{is_fault};
-ghost use Rattle.anb_command.specs.declared.status.Status.TheVariants as status;
+ghost use Rattle.anb_status.specs.Statuses.{is_fault};
+ghost use Rattle.anb_status.specs.declared.status.Status.TheVariants as status;
 ghost use Rattle.anb_rehearse_commands.specs.DrillCommand.{CompletesDrill, DoesDrill, drill_text};
 
 use anb_base::{NoMemory, Wire};

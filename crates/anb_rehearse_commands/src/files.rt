@@ -6,12 +6,12 @@ ghost use Rattle.anb_base.specs.Moves.{Rose};
 ghost use Rattle.anb_base.specs.declared.TheConstants.{ARRIVAL};
 ghost use Rattle.anb_compile.specs.Fitting.{FitRoles};
 ghost use Rattle.anb_honest.specs.declared.TheConstants.{TURNS};
-ghost use Rattle.anb_resolve.specs.Plays.{IsSendable};
-ghost use Rattle.anb_resolve.specs.Texts.{known_names};
+ghost use Rattle.anb_protocol.specs.Plays.{IsSendable};
+ghost use Rattle.anb_protocol.specs.Texts.{known_names};
 ghost use Rattle.anb_command.specs.Fetches.{Fetches, IfTold, IsOneOf};
 ghost use Rattle.anb_command.specs.Files.{ValuesInFile};
 ghost use Rattle.anb_command.specs.Roles.{SendableInFile};
-ghost use Rattle.anb_command.specs.Statuses.{IsEarly};
+ghost use Rattle.anb_status.specs.Statuses.{IsEarly};
 ghost use Rattle.anb_command.specs.Steps.{IsFailure, refused, given};
 ghost use Rattle.anb_command.specs.declared.limits.TheConstants.{SCHEDULE_LIMIT};
 ghost use Rattle.anb_rehearse_commands.specs.Rehearsals.{IsReadForSetting, IsReadToRehearse, RehearsalIs, ScheduleInFile, ScheduleIs, SettingIs};
@@ -24,7 +24,7 @@ use anb_command::{
     values_in_file,
 };
 use anb_honest::{ScheduleNo, known_names_differ, schedule};
-use anb_resolve::Protocol;
+use anb_protocol::Protocol;
 use anb_values::{Fitted, ValueList};
 use std::alloc::Global;
 

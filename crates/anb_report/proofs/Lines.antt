@@ -6,12 +6,12 @@ use Rattle.std.proofs.lemmas.Option.{get_or_from_slice_get}
 use Rattle.anb_lemmas.proofs.Lists.{drop_got, drop_at_got}
 use Rattle.anb_term.specs.Tree.{Tree}
 use Rattle.anb_code.specs.CodeValue.{CodeValue}
-use Rattle.anb_resolve.specs.declared.parts.Action.{Action}
-use Rattle.anb_resolve.specs.Choices.{each_after}
-use Rattle.anb_resolve.specs.Plans.{made_at, names_made_at}
-use Rattle.anb_resolve.specs.Protocols.{ActionValue, ProtocolValue}
-use Rattle.anb_resolve.specs.Texts.{atom_name}
-use Rattle.anb_resolve.specs.Views.{action_value}
+use Rattle.anb_protocol.specs.declared.parts.Action.{Action}
+use Rattle.anb_protocol.specs.Choices.{each_after}
+use Rattle.anb_protocol.specs.Plans.{made_at, names_made_at}
+use Rattle.anb_protocol.specs.Protocols.{ActionValue, ProtocolValue}
+use Rattle.anb_protocol.specs.Texts.{atom_name}
+use Rattle.anb_protocol.specs.Views.{action_value}
 use Rattle.anb_chart.specs.Charts as chart
 use Rattle.anb_explain.specs.Explained.{line}
 use Rattle.anb_explain.proofs.Lines.{counted_one}

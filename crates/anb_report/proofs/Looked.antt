@@ -8,10 +8,10 @@ use Rattle.anb_code.specs.declared.instr.Instr.{Instr}
 use Rattle.anb_code.specs.declared.instr.Instr.TheVariants.{Take, Fresh, Recv, Hash, Mac, Seal, Unseal, Wrap, Unwrap, Build, Parse, Equal, Send}
 use Rattle.anb_code.specs.Registers.{count_written, operands}
 use Rattle.anb_code.specs.Verified.{EachAfter, IsInstrAfter, count_registers}
-use Rattle.anb_resolve.specs.Seen.{marked}
+use Rattle.anb_protocol.specs.Seen.{marked}
 use Rattle.anb_report.specs.Looking.{asked, brought, built_of, compared, is_among, is_no_envelope, is_unchecked, keys_of, opened, opened_by, parts_of, repeated, seen, unchecked, with_operands, with_parts}
 use Rattle.anb_report.proofs.Marking.{any_same, filter_same, mark_tells, marked_both, range_same}
-use Rattle.anb_resolve.proofs.SeenLemmas.{length-marked}
+use Rattle.anb_protocol.proofs.SeenLemmas.{length-marked}
 use Rattle.std.proofs.lemmas.List.{length-replicate}
 use Rattle.anb_lemmas.proofs.Each.{each_in_both}
 use Rattle.anb_lemmas.proofs.Lists.{take_got, drop_at_got}

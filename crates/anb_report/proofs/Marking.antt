@@ -8,8 +8,8 @@ use Rattle.std.proofs.lemmas.List.{length-replicate, set_past}
 use Rattle.std.proofs.lemmas.Slice.Eq.{bytes_eq-Decides}
 use Rattle.anb_lemmas.proofs.Bools.{or_false, or_true}
 use Rattle.anb_lemmas.proofs.Lists.{unflagged}
-use Rattle.anb_resolve.specs.Seen.{marked}
-use Rattle.anb_resolve.proofs.SeenLemmas.{flag-marked, length-marked}
+use Rattle.anb_protocol.specs.Seen.{marked}
+use Rattle.anb_protocol.proofs.SeenLemmas.{flag-marked, length-marked}
 use Rattle.anb_report.specs.Looking.{is_among, repeated}
 
 pub marked_both : (marks : List Bool) (xs ys : List ℕ) → marked marks (xs ++ ys) ≡ marked (marked marks xs) ys

@@ -4,8 +4,8 @@ use Rattle.std.specs.List.{flat_map, join_by, list_any}
 use Rattle.std.specs.Option.{option_map_or}
 use Rattle.anb_format.specs.Formats.{FormatValue}
 use Rattle.anb_term.specs.Tree.{Tree, tree_eqb}
-use Rattle.anb_resolve.specs.Protocols.{ProtocolValue}
-use Rattle.anb_resolve.specs.Texts.{term_text}
+use Rattle.anb_protocol.specs.Protocols.{ProtocolValue}
+use Rattle.anb_protocol.specs.Texts.{term_text}
 use Rattle.anb_code.specs.declared.instr.Instr.{Instr}
 use Rattle.anb_code.specs.Registers.{count_written}
 use Rattle.anb_code.specs.CodeValue.{CodeValue}

@@ -9,9 +9,9 @@ use Rattle.anb_term.specs.declared.term.Op.TheVariants.{Hash, Mac, Seal, Wrap, F
 use Rattle.anb_term.specs.Tree.{Tree, leaf, node, Trees, none, more, tree_eqb}
 use Rattle.anb_code.specs.Spelling.{name_at}
 use Rattle.anb_explain.specs.Explained.{line}
-use Rattle.anb_resolve.specs.Plans.{plan_of, term_in}
-use Rattle.anb_resolve.specs.Protocols.{ActionValue, ProtocolValue, role_name}
-use Rattle.anb_resolve.specs.Texts.{atom_name, atoms_in}
+use Rattle.anb_protocol.specs.Plans.{plan_of, term_in}
+use Rattle.anb_protocol.specs.Protocols.{ActionValue, ProtocolValue, role_name}
+use Rattle.anb_protocol.specs.Texts.{atom_name, atoms_in}
 use Rattle.anb_report.specs.Looking.{is_among}
 
 abbrev pub unused : Bool → (kind name : List ℕ) → List ℕ

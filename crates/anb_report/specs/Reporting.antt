@@ -3,10 +3,10 @@ use Rattle.std.specs.Prelude.{ℕ, ◌+◌, ◌==◌, ◌||◌, List, [], ◌∷
 use Rattle.std.specs.List.{join_by}
 use Rattle.std.specs.Option.{option_map_or}
 use Rattle.anb_term.specs.Tree.{Tree}
-use Rattle.anb_resolve.specs.Choices.{each_after}
-use Rattle.anb_resolve.specs.Plans.{made_at}
-use Rattle.anb_resolve.specs.Protocols.{ActionValue, ProtocolValue, role_name}
-use Rattle.anb_resolve.specs.Texts.{atom_name, term_text}
+use Rattle.anb_protocol.specs.Choices.{each_after}
+use Rattle.anb_protocol.specs.Plans.{made_at}
+use Rattle.anb_protocol.specs.Protocols.{ActionValue, ProtocolValue, role_name}
+use Rattle.anb_protocol.specs.Texts.{atom_name, term_text}
 use Rattle.anb_code.specs.CodeValue.{CodeValue}
 use Rattle.anb_explain.specs.Explained.{line, register_terms}
 use Rattle.anb_report.specs.Looking.{unchecked}

@@ -1,8 +1,8 @@
 -- The chart of a protocol, with what one role checks and learns.
 use Rattle.std.specs.Prelude.{ℕ, ◌+◌, List, [], ◌++◌, length, codes, count_by, if◌then◌else◌}
 use Rattle.std.specs.List.{flat_map}
-use Rattle.anb_resolve.specs.Choices.{each_after}
-use Rattle.anb_resolve.specs.Protocols.{ActionValue, ProtocolValue}
+use Rattle.anb_protocol.specs.Choices.{each_after}
+use Rattle.anb_protocol.specs.Protocols.{ActionValue, ProtocolValue}
 use Rattle.anb_code.specs.CodeValue.{CodeValue}
 use Rattle.anb_chart.specs.Charts.{arrow_line, line, participant, participant_line}
 use Rattle.anb_report.specs.Noting.{notes_of}

@@ -4,10 +4,10 @@ ghost use Rattle.std.specs.List.{flat_map};
 ghost use Rattle.anb_term.specs.View.{tree_of};
 ghost use Rattle.anb_chart.specs.Charts.{participant_line};
 ghost use Rattle.anb_compile.specs.Fitting.{FitsRole};
-ghost use Rattle.anb_resolve.specs.Choices.{each_after};
-ghost use Rattle.anb_resolve.specs.Laws.{HoldsOf};
-ghost use Rattle.anb_resolve.specs.Texts.{IsTermOf};
-ghost use Rattle.anb_resolve.specs.Views.{action_value};
+ghost use Rattle.anb_protocol.specs.Choices.{each_after};
+ghost use Rattle.anb_protocol.specs.Laws.{HoldsOf};
+ghost use Rattle.anb_protocol.specs.Texts.{IsTermOf};
+ghost use Rattle.anb_protocol.specs.Views.{action_value};
 ghost use Rattle.anb_report.specs.RoleCharts.{event_notes, note_over, noted_lines, noted_text, role_chart};
 
 use crate::notes::{Notes, notes_of};
@@ -16,7 +16,7 @@ use anb_base::{Bytes, NoMemory, Text};
 use anb_chart::{participant_text, put_arrow, put_participant};
 use anb_code::RoleCode;
 use anb_explain::explanation_of;
-use anb_resolve::{Action, Protocol, protocols_hold};
+use anb_protocol::{Action, Protocol, protocols_hold};
 use std::alloc::Global;
 
 /// The chart of a protocol, with the notes of a role by a code for it.

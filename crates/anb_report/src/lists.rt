@@ -3,13 +3,13 @@ ghost use Rattle.std.specs.Prelude.{◌≡◌, ◌<◌, ◌++◌, map, length, s
 ghost use Rattle.std.specs.List.{AllByRecursion};
 ghost use Rattle.anb_term.specs.Tree.{tree_eqb};
 ghost use Rattle.anb_term.specs.View.{tree_of};
-ghost use Rattle.anb_resolve.specs.Texts.{IsTermOf};
+ghost use Rattle.anb_protocol.specs.Texts.{IsTermOf};
 ghost use Rattle.anb_report.specs.Looking.{is_other, without};
 ghost use Rattle.anb_report.specs.News.{AreNew};
 ghost use Rattle.anb_report.specs.Noting.{is_named, is_new, is_new_term, is_term_of, is_term_of_one, once, once_more, register_text, register_texts};
 
 use anb_base::NoMemory;
-use anb_resolve::Protocol;
+use anb_protocol::Protocol;
 use anb_term::Term;
 use std::alloc::Global;
 

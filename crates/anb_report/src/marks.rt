@@ -1,7 +1,7 @@
 //! Marks by number: which of the numbers below a count stand in some list.
 ghost use Rattle.std.specs.Prelude.{◌≡◌, ◌∷◌, ◌-◌, ◌≤◌, [], replicate, false, true, slice_index_or, if◌then◌else◌, IfOk};
 ghost use Rattle.std.specs.List.{range_with_len};
-ghost use Rattle.anb_resolve.specs.Seen.{marked};
+ghost use Rattle.anb_protocol.specs.Seen.{marked};
 ghost use Rattle.anb_report.specs.Looking.{repeated};
 
 use anb_base::NoMemory;

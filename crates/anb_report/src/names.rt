@@ -3,17 +3,17 @@ ghost use Rattle.std.specs.Prelude.{◌≡◌, ◌<◌, ◌++◌, map, length, r
 ghost use Rattle.std.specs.List.{flat_map};
 ghost use Rattle.anb_term.specs.Tree.{trees_of};
 ghost use Rattle.anb_term.specs.View.{tree_of};
-ghost use Rattle.anb_resolve.specs.Plans.{term_in};
-ghost use Rattle.anb_resolve.specs.Seen.{marked};
-ghost use Rattle.anb_resolve.specs.Texts.{atom_name, atoms_in, atoms_in_all};
-ghost use Rattle.anb_resolve.specs.Views.{plan_event};
+ghost use Rattle.anb_protocol.specs.Plans.{term_in};
+ghost use Rattle.anb_protocol.specs.Seen.{marked};
+ghost use Rattle.anb_protocol.specs.Texts.{atom_name, atoms_in, atoms_in_all};
+ghost use Rattle.anb_protocol.specs.Views.{plan_event};
 ghost use Rattle.anb_report.specs.Looking.{is_among};
 ghost use Rattle.anb_report.specs.Remarks.{is_role, plan_atoms, unused_name, unused_names, used_atoms};
 
 use crate::marks::mark;
 use crate::remarks::{count_roles, put_unused};
 use anb_base::NoMemory;
-use anb_resolve::{Event, Protocol};
+use anb_protocol::{Event, Protocol};
 use anb_term::Term;
 use std::alloc::Global;
 

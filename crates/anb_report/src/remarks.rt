@@ -5,9 +5,9 @@ ghost use Rattle.anb_code.specs.Spelling.{name_at};
 ghost use Rattle.anb_report.specs.Looking.{is_among};
 ghost use Rattle.anb_term.specs.Tree.{trees_of};
 ghost use Rattle.anb_term.specs.View.{tree_of};
-ghost use Rattle.anb_resolve.specs.Plans.{term_in};
-ghost use Rattle.anb_resolve.specs.Views.{action_value, plan_event};
-ghost use Rattle.anb_resolve.specs.Protocols.{role_name};
+ghost use Rattle.anb_protocol.specs.Plans.{term_in};
+ghost use Rattle.anb_protocol.specs.Views.{action_value, plan_event};
+ghost use Rattle.anb_protocol.specs.Protocols.{role_name};
 ghost use Rattle.anb_report.specs.Remarks.{format_of, formats_in, formats_in_all, is_from, is_repeated, is_to, never, plan_formats, remarks, repeated, repeats, silent_role, silent_roles, unused, unused_format, unused_formats, used_formats};
 
 use crate::lists::is_same;
@@ -15,7 +15,7 @@ use crate::names::put_unused_names;
 use crate::reporting::{put_number, put_role_name};
 use anb_base::NoMemory;
 use anb_format::Format;
-use anb_resolve::{Action, Event, Protocol, protocols_hold};
+use anb_protocol::{Action, Event, Protocol, protocols_hold};
 use anb_term::{Op, Term};
 use std::alloc::Global;
 

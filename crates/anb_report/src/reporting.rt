@@ -3,12 +3,12 @@ ghost use Rattle.std.specs.Prelude.{◌≡◌, ◌<◌, ◌++◌, [], map, lengt
 ghost use Rattle.std.specs.List.{AllByRecursion};
 ghost use Rattle.anb_term.specs.View.{tree_of};
 ghost use Rattle.anb_compile.specs.Fitting.{FitsRole, FitRoles};
-ghost use Rattle.anb_resolve.specs.Laws.{HoldsOf};
-ghost use Rattle.anb_resolve.specs.Plans.{names_made};
-ghost use Rattle.anb_resolve.specs.Texts.{IsTermOf};
-ghost use Rattle.anb_resolve.specs.Views.{action_value};
-ghost use Rattle.anb_resolve.specs.Choices.{each_after};
-ghost use Rattle.anb_resolve.specs.Protocols.{role_name};
+ghost use Rattle.anb_protocol.specs.Laws.{HoldsOf};
+ghost use Rattle.anb_protocol.specs.Plans.{names_made};
+ghost use Rattle.anb_protocol.specs.Texts.{IsTermOf};
+ghost use Rattle.anb_protocol.specs.Views.{action_value};
+ghost use Rattle.anb_protocol.specs.Choices.{each_after};
+ghost use Rattle.anb_protocol.specs.Protocols.{role_name};
 ghost use Rattle.anb_report.specs.Reporting.{action_lines, counted, event_line, events_text, head_line, is_own, new_for, notes_at_event, notes_line, peer, report, role_after, role_report, start_lines, unchecked_line, with_new};
 
 use crate::lists::put_terms;
@@ -18,7 +18,7 @@ use crate::seen::unchecked;
 use anb_base::{Bytes, NoMemory, Text};
 use anb_code::RoleCode;
 use anb_explain::explanation_of;
-use anb_resolve::{Action, Names, Protocol, protocols_hold};
+use anb_protocol::{Action, Names, Protocol, protocols_hold};
 use anb_term::Term;
 use itoa::Buffer;
 use std::alloc::Global;

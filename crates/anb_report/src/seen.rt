@@ -3,7 +3,7 @@ ghost use Rattle.std.specs.Prelude.{◌≡◌, ◌+◌, ◌≤◌, ◌<◌, ◌^
 ghost use Rattle.std.specs.List.{AllByRecursion, flat_map, list_any, range_with_len};
 ghost use Rattle.anb_format.specs.Formats.{field_count};
 ghost use Rattle.anb_code.specs.Verified.{count_registers};
-ghost use Rattle.anb_resolve.specs.Seen.{marked};
+ghost use Rattle.anb_protocol.specs.Seen.{marked};
 ghost use Rattle.anb_report.specs.Looking.{asked, brought, built_of, compared, opened, opened_by, seen, unchecked, with_operands};
 
 use crate::marks::{is_marked, mark, mark_all, mark_between, mark_if, marks_of, marks_of_repeated};

@@ -6,9 +6,9 @@ use Rattle.std.specs.Str.{bytes_eq}
 use Rattle.std.proofs.lemmas.Bool.{cases_Bool}
 use Rattle.anb_index.specs.Places.{among, place_of}
 use Rattle.anb_index.proofs.PlaceLemmas.{position_from-map}
-use Rattle.anb_resolve.specs.declared.parts.Atom.{Atom}
-use Rattle.anb_resolve.specs.Checks.{agent_names, is_agent, names_agent}
-use Rattle.anb_resolve.specs.Protocols.{atom_number}
+use Rattle.anb_protocol.specs.declared.parts.Atom.{Atom}
+use Rattle.anb_protocol.specs.Checks.{agent_names, is_agent, names_agent}
+use Rattle.anb_protocol.specs.Protocols.{atom_number}
 
 pub atom_numbered : (all : List Atom) (x : List ℕ) → unwrap_or (place_of (map (λ (a : Atom). a.name) all) x) 0 ≡ atom_number all x
 atom_numbered all x = ap (λ o. unwrap_or o 0) (position_from-map (λ y. bytes_eq y x) (λ (a : Atom). a.name) 0 all)

@@ -9,10 +9,10 @@ use Rattle.anb_syntax.specs.Grammar.{Tree, atom, apply, hash, mac, seal, wrap, T
 use Rattle.anb_syntax.specs.declared.narration.Sort.{Sort}
 use Rattle.anb_syntax.specs.Words.{is_name}
 use Rattle.anb_syntax.specs.Sizes.{tree_size, trees_size, name_size, type_size, format_size, know_size, action_size, size}
-use Rattle.anb_resolve.specs.declared.parts.Atom.{Atom}
-use Rattle.anb_resolve.specs.Choices.{each_after}
-use Rattle.anb_resolve.specs.Names.{Use, as_role, as_atom, as_format, used_name, all_names, declared_names, uses, tree_uses, trees_uses, know_uses, action_uses, item_atoms, line_names, action_roles, roles, terms, first_new}
-use Rattle.anb_resolve.specs.Checks.{tree_nodes, trees_nodes}
+use Rattle.anb_protocol.specs.declared.parts.Atom.{Atom}
+use Rattle.anb_protocol.specs.Choices.{each_after}
+use Rattle.anb_protocol.specs.Names.{Use, as_role, as_atom, as_format, used_name, all_names, declared_names, uses, tree_uses, trees_uses, know_uses, action_uses, item_atoms, line_names, action_roles, roles, terms, first_new}
+use Rattle.anb_protocol.specs.Checks.{tree_nodes, trees_nodes}
 use Rattle.anb_resolve.specs.Laws.{SmallIsCountable}
 
 -- each is no more than all together

@@ -12,17 +12,17 @@ use Rattle.anb_format.proofs.Narrow.{field_within}
 use Rattle.anb_term.specs.declared.term.Op.{Op}
 use Rattle.anb_term.specs.declared.term.Op.TheVariants.{Hash, Mac, Seal, Wrap, Format}
 use Rattle.anb_term.specs.Tree.{Tree, leaf, node, Trees, none, more}
-use Rattle.anb_resolve.specs.declared.refusals.ResolveNo.{ResolveNo}
-use Rattle.anb_resolve.specs.declared.refusals.ResolveNo.TheVariants.{Wide}
-use Rattle.anb_resolve.specs.declared.refusals.Item.TheVariants.{Know, Action}
-use Rattle.anb_resolve.specs.Choices.{refuse_if, first, first_after}
-use Rattle.anb_resolve.specs.Protocols.{ActionValue, ProtocolValue, protocol_of}
-use Rattle.anb_resolve.specs.Checks.{first_fault, protocol_checks, misshapen, overlap, self_send, known_twice, wide_knowledge, wide_message}
-use Rattle.anb_resolve.proofs.Faultless.{refused_none, stages}
-use Rattle.anb_resolve.proofs.FirstLemmas.{passes}
-use Rattle.anb_resolve.proofs.OrLemmas.{skip}
-use Rattle.anb_resolve.proofs.Building.{fault_protocol}
-use Rattle.anb_resolve.specs.Widths.{sealed_width, op_width, width, widths, fits_width, fit_width, all_fit_width}
+use Rattle.anb_protocol.specs.declared.refusals.ResolveNo.{ResolveNo}
+use Rattle.anb_protocol.specs.declared.refusals.ResolveNo.TheVariants.{Wide}
+use Rattle.anb_protocol.specs.declared.refusals.Item.TheVariants.{Know, Action}
+use Rattle.anb_protocol.specs.Choices.{refuse_if, first, first_after}
+use Rattle.anb_protocol.specs.Protocols.{ActionValue, ProtocolValue, protocol_of}
+use Rattle.anb_protocol.specs.Checks.{first_fault, protocol_checks, misshapen, overlap, self_send, known_twice, wide_knowledge, wide_message}
+use Rattle.anb_protocol.proofs.Faultless.{refused_none, stages}
+use Rattle.anb_protocol.proofs.FirstLemmas.{passes}
+use Rattle.anb_protocol.proofs.OrLemmas.{skip}
+use Rattle.anb_protocol.proofs.Building.{fault_protocol}
+use Rattle.anb_protocol.specs.Widths.{sealed_width, op_width, width, widths, fits_width, fit_width, all_fit_width}
 use Rattle.anb_resolve.specs.Laws.{LimitsGrow}
 
 -- each is at most four times the one beside it

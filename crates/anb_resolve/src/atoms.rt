@@ -1,7 +1,7 @@
 //! Atoms that are found by their names.
-use crate::parts::Atom;
 use anb_base::{NoMemory, Text};
 use anb_index::TextIndex;
+use anb_protocol::Atom;
 use anb_syntax::Sort;
 use std::alloc::Global;
 use std::marker::Model;
@@ -17,8 +17,8 @@ pub(crate) struct AtomIndex<'a> {
 impl<'a> Model for AtomIndex<'a> {
     ghost use Rattle.std.specs.Prelude.{◌≡◌, List, map};
     ghost use Rattle.std.specs.List.{flat_map};
-    ghost use Rattle.anb_resolve.specs.declared.parts.Atom as atom;
-    ghost use Rattle.anb_resolve.specs.Checks.{agent_names};
+    ghost use Rattle.anb_protocol.specs.declared.parts.Atom as atom;
+    ghost use Rattle.anb_protocol.specs.Checks.{agent_names};
 
     ghost Value = { List atom.Atom };
 
@@ -30,8 +30,8 @@ impl<'a> Model for AtomIndex<'a> {
 
 impl<'a> AtomIndex<'a> {
     ghost use Rattle.std.specs.Prelude.{◌≡◌, ◌<◌, ◌^◌, length, IfOk};
-    ghost use Rattle.anb_resolve.specs.Checks.{names_agent};
-    ghost use Rattle.anb_resolve.specs.Protocols.{atom_number};
+    ghost use Rattle.anb_protocol.specs.Checks.{names_agent};
+    ghost use Rattle.anb_protocol.specs.Protocols.{atom_number};
 
     pub(crate) fn new(alloc: Global, atoms: &'a [Atom]) -> Result<Self, NoMemory>
         ensures { IfOk result (λ index. index ≡ atoms.now) }
@@ -69,7 +69,7 @@ impl<'a> AtomIndex<'a> {
 }
 
 ghost use Rattle.std.specs.Prelude.{◌≡◌, ◌++◌, OnOk};
-ghost use Rattle.anb_resolve.specs.Checks.{agent_names, is_agent};
+ghost use Rattle.anb_protocol.specs.Checks.{agent_names, is_agent};
 
 /// Appends the name of an agent.
 fn put_agent<'a>(agents: &mut TextIndex<'a>, atom: &'a Atom) -> Result<(), NoMemory>

@@ -1,33 +1,15 @@
-//! Protocols: narrations whose names, sorts and counts are right, and the plans of their roles.
-//!
-//! A role's plan is one sequence of events (Caleiro, Viganò and Basin 2006): what it knows, what it
-//! makes, sends and receives. When a play of a plan goes on and what it sends is said over recipes
-//! (Almousa, Mödersheim and Viganò 2015).
+//! From a narration to its protocol: whether its counts, names, sorts and formats are right, and the
+//! first thing that is wrong.
 #![tactic(auto)]
 
 mod atoms;
-mod faults;
 mod laws;
 mod limits;
 mod names;
-mod parts;
-mod plans;
-mod protocol;
-mod refusals;
 mod resolving;
-mod roles;
-mod seen;
 mod shapes;
 mod terms;
-mod texts;
 mod uses;
 
-pub use laws::{
-    honest_agrees, known_texts_differ, limits_grow, made_is_new, plans_know_first, play_is_one,
-    play_is_there, protocols_hold, small_is_countable, terms_of_plans,
-};
-pub use parts::{Action, Atom};
-pub use plans::{Event, Names, Plan};
-pub use protocol::Protocol;
-pub use refusals::{Item, Kind, ResolveNo};
+pub use laws::{limits_grow, small_is_countable};
 pub use resolving::resolve;

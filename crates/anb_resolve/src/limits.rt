@@ -5,17 +5,18 @@ ghost use Rattle.std.specs.List.{AllByRecursion, sum_by};
 ghost use Rattle.anb_syntax.specs.Grammar.{trees_of, FormatItem as Item};
 ghost use Rattle.anb_syntax.specs.Views.{tree_of, format_of, narration_of};
 ghost use Rattle.anb_format.specs.Formats.{field_count};
-ghost use Rattle.anb_resolve.specs.declared.refusals.Kind.TheVariants.{Name, Fields, TermNodes};
-ghost use Rattle.anb_resolve.specs.Choices.{first};
-ghost use Rattle.anb_resolve.specs.Names.{declared_names, roles, terms, used_name, uses as uses_in};
-ghost use Rattle.anb_resolve.specs.Checks.{above, action_limit, all_limit, first_fault, format_limit, limit_checks, role_limit, term_limit, tree_nodes, trees_nodes};
-ghost use Rattle.anb_resolve.specs.WellFormed.{IsCountable};
-ghost use Rattle.anb_resolve.specs.Views.{pointed, use_of};
+ghost use Rattle.anb_protocol.specs.declared.refusals.Kind.TheVariants.{Name, Fields, TermNodes};
+ghost use Rattle.anb_protocol.specs.Choices.{first};
+ghost use Rattle.anb_protocol.specs.Names.{declared_names, roles, terms, used_name, uses as uses_in};
+ghost use Rattle.anb_protocol.specs.Checks.{above, action_limit, all_limit, first_fault, format_limit, limit_checks, role_limit, term_limit, tree_nodes, trees_nodes};
+ghost use Rattle.anb_protocol.specs.WellFormed.{IsCountable};
+ghost use Rattle.anb_protocol.specs.Views.{pointed};
+ghost use Rattle.anb_resolve.specs.Uses.{use_of};
 
-use crate::refusals::{Kind, ResolveNo};
 use crate::uses::{Use, role_names, terms_of};
 use anb_base::{NoMemory, Text};
 use anb_format::Piece;
+use anb_protocol::{Kind, ResolveNo};
 use anb_syntax::{FormatItem, Narration, Tree};
 use std::alloc::Global;
 

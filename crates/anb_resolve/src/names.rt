@@ -6,18 +6,19 @@ ghost use Rattle.anb_index.specs.Places.{among};
 ghost use Rattle.anb_format.specs.Formats.{field_count};
 ghost use Rattle.anb_syntax.specs.Grammar.{FormatItem as Item};
 ghost use Rattle.anb_syntax.specs.Views.{format_of, narration_of};
-ghost use Rattle.anb_resolve.specs.declared.refusals.ResolveNo.TheVariants.{Unknown, WrongSort, WrongCount};
-ghost use Rattle.anb_resolve.specs.Choices.{refuse_if, first};
-ghost use Rattle.anb_resolve.specs.Names.{used_name, declared_names, uses as uses_in, atoms as atoms_in};
-ghost use Rattle.anb_resolve.specs.Checks.{first_fault, name_checks, twice_among, names_format, is_missorted, has_count, is_miscounted};
-ghost use Rattle.anb_resolve.specs.Views.{pointed, use_of};
+ghost use Rattle.anb_protocol.specs.declared.refusals.ResolveNo.TheVariants.{Unknown, WrongSort, WrongCount};
+ghost use Rattle.anb_protocol.specs.Choices.{refuse_if, first};
+ghost use Rattle.anb_protocol.specs.Names.{used_name, declared_names, uses as uses_in, atoms as atoms_in};
+ghost use Rattle.anb_protocol.specs.Checks.{first_fault, name_checks, twice_among, names_format, is_missorted, has_count, is_miscounted};
+ghost use Rattle.anb_protocol.specs.Views.{pointed};
+ghost use Rattle.anb_resolve.specs.Uses.{use_of};
 
 use crate::atoms::AtomIndex;
 use crate::limits::field_count;
-use crate::refusals::ResolveNo;
 use crate::uses::{Use, line_names};
 use anb_base::{NoMemory, Text};
 use anb_index::TextIndex;
+use anb_protocol::ResolveNo;
 use anb_syntax::{FormatItem, Narration};
 use std::alloc::Global;
 

@@ -3,23 +3,21 @@ ghost use Rattle.std.specs.Prelude.{◌≡◌, ◌≢◌, IfOk, IfErr, OnOk, Mat
 ghost use Rattle.anb_base.specs.declared.TheConstants.{ARRIVAL, WIDE};
 ghost use Rattle.anb_syntax.specs.Grammar.{IsSpellable};
 ghost use Rattle.anb_syntax.specs.Views.{narration_of};
-ghost use Rattle.anb_resolve.specs.Checks.{IsWellFormed, fault};
-ghost use Rattle.anb_resolve.specs.Names.{atoms as atoms_in};
-ghost use Rattle.anb_resolve.specs.Protocols.{formats_of as formats_in, protocol_of};
-ghost use Rattle.anb_resolve.specs.WellFormed.{AreFew, IsCountable};
-ghost use Rattle.anb_resolve.specs.Views.{pointed, value_of};
+ghost use Rattle.anb_protocol.specs.Checks.{IsWellFormed, fault};
+ghost use Rattle.anb_protocol.specs.Names.{atoms as atoms_in};
+ghost use Rattle.anb_protocol.specs.Protocols.{formats_of as formats_in, protocol_of};
+ghost use Rattle.anb_protocol.specs.WellFormed.{AreFew, IsCountable};
+ghost use Rattle.anb_protocol.specs.Views.{pointed, value_of};
 
 use crate::atoms::AtomIndex;
 use crate::limits::limit_fault;
 use crate::names::name_fault;
-use crate::parts::{Atom, Parts};
-use crate::protocol::Protocol;
-use crate::refusals::ResolveNo;
 use crate::shapes::{formats_of, misshapen, overlap};
 use crate::terms::{actions_of, knows_of};
 use crate::uses::{atoms_of, declared_names, role_names, uses_of};
 use anb_base::{NoMemory, Text};
 use anb_format::Format;
+use anb_protocol::{Atom, Parts, Protocol, ResolveNo};
 use anb_syntax::Narration;
 use std::alloc::Global;
 

@@ -5,14 +5,14 @@ ghost use Rattle.std.specs.List.{AllByRecursion};
 ghost use Rattle.anb_format.specs.Formats.{FormatValue, IsSound};
 ghost use Rattle.anb_syntax.specs.Grammar.{FormatItem as Item};
 ghost use Rattle.anb_syntax.specs.Views.{format_of};
-ghost use Rattle.anb_resolve.specs.declared.refusals.ResolveNo.TheVariants.{FormatShape};
-ghost use Rattle.anb_resolve.specs.Choices.{first, first_after};
-ghost use Rattle.anb_resolve.specs.Protocols.{format_value};
-ghost use Rattle.anb_resolve.specs.Checks.{shape_fault, overlaps};
+ghost use Rattle.anb_protocol.specs.declared.refusals.ResolveNo.TheVariants.{FormatShape};
+ghost use Rattle.anb_protocol.specs.Choices.{first, first_after};
+ghost use Rattle.anb_protocol.specs.Protocols.{format_value};
+ghost use Rattle.anb_protocol.specs.Checks.{shape_fault, overlaps};
 
-use crate::refusals::ResolveNo;
 use anb_base::NoMemory;
 use anb_format::{Format, FormatNo, apart, copy_pieces};
+use anb_protocol::ResolveNo;
 use anb_syntax::FormatItem;
 use std::alloc::Global;
 

@@ -4,14 +4,14 @@ ghost use Rattle.anb_term.specs.Tree as term;
 ghost use Rattle.anb_term.specs.View.{tree_of as term_tree};
 ghost use Rattle.anb_syntax.specs.Grammar.{trees_of};
 ghost use Rattle.anb_syntax.specs.Views.{tree_of, know_of, action_of as action_item};
-ghost use Rattle.anb_resolve.specs.Protocols.{fields_at, format_number, format_op, role_number, resolved, resolved_all, line_of, action_of};
-ghost use Rattle.anb_resolve.specs.WellFormed.{AreFew};
-ghost use Rattle.anb_resolve.specs.Views.{action_value};
+ghost use Rattle.anb_protocol.specs.Protocols.{fields_at, format_number, format_op, role_number, resolved, resolved_all, line_of, action_of};
+ghost use Rattle.anb_protocol.specs.WellFormed.{AreFew};
+ghost use Rattle.anb_protocol.specs.Views.{action_value};
 
 use crate::atoms::AtomIndex;
-use crate::parts::Action;
 use anb_base::{NoMemory, Text};
 use anb_format::Format;
+use anb_protocol::Action;
 use anb_syntax::{ActionItem, KnowItem, Tree};
 use anb_term::{Op, Term, Terms};
 use std::alloc::Global;

@@ -4,12 +4,13 @@ ghost use Rattle.std.specs.List.{flat_map};
 ghost use Rattle.std.specs.Str.{bytes_eq};
 ghost use Rattle.anb_syntax.specs.Grammar.{trees_of, list_of, TypeItem as Types, FormatItem as Format, KnowItem as Know, ActionItem as Action};
 ghost use Rattle.anb_syntax.specs.Views.{tree_of, type_of, format_of, know_of, action_of, narration_of};
-ghost use Rattle.anb_resolve.specs.Names.{action_roles, action_uses, declared_names, distinct, first_new, item_atoms, know_uses, line_names, roles, terms, trees_uses, tree_uses, used_name, uses};
-ghost use Rattle.anb_resolve.specs.Views.{pointed, use_of};
+ghost use Rattle.anb_protocol.specs.Names.{action_roles, action_uses, declared_names, distinct, first_new, item_atoms, know_uses, line_names, roles, terms, trees_uses, tree_uses, used_name, uses};
+ghost use Rattle.anb_protocol.specs.Views.{pointed};
+ghost use Rattle.anb_resolve.specs.Uses.{use_of};
 
-use crate::parts::Atom;
 use anb_base::{NoMemory, Text};
 use anb_index::TextIndex;
+use anb_protocol::Atom;
 use anb_syntax::{ActionItem, FormatItem, KnowItem, Narration, Tree, TypeItem};
 use std::alloc::Global;
 
@@ -23,8 +24,8 @@ pub(crate) enum Use<'a> {
 
 impl<'a> Use<'a> {
     ghost use Rattle.std.specs.Prelude.{◌≡◌};
-    ghost use Rattle.anb_resolve.specs.Names.{used_name};
-    ghost use Rattle.anb_resolve.specs.Views.{use_of};
+    ghost use Rattle.anb_protocol.specs.Names.{used_name};
+    ghost use Rattle.anb_resolve.specs.Uses.{use_of};
 
     /// The name.
     pub(crate) fn name(self) -> &'a Text

@@ -13,16 +13,16 @@ use Rattle.anb_term.specs.Tree.{Tree}
 use Rattle.anb_term.specs.Value.{Meaning}
 use Rattle.anb_plays.specs.Plans.{Event, know, fresh, send, recv, known}
 use Rattle.anb_plays.specs.Plays.{End, done, Played, Walk, Play}
-use Rattle.anb_resolve.specs.Plays.{events_of, meaning_of}
+use Rattle.anb_protocol.specs.Plays.{events_of, meaning_of}
 use Rattle.anb_role_commands.specs.Completions.{AgreesAfterEach, AgreesThroughout, HearsAll}
 use Rattle.anb_role_commands.specs.Jobs.{IsRead, Job, JobIs}
 use Rattle.anb_command.specs.Outcomes.{IsOutcome, IsPlayed, LeavesAt, RunsOver, status_at}
 use Rattle.anb_role_commands.specs.PlayCommand.{CompletesPlay, DoesPlay, PlayOf}
-use Rattle.anb_command.specs.Statuses.{is_fault}
+use Rattle.anb_status.specs.Statuses.{is_fault}
 use Rattle.anb_command.specs.Steps.{Answer, refused, given, HasOneAnswer}
-use Rattle.anb_command.specs.declared.status.Status.{Status}
+use Rattle.anb_status.specs.declared.status.Status.{Status}
 use Rattle.anb_command.specs.Fetches.{Files, IfTold}
-use Rattle.anb_command.specs.declared.status.Status.TheVariants.{Done, NoMemory}
+use Rattle.anb_status.specs.declared.status.Status.TheVariants.{Done, NoMemory}
 use Rattle.anb_command.proofs.Cutting.{cut_behind}
 use Rattle.anb_command.proofs.Chains.{told_map}
 use Rattle.anb_command.proofs.Ones.{same_given, not_both}

@@ -12,9 +12,9 @@ use Rattle.anb_code.specs.declared.instr.Instr.TheVariants.{Take, Fresh, Recv, S
 use Rattle.anb_compile.specs.Fitting.{FitsRole}
 use Rattle.anb_format.specs.Formats.{FormatValue}
 use Rattle.anb_plays.specs.Fits.{Along, AnyBorder, AnySend, AnyWork, Place}
-use Rattle.anb_resolve.specs.Plans.{PlanEvent, to_know, to_make, to_send, to_receive, is_to_make, plan_of}
-use Rattle.anb_resolve.specs.Plays.{event_of}
-use Rattle.anb_resolve.specs.Protocols.{ProtocolValue}
+use Rattle.anb_protocol.specs.Plans.{PlanEvent, to_know, to_make, to_send, to_receive, is_to_make, plan_of}
+use Rattle.anb_protocol.specs.Plays.{event_of}
+use Rattle.anb_protocol.specs.Protocols.{ProtocolValue}
 use Rattle.anb_command.specs.Errands.{draws}
 use Rattle.anb_role_commands.specs.Jobs.{makes_names}
 

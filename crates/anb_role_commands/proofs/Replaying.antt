@@ -19,14 +19,14 @@ use Rattle.anb_transcript.specs.declared.following.ReplayEnd.TheVariants as repl
 use Rattle.anb_transcript.specs.declared.transcript.TranscriptLine.{TranscriptLine}
 use Rattle.anb_transcript.specs.declared.transcript.TranscriptLine.TheVariants.{In, Out}
 use Rattle.anb_values.specs.Fit.{FitIsUnique}
-use Rattle.anb_command.specs.declared.status.Status.{Status}
-use Rattle.anb_command.specs.declared.status.Status.TheVariants.{Done, FileFault, Unreached, ReadFault, WriteFault, NoMemory}
+use Rattle.anb_status.specs.declared.status.Status.{Status}
+use Rattle.anb_status.specs.declared.status.Status.TheVariants.{Done, FileFault, Unreached, ReadFault, WriteFault, NoMemory}
 use Rattle.anb_command.specs.Causes.{HasWireCause}
 use Rattle.anb_command.specs.Fetches.{Files, IfTold, IsOneOf}
 use Rattle.anb_command.specs.Files.{TranscriptInFile}
 use Rattle.anb_command.specs.OverWire.{DidNotReach, HasReached, OverWire}
 use Rattle.anb_command.specs.Refusing.{IsRefusing}
-use Rattle.anb_command.specs.Statuses.{IsEarly, OnUnreached, after_reach, before_reach, is_fault, phase_of}
+use Rattle.anb_status.specs.Statuses.{IsEarly, OnUnreached, after_reach, before_reach, is_fault, phase_of}
 use Rattle.anb_command.specs.Steps.{Answer, refused, given, HasOneAnswer, IsFailure}
 use Rattle.anb_command.proofs.Answering.{late, refusing}
 use Rattle.anb_command.proofs.Chains.{told_map}

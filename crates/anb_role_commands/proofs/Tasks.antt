@@ -2,7 +2,7 @@
 use Rattle.std.proofs.Common.{ℕ, List, Option}
 use Rattle.anb_code.specs.CodeValue.{CodeValue}
 use Rattle.anb_read.specs.Laws.{NarrationsAreUnique, RefusalsAreUnique, NoneIsBoth}
-use Rattle.anb_resolve.specs.Texts.{known_texts}
+use Rattle.anb_protocol.specs.Texts.{known_texts}
 use Rattle.anb_text.specs.Laws.{CodesAreUnique, FaultsAreUnique, FilesAreUnique, NoneIsBoth as NoFileIsFaulty}
 use Rattle.anb_values.specs.Fit.{FitIsUnique}
 use Rattle.anb_values.specs.declared.fitted.Fitted.{Fitted}

@@ -8,8 +8,8 @@ use Rattle.anb_plays.specs.Plays.{Played}
 use Rattle.anb_transcript.specs.Replays.{Replays, arrivals_of}
 use Rattle.anb_transcript.specs.declared.following.ReplayEnd.{ReplayEnd}
 use Rattle.anb_transcript.specs.declared.transcript.TranscriptLine.{TranscriptLine}
-use Rattle.anb_command.specs.declared.status.Status.{Status}
-use Rattle.anb_command.specs.declared.status.Status.TheVariants.{Unreached}
+use Rattle.anb_status.specs.declared.status.Status.{Status}
+use Rattle.anb_status.specs.declared.status.Status.TheVariants.{Unreached}
 use Rattle.anb_command.specs.Prepared.{IsRunBy}
 use Rattle.anb_command.specs.Steps.{Answer, given}
 use Rattle.anb_role_commands.specs.PlayCommand.{PlayOf}

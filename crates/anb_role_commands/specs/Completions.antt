@@ -7,7 +7,7 @@ use Rattle.anb_term.specs.Agree.{Agree}
 use Rattle.anb_term.specs.Tree.{Tree}
 use Rattle.anb_term.specs.Value.{Meaning}
 use Rattle.anb_plays.specs.Plans.{Event, know, fresh, send, recv, known}
-use Rattle.anb_resolve.specs.Plays.{events_of, meaning_of}
+use Rattle.anb_protocol.specs.Plays.{events_of, meaning_of}
 use Rattle.anb_role_commands.specs.Jobs.{Job}
 
 module _ {A : Type 0} (m : Meaning A) (draw : ℕ → A) where

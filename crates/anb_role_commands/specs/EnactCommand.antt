@@ -7,8 +7,8 @@ use Rattle.anb_code.specs.CodeValue.{CodeValue}
 use Rattle.anb_frame.specs.Cuts.{Tail, Cut}
 use Rattle.anb_machine.specs.ByteRuns.{run_bytes}
 use Rattle.anb_plays.specs.Plays.{Played, done}
-use Rattle.anb_command.specs.declared.status.Status.{Status}
-use Rattle.anb_command.specs.declared.status.Status.TheVariants.{Done, NoMemory}
+use Rattle.anb_status.specs.declared.status.Status.{Status}
+use Rattle.anb_status.specs.declared.status.Status.TheVariants.{Done, NoMemory}
 use Rattle.anb_command.specs.Errands.{Errand, ErrandOf}
 use Rattle.anb_command.specs.Fetches.{Files, IfTold}
 use Rattle.anb_command.specs.Files.{CodeInFile}

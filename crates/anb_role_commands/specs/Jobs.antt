@@ -1,9 +1,9 @@
 -- What the words and the files ask to play.
 use Rattle.std.specs.Prelude.{◌≡◌, ◌⊎◌, ℕ, List, Bool, Option}
 use Rattle.std.specs.List.{list_any}
-use Rattle.anb_resolve.specs.Plans.{is_to_make, plan_of}
-use Rattle.anb_resolve.specs.Protocols.{ProtocolValue}
-use Rattle.anb_resolve.specs.Texts.{known_texts}
+use Rattle.anb_protocol.specs.Plans.{is_to_make, plan_of}
+use Rattle.anb_protocol.specs.Protocols.{ProtocolValue}
+use Rattle.anb_protocol.specs.Texts.{known_texts}
 use Rattle.anb_command.specs.Fetches.{Files}
 use Rattle.anb_command.specs.Files.{ValuesInFile}
 use Rattle.anb_command.specs.Roles.{Part, PartInFile}

@@ -4,7 +4,7 @@ use Rattle.anb_plays.specs.Plays.{Played}
 use Rattle.anb_plays.specs.Runs.{without_place}
 use Rattle.anb_code.specs.CodeValue.{CodeValue}
 use Rattle.anb_machine.specs.ByteRuns.{run_bytes}
-use Rattle.anb_resolve.specs.Plays.{IsPlay}
+use Rattle.anb_protocol.specs.Plays.{IsPlay}
 use Rattle.anb_command.specs.Prepared.{IsReady, IsRunBy}
 use Rattle.anb_command.specs.Steps.{Answer, given}
 use Rattle.anb_role_commands.specs.Jobs.{Job}

@@ -8,8 +8,8 @@ use Rattle.anb_transcript.specs.Replays.{Replays}
 use Rattle.anb_transcript.specs.declared.following.ReplayEnd.{ReplayEnd}
 use Rattle.anb_transcript.specs.declared.following.ReplayEnd.TheVariants as replayed
 use Rattle.anb_transcript.specs.declared.transcript.TranscriptLine.{TranscriptLine}
-use Rattle.anb_command.specs.declared.status.Status.{Status}
-use Rattle.anb_command.specs.declared.status.Status.TheVariants.{
+use Rattle.anb_status.specs.declared.status.Status.{Status}
+use Rattle.anb_status.specs.declared.status.Status.TheVariants.{
   Done,
   Stopped,
   Differs,
@@ -21,7 +21,7 @@ use Rattle.anb_command.specs.declared.status.Status.TheVariants.{
 use Rattle.anb_command.specs.Fetches.{Files, IfTold}
 use Rattle.anb_command.specs.Files.{TranscriptInFile}
 use Rattle.anb_command.specs.Refusing.{IsRefusing}
-use Rattle.anb_command.specs.Statuses.{OnUnreached, is_fault}
+use Rattle.anb_status.specs.Statuses.{OnUnreached, is_fault}
 use Rattle.anb_command.specs.Steps.{Answer, refused, given, InTurn, AnswersWith}
 use Rattle.anb_role_commands.specs.Jobs.{IsRead, Job, JobIs}
 use Rattle.anb_role_commands.specs.PlayCommand.{PlayOf}

@@ -9,7 +9,7 @@ ghost use Rattle.anb_command.specs.Causes.{HasCause, NoneRose};
 ghost use Rattle.anb_command.specs.Fetches.{Fetches, IfTold, IsOneOf};
 ghost use Rattle.anb_command.specs.OverWire.{OverWire};
 ghost use Rattle.anb_command.specs.Reaches.{Reaches};
-ghost use Rattle.anb_command.specs.Statuses.{IsEarly, before_reach, phase_of};
+ghost use Rattle.anb_status.specs.Statuses.{IsEarly, before_reach, phase_of};
 ghost use Rattle.anb_command.specs.Steps.{IsFailure, refused};
 ghost use Rattle.anb_command.specs.Touches.{Touches};
 ghost use Rattle.anb_role_commands.specs.Comparing.{IsComparable, IsCompared, IsReplayed};

@@ -16,21 +16,21 @@ use Rattle.anb_plays.specs.Runs.{no_place, without_place}
 use Rattle.anb_compile.specs.Fitting.{FitsRole}
 use Rattle.anb_compile.specs.Laws.{FittingCodesPlay}
 use Rattle.anb_read.specs.Laws.{NarrationsAreUnique, NoneIsBoth, RefusalsAreUnique}
-use Rattle.anb_resolve.specs.Protocols.{ProtocolValue}
-use Rattle.anb_resolve.specs.Texts.{known_by, known_texts, term_text}
+use Rattle.anb_protocol.specs.Protocols.{ProtocolValue}
+use Rattle.anb_protocol.specs.Texts.{known_by, known_texts, term_text}
 use Rattle.anb_text.specs.Laws.{CodesAreUnique, FaultsAreUnique, FilesAreUnique, NoneIsBoth as NoFileIsFaulty}
 use Rattle.anb_values.specs.declared.fitted.Fitted.{Fitted}
 use Rattle.anb_command.specs.declared.limits.TheConstants.{ROLE_FILE_LIMIT}
-use Rattle.anb_command.specs.declared.status.Status.{Status}
-use Rattle.anb_command.specs.declared.status.Status.TheVariants.{Stopped}
-use Rattle.anb_command.specs.declared.words.RoleText.TheVariants.{RoleFile}
+use Rattle.anb_status.specs.declared.status.Status.{Status}
+use Rattle.anb_status.specs.declared.status.Status.TheVariants.{Stopped}
+use Rattle.anb_words.specs.declared.words.RoleText.TheVariants.{RoleFile}
 use Rattle.anb_command.specs.Errands.{Errand, ErrandOf, draws}
 use Rattle.anb_command.specs.Fetches.{Files}
 use Rattle.anb_command.specs.Files.{CodeInFile, HasFile, ProtocolInFile, ValuesInFile}
 use Rattle.anb_command.specs.Outcomes.{IsPlayed, IsRefused, LeavesAt, Outcome, status_at}
 use Rattle.anb_command.specs.Roles.{Part, PartInFile, PartOf, RoleIs}
 use Rattle.anb_command.specs.Seeds.{SeedIs}
-use Rattle.anb_command.specs.Statuses.{before_reach, phase_of}
+use Rattle.anb_status.specs.Statuses.{before_reach, phase_of}
 use Rattle.anb_command.specs.Steps.{Answer, refused, given, InTurn, AnswersWith}
 use Rattle.anb_command.proofs.Cutting.{bytes_in_cut}
 use Rattle.anb_command.proofs.Ones.{RefusesQuietly, as_given, as_refused, code_in_file_one, is_quiet, not_both, part_one, protocol_in_file_one, role_one, same_given, seed_quiet, then_quiet, values_in_file_quiet}

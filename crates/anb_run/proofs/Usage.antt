@@ -3,9 +3,9 @@ use Rattle.std.proofs.Common.{◌≡◌, ℕ, List, Option, Some, None, refl, sy
 use Rattle.std.specs.Prelude.{◌↔◌}
 use Rattle.anb_base.specs.Wires.{WireState}
 use Rattle.anb_stage.specs.Children.{Child}
-use Rattle.anb_command.specs.Words.{Asked}
-use Rattle.anb_command.specs.declared.status.Status.{Status}
-use Rattle.anb_command.specs.declared.status.Status.TheVariants.{Usage}
+use Rattle.anb_words.specs.Words.{Asked}
+use Rattle.anb_status.specs.declared.status.Status.{Status}
+use Rattle.anb_status.specs.declared.status.Status.TheVariants.{Usage}
 use Rattle.anb_stage_commands.specs.StageCommand.{HasStageCause}
 use Rattle.anb_stage_commands.specs.Words.{Staged}
 use Rattle.anb_run.specs.Stages.{IsAsked}

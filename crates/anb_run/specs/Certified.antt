@@ -1,7 +1,7 @@
 -- What `enact` does with a role file that `certify` certified.
 use Rattle.std.specs.Prelude.{List, ℕ, Option}
 use Rattle.anb_base.specs.Bytes.{IsBytes}
-use Rattle.anb_resolve.specs.Protocols.{ProtocolValue}
+use Rattle.anb_protocol.specs.Protocols.{ProtocolValue}
 use Rattle.anb_command.specs.Fetches.{Files}
 use Rattle.anb_command.specs.Files.{ProtocolInFile}
 use Rattle.anb_command.specs.Roles.{Part, PartInFile, RoleIs}

@@ -2,9 +2,9 @@
 -- the words that follow the command's name.
 use Rattle.std.specs.Prelude.{ℕ, List, Option, Some, None}
 use Rattle.anb_base.specs.Wires.{WireState}
-use Rattle.anb_command.specs.declared.status.Status.{Status}
+use Rattle.anb_status.specs.declared.status.Status.{Status}
 use Rattle.anb_command.specs.Fetches.{Files}
-use Rattle.anb_command.specs.Words.{Asked, fmt, describe, play, enact, replay, host, rehearse, drill, help, branch, certify, why, park, resume, chart, role_chart, check, trace}
+use Rattle.anb_words.specs.Words.{Asked, fmt, describe, play, enact, replay, host, rehearse, drill, help, branch, certify, why, park, resume, chart, role_chart, check, trace}
 use Rattle.anb_branch_commands.specs.BranchCommand.{CompletesBranch, DoesBranch}
 use Rattle.anb_check_commands.specs.CheckCommand.{CompletesCheck, DoesCheck}
 use Rattle.anb_host_commands.specs.HostCommand.{CompletesHost, DoesHost}

@@ -5,9 +5,9 @@ use Rattle.anb_base.specs.declared.TheConstants.{ARRIVAL}
 use Rattle.anb_code.specs.CodeValue.{CodeValue}
 use Rattle.anb_frame.specs.Cuts.{Tail, Cut}
 use Rattle.anb_command.specs.declared.limits.TheConstants.{ROLE_FILE_LIMIT}
-use Rattle.anb_command.specs.declared.status.Status.{Status}
-use Rattle.anb_command.specs.declared.status.Status.TheVariants.{Stopped}
-use Rattle.anb_command.specs.declared.words.RoleText.TheVariants.{RoleFile}
+use Rattle.anb_status.specs.declared.status.Status.{Status}
+use Rattle.anb_status.specs.declared.status.Status.TheVariants.{Stopped}
+use Rattle.anb_words.specs.declared.words.RoleText.TheVariants.{RoleFile}
 use Rattle.anb_command.specs.Fetches.{Files}
 use Rattle.anb_command.specs.Files.{CodeInFile, HasFile}
 use Rattle.anb_command.specs.Outcomes.{Outcome}

@@ -4,12 +4,12 @@ use Rattle.anb_base.specs.Wires.{WireState}
 use Rattle.anb_base.specs.declared.place.Place.{Place}
 use Rattle.anb_base.specs.declared.place.Place.TheVariants.{Stdio}
 use Rattle.anb_stage.specs.Children.{Child}
-use Rattle.anb_command.specs.declared.status.Status.{Status}
+use Rattle.anb_status.specs.declared.status.Status.{Status}
 use Rattle.anb_command.specs.Causes.{HasCause, NoneRose}
 use Rattle.anb_command.specs.Fetches.{Files}
 use Rattle.anb_command.specs.Phases.{phase_in}
-use Rattle.anb_command.specs.Statuses.{Phase, phase_of}
-use Rattle.anb_command.specs.Words.{Asked, asked_of, files_of, is_reading, place_of}
+use Rattle.anb_status.specs.Statuses.{Phase, phase_of}
+use Rattle.anb_words.specs.Words.{Asked, asked_of, files_of, is_reading, place_of}
 use Rattle.anb_stage_commands.specs.StageCommand.{CompletesStage, DoesStage, HasStageCause, NoChildRose}
 use Rattle.anb_stage_commands.specs.Words.{Staged, staged_of}
 use Rattle.anb_run.specs.Commands.{Completes, Does}

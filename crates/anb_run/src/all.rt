@@ -3,12 +3,12 @@ ghost use Rattle.std.specs.Prelude.{◌≡◌, ◌↔◌, ◌<◌, ℕ, None};
 ghost use Rattle.anb_stage.specs.declared.TheConstants.{ROLES};
 ghost use Rattle.anb_command.specs.Causes.{NoneRose};
 ghost use Rattle.anb_command.specs.Fetches.{Fetches};
-ghost use Rattle.anb_command.specs.Lines.{Tells};
+ghost use Rattle.anb_status.specs.Lines.{Tells};
 ghost use Rattle.anb_command.specs.Reaches.{Reaches};
-ghost use Rattle.anb_command.specs.Statuses.{line_of};
+ghost use Rattle.anb_status.specs.Statuses.{line_of};
 ghost use Rattle.anb_command.specs.Touches.{Touches};
-ghost use Rattle.anb_command.specs.Words.{asked_of};
-ghost use Rattle.anb_command.specs.declared.status.Status.TheVariants.{Usage};
+ghost use Rattle.anb_words.specs.Words.{asked_of};
+ghost use Rattle.anb_status.specs.declared.status.Status.TheVariants.{Usage};
 ghost use Rattle.anb_stage_commands.specs.Words.{staged_of};
 ghost use Rattle.anb_run.specs.Stages.{CompletesAny, DoesAny, HasAnyCause, IsAsked, all_files, all_phase, all_places, all_reading};
 

@@ -9,13 +9,13 @@
 ghost use Rattle.std.specs.Prelude.{◌≡◌, ◌↔◌, None};
 ghost use Rattle.anb_command.specs.Causes.{HasCause, NoneRose};
 ghost use Rattle.anb_command.specs.Fetches.{Fetches};
-ghost use Rattle.anb_command.specs.Lines.{Tells};
+ghost use Rattle.anb_status.specs.Lines.{Tells};
 ghost use Rattle.anb_command.specs.Phases.{phase_in};
 ghost use Rattle.anb_command.specs.Reaches.{Reaches};
-ghost use Rattle.anb_command.specs.Statuses.{line_of};
+ghost use Rattle.anb_status.specs.Statuses.{line_of};
 ghost use Rattle.anb_command.specs.Touches.{Touches};
-ghost use Rattle.anb_command.specs.Words.{asked_of, files_of, is_reading, place_of};
-ghost use Rattle.anb_command.specs.declared.status.Status.TheVariants.{Usage};
+ghost use Rattle.anb_words.specs.Words.{asked_of, files_of, is_reading, place_of};
+ghost use Rattle.anb_status.specs.declared.status.Status.TheVariants.{Usage};
 ghost use Rattle.anb_branch_commands.specs.Laws.{ArmsArePlayed};
 ghost use Rattle.anb_run.specs.Commands.{Completes, Does};
 ghost use Rattle.anb_run.specs.Certified.{CertifiedFilesPlay};

@@ -1,6 +1,6 @@
 //! Lists that are shut, and lists that are not.
 use anb_base::NoMemory;
-use anb_certify::shut;
+use anb_reason::shut;
 use anb_term::{Op, Term, Terms};
 use std::alloc::Global;
 

@@ -12,7 +12,7 @@ use Rattle.anb_base.proofs.Joined.{Put-joined}
 use Rattle.anb_base.specs.declared.content.Sent.{Sent}
 use Rattle.anb_frame.specs.Frames.{frame, frames}
 use Rattle.anb_frame.specs.Cuts.{Tail, CutLeft}
-use Rattle.anb_resolve.specs.Choices.{each_after}
+use Rattle.anb_protocol.specs.Choices.{each_after}
 use Rattle.anb_stage.specs.Children.{Child, written_to_all}
 use Rattle.anb_stage.specs.Relays.{Message, sends_of, bytes_of, message_of, messages, bytes_to, report, refusal_of, refusal_at, missing, own_stamps, size_of_tail, stamps, stamps_behind, AreHeard, AllInTime, SomeInTime, SomeWritten}
 use Rattle.anb_stage.specs.Steps.{Begins, CarryKeeps, Carries, CarriesPart, FailsCarrying, Carried, FailsCarryingSome, next_size, written_behind}

@@ -6,10 +6,10 @@ use Rattle.std.proofs.lemmas.Bool.{cases_Bool, eqb-true, eq-eqb}
 use Rattle.std.proofs.lemmas.List.{append-nil}
 use Rattle.std.proofs.lemmas.List.Elements.{filter-append}
 use Rattle.std.proofs.lemmas.List.Sums.{length-filter}
-use Rattle.anb_resolve.specs.Choices.{each_after}
-use Rattle.anb_resolve.specs.Protocols.{ActionValue, ProtocolValue}
-use Rattle.anb_resolve.specs.Laws.{IsActionOf}
-use Rattle.anb_resolve.specs.Schedules.{Turn, part_in, parts_of, next_of, was_sent, if_ready, turn_of, append_if, taken_after, IsComplete}
+use Rattle.anb_protocol.specs.Choices.{each_after}
+use Rattle.anb_protocol.specs.Protocols.{ActionValue, ProtocolValue}
+use Rattle.anb_protocol.specs.Laws.{IsActionOf}
+use Rattle.anb_protocol.specs.Schedules.{Turn, part_in, parts_of, next_of, was_sent, if_ready, turn_of, append_if, taken_after, IsComplete}
 use Rattle.anb_stage.specs.Honest.{turns_of}
 use Rattle.anb_stage.proofs.Messages.{each_after-at}
 use Rattle.anb_lemmas.proofs.Each.{each_in_both}

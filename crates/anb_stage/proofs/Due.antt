@@ -5,7 +5,7 @@ use Rattle.std.specs.List.{range_with_len}
 use Rattle.std.specs.Option.{option_or}
 use Rattle.std.proofs.lemmas.Bool.Decides.{eqb_tells}
 use Rattle.anb_frame.specs.Cuts.{Tail, End, Short, Long}
-use Rattle.anb_resolve.specs.Choices.{first, first_after, refuse_if}
+use Rattle.anb_protocol.specs.Choices.{first, first_after, refuse_if}
 use Rattle.anb_stage.specs.Children.{Child}
 use Rattle.anb_stage.specs.Relays.{AreGood, IsRefused, IsRelayed, bytes_of, missing, refusal_at, refusal_of}
 use Rattle.anb_stage.specs.Due.{AreTold, IsDue, RelaysAreDue, bad_at, due_of}

@@ -12,13 +12,13 @@ use Rattle.anb_term.specs.Value.{Meaning}
 use Rattle.anb_plays.specs.Plans.{Event, know, fresh, send, recv, known}
 use Rattle.anb_plays.specs.Plays.{Played, stopped, done}
 use Rattle.anb_plays.specs.Honest.{honest, honest_from, heard, LabelsAreFormed}
-use Rattle.anb_resolve.specs.Choices.{each_after}
-use Rattle.anb_resolve.specs.Protocols.{ActionValue, ProtocolValue}
-use Rattle.anb_resolve.specs.Texts.{known_by, known_terms}
-use Rattle.anb_resolve.specs.Plans.{PlanEvent, to_know, to_make, to_send, to_receive, events_at, messages, plan_of}
-use Rattle.anb_resolve.specs.Plans as plans
-use Rattle.anb_resolve.specs.Plays.{event_of, events_of}
-use Rattle.anb_resolve.specs.Laws.{IsActionOf}
+use Rattle.anb_protocol.specs.Choices.{each_after}
+use Rattle.anb_protocol.specs.Protocols.{ActionValue, ProtocolValue}
+use Rattle.anb_protocol.specs.Texts.{known_by, known_terms}
+use Rattle.anb_protocol.specs.Plans.{PlanEvent, to_know, to_make, to_send, to_receive, events_at, messages, plan_of}
+use Rattle.anb_protocol.specs.Plans as plans
+use Rattle.anb_protocol.specs.Plays.{event_of, events_of}
+use Rattle.anb_protocol.specs.Laws.{IsActionOf}
 
 abbrev pub tells : ℕ → ActionValue → Bool
 tells role a = a.from == role

@@ -13,16 +13,16 @@ use Rattle.anb_frame.specs.Frames.{frames}
 use Rattle.anb_frame.specs.Cuts.{Tail, End, Cut, CutLeft, HasOneCut}
 use Rattle.anb_term.specs.Tree.{Tree, IsFormed}
 use Rattle.anb_lemmas.proofs.Each.{each_in_front}
-use Rattle.anb_resolve.specs.Plans.{messages as term_list}
+use Rattle.anb_protocol.specs.Plans.{messages as term_list}
 use Rattle.anb_plays.specs.Plays.{Played, Play, stopped, done}
 use Rattle.anb_plays.specs.Honest.{honest, honest_play, heard, LabelsAreFormed}
 use Rattle.anb_plays.specs.Statements.{HonestPlays, PlaysAreOne}
-use Rattle.anb_resolve.specs.Choices.{each_after}
-use Rattle.anb_resolve.specs.Protocols.{ActionValue, ProtocolValue}
-use Rattle.anb_resolve.specs.Laws.{IsActionOf}
-use Rattle.anb_resolve.specs.Texts.{known_by, known_terms}
+use Rattle.anb_protocol.specs.Choices.{each_after}
+use Rattle.anb_protocol.specs.Protocols.{ActionValue, ProtocolValue}
+use Rattle.anb_protocol.specs.Laws.{IsActionOf}
+use Rattle.anb_protocol.specs.Texts.{known_by, known_terms}
 use Rattle.anb_plays.specs.Plans.{known}
-use Rattle.anb_resolve.specs.Plays.{IsSendable, events_of, honest_bytes, meaning_of}
+use Rattle.anb_protocol.specs.Plays.{IsSendable, events_of, honest_bytes, meaning_of}
 use Rattle.anb_stage.specs.Children.{Child}
 use Rattle.anb_stage.specs.Relays.{Message, AreCut, AreGood, bytes_of, bytes_to, ends_of, messages, message_of, missing, refusal_of, sends_of}
 use Rattle.anb_stage.specs.Honest.{AreHonestChildren, AreMade, IsPlayOf, honest_message, honest_messages}

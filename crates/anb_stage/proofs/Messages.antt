@@ -5,7 +5,7 @@ use Rattle.std.proofs.lemmas.List.{append-nil, take-append-le}
 use Rattle.anb_lemmas.proofs.Options.{or_is_none}
 use Rattle.anb_base.specs.Moves.{Put, PutPrefix}
 use Rattle.anb_base.proofs.Joined.{Put-joined}
-use Rattle.anb_resolve.specs.Choices.{first_after, each_after}
+use Rattle.anb_protocol.specs.Choices.{first_after, each_after}
 
 module _ {X Y : Type 0} (f : List X → X → List Y) where
   -- what each thing gives, where one stands in the middle

@@ -9,11 +9,11 @@ use Rattle.anb_lemmas.proofs.Bools.{or_false, never_both}
 use Rattle.anb_lemmas.proofs.Numbers.{nat_eq-differs}
 use Rattle.anb_lemmas.proofs.Each.{each_at}
 use Rattle.anb_term.specs.Tree.{Tree, leaf}
-use Rattle.anb_resolve.specs.Choices.{each_after}
-use Rattle.anb_resolve.specs.Protocols.{ActionValue, ProtocolValue}
-use Rattle.anb_resolve.specs.Texts.{known_by}
-use Rattle.anb_resolve.specs.Plans.{PlanEvent, to_know, to_make, to_send, to_receive, own_events, events_at, made, plan_of}
-use Rattle.anb_resolve.specs.Laws.{IsActionOf, HoldsOf}
+use Rattle.anb_protocol.specs.Choices.{each_after}
+use Rattle.anb_protocol.specs.Protocols.{ActionValue, ProtocolValue}
+use Rattle.anb_protocol.specs.Texts.{known_by}
+use Rattle.anb_protocol.specs.Plans.{PlanEvent, to_know, to_make, to_send, to_receive, own_events, events_at, made, plan_of}
+use Rattle.anb_protocol.specs.Laws.{IsActionOf, HoldsOf}
 use Rattle.anb_stage.specs.Relays.{ends_of}
 use Rattle.anb_stage.specs.Steps.{AreWithin}
 use Rattle.anb_stage.specs.Parts.{is_part, IsAlone}

@@ -4,7 +4,7 @@ use Rattle.std.proofs.lemmas.Bool.{eq-eqb}
 use Rattle.anb_lemmas.proofs.Numbers.{nat_eq-differs}
 use Rattle.anb_frame.specs.Frames.{frame}
 use Rattle.anb_frame.specs.Cuts.{Tail}
-use Rattle.anb_resolve.specs.Choices.{first_after}
+use Rattle.anb_protocol.specs.Choices.{first_after}
 use Rattle.anb_stage.specs.Relays.{bytes_of, own_stamps, refusal_of, stamps_behind}
 use Rattle.anb_stage.specs.Steps.{written_behind}
 use Rattle.anb_stage.specs.declared.ends.Ends.{Ends}

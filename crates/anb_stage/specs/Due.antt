@@ -3,7 +3,7 @@ use Rattle.std.specs.Prelude.{◌≡◌, ℕ, ◌<◌, ◌==◌, not, List, Opti
 use Rattle.std.specs.List.{range_with_len}
 use Rattle.std.specs.Option.{option_or}
 use Rattle.anb_frame.specs.Cuts.{Tail}
-use Rattle.anb_resolve.specs.Choices.{first, refuse_if}
+use Rattle.anb_protocol.specs.Choices.{first, refuse_if}
 use Rattle.anb_stage.specs.Children.{Child}
 use Rattle.anb_stage.specs.Relays.{AreCut, IsRefused, IsRelayed, missing}
 use Rattle.anb_stage.specs.declared.ends.Ends.{Ends}

@@ -7,11 +7,11 @@ use Rattle.anb_frame.specs.Frames.{frames}
 use Rattle.anb_frame.specs.Cuts.{Tail}
 use Rattle.anb_plays.specs.Plays.{Played, Play, stopped, done}
 use Rattle.anb_plays.specs.Honest.{made}
-use Rattle.anb_resolve.specs.Choices.{each_after}
-use Rattle.anb_resolve.specs.Protocols.{ActionValue, ProtocolValue}
-use Rattle.anb_resolve.specs.Texts.{known_by}
-use Rattle.anb_resolve.specs.Plays.{IsSendable, events_of, honest_bytes, meaning_of}
-use Rattle.anb_resolve.specs.Schedules.{IsComplete}
+use Rattle.anb_protocol.specs.Choices.{each_after}
+use Rattle.anb_protocol.specs.Protocols.{ActionValue, ProtocolValue}
+use Rattle.anb_protocol.specs.Texts.{known_by}
+use Rattle.anb_protocol.specs.Plays.{IsSendable, events_of, honest_bytes, meaning_of}
+use Rattle.anb_protocol.specs.Schedules.{IsComplete}
 use Rattle.anb_stage.specs.Children.{Child}
 use Rattle.anb_stage.specs.Relays.{Message, AreCut, AreGood, bytes_to, ends_of, messages, missing}
 

@@ -1,7 +1,7 @@
 -- for proofs alone: which plan has which part in an action.
 use Rattle.std.specs.Prelude.{◌≡◌, ℕ, ◌<◌, ◌==◌, ◌&&◌, not, Bool, false, List, [], length, get_or}
 use Rattle.std.specs.List.{list_any}
-use Rattle.anb_resolve.specs.Plans.{PlanEvent, to_know, to_make, to_send, to_receive}
+use Rattle.anb_protocol.specs.Plans.{PlanEvent, to_know, to_make, to_send, to_receive}
 
 -- the event sends an action's message, or receives it
 abbrev pub is_part : ℕ → Bool → PlanEvent → Bool

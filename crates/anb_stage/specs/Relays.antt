@@ -6,8 +6,8 @@ use Rattle.anb_base.specs.declared.TheConstants.{ARRIVAL}
 use Rattle.anb_base.specs.declared.content.Sent.{Sent}
 use Rattle.anb_frame.specs.Frames.{frame, frames}
 use Rattle.anb_frame.specs.Cuts.{Tail, End, Short, Long, CutLeft}
-use Rattle.anb_resolve.specs.Choices.{refuse_if, first_after, each_after}
-use Rattle.anb_resolve.specs.Protocols.{ActionValue, ProtocolValue}
+use Rattle.anb_protocol.specs.Choices.{refuse_if, first_after, each_after}
+use Rattle.anb_protocol.specs.Protocols.{ActionValue, ProtocolValue}
 use Rattle.anb_stage.specs.Children.{Child, lines, written_to_all}
 use Rattle.anb_stage.specs.declared.ends.Ends.{Ends}
 use Rattle.anb_stage.specs.declared.refusal.RelayNo.{RelayNo}

@@ -2,14 +2,14 @@
 
 ghost use Rattle.std.specs.Prelude.{◌≡◌, ◌<◌, ◌≤◌, ℕ, length, map, IfOk};
 ghost use Rattle.std.specs.List.{list_any, range_with_len};
-ghost use Rattle.anb_resolve.specs.Plans.{plan_of};
-ghost use Rattle.anb_resolve.specs.Views.{plan_event};
-ghost use Rattle.anb_resolve.specs.Laws.{HoldsOf};
+ghost use Rattle.anb_protocol.specs.Plans.{plan_of};
+ghost use Rattle.anb_protocol.specs.Views.{plan_event};
+ghost use Rattle.anb_protocol.specs.Laws.{HoldsOf};
 ghost use Rattle.anb_stage.specs.Parts.{is_part, IsAlone};
 ghost use Rattle.anb_stage.specs.Relays.{ends_in};
 
 use anb_base::NoMemory;
-use anb_resolve::{Event, Plan, Protocol};
+use anb_protocol::{Event, Plan, Protocol};
 use std::alloc::Global;
 
 /// The sender and the receiver of an action, by their numbers.

@@ -6,7 +6,7 @@ use anb_algebra::ByteAlgebra;
 use anb_base::ARRIVAL;
 use anb_frame::one_cut;
 use anb_plays::laws::{honest_plays, plays_are_one};
-use anb_resolve::{Protocol, protocols_hold};
+use anb_protocol::{Protocol, protocols_hold};
 
 /// A law: where all children play their roles honestly, each message that is relayed has the honest
 /// bytes of its term, none is missing, and no child's play stops. The turns of the senders and

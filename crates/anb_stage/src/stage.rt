@@ -9,7 +9,7 @@ use crate::ends::ends_of;
 use crate::relaying::relay_all;
 use crate::{RelayNo, Spawner};
 use anb_base::{ARRIVAL, Sent, Text};
-use anb_resolve::{Protocol, protocols_hold};
+use anb_protocol::{Protocol, protocols_hold};
 use std::alloc::Global;
 
 /// Starts a child for each role of the protocol with the role's words, carries each message from its

@@ -4,18 +4,18 @@ use Rattle.std.specs.Prelude.{IfSome}
 use Rattle.anb_base.proofs.Moving.{put_nothing}
 use Rattle.anb_frame.specs.Cuts.{Tail}
 use Rattle.anb_read.specs.Laws.{NarrationsAreUnique, RefusalsAreUnique, NoneIsBoth}
-use Rattle.anb_resolve.specs.Protocols.{ProtocolValue}
+use Rattle.anb_protocol.specs.Protocols.{ProtocolValue}
 use Rattle.anb_stage.specs.Children.{Child}
 use Rattle.anb_stage.specs.Due.{IsDue, RelaysAreDue, due_of}
 use Rattle.anb_stage.specs.Relays.{IsRefused, ends_in}
 use Rattle.anb_stage.proofs.Due.{IsOfOutputs, due_of_outputs}
 use Rattle.anb_stage.specs.declared.refusal.RelayNo.{RelayNo}
 use Rattle.anb_stage.specs.declared.refusal.RelayNo.TheVariants as no
-use Rattle.anb_command.specs.declared.status.Status.{Status}
-use Rattle.anb_command.specs.declared.status.Status.TheVariants.{NoMemory}
+use Rattle.anb_status.specs.declared.status.Status.{Status}
+use Rattle.anb_status.specs.declared.status.Status.TheVariants.{NoMemory}
 use Rattle.anb_command.specs.Fetches.{Files}
 use Rattle.anb_command.specs.Roles.{SendableInFile}
-use Rattle.anb_command.specs.Statuses.{is_fault}
+use Rattle.anb_status.specs.Statuses.{is_fault}
 use Rattle.anb_command.specs.Steps.{Answer, HasOneAnswer, IsFailure, given, refused}
 use Rattle.anb_command.specs.Writing.{IsWriting, IsWritingOne, IsWritten, WritesLess}
 use Rattle.anb_command.proofs.Chains.{told_map}

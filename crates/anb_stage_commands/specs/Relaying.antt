@@ -2,16 +2,16 @@
 use Rattle.std.specs.Prelude.{◌≡◌, ◌⊎◌, ℕ, ◌<◌, List, length, Option}
 use Rattle.anb_base.specs.Moves.{Rose}
 use Rattle.anb_frame.specs.Cuts.{Tail}
-use Rattle.anb_resolve.specs.Protocols.{ProtocolValue}
+use Rattle.anb_protocol.specs.Protocols.{ProtocolValue}
 use Rattle.anb_stage.specs.Children.{Child}
 use Rattle.anb_stage.specs.Relays.{AreCut, IsRefused, IsRelayed, ends_in, report}
 use Rattle.anb_stage.specs.declared.refusal.RelayNo.{RelayNo}
 use Rattle.anb_stage.specs.declared.refusal.RelayNo.TheVariants as no
-use Rattle.anb_command.specs.declared.status.Status.{Status}
-use Rattle.anb_command.specs.declared.status.Status.TheVariants.{Usage, FileFault, ChildFault, NoMemory}
+use Rattle.anb_status.specs.declared.status.Status.{Status}
+use Rattle.anb_status.specs.declared.status.Status.TheVariants.{Usage, FileFault, ChildFault, NoMemory}
 use Rattle.anb_command.specs.Fetches.{Files, IfTold}
 use Rattle.anb_command.specs.Roles.{SendableInFile}
-use Rattle.anb_command.specs.Statuses.{before_reach, phase_of}
+use Rattle.anb_status.specs.Statuses.{before_reach, phase_of}
 use Rattle.anb_command.specs.Steps.{IsFailure, given, refused}
 use Rattle.anb_stage_commands.specs.Reports.{report_text}
 use Rattle.anb_stage_commands.specs.StageCommand.{status_of}

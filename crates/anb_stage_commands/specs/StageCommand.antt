@@ -4,14 +4,14 @@ use Rattle.anb_base.specs.Moves.{Rose}
 use Rattle.anb_base.specs.Wires.{WireState}
 use Rattle.anb_base.specs.declared.place.Place.TheVariants.{Stdio}
 use Rattle.anb_frame.specs.Cuts.{Tail}
-use Rattle.anb_resolve.specs.Protocols.{ProtocolValue}
+use Rattle.anb_protocol.specs.Protocols.{ProtocolValue}
 use Rattle.anb_stage.specs.Children.{Child}
 use Rattle.anb_stage.specs.Due.{AreTold, due_of}
 use Rattle.anb_stage.specs.Relays.{AreCut, IsRefused, IsRelayed, ends_in, missing, report}
 use Rattle.anb_stage.specs.declared.refusal.RelayNo.{RelayNo}
 use Rattle.anb_stage.specs.declared.refusal.RelayNo.TheVariants as no
-use Rattle.anb_command.specs.declared.status.Status.{Status}
-use Rattle.anb_command.specs.declared.status.Status.TheVariants.{Done, ChildFault, ChildEnded, ChildCut, ChildLong, ChildBad, NoMemory}
+use Rattle.anb_status.specs.declared.status.Status.{Status}
+use Rattle.anb_status.specs.declared.status.Status.TheVariants.{Done, ChildFault, ChildEnded, ChildCut, ChildLong, ChildBad, NoMemory}
 use Rattle.anb_command.specs.Causes.{HasCause}
 use Rattle.anb_command.specs.Fetches.{Files, IfTold}
 use Rattle.anb_command.specs.Roles.{SendableInFile}

@@ -1,6 +1,6 @@
 -- The words of `stage`, and those of the children that it starts.
 use Rattle.std.specs.Prelude.{ℕ, List, [], ◌∷◌, ◌++◌, codes, bytes_eq, map, ◌&&◌, Option, Some, None, if◌then◌else◌}
-use Rattle.anb_command.specs.Words.{is_operand}
+use Rattle.anb_words.specs.Words.{is_operand}
 
 -- the names of the narration's file and of the folder with the values of its roles
 pub record Staged : Type 0 where

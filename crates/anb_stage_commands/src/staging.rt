@@ -6,21 +6,21 @@ ghost use Rattle.anb_stage.specs.declared.TheConstants.{ROLES};
 ghost use Rattle.anb_command.specs.Causes.{NoneRose};
 ghost use Rattle.anb_command.specs.Fetches.{Fetches, IfTold};
 ghost use Rattle.anb_command.specs.Reaches.{Reaches};
-ghost use Rattle.anb_command.specs.Statuses.{phase_of};
+ghost use Rattle.anb_status.specs.Statuses.{phase_of};
 ghost use Rattle.anb_command.specs.Touches.{Touches};
 ghost use Rattle.anb_stage_commands.specs.Asking.{staged};
 ghost use Rattle.anb_stage_commands.specs.StageCommand.{CompletesStage, DoesStage, HasStageCause, NoChildRose};
 ghost use Rattle.anb_stage_commands.specs.StageCommand.{status_of};
 ghost use Rattle.anb_stage_commands.specs.Relaying.{FailsInFile, FailsRelaying, HasCauseBefore, HasChildCause, IsBefore, IsNamed, Relays, RelaysInFile};
-ghost use Rattle.anb_command.specs.declared.status.Status.TheVariants as status;
+ghost use Rattle.anb_status.specs.declared.status.Status.TheVariants as status;
 
 use crate::StageWords;
 use crate::report::report_text;
 use crate::words::words_for;
 use anb_base::{NoMemory, Shelf, Text, Wire};
 use anb_command::{Status, sendable_in_file, write_text};
+use anb_protocol::{Protocol, protocols_hold};
 use anb_read::{narrations_are_unique, none_is_both, refusals_are_unique};
-use anb_resolve::{Protocol, protocols_hold};
 use anb_stage::{RelayNo, Spawner, relay, relays_are_due};
 use std::alloc::Global;
 

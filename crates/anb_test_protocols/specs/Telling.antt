@@ -4,9 +4,9 @@ use Rattle.anb_base.specs.declared.TheConstants.{ARRIVAL, WIDE}
 use Rattle.anb_syntax.specs.Grammar.{Narration}
 use Rattle.anb_syntax.specs.Text.{Text}
 use Rattle.anb_read.specs.Refusals.{IsRefusal, UnlessNoMemory}
-use Rattle.anb_resolve.specs.Checks.{IsWellFormed, fault}
-use Rattle.anb_resolve.specs.Protocols.{ProtocolValue, protocol_of}
-use Rattle.anb_resolve.specs.declared.refusals.ResolveNo.TheVariants.{NoMemory}
+use Rattle.anb_protocol.specs.Checks.{IsWellFormed, fault}
+use Rattle.anb_protocol.specs.Protocols.{ProtocolValue, protocol_of}
+use Rattle.anb_protocol.specs.declared.refusals.ResolveNo.TheVariants.{NoMemory}
 use Rattle.anb_test_protocols.specs.declared.Refusal.{Refusal}
 use Rattle.anb_test_protocols.specs.declared.Refusal.TheVariants.{Read, Resolve}
 

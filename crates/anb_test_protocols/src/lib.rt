@@ -5,8 +5,9 @@ ghost use Rattle.std.specs.Prelude.{◌≡◌, ◌≤◌, length, IfOk, IfErr};
 ghost use Rattle.anb_base.specs.declared.TheConstants.{SMALL_FILE};
 ghost use Rattle.anb_test_protocols.specs.Telling.{Tells, Refuses};
 
+use anb_protocol::{Protocol, ResolveNo};
 use anb_read::{ReadNo, read};
-use anb_resolve::{Protocol, ResolveNo, resolve, small_is_countable};
+use anb_resolve::{resolve, small_is_countable};
 use std::alloc::Global;
 
 /// Why a text tells no protocol: it is no narration, or one that isn't well formed.

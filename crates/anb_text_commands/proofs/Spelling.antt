@@ -33,16 +33,16 @@ use Rattle.anb_code.specs.declared.instr.Instr.{Instr}
 use Rattle.anb_code.specs.declared.instr.Instr.TheVariants as instr
 use Rattle.anb_code.proofs.Spelled.{spelled_code}
 use Rattle.anb_compile.specs.Fitting.{FitsRole}
-use Rattle.anb_resolve.specs.Choices.{each_after}
-use Rattle.anb_resolve.specs.Names.{action_roles, first_new, line_names}
-use Rattle.anb_resolve.specs.Protocols.{ProtocolValue, protocol_of}
-use Rattle.anb_resolve.specs.Texts.{IsTermOf, AreTermsOf, known_by, known_terms, known_texts, spelled, spelled_all, term_text, written}
-use Rattle.anb_resolve.specs.Plans.{messages}
-use Rattle.anb_resolve.specs.WellFormed.{IsProtocol}
-use Rattle.anb_resolve.specs.declared.parts.Atom.{Atom}
-use Rattle.anb_resolve.proofs.Differing.{names_of}
-use Rattle.anb_resolve.proofs.Holding.{facts, known_ours}
-use Rattle.anb_resolve.proofs.ReadOnce.{HasNames}
+use Rattle.anb_protocol.specs.Choices.{each_after}
+use Rattle.anb_protocol.specs.Names.{action_roles, first_new, line_names}
+use Rattle.anb_protocol.specs.Protocols.{ProtocolValue, protocol_of}
+use Rattle.anb_protocol.specs.Texts.{IsTermOf, AreTermsOf, known_by, known_terms, known_texts, spelled, spelled_all, term_text, written}
+use Rattle.anb_protocol.specs.Plans.{messages}
+use Rattle.anb_protocol.specs.WellFormed.{IsProtocol}
+use Rattle.anb_protocol.specs.declared.parts.Atom.{Atom}
+use Rattle.anb_protocol.proofs.Differing.{names_of}
+use Rattle.anb_protocol.proofs.Holding.{facts, known_ours}
+use Rattle.anb_protocol.proofs.ReadOnce.{HasNames}
 use Rattle.anb_text.specs.Lines.{IsFormat, IsInstr, IsNameFor}
 use Rattle.anb_text.specs.RoleFiles.{IsSpellable}
 

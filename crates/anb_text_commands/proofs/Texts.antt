@@ -1,15 +1,15 @@
 -- What is written by `help`, `fmt`, `compile` and `explain`.
 use Rattle.std.proofs.Common.{◌≡◌, ℕ, true, List, Option, take, refl, sym, inr, ◌∙◌}
 use Rattle.anb_read.specs.Laws.{NarrationsAreUnique, RefusalsAreUnique, NoneIsBoth}
-use Rattle.anb_command.specs.declared.status.Status.{Status}
+use Rattle.anb_status.specs.declared.status.Status.{Status}
 use Rattle.anb_command.specs.Fetches.{Files, IfTold}
 use Rattle.anb_command.specs.Files.{NarrationInFile}
 use Rattle.anb_command.specs.Roles.{Part, PartInFile}
-use Rattle.anb_command.specs.Statuses.{is_fault}
+use Rattle.anb_status.specs.Statuses.{is_fault}
 use Rattle.anb_command.specs.Steps.{refused, given, HasOneAnswer, IsFailure}
 use Rattle.anb_command.specs.Writing.{IsWriting, IsWritingOne, IsWritten}
-use Rattle.anb_command.specs.declared.status.Status.TheVariants.{Done, NoMemory, Unreached, WriteFault}
-use Rattle.anb_command.specs.declared.words.RoleText.{RoleText}
+use Rattle.anb_status.specs.declared.status.Status.TheVariants.{Done, NoMemory, Unreached, WriteFault}
+use Rattle.anb_words.specs.declared.words.RoleText.{RoleText}
 use Rattle.anb_command.proofs.Chains.{told_map}
 use Rattle.anb_command.proofs.Ones.{IsSettled, RefusesQuietly, one_settled, then_one, then_settled, then_quiet, is_quiet, narration_in_file_one, narration_in_file_quiet, part_one, part_quiet}
 use Rattle.anb_command.proofs.Written.{completes_text, faulty, the_one, written, told_written, told_refusal}

@@ -11,18 +11,18 @@ use Rattle.anb_code.specs.Verified.{IsVerifiedCode}
 use Rattle.anb_compile.specs.Fitting.{FitsRole}
 use Rattle.anb_compile.specs.Laws.{FittingCodesPlay}
 use Rattle.anb_text.specs.RoleFiles.{IsSpellable, role_text}
-use Rattle.anb_resolve.specs.Protocols.{ProtocolValue}
+use Rattle.anb_protocol.specs.Protocols.{ProtocolValue}
 use Rattle.anb_explain.specs.Explained.{IsExplained, explained_by}
 use Rattle.anb_explain.specs.Explanations.{AreOurs, ExplanationValue}
-use Rattle.anb_command.specs.declared.status.Status.{Status}
-use Rattle.anb_command.specs.declared.status.Status.TheVariants.{NoMemory}
+use Rattle.anb_status.specs.declared.status.Status.{Status}
+use Rattle.anb_status.specs.declared.status.Status.TheVariants.{NoMemory}
 use Rattle.anb_command.specs.Fetches.{Files, IfTold}
 use Rattle.anb_command.specs.Files.{NarrationInFile}
 use Rattle.anb_command.specs.Roles.{Part, PartInFile}
 use Rattle.anb_command.specs.Steps.{Answer, refused, given, InTurn}
 use Rattle.anb_command.specs.Writing.{CompletesText, IsWriting, IsWritingOne, IsWritten}
-use Rattle.anb_command.specs.declared.words.RoleText.{RoleText}
-use Rattle.anb_command.specs.declared.words.RoleText.TheVariants.{RoleFile, Explanation}
+use Rattle.anb_words.specs.declared.words.RoleText.{RoleText}
+use Rattle.anb_words.specs.declared.words.RoleText.TheVariants.{RoleFile, Explanation}
 
 -- `fmt` writes the canonical text of the narration in the file
 abbrev pub CanonicalOf : Narration → Answer (List ℕ) → Type 0

@@ -15,7 +15,7 @@ use Rattle.anb_code.specs.CodeValue.{CodeValue}
 use Rattle.anb_code.specs.Registers.{count_written}
 use Rattle.anb_code.specs.Spelling.{raw_instr, raw_instrs}
 use Rattle.anb_code.specs.Verified.{count_registers}
-use Rattle.anb_resolve.specs.Protocols.{ProtocolValue}
+use Rattle.anb_protocol.specs.Protocols.{ProtocolValue}
 use Rattle.anb_text.specs.Lines.{instr_line}
 use Rattle.anb_text.specs.RoleFiles.{instr_lines}
 use Rattle.anb_text.proofs.Printed.{text_at}

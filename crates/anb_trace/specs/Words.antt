@@ -10,9 +10,9 @@ use Rattle.anb_code.specs.declared.instr.Instr.TheVariants.{Take, Fresh, Recv, U
 use Rattle.anb_code.specs.CodeValue.{CodeValue}
 use Rattle.anb_code.specs.Registers.{count_written}
 use Rattle.anb_code.specs.Spelling.{name_at, raw_instr}
-use Rattle.anb_resolve.specs.Plans.{PlanEvent, to_send, to_receive}
-use Rattle.anb_resolve.specs.Protocols.{ActionValue, ProtocolValue, role_name}
-use Rattle.anb_resolve.specs.Texts.{term_text}
+use Rattle.anb_protocol.specs.Plans.{PlanEvent, to_send, to_receive}
+use Rattle.anb_protocol.specs.Protocols.{ActionValue, ProtocolValue, role_name}
+use Rattle.anb_protocol.specs.Texts.{term_text}
 use Rattle.anb_text.specs.Lines.{instr_line}
 use Rattle.anb_explain.specs.Explained.{is_message, line}
 use Rattle.anb_explain.specs.Explanations.{ExplanationValue}

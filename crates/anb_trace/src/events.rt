@@ -2,16 +2,16 @@
 ghost use Rattle.std.specs.Prelude.{◌≡◌, ◌-◌, ◌++◌, OnOk, IfSome, IfNone, Some, None, codes, decimal, filter, map, slice_get};
 ghost use Rattle.std.specs.List.{AllByRecursion};
 ghost use Rattle.anb_term.specs.View.{tree_of};
-ghost use Rattle.anb_resolve.specs.Plans.{term_in};
-ghost use Rattle.anb_resolve.specs.Texts.{IsTermOf, term_text};
-ghost use Rattle.anb_resolve.specs.Views.{action_value, plan_event};
-ghost use Rattle.anb_resolve.specs.Protocols.{role_name};
+ghost use Rattle.anb_protocol.specs.Plans.{term_in};
+ghost use Rattle.anb_protocol.specs.Texts.{IsTermOf, term_text};
+ghost use Rattle.anb_protocol.specs.Views.{action_value, plan_event};
+ghost use Rattle.anb_protocol.specs.Protocols.{role_name};
 ghost use Rattle.anb_explain.specs.Explained.{is_message};
 ghost use Rattle.anb_trace.specs.Words.{event_line, event_words, receiver, sender};
 
 use crate::subject::put_term;
 use anb_base::NoMemory;
-use anb_resolve::{Action, Event, Protocol};
+use anb_protocol::{Action, Event, Protocol};
 use anb_term::Term;
 use itoa::Buffer;
 use std::alloc::Global;

@@ -1,14 +1,14 @@
 //! Whom a trace is of.
 ghost use Rattle.std.specs.Prelude.{◌≡◌, ◌++◌, OnOk, IfSome, IfNone, Some, None, map, slice_get};
 ghost use Rattle.anb_term.specs.View.{tree_of};
-ghost use Rattle.anb_resolve.specs.Texts.{IsTermOf, term_text};
+ghost use Rattle.anb_protocol.specs.Texts.{IsTermOf, term_text};
 ghost use Rattle.anb_trace.specs.Tracing.{IsOurs, subject_in};
 ghost use Rattle.anb_trace.specs.Words.{term_at};
 
 use anb_base::NoMemory;
 use anb_code::RoleCode;
 use anb_explain::Explanation;
-use anb_resolve::Protocol;
+use anb_protocol::Protocol;
 use anb_term::Term;
 use std::alloc::Global;
 

@@ -15,7 +15,7 @@ use crate::values::put_value_lines;
 use anb_base::{Bytes, NoMemory, Sink};
 use anb_code::RoleCode;
 use anb_explain::{Explanation, count_written};
-use anb_resolve::Protocol;
+use anb_protocol::Protocol;
 use anb_text::{WriteNo, write_bytes, write_part};
 use std::alloc::Global;
 

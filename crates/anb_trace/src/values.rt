@@ -3,12 +3,12 @@ ghost use Rattle.std.specs.Prelude.{◌≡◌, ◌++◌, OnOk, map};
 ghost use Rattle.std.specs.List.{AllByRecursion};
 ghost use Rattle.hex.specs.Hex.{encode_lower};
 ghost use Rattle.anb_term.specs.View.{tree_of};
-ghost use Rattle.anb_resolve.specs.Texts.{IsTermOf};
+ghost use Rattle.anb_protocol.specs.Texts.{IsTermOf};
 ghost use Rattle.anb_trace.specs.Words.{bytes_line, hex_at, value_line, value_lines};
 
 use crate::subject::{put_term, term_at};
 use anb_base::{Bytes, NoMemory};
-use anb_resolve::Protocol;
+use anb_protocol::Protocol;
 use anb_term::Term;
 use std::alloc::Global;
 

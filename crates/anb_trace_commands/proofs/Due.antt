@@ -5,8 +5,8 @@ use Rattle.anb_base.specs.Wires.{WireState}
 use Rattle.anb_code.specs.CodeValue.{CodeValue}
 use Rattle.anb_explain.specs.Explained.{register_terms}
 use Rattle.anb_explain.specs.Explanations.{ExplanationValue}
-use Rattle.anb_resolve.specs.Plans.{PlanEvent, plan_of}
-use Rattle.anb_resolve.specs.Protocols.{ProtocolValue}
+use Rattle.anb_protocol.specs.Plans.{PlanEvent, plan_of}
+use Rattle.anb_protocol.specs.Protocols.{ProtocolValue}
 use Rattle.anb_text.specs.Writing.{IsWritten}
 use Rattle.anb_text.specs.declared.writing.WriteNo.{WriteNo}
 use Rattle.anb_text.specs.declared.writing.WriteNo.TheVariants as writing
@@ -16,8 +16,8 @@ use Rattle.anb_transcript.specs.Replays.{arrivals_of}
 use Rattle.anb_transcript.specs.declared.following.ReplayEnd.{ReplayEnd}
 use Rattle.anb_transcript.specs.declared.following.ReplayEnd.TheVariants as replayed
 use Rattle.anb_transcript.specs.declared.transcript.TranscriptLine.{TranscriptLine}
-use Rattle.anb_command.specs.declared.status.Status.{Status}
-use Rattle.anb_command.specs.declared.status.Status.TheVariants.{NoMemory}
+use Rattle.anb_status.specs.declared.status.Status.{Status}
+use Rattle.anb_status.specs.declared.status.Status.TheVariants.{NoMemory}
 use Rattle.anb_command.specs.OverWire.{OnlyWrites}
 use Rattle.anb_role_commands.specs.Comparing.{IsReplayed}
 use Rattle.anb_role_commands.specs.Playing.{play_by}

@@ -3,14 +3,14 @@ use Rattle.std.proofs.Common.{◌≡◌, ◌⊎◌, ℕ, false, List, Option, So
 use Rattle.anb_base.specs.Wires.{WireState}
 use Rattle.anb_base.specs.declared.place.Place.TheVariants.{Stdio}
 use Rattle.anb_code.specs.CodeValue.{CodeValue}
-use Rattle.anb_resolve.specs.Protocols.{ProtocolValue}
+use Rattle.anb_protocol.specs.Protocols.{ProtocolValue}
 use Rattle.anb_transcript.specs.declared.following.ReplayEnd.{ReplayEnd}
 use Rattle.anb_transcript.specs.declared.following.ReplayEnd.TheVariants as replayed
 use Rattle.anb_transcript.specs.declared.transcript.TranscriptLine.{TranscriptLine}
-use Rattle.anb_command.specs.declared.status.Status.{Status}
-use Rattle.anb_command.specs.declared.status.Status.TheVariants.{Done, Unreached, WriteFault, NoMemory}
+use Rattle.anb_status.specs.declared.status.Status.{Status}
+use Rattle.anb_status.specs.declared.status.Status.TheVariants.{Done, Unreached, WriteFault, NoMemory}
 use Rattle.anb_command.specs.OverWire.{DidNotReach, HasReached, OnlyWrites, OverWire}
-use Rattle.anb_command.specs.Statuses.{after_reach, at_any_time, at_reach, before_reach, phase_of}
+use Rattle.anb_status.specs.Statuses.{after_reach, at_any_time, at_reach, before_reach, phase_of}
 use Rattle.anb_command.proofs.OverWire.{not_reached, text_done, text_failed, text_wanting, written_unreached}
 use Rattle.anb_role_commands.specs.ReplayCommand.{status_of}
 use Rattle.anb_role_commands.proofs.Replaying.{late_end}

@@ -7,16 +7,16 @@ use Rattle.anb_compile.specs.Fitting.{FitsRole}
 use Rattle.anb_explain.specs.Explained.{line, register_terms}
 use Rattle.anb_plays.specs.Plays.{End, Played}
 use Rattle.anb_plays.specs.Runs.{no_place}
-use Rattle.anb_resolve.specs.Plans.{plan_of}
+use Rattle.anb_protocol.specs.Plans.{plan_of}
 use Rattle.anb_term.specs.Tree.{Tree}
 use Rattle.anb_trace.specs.Traces.{end_line, trace}
 use Rattle.anb_trace.specs.Words.{SubjectValue}
 use Rattle.anb_transcript.specs.Replays.{arrivals_of}
-use Rattle.anb_command.specs.declared.status.Status.{Status}
-use Rattle.anb_command.specs.declared.status.Status.TheVariants.{FileFault, Unreached, WriteFault, Differs, NoMemory}
+use Rattle.anb_status.specs.declared.status.Status.{Status}
+use Rattle.anb_status.specs.declared.status.Status.TheVariants.{FileFault, Unreached, WriteFault, Differs, NoMemory}
 use Rattle.anb_command.specs.Fetches.{Files, IfTold}
 use Rattle.anb_command.specs.Refusing.{IsRefusing}
-use Rattle.anb_command.specs.Statuses.{is_fault, text_of}
+use Rattle.anb_status.specs.Statuses.{is_fault, text_of}
 use Rattle.anb_command.specs.Steps.{Answer, refused, given}
 use Rattle.anb_role_commands.specs.Jobs.{Job}
 use Rattle.anb_role_commands.specs.PlayCommand.{PlayOf}

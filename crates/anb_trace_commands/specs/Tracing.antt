@@ -6,7 +6,7 @@ use Rattle.anb_base.specs.Moves.{Put, PutPrefix, Rose}
 use Rattle.anb_base.specs.Wires.{WireState}
 use Rattle.anb_code.specs.CodeValue.{CodeValue}
 use Rattle.anb_explain.specs.Explained.{register_terms}
-use Rattle.anb_resolve.specs.Protocols.{ProtocolValue}
+use Rattle.anb_protocol.specs.Protocols.{ProtocolValue}
 use Rattle.anb_term.specs.Tree.{Tree}
 use Rattle.anb_text.specs.declared.writing.WriteNo.{WriteNo}
 use Rattle.anb_text.specs.declared.writing.WriteNo.TheVariants as writing
@@ -14,8 +14,8 @@ use Rattle.anb_trace.specs.Traces.{trace}
 use Rattle.anb_transcript.specs.Replays.{arrivals_of}
 use Rattle.anb_transcript.specs.declared.following.ReplayEnd.{ReplayEnd}
 use Rattle.anb_transcript.specs.declared.transcript.TranscriptLine.{TranscriptLine}
-use Rattle.anb_command.specs.declared.status.Status.{Status}
-use Rattle.anb_command.specs.declared.status.Status.TheVariants.{FileFault, Unreached, ReadFault, WriteFault, ChildFault, NoMemory}
+use Rattle.anb_status.specs.declared.status.Status.{Status}
+use Rattle.anb_status.specs.declared.status.Status.TheVariants.{FileFault, Unreached, ReadFault, WriteFault, ChildFault, NoMemory}
 use Rattle.anb_command.specs.Prepared.{IsRunBy}
 use Rattle.anb_command.specs.Steps.{Answer, given}
 use Rattle.anb_role_commands.specs.Comparing.{IsReplayed}

@@ -7,7 +7,7 @@ ghost use Rattle.anb_code.specs.Verified.{IsVerifiedCode};
 ghost use Rattle.anb_compile.specs.Fitting.{FitsRole};
 ghost use Rattle.anb_transcript.specs.Replays.{arrivals_of};
 ghost use Rattle.anb_command.specs.Fetches.{Fetches, IfTold, IsOneOf};
-ghost use Rattle.anb_command.specs.Statuses.{IsEarly};
+ghost use Rattle.anb_status.specs.Statuses.{IsEarly};
 ghost use Rattle.anb_command.specs.Steps.{IsFailure, refused};
 ghost use Rattle.anb_role_commands.specs.ReplayCommand.{ComparisonIs, IsReadToCompare};
 ghost use Rattle.anb_trace_commands.specs.Tracing.{IsTraceable};
@@ -17,7 +17,7 @@ use anb_command::{
     Playable, Prepared, ReplayWords, Status, playable_in_file, prepare_code, transcript_in_file,
 };
 use anb_compile::fitting_codes_play;
-use anb_resolve::Protocol;
+use anb_protocol::Protocol;
 use anb_transcript::Transcript;
 use std::alloc::Global;
 

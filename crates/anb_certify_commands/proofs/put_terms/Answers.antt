@@ -2,7 +2,7 @@ use Rattle.std.proofs.Common.{map, arith}
 use Rattle.anb_lemmas.proofs.Each.{each_got}
 use Rattle.anb_term.specs.View.{tree_of}
 use Rattle.anb_term.proofs.Lists.{slice_get-map, slice_get-at}
-use Rattle.anb_resolve.specs.Texts.{IsTermOf}
+use Rattle.anb_protocol.specs.Texts.{IsTermOf}
 use Rattle.anb_certify_commands.proofs.put_terms.Goals as goal
 
 pub text_of_term-requires : goal.text_of_term-requires

@@ -1,7 +1,7 @@
 use Rattle.std.proofs.Common.{false}
 use Rattle.anb_base.specs.declared.place.Place.TheVariants.{Stdio}
 use Rattle.anb_chart.specs.Charts.{chart}
-use Rattle.anb_command.specs.declared.status.Status.TheVariants.{Done, Unreached}
+use Rattle.anb_status.specs.declared.status.Status.TheVariants.{Done, Unreached}
 use Rattle.anb_command.proofs.OverWire.{not_reached, text_done, text_put, written_unreached}
 use Rattle.anb_chart_commands.proofs.Charted.{writes_one}
 use Rattle.anb_chart_commands.proofs.write_charted.Goals as goal

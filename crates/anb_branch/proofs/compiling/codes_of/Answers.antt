@@ -3,10 +3,10 @@ use Rattle.std.specs.Prelude.{◌∷◌, [], ◌++◌, All}
 use Rattle.std.proofs.lemmas.List.{take_all}
 use Rattle.anb_lemmas.proofs.Each.{zip_and_last, take_next, all_of_next}
 use Rattle.anb_lemmas.proofs.Lists.{item_at}
-use Rattle.anb_resolve.specs.Protocols.{ProtocolValue, role_number}
+use Rattle.anb_protocol.specs.Protocols.{ProtocolValue, role_number}
 use Rattle.anb_code.specs.CodeValue.{CodeValue}
 use Rattle.anb_compile.specs.Fitting.{FitsRole}
-use Rattle.anb_resolve.specs.Plays.{IsSendable}
+use Rattle.anb_protocol.specs.Plays.{IsSendable}
 use Rattle.anb_branch.specs.Arms.{FitArms}
 use Rattle.anb_branch.proofs.Refusals.{refused_at}
 use Rattle.anb_branch.proofs.compiling.codes_of.Goals as goal

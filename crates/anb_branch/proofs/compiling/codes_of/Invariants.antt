@@ -1,6 +1,6 @@
 use Rattle.std.proofs.Common.{◌≡◌, take, length}
 use Rattle.std.specs.Prelude.{All}
-use Rattle.anb_resolve.specs.Plays.{IsSendable}
+use Rattle.anb_protocol.specs.Plays.{IsSendable}
 use Rattle.anb_branch.specs.Arms.{FitArms}
 use Rattle.anb_branch.proofs.compiling.codes_of.Given as goal
 

@@ -2,7 +2,7 @@ use Rattle.std.proofs.Common.{◌+◌, List, take, sym, subst, arith}
 use Rattle.std.specs.Prelude.{◌≡◌, ◌∷◌, [], ◌++◌}
 use Rattle.std.specs.List.{AllByRecursion}
 use Rattle.anb_lemmas.proofs.Each.{each_and_last, take_next}
-use Rattle.anb_resolve.specs.Protocols.{ProtocolValue}
+use Rattle.anb_protocol.specs.Protocols.{ProtocolValue}
 use Rattle.anb_compile.specs.Laws.{FittingCodesPlay}
 use Rattle.anb_branch.proofs.playing.all_play.Goals as goal
 

@@ -5,7 +5,7 @@ use Rattle.anb_lemmas.proofs.Lists.{item_at}
 use Rattle.anb_plays.specs.Runs.{without_place}
 use Rattle.anb_code.specs.CodeValue.{CodeValue}
 use Rattle.anb_machine.specs.ByteRuns.{run_bytes}
-use Rattle.anb_resolve.specs.Protocols.{ProtocolValue, role_number}
+use Rattle.anb_protocol.specs.Protocols.{ProtocolValue, role_number}
 use Rattle.anb_compile.specs.Fitting.{FitsRole}
 use Rattle.anb_choice.specs.Views.{branched_of}
 use Rattle.anb_branch.specs.declared.signs.Sign.{Sign}

@@ -1,6 +1,6 @@
 use Rattle.std.proofs.Common.{◌≡◌, ◌+◌, List, ◌∷◌, [], ◌++◌, take, sym, arith, subst}
 use Rattle.anb_lemmas.proofs.Each.{zip_and_last, take_next}
-use Rattle.anb_resolve.specs.Protocols.{ProtocolValue}
+use Rattle.anb_protocol.specs.Protocols.{ProtocolValue}
 use Rattle.anb_branch.specs.declared.signs.Sign.{Sign}
 use Rattle.anb_branch.specs.Signs.{AreSigns, IsSign}
 use Rattle.anb_branch.proofs.signs.signs_of.Goals as goal

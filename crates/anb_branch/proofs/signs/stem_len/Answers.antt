@@ -1,5 +1,5 @@
 use Rattle.std.proofs.Common.{◌+◌, map, drop, refl, ap, ◌∙◌, arith}
-use Rattle.anb_resolve.specs.Views.{plan_event}
+use Rattle.anb_protocol.specs.Views.{plan_event}
 use Rattle.anb_branch.proofs.Cutting.{len_from, len_at_first, len_on, len_over_made, next_event}
 use Rattle.anb_branch.proofs.signs.stem_len.Goals.{in-None, in-Some-true}
 use Rattle.anb_branch.proofs.signs.stem_len.Goals as goal

@@ -1,5 +1,5 @@
 use Rattle.std.proofs.Common.{◌≡◌, ◌≤◌, map, drop}
-use Rattle.anb_resolve.specs.Views.{plan_event}
+use Rattle.anb_protocol.specs.Views.{plan_event}
 use Rattle.anb_choice.specs.Lawful.{stem_len}
 use Rattle.anb_branch.proofs.Cutting.{len_from}
 use Rattle.anb_branch.proofs.signs.stem_len.Given as goal

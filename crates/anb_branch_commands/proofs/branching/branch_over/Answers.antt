@@ -3,7 +3,7 @@ use Rattle.anb_base.specs.declared.place.Place.{Place}
 use Rattle.anb_choice.specs.Views.{branched_of}
 use Rattle.anb_branch.specs.Taken.{run_taken}
 use Rattle.anb_command.specs.OverWire.{OverWire}
-use Rattle.anb_command.specs.declared.status.Status.TheVariants.{Unreached}
+use Rattle.anb_status.specs.declared.status.Status.TheVariants.{Unreached}
 use Rattle.anb_command.proofs.OverWire.{left_unreached, no_memory, not_before, not_reached, ran, runs_after, runs_nowhere, taken_unreached, written_unreached}
 use Rattle.anb_command.proofs.Prompt.{prompt_after, prompt_nowhere}
 use Rattle.anb_branch_commands.proofs.branching.branch_over.Goals as goal

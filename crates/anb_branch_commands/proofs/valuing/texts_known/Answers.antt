@@ -2,8 +2,8 @@ use Rattle.std.proofs.Common.{◌≡◌, ◌≢◌, ℕ, List, AllPairs, Some, s
 use Rattle.std.specs.Prelude.{slice_get}
 use Rattle.anb_lemmas.proofs.Results.{if_ok_map}
 use Rattle.anb_lemmas.proofs.Lists.{item_at}
-use Rattle.anb_resolve.specs.Protocols.{ProtocolValue}
-use Rattle.anb_resolve.specs.Texts.{known_texts}
+use Rattle.anb_protocol.specs.Protocols.{ProtocolValue}
+use Rattle.anb_protocol.specs.Texts.{known_texts}
 use Rattle.anb_choice.specs.Views.{branched_of}
 use Rattle.anb_command.proofs.Preparing.{if_ok_items}
 use Rattle.anb_branch_commands.proofs.Seats.{known_first, numbered_first}

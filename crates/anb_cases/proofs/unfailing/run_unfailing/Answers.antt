@@ -1,5 +1,5 @@
 use Rattle.std.proofs.Common.{refl}
-use Rattle.anb_command.specs.Words.{asked_of, files_of, place_of}
+use Rattle.anb_words.specs.Words.{asked_of, files_of, place_of}
 use Rattle.anb_cases.proofs.Rising.{is_reached, no_read_fault, no_write_fault, unfailing}
 use Rattle.anb_cases.proofs.unfailing.run_unfailing.Goals as goal
 

@@ -2,9 +2,9 @@ use Rattle.std.proofs.Common.{◌+◌, ◌∷◌, sym, subst}
 use Rattle.anb_code.specs.Meaning.{act_of}
 use Rattle.anb_code.specs.declared.instr.Instr.{Instr}
 use Rattle.anb_plays.specs.Plans as plays
-use Rattle.anb_resolve.specs.Plays.{event_of}
-use Rattle.anb_resolve.specs.Views.{plan_event}
-use Rattle.anb_resolve.specs.declared.plans.Event as plans
+use Rattle.anb_protocol.specs.Plays.{event_of}
+use Rattle.anb_protocol.specs.Views.{plan_event}
+use Rattle.anb_protocol.specs.declared.plans.Event as plans
 use Rattle.anb_term.specs.View.{tree_of}
 use Rattle.anb_certify.specs.Numbered.{value_of, TableValue}
 use Rattle.anb_certify.specs.Tied.{AreEnough}

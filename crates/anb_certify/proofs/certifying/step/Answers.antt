@@ -10,7 +10,7 @@ use Rattle.anb_plays.specs.Plans as plays
 use Rattle.anb_code.specs.declared.instr.Instr.{Instr}
 use Rattle.anb_code.specs.Meaning.{act_of, acts_of}
 use Rattle.anb_code.specs.Verified.{HasItsFormat}
-use Rattle.anb_resolve.specs.Plays.{events_of}
+use Rattle.anb_protocol.specs.Plays.{events_of}
 use Rattle.anb_compile.proofs.Valuing.{few_fields, its_format}
 use Rattle.anb_certify.specs.declared.works.Job.{Job}
 use Rattle.anb_certify.specs.Certified.{is_work}

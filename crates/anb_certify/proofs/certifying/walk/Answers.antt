@@ -1,8 +1,8 @@
 use Rattle.std.proofs.Common.{◌≡◌, ◌+◌, ℕ, length, ap, subst, arith}
-use Rattle.anb_resolve.specs.Plays.{events_of}
+use Rattle.anb_protocol.specs.Plays.{events_of}
 use Rattle.std.proofs.Common.{drop}
 use Rattle.anb_lemmas.proofs.Results.{on_ok_map}
-use Rattle.anb_certify.specs.declared.refusal.CertifyNo.TheVariants.{Loose}
+use Rattle.anb_outcomes.specs.declared.certificates.CertifyNo.TheVariants.{Loose}
 use Rattle.anb_certify.specs.Certified.{Refuses}
 use Rattle.anb_certify.specs.Numbered.{value_of, IsLoose}
 use Rattle.anb_certify.proofs.Ending.{starts, all_past, refused_by}

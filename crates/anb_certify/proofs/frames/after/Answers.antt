@@ -1,9 +1,9 @@
 use Rattle.std.proofs.Common.{◌+◌, ◌<◌, ◌∷◌, length, map, drop, sym, ap, ◌∙◌, arith}
 use Rattle.anb_lemmas.proofs.Each.{each_got}
 use Rattle.anb_term.proofs.Lists.{slice_get-at, slice_get-map}
-use Rattle.anb_resolve.specs.Plans.{term_in}
-use Rattle.anb_resolve.specs.Texts.{IsTermOf}
-use Rattle.anb_resolve.specs.Views.{plan_event}
+use Rattle.anb_protocol.specs.Plans.{term_in}
+use Rattle.anb_protocol.specs.Texts.{IsTermOf}
+use Rattle.anb_protocol.specs.Views.{plan_event}
 use Rattle.anb_certify.specs.Certified.{stray}
 use Rattle.anb_certify.proofs.Framing.{events_left, meets, strays}
 use Rattle.anb_certify.proofs.frames.after.Goals as goal

@@ -1,6 +1,6 @@
 use Rattle.std.proofs.Common.{map, sym, ◌∙◌, arith}
 use Rattle.std.proofs.lemmas.List.{length-map}
-use Rattle.anb_resolve.specs.Views.{plan_event}
+use Rattle.anb_protocol.specs.Views.{plan_event}
 use Rattle.anb_certify.proofs.Framing.{stray_end}
 use Rattle.anb_certify.proofs.frames.stray.Goals as goal
 

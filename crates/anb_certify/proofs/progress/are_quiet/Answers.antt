@@ -7,7 +7,7 @@ use Rattle.anb_intern.specs.declared.node.NodeId.{NodeId}
 use Rattle.anb_intern.specs.Nodes.{operands_at, tree_at}
 use Rattle.anb_intern.proofs.Nodes.{over_more}
 use Rattle.anb_intern.proofs.Putting.{under_at}
-use Rattle.anb_certify.specs.Decided.{composes}
+use Rattle.anb_reason.specs.Decided.{composes}
 use Rattle.anb_certify.specs.Progress.{wanted_test}
 use Rattle.anb_certify.proofs.Grouping.{get_here, at_register}
 use Rattle.anb_certify.proofs.Ruling.{wanted_is}

@@ -1,7 +1,7 @@
 use Rattle.std.proofs.Common.{◌≡◌, ◌∙◌}
 use Rattle.std.specs.Prelude.{decimal}
 use Rattle.anb_term.specs.View.{tree_of}
-use Rattle.anb_resolve.specs.Texts.{term_text}
+use Rattle.anb_protocol.specs.Texts.{term_text}
 use Rattle.anb_chart.specs.Charts.{participant}
 use Rattle.anb_chart.proofs.Lines.{arrow_put}
 use Rattle.anb_chart.proofs.charting.put_arrow.Goals as goal

@@ -3,7 +3,7 @@ use Rattle.std.specs.Prelude.{codes}
 use Rattle.std.specs.List.{flat_map}
 use Rattle.std.proofs.lemmas.List.{append-nil, drop_all, take_all}
 use Rattle.anb_lemmas.proofs.Lists.{drop_next}
-use Rattle.anb_resolve.specs.Views.{action_value}
+use Rattle.anb_protocol.specs.Views.{action_value}
 use Rattle.anb_chart.specs.Charts.{note_line, participant}
 use Rattle.anb_chart.proofs.Lines.{further, note_put}
 use Rattle.anb_chart.proofs.charting.put_note.Goals as goal

@@ -1,5 +1,5 @@
 use Rattle.std.proofs.Common.{◌+◌, List, ℕ, [], ◌∷◌, ◌++◌, ◌∙◌, arith}
-use Rattle.anb_resolve.specs.Choices.{each_after}
+use Rattle.anb_protocol.specs.Choices.{each_after}
 use Rattle.anb_text.proofs.Written.{not_all, one_part, same_due}
 use Rattle.anb_chart.specs.Charts.{action_lines, action_text}
 use Rattle.anb_chart.proofs.Steps.{value, ends, message_ours, counted, made_later, lines_first}

@@ -1,8 +1,8 @@
 use Rattle.std.proofs.Common.{◌≡◌, List, [], length, drop, map}
-use Rattle.anb_resolve.specs.Choices.{each_after}
-use Rattle.anb_resolve.specs.Plans.{names_made_at}
-use Rattle.anb_resolve.specs.Protocols.{ActionValue}
-use Rattle.anb_resolve.specs.Views.{action_value}
+use Rattle.anb_protocol.specs.Choices.{each_after}
+use Rattle.anb_protocol.specs.Plans.{names_made_at}
+use Rattle.anb_protocol.specs.Protocols.{ActionValue}
+use Rattle.anb_protocol.specs.Views.{action_value}
 use Rattle.anb_text.proofs.Written.{Due}
 use Rattle.anb_chart.specs.Charts.{action_text}
 use Rattle.anb_chart.proofs.charting.write_actions.Given as goal

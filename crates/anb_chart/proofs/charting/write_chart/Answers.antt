@@ -1,6 +1,6 @@
 use Rattle.std.proofs.Common.{List, ℕ, [], codes, ap, refl}
 use Rattle.std.specs.List.{flat_map}
-use Rattle.anb_resolve.specs.Choices.{each_after}
+use Rattle.anb_protocol.specs.Choices.{each_after}
 use Rattle.anb_text.proofs.Written.{due_as, last_part, not_all, one_part, same_written}
 use Rattle.anb_chart.specs.Charts.{action_text, chart, participant_line}
 use Rattle.anb_chart.proofs.charting.write_chart.Goals as goal

@@ -1,5 +1,5 @@
 use Rattle.std.proofs.Common.{inl}
-use Rattle.anb_command.specs.declared.status.Status.TheVariants.{CannotSend}
+use Rattle.anb_status.specs.declared.status.Status.TheVariants.{CannotSend}
 use Rattle.anb_check_commands.proofs.Sendable.{cannot_send, not_sendable}
 use Rattle.anb_check_commands.proofs.verdict.verdict_on_protocol.Goals as goal
 

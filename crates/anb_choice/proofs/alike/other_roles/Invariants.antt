@@ -1,7 +1,7 @@
 use Rattle.std.proofs.Common.{◌≡◌, ◌+◌, [], List, Option, ℕ, length, take, drop}
 use Rattle.std.specs.Prelude.{not}
-use Rattle.anb_resolve.specs.Choices.{first_after, refuse_if}
-use Rattle.anb_resolve.specs.Protocols.{ProtocolValue}
+use Rattle.anb_protocol.specs.Choices.{first_after, refuse_if}
+use Rattle.anb_protocol.specs.Protocols.{ProtocolValue}
 use Rattle.anb_choice.specs.Lawful.{are_same_names}
 use Rattle.anb_choice.proofs.alike.other_roles.Given as goal
 

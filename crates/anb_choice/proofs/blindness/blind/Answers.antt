@@ -1,6 +1,6 @@
 use Rattle.std.proofs.Common.{ℕ, List, sym, ap, ◌∙◌, arith}
 use Rattle.anb_index.specs.Places.{among}
-use Rattle.anb_resolve.specs.Protocols.{ProtocolValue}
+use Rattle.anb_protocol.specs.Protocols.{ProtocolValue}
 use Rattle.anb_choice.specs.Lawful.{roles_in}
 use Rattle.anb_choice.specs.Views.{branched_of}
 use Rattle.anb_choice.proofs.Names.{all_have, among_itself}

@@ -1,6 +1,6 @@
 use Rattle.std.proofs.Common.{◌≡◌, ℕ, List, drop, Option}
 use Rattle.std.specs.Option.{option_map}
-use Rattle.anb_resolve.specs.Choices.{first}
+use Rattle.anb_protocol.specs.Choices.{first}
 use Rattle.anb_choice.specs.Lawful.{BranchedValue, blind_in, roles_in}
 use Rattle.anb_choice.specs.Views.{branched_of}
 use Rattle.anb_choice.proofs.blindness.blind.Given as goal

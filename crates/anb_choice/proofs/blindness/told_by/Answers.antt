@@ -1,5 +1,5 @@
 use Rattle.std.proofs.Common.{map, ap, ◌∙◌}
-use Rattle.anb_resolve.specs.Views.{plan_event}
+use Rattle.anb_protocol.specs.Views.{plan_event}
 use Rattle.anb_choice.specs.Lawful.{received_format}
 use Rattle.anb_choice.proofs.Events.{arm_seen}
 use Rattle.anb_choice.proofs.blindness.told_by.Goals as goal

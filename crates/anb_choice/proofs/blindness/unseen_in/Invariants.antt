@@ -1,6 +1,6 @@
 use Rattle.std.proofs.Common.{◌≡◌, ◌+◌, [], List, Option, ℕ, length, take, drop}
 use Rattle.std.specs.Prelude.{not}
-use Rattle.anb_resolve.specs.Choices.{first_after, refuse_if}
+use Rattle.anb_protocol.specs.Choices.{first_after, refuse_if}
 use Rattle.anb_choice.specs.Lawful.{tells}
 use Rattle.anb_choice.proofs.blindness.unseen_in.Given as goal
 

@@ -1,5 +1,5 @@
 use Rattle.std.proofs.Common.{◌≡◌, drop, map}
-use Rattle.anb_resolve.specs.Views.{plan_event}
+use Rattle.anb_protocol.specs.Views.{plan_event}
 use Rattle.anb_choice.specs.Lawful.{is_of_stem}
 use Rattle.anb_choice.proofs.plans.is_of_stem.Given as goal
 

@@ -1,6 +1,6 @@
 use Rattle.std.proofs.Common.{map, sym, ap, drop, ◌∙◌, arith}
 use Rattle.std.proofs.lemmas.List.{drop-map}
-use Rattle.anb_resolve.specs.Views.{plan_event}
+use Rattle.anb_protocol.specs.Views.{plan_event}
 use Rattle.anb_choice.specs.Lawful.{is_of_stem}
 use Rattle.anb_choice.proofs.Events.{stem_more, stem_stops}
 use Rattle.anb_choice.proofs.plans.stem_len.Goals as goal

@@ -1,5 +1,5 @@
 use Rattle.std.proofs.Common.{◌+◌, [], List, length, sym, ◌∙◌}
-use Rattle.anb_resolve.specs.Protocols.{ProtocolValue}
+use Rattle.anb_protocol.specs.Protocols.{ProtocolValue}
 use Rattle.anb_choice.specs.Lawful.{are_same_names, roles_in}
 use Rattle.anb_choice.specs.Views.{branched_of}
 use Rattle.anb_choice.proofs.Names.{none_refused}

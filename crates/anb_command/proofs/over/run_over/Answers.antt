@@ -4,7 +4,7 @@ use Rattle.anb_machine.specs.ByteRuns.{run_bytes}
 use Rattle.anb_machine.specs.Machines.{gives}
 use Rattle.anb_plays.specs.Plays.{Played}
 use Rattle.anb_command.specs.OverWire.{OverWire}
-use Rattle.anb_command.specs.declared.status.Status.TheVariants.{Unreached}
+use Rattle.anb_status.specs.declared.status.Status.TheVariants.{Unreached}
 use Rattle.anb_command.proofs.OverWire.{left_unreached, no_memory, not_before, not_reached, ran, runs_after, runs_nowhere, taken_unreached, written_unreached}
 use Rattle.anb_session.proofs.Prompt.{prompt_as}
 use Rattle.anb_command.proofs.Prompt.{prompt_after, prompt_nowhere}

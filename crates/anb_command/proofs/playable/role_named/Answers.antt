@@ -1,5 +1,5 @@
 use Rattle.std.proofs.Common.{◌≡◌, ℕ, List, None, refl, sym, ◌∙◌, subst}
-use Rattle.anb_resolve.specs.Protocols.{role_named}
+use Rattle.anb_protocol.specs.Protocols.{role_named}
 use Rattle.anb_command.proofs.Preparing.{fails_by}
 use Rattle.anb_command.proofs.playable.role_named.Goals as goal
 

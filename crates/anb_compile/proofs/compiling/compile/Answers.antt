@@ -1,7 +1,7 @@
 use Rattle.std.proofs.Common.{◌≢◌, ℕ, List, length, sym, ap, ◌∙◌, subst}
 use Rattle.std.specs.List.{AllPairs}
-use Rattle.anb_resolve.specs.Plans.{PlanEvent, plan_of}
-use Rattle.anb_resolve.specs.Plays.{events_of}
+use Rattle.anb_protocol.specs.Plans.{PlanEvent, plan_of}
+use Rattle.anb_protocol.specs.Plays.{events_of}
 use Rattle.anb_compile.specs.Emitting.{IsPlan, RefusesPlan, known_in}
 use Rattle.anb_compile.proofs.Accepting.{fitted, fitted_few, fitted_once}
 use Rattle.anb_compile.proofs.Protocols.{plan_is, known_count, is_sendable, refused_role, emitted}

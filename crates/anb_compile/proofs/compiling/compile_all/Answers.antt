@@ -3,8 +3,8 @@ use Rattle.std.specs.Prelude.{slice_get}
 use Rattle.anb_algebra.specs.ByteMeaning.{has_operator}
 use Rattle.anb_code.specs.CodeValue.{CodeValue}
 use Rattle.anb_plays.specs.Plans.{Sendable}
-use Rattle.anb_resolve.specs.Plays.{events_of}
-use Rattle.anb_resolve.specs.Protocols.{ProtocolValue}
+use Rattle.anb_protocol.specs.Plays.{events_of}
+use Rattle.anb_protocol.specs.Protocols.{ProtocolValue}
 use Rattle.anb_compile.specs.declared.compiling.Unsent.{Unsent}
 use Rattle.anb_compile.specs.declared.refusal.CompileNo.{CompileNo}
 use Rattle.anb_compile.specs.Unsent.{IsFirstUnsent, RefusesRole}

@@ -3,7 +3,7 @@ use Rattle.std.specs.Prelude.{slice_get}
 use Rattle.anb_algebra.specs.ByteMeaning.{has_operator}
 use Rattle.anb_code.specs.CodeValue.{CodeValue}
 use Rattle.anb_plays.specs.Plans.{Sendable}
-use Rattle.anb_resolve.specs.Plays.{events_of}
+use Rattle.anb_protocol.specs.Plays.{events_of}
 use Rattle.anb_compile.specs.Refusing.{IsSoonest}
 use Rattle.anb_compile.proofs.Roles.{IsCode}
 use Rattle.anb_compile.proofs.compiling.compile_all.Given as goal

@@ -1,6 +1,6 @@
 use Rattle.std.proofs.Common.{List, [], sym, ap, ◌∙◌, subst, arith}
 use Rattle.anb_code.specs.Taking.{take_texts}
-use Rattle.anb_resolve.specs.Plans.{PlanEvent}
+use Rattle.anb_protocol.specs.Plans.{PlanEvent}
 use Rattle.anb_compile.specs.Emitting.{IsPlan, HasDone}
 use Rattle.anb_compile.proofs.Doing.{known_most}
 use Rattle.anb_compile.proofs.Whole.{texts_taken, whole}

@@ -12,9 +12,9 @@ use Rattle.anb_code.specs.declared.instr.Instr.{Instr}
 use Rattle.anb_code.specs.Meaning.{act_of, acts_of}
 use Rattle.anb_code.specs.Taking.{take_texts}
 use Rattle.anb_code.specs.Verified.{HasItsFormat}
-use Rattle.anb_resolve.specs.Plans.{PlanEvent}
-use Rattle.anb_resolve.specs.Plays.{event_of}
-use Rattle.anb_resolve.specs.Views.{plan_event}
+use Rattle.anb_protocol.specs.Plans.{PlanEvent}
+use Rattle.anb_protocol.specs.Plays.{event_of}
+use Rattle.anb_protocol.specs.Views.{plan_event}
 use Rattle.anb_compile.specs.Valued.{Walked, HasWalked}
 use Rattle.anb_compile.proofs.Valuing.{walked_start, is_operator, few_fields, its_format, left_events}
 use Rattle.anb_compile.proofs.terms.terms_of.Goals as goal

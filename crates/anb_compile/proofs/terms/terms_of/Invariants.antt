@@ -1,6 +1,6 @@
 use Rattle.std.proofs.Common.{map, drop}
 use Rattle.anb_code.specs.Meaning.{act_of, acts_of}
-use Rattle.anb_resolve.specs.Plays.{event_of}
+use Rattle.anb_protocol.specs.Plays.{event_of}
 use Rattle.anb_compile.specs.Valued.{HasWalked}
 use Rattle.anb_compile.proofs.terms.terms_of.Given as goal
 

@@ -6,7 +6,7 @@ use Rattle.anb_lemmas.proofs.Each.{each_got}
 use Rattle.anb_term.specs.declared.term.Term.{Term}
 use Rattle.anb_term.specs.View.{tree_of}
 use Rattle.anb_term.proofs.Lists.{slice_get-map, slice_get-at}
-use Rattle.anb_resolve.specs.Texts.{IsTermOf, term_text}
+use Rattle.anb_protocol.specs.Texts.{IsTermOf, term_text}
 use Rattle.anb_explain.proofs.Lines.{note_put}
 use Rattle.anb_explain.proofs.code.put_note.Goals as goal
 

@@ -1,7 +1,7 @@
 use Rattle.std.proofs.Common.{◌≡◌, ◌++◌, ◌∷◌, drop}
 use Rattle.std.specs.List.{flat_map}
 use Rattle.anb_term.specs.View.{tree_of}
-use Rattle.anb_resolve.specs.Texts.{term_text}
+use Rattle.anb_protocol.specs.Texts.{term_text}
 use Rattle.anb_explain.proofs.code.put_note.Given as goal
 
 abbrev pub invariant-loop-term : goal.invariant-loop-term

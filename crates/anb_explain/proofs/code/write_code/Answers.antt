@@ -6,7 +6,7 @@ use Rattle.anb_format.specs.Formats.{FormatValue, field_count}
 use Rattle.anb_term.specs.Tree.{Tree}
 use Rattle.anb_term.specs.View.{tree_of}
 use Rattle.anb_term.proofs.Lists.{all_take, all_drop, slice_get-at, map-take, map-drop}
-use Rattle.anb_resolve.specs.Texts.{IsTermOf, term_text}
+use Rattle.anb_protocol.specs.Texts.{IsTermOf, term_text}
 use Rattle.anb_code.specs.declared.instr.Instr.{Instr}
 use Rattle.anb_code.specs.Registers.{count_written}
 use Rattle.anb_code.specs.Spelling.{raw_instr, raw_of}

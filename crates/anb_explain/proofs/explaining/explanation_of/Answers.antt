@@ -11,10 +11,10 @@ use Rattle.anb_algebra.specs.ByteMeaning.{byte_meaning, has_operator}
 use Rattle.anb_plays.specs.Fits.{Along, AnySend, AnyBorder, IsSound, start}
 use Rattle.anb_code.specs.CodeValue.{CodeValue}
 use Rattle.anb_code.specs.Meaning.{acts_of}
-use Rattle.anb_resolve.specs.Protocols.{ProtocolValue}
-use Rattle.anb_resolve.specs.Plans.{PlanEvent, plan_of, term_in}
-use Rattle.anb_resolve.specs.Plays.{event_of, events_of}
-use Rattle.anb_resolve.specs.Texts.{IsTermOf}
+use Rattle.anb_protocol.specs.Protocols.{ProtocolValue}
+use Rattle.anb_protocol.specs.Plans.{PlanEvent, plan_of, term_in}
+use Rattle.anb_protocol.specs.Plays.{event_of, events_of}
+use Rattle.anb_protocol.specs.Texts.{IsTermOf}
 use Rattle.anb_compile.specs.Registers.{register_recipes, all_labels}
 use Rattle.anb_code.specs.Verified.{count_registers}
 use Rattle.anb_explain.specs.Explained.{explained_by, register_terms}

@@ -1,6 +1,6 @@
 use Rattle.std.proofs.Common.{◌++◌, codes, map, refl}
 use Rattle.anb_term.specs.View.{tree_of}
-use Rattle.anb_resolve.specs.Views.{plan_event}
+use Rattle.anb_protocol.specs.Views.{plan_event}
 use Rattle.anb_text.proofs.Written.{due_as, last_part, not_all, one_part}
 use Rattle.anb_explain.specs.Explained.{code_text, explained_by, line, plan_text}
 use Rattle.anb_explain.proofs.explaining.write_parts.Goals as goal

@@ -3,7 +3,7 @@ use Rattle.std.specs.Prelude.{decimal}
 use Rattle.std.specs.List.{flat_map}
 use Rattle.std.proofs.lemmas.List.{append-nil, drop_all}
 use Rattle.anb_term.specs.View.{tree_of}
-use Rattle.anb_resolve.specs.Texts.{term_text}
+use Rattle.anb_protocol.specs.Texts.{term_text}
 use Rattle.anb_explain.proofs.Lines.{line_put}
 use Rattle.anb_explain.proofs.plan.line_text.Goals as goal
 

@@ -3,10 +3,10 @@ use Rattle.std.specs.Prelude.{count_by}
 use Rattle.anb_lemmas.proofs.Each.{each_got}
 use Rattle.anb_lemmas.proofs.Lists.{drop_at_got}
 use Rattle.anb_term.proofs.Lists.{slice_get-map, slice_get-at}
-use Rattle.anb_resolve.specs.Choices.{each_after}
-use Rattle.anb_resolve.specs.Plans.{term_in}
-use Rattle.anb_resolve.specs.Texts.{IsTermOf}
-use Rattle.anb_resolve.specs.Views.{plan_event}
+use Rattle.anb_protocol.specs.Choices.{each_after}
+use Rattle.anb_protocol.specs.Plans.{term_in}
+use Rattle.anb_protocol.specs.Texts.{IsTermOf}
+use Rattle.anb_protocol.specs.Views.{plan_event}
 use Rattle.anb_explain.specs.Explained.{has_label, is_message, event_line, event_words, line, plan_text, spaced}
 use Rattle.anb_text.proofs.Written.{not_all, one_part, same_due}
 use Rattle.anb_explain.proofs.Lines.{counted_one, at_most_one, one_if, none_if, counted_on}

@@ -1,8 +1,8 @@
 use Rattle.std.proofs.Common.{◌≡◌, ◌≤◌, List, drop, map}
 use Rattle.std.specs.Prelude.{count_by}
-use Rattle.anb_resolve.specs.Choices.{each_after}
-use Rattle.anb_resolve.specs.Plans.{PlanEvent}
-use Rattle.anb_resolve.specs.Views.{plan_event}
+use Rattle.anb_protocol.specs.Choices.{each_after}
+use Rattle.anb_protocol.specs.Plans.{PlanEvent}
+use Rattle.anb_protocol.specs.Views.{plan_event}
 use Rattle.anb_text.proofs.Written.{Due}
 use Rattle.anb_explain.specs.Explained.{has_label, is_message, event_line, plan_text}
 use Rattle.anb_explain.proofs.plan.write_plan.Given as goal

@@ -1,7 +1,7 @@
 use Rattle.std.proofs.Common.{◌+◌, ◌∙◌, ap, sym, arith, drop}
 use Rattle.std.specs.List.{flat_map}
 use Rattle.std.specs.Option.{option_or}
-use Rattle.anb_resolve.specs.Choices.{first}
+use Rattle.anb_protocol.specs.Choices.{first}
 use Rattle.anb_honest.specs.Given.{items_of}
 use Rattle.anb_honest.specs.Joint.{long_end}
 use Rattle.anb_honest.proofs.Setting.{first_left}

@@ -1,6 +1,6 @@
 use Rattle.std.proofs.Common.{◌≡◌, drop}
 use Rattle.std.specs.List.{flat_map}
-use Rattle.anb_resolve.specs.Choices.{first}
+use Rattle.anb_protocol.specs.Choices.{first}
 use Rattle.anb_honest.specs.Given.{items_of}
 use Rattle.anb_honest.specs.Joint.{long_end}
 use Rattle.anb_honest.proofs.beginning.first_long.Given as goal

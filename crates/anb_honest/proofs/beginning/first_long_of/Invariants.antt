@@ -1,5 +1,5 @@
 use Rattle.std.proofs.Common.{◌≡◌, drop}
-use Rattle.anb_resolve.specs.Choices.{first}
+use Rattle.anb_protocol.specs.Choices.{first}
 use Rattle.anb_honest.specs.Joint.{long_end}
 use Rattle.anb_honest.proofs.beginning.first_long_of.Given as goal
 

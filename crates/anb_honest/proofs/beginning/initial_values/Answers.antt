@@ -4,9 +4,9 @@ use Rattle.std.specs.Prelude.{nat_eq}
 use Rattle.anb_plays.specs.Honest.{honest}
 use Rattle.anb_algebra.specs.ByteMeaning.{byte_meaning}
 use Rattle.anb_compile.specs.Emitting.{known_in}
-use Rattle.anb_resolve.specs.Names.{distinct}
-use Rattle.anb_resolve.specs.Plans.{PlanEvent}
-use Rattle.anb_resolve.specs.Texts.{atoms_in_each}
+use Rattle.anb_protocol.specs.Names.{distinct}
+use Rattle.anb_protocol.specs.Plans.{PlanEvent}
+use Rattle.anb_protocol.specs.Texts.{atoms_in_each}
 use Rattle.std.specs.List.{flat_map}
 use Rattle.anb_honest.specs.Given.{IsTable, items_of}
 use Rattle.anb_honest.specs.Joint.{cast, given}

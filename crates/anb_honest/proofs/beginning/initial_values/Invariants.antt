@@ -2,7 +2,7 @@ use Rattle.std.proofs.Common.{◌≡◌, ℕ, List, map, take}
 use Rattle.anb_plays.specs.Honest.{honest}
 use Rattle.anb_algebra.specs.ByteMeaning.{byte_meaning}
 use Rattle.anb_compile.specs.Emitting.{known_in}
-use Rattle.anb_resolve.specs.Plans.{PlanEvent}
+use Rattle.anb_protocol.specs.Plans.{PlanEvent}
 use Rattle.anb_honest.specs.Given.{Gives, items_of}
 use Rattle.anb_honest.proofs.beginning.initial_values.Given as goal
 

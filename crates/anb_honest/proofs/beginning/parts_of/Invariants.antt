@@ -1,6 +1,6 @@
 use Rattle.std.proofs.Common.{◌≡◌, ℕ, map, take}
 use Rattle.std.specs.Prelude.{filter_map}
-use Rattle.anb_resolve.specs.Views.{plan_event}
+use Rattle.anb_protocol.specs.Views.{plan_event}
 use Rattle.anb_honest.specs.Inside.{part_of, turn_value}
 use Rattle.anb_honest.proofs.beginning.parts_of.Given as goal
 

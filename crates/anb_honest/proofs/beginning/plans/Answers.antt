@@ -1,4 +1,4 @@
-use Rattle.anb_resolve.specs.Plans.{plan_of}
+use Rattle.anb_protocol.specs.Plans.{plan_of}
 use Rattle.anb_lemmas.proofs.Lists.{ranged_next}
 use Rattle.anb_honest.proofs.beginning.plans.Goals as goal
 

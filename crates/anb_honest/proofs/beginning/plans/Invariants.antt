@@ -1,6 +1,6 @@
 use Rattle.std.proofs.Common.{◌≡◌, map}
 use Rattle.std.specs.List.{range_with_len}
-use Rattle.anb_resolve.specs.Plans.{plan_of}
+use Rattle.anb_protocol.specs.Plans.{plan_of}
 use Rattle.anb_honest.proofs.beginning.plans.Given as goal
 
 abbrev pub invariant-loop-role : goal.invariant-loop-role

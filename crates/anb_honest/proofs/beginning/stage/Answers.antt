@@ -4,8 +4,8 @@ use Rattle.std.proofs.lemmas.List.{length-map}
 use Rattle.std.proofs.lemmas.Option.{slice_get_read}
 use Rattle.anb_base.specs.declared.TheConstants.{ARRIVAL}
 use Rattle.anb_machine.specs.ByteRuns.{run_bytes}
-use Rattle.anb_resolve.specs.Plans.{plan_of}
-use Rattle.anb_resolve.specs.Texts.{known_by}
+use Rattle.anb_protocol.specs.Plans.{plan_of}
+use Rattle.anb_protocol.specs.Texts.{known_by}
 use Rattle.anb_honest.specs.declared.player.Player.{Player}
 use Rattle.anb_honest.specs.Given.{items_of}
 use Rattle.anb_honest.specs.Joint.{cast, init_of, given_bytes}

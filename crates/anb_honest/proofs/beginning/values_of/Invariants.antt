@@ -2,7 +2,7 @@ use Rattle.std.proofs.Common.{◌≡◌, ℕ, List, map, take}
 use Rattle.anb_plays.specs.Honest.{honest}
 use Rattle.anb_algebra.specs.ByteMeaning.{byte_meaning}
 use Rattle.anb_compile.specs.Emitting.{known_in}
-use Rattle.anb_resolve.specs.Views.{plan_event}
+use Rattle.anb_protocol.specs.Views.{plan_event}
 use Rattle.anb_honest.specs.Given.{Gives}
 use Rattle.anb_honest.proofs.beginning.values_of.Given as goal
 

@@ -1,6 +1,6 @@
 use Rattle.std.proofs.Common.{◌+◌, ◌∙◌, sym, ap, refl, Bool, cond}
 use Rattle.std.specs.List.{list_all}
-use Rattle.anb_honest.specs.declared.report.Report.{Report}
+use Rattle.anb_outcomes.specs.declared.rehearsals.Report.{Report}
 use Rattle.anb_honest.specs.declared.report.RehearseEnd.TheVariants.{AllDone, Part}
 use Rattle.anb_honest.specs.Acting.{is_done}
 use Rattle.anb_honest.proofs.Ended.{ends_stuck, ends_told}

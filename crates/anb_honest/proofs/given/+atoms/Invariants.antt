@@ -1,7 +1,7 @@
 use Rattle.std.proofs.Common.{◌≡◌, ◌++◌, ◌+◌, ◌*◌, map, drop}
 use Rattle.anb_term.specs.Tree.{trees_of, tree_size, trees_size}
 use Rattle.anb_term.specs.View.{tree_of}
-use Rattle.anb_resolve.specs.Texts.{atoms_in_all}
+use Rattle.anb_protocol.specs.Texts.{atoms_in_all}
 use Rattle.anb_honest.proofs.given.+atoms.Given as goal
 
 abbrev pub decreases-put_atoms : goal.decreases-put_atoms

@@ -4,8 +4,8 @@ use Rattle.std.proofs.lemmas.Option.{slice_get_read}
 use Rattle.anb_code.specs.declared.instr.Instr.{Instr}
 use Rattle.anb_code.specs.Meaning.{act_of}
 use Rattle.anb_code.specs.Taking.{take_texts}
-use Rattle.anb_resolve.specs.Plays.{event_of}
-use Rattle.anb_resolve.specs.Texts.{known_texts}
+use Rattle.anb_protocol.specs.Plays.{event_of}
+use Rattle.anb_protocol.specs.Texts.{known_texts}
 use Rattle.anb_honest.specs.Kinds.{kind_of, kinds_of, event_kind}
 use Rattle.anb_compile.specs.Fitting.{FollowsRole}
 use Rattle.anb_honest.proofs.Comparing.{follows_where, follows_not, falls}

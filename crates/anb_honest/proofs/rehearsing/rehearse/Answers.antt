@@ -1,6 +1,6 @@
 use Rattle.std.proofs.Common.{◌∙◌, map, get_or, sym, ap, subst, refl, arith}
 use Rattle.std.proofs.lemmas.List.{drop_all}
-use Rattle.anb_resolve.specs.Schedules.{turn_of}
+use Rattle.anb_protocol.specs.Schedules.{turn_of}
 use Rattle.anb_honest.specs.Given.{items_of}
 use Rattle.anb_honest.specs.Joint.{cast, outset, turns_of, walk}
 use Rattle.anb_honest.specs.Inside.{Takes}

@@ -5,7 +5,7 @@ use Rattle.std.specs.List.{slice_split}
 use Rattle.std.proofs.lemmas.Iterator.Consumers.{YieldsList-at, YieldsList-turn, YieldsList-end}
 use Rattle.std.proofs.lemmas.Iterator.Splits.{YieldsList-from_slice_split}
 use Rattle.std.proofs.lemmas.List.{length_push, take_all}
-use Rattle.anb_resolve.specs.Protocols.{role_named}
+use Rattle.anb_protocol.specs.Protocols.{role_named}
 use Rattle.anb_honest.specs.Words.{is_blank, is_word}
 use Rattle.anb_honest.proofs.Naming.{named_next, few_named, named_roles, refused_at}
 use Rattle.anb_honest.proofs.words.schedule.Goals as goal

@@ -1,7 +1,7 @@
 use Rattle.std.proofs.Common.{◌≡◌, length, map, take, Some}
 use Rattle.std.specs.Prelude.{filter}
 use Rattle.std.specs.List.{slice_split}
-use Rattle.anb_resolve.specs.Protocols.{role_named}
+use Rattle.anb_protocol.specs.Protocols.{role_named}
 use Rattle.anb_honest.specs.Words.{is_blank, is_word}
 use Rattle.anb_honest.proofs.words.schedule.Given as goal
 

@@ -2,7 +2,7 @@ use Rattle.std.proofs.Common.{map, arith}
 use Rattle.anb_lemmas.proofs.Each.{each_got}
 use Rattle.anb_term.specs.View.{tree_of}
 use Rattle.anb_term.proofs.Lists.{slice_get-at, slice_get-map}
-use Rattle.anb_resolve.specs.Texts.{IsTermOf}
+use Rattle.anb_protocol.specs.Texts.{IsTermOf}
 use Rattle.anb_lack.proofs.Written.{had_next}
 use Rattle.anb_lack.proofs.lines.put_had_lines.Goals as goal
 

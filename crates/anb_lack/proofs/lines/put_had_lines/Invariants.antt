@@ -1,7 +1,7 @@
 use Rattle.std.proofs.Common.{◌≡◌, ◌++◌, List, drop, map}
 use Rattle.std.specs.List.{flat_map}
 use Rattle.anb_term.specs.View.{tree_of}
-use Rattle.anb_resolve.specs.Plans.{PlanEvent}
+use Rattle.anb_protocol.specs.Plans.{PlanEvent}
 use Rattle.anb_lack.specs.Lacking.{first_origin, had_line}
 use Rattle.anb_lack.proofs.lines.put_had_lines.Given as goal
 

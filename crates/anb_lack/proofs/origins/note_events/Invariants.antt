@@ -1,6 +1,6 @@
 use Rattle.std.proofs.Common.{map, take}
 use Rattle.std.specs.List.{flat_map}
-use Rattle.anb_resolve.specs.Views.{plan_event}
+use Rattle.anb_protocol.specs.Views.{plan_event}
 use Rattle.anb_lack.specs.Lacking.{brought}
 use Rattle.anb_lack.specs.Noted.{IsNoted}
 use Rattle.anb_lack.proofs.origins.note_events.Given as goal

@@ -1,6 +1,6 @@
 use Rattle.std.proofs.Common.{◌≡◌, ◌++◌, drop, map}
 use Rattle.anb_term.specs.View.{tree_of}
-use Rattle.anb_resolve.specs.Views.{plan_event}
+use Rattle.anb_protocol.specs.Views.{plan_event}
 use Rattle.anb_lack.specs.Lacking.{first_origin}
 use Rattle.anb_lack.proofs.origins.origins_of.Given as goal
 

@@ -4,9 +4,9 @@ use Rattle.anb_lemmas.proofs.Lists.{got_within}
 use Rattle.anb_term.specs.Tree.{tree_eqb}
 use Rattle.anb_term.specs.View.{tree_of}
 use Rattle.anb_intern.specs.Nodes.{AreUnder, operands_at}
-use Rattle.anb_resolve.specs.Names.{distinct}
-use Rattle.anb_certify.specs.Decided.{is_among}
-use Rattle.anb_certify.proofs.Flagging.{kept}
+use Rattle.anb_protocol.specs.Names.{distinct}
+use Rattle.anb_reason.specs.Decided.{is_among}
+use Rattle.anb_reason.proofs.Flagging.{kept}
 use Rattle.anb_lack.specs.Parts.{lacks, parts}
 use Rattle.anb_lack.proofs.parts.lacking_parts.Goals as goal
 

@@ -2,7 +2,7 @@ use Rattle.std.proofs.Common.{◌≡◌, List, map, take, length}
 use Rattle.anb_term.specs.Tree.{Tree}
 use Rattle.anb_term.specs.View.{tree_of}
 use Rattle.anb_intern.specs.Nodes.{operands_at}
-use Rattle.anb_certify.specs.Decided.{composes}
+use Rattle.anb_reason.specs.Decided.{composes}
 use Rattle.anb_lack.specs.Listing.{IsListing}
 use Rattle.anb_lack.proofs.parts.terms_without.Given as goal
 

@@ -3,8 +3,8 @@ use Rattle.std.specs.List.{AllByRecursion}
 use Rattle.std.specs.Prelude.{slice_get}
 use Rattle.anb_term.specs.View.{tree_of}
 use Rattle.anb_term.proofs.Lists.{slice_get-at}
-use Rattle.anb_resolve.specs.Plans.{plan_of}
-use Rattle.anb_resolve.specs.Texts.{IsTermOf}
+use Rattle.anb_protocol.specs.Plans.{plan_of}
+use Rattle.anb_protocol.specs.Texts.{IsTermOf}
 use Rattle.anb_lack.specs.Lacking.{first_origin, had_text, lacking_text, refused_line}
 use Rattle.anb_lack.specs.Parts.{lacking}
 use Rattle.anb_lack.proofs.Showing.{lacking_of_protocol, origins_before}

@@ -1,7 +1,7 @@
 use Rattle.std.proofs.Common.{true, subst}
 use Rattle.anb_base.specs.declared.place.Place.{Place}
 use Rattle.anb_command.specs.OverWire.{OverWire}
-use Rattle.anb_command.specs.declared.status.Status.TheVariants.{Unreached}
+use Rattle.anb_status.specs.declared.status.Status.TheVariants.{Unreached}
 use Rattle.anb_command.proofs.OverWire.{left_unreached, no_memory, not_before, not_reached, ran, taken_unreached, written_unreached}
 use Rattle.anb_command.proofs.Prompt.{prompt_after, prompt_nowhere}
 use Rattle.std.proofs.Common.{refl}

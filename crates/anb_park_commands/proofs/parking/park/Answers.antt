@@ -1,6 +1,6 @@
 use Rattle.std.proofs.Common.{[], ◌∷◌}
 use Rattle.anb_role_commands.specs.Playing.{play_by}
-use Rattle.anb_command.specs.Commands.{place_by}
+use Rattle.anb_words.specs.Commands.{place_by}
 use Rattle.anb_command.proofs.Causes.{early_cause, early_reaches, only_memory, wire_cause}
 use Rattle.anb_command.proofs.Chains.{told_map}
 use Rattle.anb_command.proofs.Failing.{IsFailure-map}

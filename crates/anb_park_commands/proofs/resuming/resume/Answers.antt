@@ -1,6 +1,6 @@
 use Rattle.std.proofs.Common.{[], ◌∷◌, inl, inr}
 use Rattle.anb_base.proofs.Moving.{Rose-later}
-use Rattle.anb_command.specs.Commands.{place_by}
+use Rattle.anb_words.specs.Commands.{place_by}
 use Rattle.anb_command.proofs.Chains.{told_map}
 use Rattle.anb_command.proofs.Causes.{early_cause, early_reaches, only_memory, wire_cause}
 use Rattle.anb_command.proofs.Failing.{IsFailure-map}

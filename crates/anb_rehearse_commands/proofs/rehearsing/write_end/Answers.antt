@@ -1,6 +1,6 @@
 use Rattle.std.proofs.Common.{refl, sym, subst, inr}
 use Rattle.anb_honest.specs.declared.report.RehearseEnd.{RehearseEnd}
-use Rattle.anb_command.specs.declared.status.Status.TheVariants.{Done, NotAll}
+use Rattle.anb_status.specs.declared.status.Status.TheVariants.{Done, NotAll}
 use Rattle.anb_rehearse_commands.specs.RehearseCommand.{Tells}
 use Rattle.anb_rehearse_commands.specs.Reports.{report_text}
 use Rattle.anb_rehearse_commands.proofs.rehearsing.write_end.Goals as goal

@@ -1,7 +1,7 @@
 use Rattle.std.proofs.Common.{◌≡◌, ◌+◌, [], ◌∷◌, ◌++◌, map, drop, sym, ap, ◌∙◌, arith, append_assoc}
 use Rattle.anb_term.proofs.Lists.{slice_get-at}
-use Rattle.anb_resolve.specs.Choices.{each_after}
-use Rattle.anb_resolve.specs.Views.{action_value}
+use Rattle.anb_protocol.specs.Choices.{each_after}
+use Rattle.anb_protocol.specs.Views.{action_value}
 use Rattle.anb_chart.proofs.Steps.{ends, message_ours}
 use Rattle.anb_explain.proofs.Lines.{counted_one, at_most_one, one_if, none_if}
 use Rattle.anb_report.specs.Reporting.{is_own}

@@ -1,8 +1,8 @@
 use Rattle.std.proofs.Common.{◌≡◌, ◌≤◌, List, [], ◌++◌, length, drop, map}
 use Rattle.std.specs.Prelude.{count_by}
-use Rattle.anb_resolve.specs.Choices.{each_after}
-use Rattle.anb_resolve.specs.Protocols.{ActionValue}
-use Rattle.anb_resolve.specs.Views.{action_value}
+use Rattle.anb_protocol.specs.Choices.{each_after}
+use Rattle.anb_protocol.specs.Protocols.{ActionValue}
+use Rattle.anb_protocol.specs.Views.{action_value}
 use Rattle.anb_report.specs.Reporting.{is_own}
 use Rattle.anb_report.specs.RoleCharts.{noted_text}
 use Rattle.anb_report.proofs.charting.put_actions.Given as goal

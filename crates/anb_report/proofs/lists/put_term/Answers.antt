@@ -3,7 +3,7 @@ use Rattle.std.specs.Option.{option_map_or}
 use Rattle.std.proofs.lemmas.List.{append-nil}
 use Rattle.anb_lemmas.proofs.Each.{each_got}
 use Rattle.anb_term.specs.View.{tree_of}
-use Rattle.anb_resolve.specs.Texts.{IsTermOf, term_text}
+use Rattle.anb_protocol.specs.Texts.{IsTermOf, term_text}
 use Rattle.anb_report.proofs.lists.put_term.Goals as goal
 
 pub text_of_term-requires : goal.text_of_term-requires

@@ -1,5 +1,5 @@
 use Rattle.std.proofs.Common.{◌≡◌, drop}
-use Rattle.anb_resolve.specs.Seen.{marked}
+use Rattle.anb_protocol.specs.Seen.{marked}
 use Rattle.anb_report.proofs.marks.mark_all.Given as goal
 
 abbrev pub invariant-loop-n : goal.invariant-loop-n

@@ -1,5 +1,5 @@
 use Rattle.std.proofs.Common.{◌≡◌, ◌+◌, ◌-◌, suc, [], ◌∷◌, cond, drop, length, get_or, true, false, replicate, sym, ap, ◌∙◌, arith, drop-cons}
-use Rattle.anb_resolve.specs.Seen.{marked}
+use Rattle.anb_protocol.specs.Seen.{marked}
 use Rattle.anb_report.specs.Looking.{repeated}
 use Rattle.anb_report.proofs.Marking.{mark_first, marks_again}
 use Rattle.anb_report.proofs.marks.marks_of_repeated.Goals as goal

@@ -1,5 +1,5 @@
 use Rattle.std.proofs.Common.{◌≡◌, ◌-◌, drop, false, replicate}
-use Rattle.anb_resolve.specs.Seen.{marked}
+use Rattle.anb_protocol.specs.Seen.{marked}
 use Rattle.anb_report.specs.Looking.{repeated}
 use Rattle.anb_report.proofs.marks.marks_of_repeated.Given as goal
 

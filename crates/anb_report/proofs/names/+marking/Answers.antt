@@ -3,8 +3,8 @@ use Rattle.anb_lemmas.proofs.Lists.{drop_at_got}
 use Rattle.anb_term.specs.Tree.{trees_of}
 use Rattle.anb_term.specs.View.{tree_of}
 use Rattle.anb_term.proofs.Lists.{slice_get-at, one_size}
-use Rattle.anb_resolve.specs.Seen.{marked}
-use Rattle.anb_resolve.specs.Texts.{atoms_in, atoms_in_all}
+use Rattle.anb_protocol.specs.Seen.{marked}
+use Rattle.anb_protocol.specs.Texts.{atoms_in, atoms_in_all}
 use Rattle.anb_report.proofs.Marking.{marked_both}
 use Rattle.anb_report.proofs.names.+marking.Goals as goal
 

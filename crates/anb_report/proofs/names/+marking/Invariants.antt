@@ -1,8 +1,8 @@
 use Rattle.std.proofs.Common.{◌≡◌, ◌+◌, ◌*◌, map, drop}
 use Rattle.anb_term.specs.Tree.{trees_of, tree_size, trees_size}
 use Rattle.anb_term.specs.View.{tree_of}
-use Rattle.anb_resolve.specs.Seen.{marked}
-use Rattle.anb_resolve.specs.Texts.{atoms_in_all}
+use Rattle.anb_protocol.specs.Seen.{marked}
+use Rattle.anb_protocol.specs.Texts.{atoms_in_all}
 use Rattle.anb_report.proofs.names.+marking.Given as goal
 
 abbrev pub decreases-mark_term : goal.decreases-mark_term

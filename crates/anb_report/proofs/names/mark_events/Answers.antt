@@ -2,10 +2,10 @@ use Rattle.std.proofs.Common.{◌+◌, drop, map, sym, ap, ◌∙◌, arith}
 use Rattle.std.specs.List.{flat_map}
 use Rattle.anb_lemmas.proofs.Lists.{drop_at_got}
 use Rattle.anb_term.proofs.Lists.{slice_get-at}
-use Rattle.anb_resolve.specs.Plans.{term_in}
-use Rattle.anb_resolve.specs.Seen.{marked}
-use Rattle.anb_resolve.specs.Texts.{atoms_in}
-use Rattle.anb_resolve.specs.Views.{plan_event}
+use Rattle.anb_protocol.specs.Plans.{term_in}
+use Rattle.anb_protocol.specs.Seen.{marked}
+use Rattle.anb_protocol.specs.Texts.{atoms_in}
+use Rattle.anb_protocol.specs.Views.{plan_event}
 use Rattle.anb_report.proofs.Marking.{marked_both}
 use Rattle.anb_report.proofs.names.mark_events.Goals as goal
 

@@ -1,9 +1,9 @@
 use Rattle.std.proofs.Common.{◌≡◌, drop, map}
 use Rattle.std.specs.List.{flat_map}
-use Rattle.anb_resolve.specs.Plans.{term_in}
-use Rattle.anb_resolve.specs.Seen.{marked}
-use Rattle.anb_resolve.specs.Texts.{atoms_in}
-use Rattle.anb_resolve.specs.Views.{plan_event}
+use Rattle.anb_protocol.specs.Plans.{term_in}
+use Rattle.anb_protocol.specs.Seen.{marked}
+use Rattle.anb_protocol.specs.Texts.{atoms_in}
+use Rattle.anb_protocol.specs.Views.{plan_event}
 use Rattle.anb_report.proofs.names.mark_events.Given as goal
 
 abbrev pub invariant-loop-event : goal.invariant-loop-event

@@ -1,6 +1,6 @@
 use Rattle.std.proofs.Common.{◌≡◌, ◌-◌, length}
 use Rattle.std.specs.List.{flat_map, range_with_len}
-use Rattle.anb_resolve.specs.Seen.{marked}
+use Rattle.anb_protocol.specs.Seen.{marked}
 use Rattle.anb_report.specs.Remarks.{plan_atoms}
 use Rattle.anb_report.proofs.names.mark_plans.Given as goal
 

@@ -1,7 +1,7 @@
 use Rattle.std.proofs.Common.{◌≡◌, ◌++◌, drop, map}
 use Rattle.std.specs.List.{flat_map}
-use Rattle.anb_resolve.specs.Plans.{term_in}
-use Rattle.anb_resolve.specs.Views.{plan_event}
+use Rattle.anb_protocol.specs.Plans.{term_in}
+use Rattle.anb_protocol.specs.Views.{plan_event}
 use Rattle.anb_report.specs.Remarks.{formats_in}
 use Rattle.anb_report.proofs.remarks.put_event_formats.Given as goal
 

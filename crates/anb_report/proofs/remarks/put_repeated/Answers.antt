@@ -1,5 +1,5 @@
 use Rattle.std.proofs.Common.{map, sym, ◌∙◌}
-use Rattle.anb_resolve.specs.Views.{action_value}
+use Rattle.anb_protocol.specs.Views.{action_value}
 use Rattle.anb_report.proofs.Lines.{repeated_put}
 use Rattle.anb_report.proofs.remarks.put_repeated.Goals as goal
 

@@ -1,6 +1,6 @@
 use Rattle.std.proofs.Common.{◌+◌, ◌-◌, ◌++◌, length, map, sym, ap, ◌∙◌, arith, append_assoc}
 use Rattle.std.specs.List.{flat_map, range_with_len}
-use Rattle.anb_resolve.specs.Views.{action_value}
+use Rattle.anb_protocol.specs.Views.{action_value}
 use Rattle.anb_report.specs.Remarks.{repeated}
 use Rattle.anb_report.proofs.Items.{first_of}
 use Rattle.anb_report.proofs.remarks.put_repeats.Goals as goal

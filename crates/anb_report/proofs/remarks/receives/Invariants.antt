@@ -1,6 +1,6 @@
 use Rattle.std.proofs.Common.{◌≡◌, map, take, false}
 use Rattle.std.specs.List.{list_any}
-use Rattle.anb_resolve.specs.Views.{action_value}
+use Rattle.anb_protocol.specs.Views.{action_value}
 use Rattle.anb_report.specs.Remarks.{is_to}
 use Rattle.anb_report.proofs.remarks.receives.Given as goal
 

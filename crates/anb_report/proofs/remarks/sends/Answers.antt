@@ -1,6 +1,6 @@
 use Rattle.std.proofs.Common.{sym, arith}
 use Rattle.std.proofs.lemmas.Bool.{eq-eqb}
-use Rattle.anb_resolve.specs.Views.{action_value}
+use Rattle.anb_protocol.specs.Views.{action_value}
 use Rattle.anb_term.proofs.Lists.{slice_get-at}
 use Rattle.anb_report.specs.Remarks.{is_from}
 use Rattle.anb_report.proofs.Items.{any_at}

@@ -1,6 +1,6 @@
 use Rattle.std.proofs.Common.{◌≡◌, ◌+◌, ◌≤◌, drop, map}
 use Rattle.std.specs.Prelude.{count_by}
-use Rattle.anb_resolve.specs.Views.{action_value}
+use Rattle.anb_protocol.specs.Views.{action_value}
 use Rattle.anb_report.specs.Reporting.{is_own}
 use Rattle.anb_report.proofs.reporting.count_own.Given as goal
 

@@ -1,8 +1,8 @@
 use Rattle.std.proofs.Common.{◌≡◌, ◌∙◌}
 use Rattle.std.specs.Prelude.{decimal}
 use Rattle.anb_term.specs.View.{tree_of}
-use Rattle.anb_resolve.specs.Texts.{term_text}
-use Rattle.anb_resolve.specs.Views.{action_value}
+use Rattle.anb_protocol.specs.Texts.{term_text}
+use Rattle.anb_protocol.specs.Views.{action_value}
 use Rattle.anb_report.specs.Reporting.{new_for, peer}
 use Rattle.anb_report.proofs.Lines.{event_put}
 use Rattle.anb_report.proofs.reporting.put_event.Goals as goal

@@ -1,9 +1,9 @@
 use Rattle.std.proofs.Common.{◌≡◌, ◌≤◌, List, ◌++◌, length, drop, map}
 use Rattle.std.specs.Prelude.{count_by}
-use Rattle.anb_resolve.specs.Choices.{each_after}
-use Rattle.anb_resolve.specs.Plans.{names_made_at}
-use Rattle.anb_resolve.specs.Protocols.{ActionValue}
-use Rattle.anb_resolve.specs.Views.{action_value}
+use Rattle.anb_protocol.specs.Choices.{each_after}
+use Rattle.anb_protocol.specs.Plans.{names_made_at}
+use Rattle.anb_protocol.specs.Protocols.{ActionValue}
+use Rattle.anb_protocol.specs.Views.{action_value}
 use Rattle.anb_report.specs.Reporting.{action_text, events_text, is_own}
 use Rattle.anb_report.proofs.reporting.put_events.Given as goal
 

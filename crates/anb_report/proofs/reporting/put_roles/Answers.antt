@@ -1,6 +1,6 @@
 use Rattle.std.proofs.Common.{◌+◌, ◌≤◌, [], ◌∷◌, ◌++◌, length, drop, sym, ap, ◌∙◌, arith, append_assoc}
 use Rattle.anb_term.proofs.Lists.{slice_get-at}
-use Rattle.anb_resolve.specs.Choices.{each_after}
+use Rattle.anb_protocol.specs.Choices.{each_after}
 use Rattle.anb_report.specs.Reporting.{role_after, role_report}
 use Rattle.anb_report.proofs.Lines.{code_longer, role_first}
 use Rattle.anb_report.proofs.reporting.put_roles.Goals as goal

@@ -1,6 +1,6 @@
 use Rattle.std.proofs.Common.{◌≡◌, List, [], ◌++◌, length, drop}
 use Rattle.anb_code.specs.CodeValue.{CodeValue}
-use Rattle.anb_resolve.specs.Choices.{each_after}
+use Rattle.anb_protocol.specs.Choices.{each_after}
 use Rattle.anb_report.specs.Reporting.{role_after}
 use Rattle.anb_report.proofs.reporting.put_roles.Given as goal
 

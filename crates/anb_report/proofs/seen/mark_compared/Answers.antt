@@ -2,7 +2,7 @@ use Rattle.std.proofs.Common.{◌+◌, drop, sym, ap, ◌∙◌, arith}
 use Rattle.std.specs.List.{flat_map}
 use Rattle.anb_lemmas.proofs.Lists.{drop_at_got}
 use Rattle.anb_term.proofs.Lists.{slice_get-at}
-use Rattle.anb_resolve.specs.Seen.{marked}
+use Rattle.anb_protocol.specs.Seen.{marked}
 use Rattle.anb_report.specs.Looking.{compared}
 use Rattle.anb_report.proofs.Marking.{marked_both}
 use Rattle.anb_report.proofs.seen.mark_compared.Goals as goal

@@ -1,6 +1,6 @@
 use Rattle.std.proofs.Common.{◌≡◌, drop}
 use Rattle.std.specs.List.{flat_map}
-use Rattle.anb_resolve.specs.Seen.{marked}
+use Rattle.anb_protocol.specs.Seen.{marked}
 use Rattle.anb_report.specs.Looking.{compared}
 use Rattle.anb_report.proofs.seen.mark_compared.Given as goal
 

@@ -1,7 +1,7 @@
 use Rattle.std.proofs.Common.{◌≡◌, ◌+◌, ◌-◌, drop, length, false, replicate, ap, ◌∙◌, arith}
 use Rattle.anb_code.specs.Registers.{count_written}
 use Rattle.anb_code.specs.Verified.{count_registers}
-use Rattle.anb_resolve.specs.Seen.{marked}
+use Rattle.anb_protocol.specs.Seen.{marked}
 use Rattle.anb_term.proofs.Lists.{slice_get-at}
 use Rattle.anb_report.specs.Looking.{asked, with_operands}
 use Rattle.anb_report.proofs.Items.{count_first, fewer_left}

@@ -1,6 +1,6 @@
 use Rattle.std.proofs.Common.{◌≡◌, ◌+◌, ◌-◌, drop, false, replicate}
 use Rattle.anb_code.specs.Verified.{count_registers}
-use Rattle.anb_resolve.specs.Seen.{marked}
+use Rattle.anb_protocol.specs.Seen.{marked}
 use Rattle.anb_report.specs.Looking.{asked, with_operands}
 use Rattle.anb_report.proofs.seen.mark_operands.Given as goal
 

@@ -1,6 +1,6 @@
 use Rattle.std.proofs.Common.{◌≡◌, take, false, replicate}
 use Rattle.anb_code.specs.Verified.{count_registers}
-use Rattle.anb_resolve.specs.Seen.{marked}
+use Rattle.anb_protocol.specs.Seen.{marked}
 use Rattle.anb_report.specs.Looking.{asked, with_operands, with_parts}
 use Rattle.anb_report.proofs.seen.mark_parts.Given as goal
 

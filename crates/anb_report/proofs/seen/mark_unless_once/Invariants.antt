@@ -1,6 +1,6 @@
 use Rattle.std.proofs.Common.{◌≡◌, drop, get_or, true}
 use Rattle.std.specs.Prelude.{◌&&◌, filter, not}
-use Rattle.anb_resolve.specs.Seen.{marked}
+use Rattle.anb_protocol.specs.Seen.{marked}
 use Rattle.anb_report.proofs.seen.mark_unless_once.Given as goal
 
 abbrev pub invariant-loop-r : goal.invariant-loop-r

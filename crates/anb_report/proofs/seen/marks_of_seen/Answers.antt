@@ -2,7 +2,7 @@ use Rattle.std.proofs.Common.{List, ℕ, replicate, false, get_or, true, ap, ◌
 use Rattle.std.specs.Prelude.{◌&&◌, filter, not}
 use Rattle.std.specs.List.{flat_map}
 use Rattle.anb_code.specs.Verified.{count_registers}
-use Rattle.anb_resolve.specs.Seen.{marked}
+use Rattle.anb_protocol.specs.Seen.{marked}
 use Rattle.anb_report.specs.Looking.{compared, repeated}
 use Rattle.anb_report.proofs.Looked.{asked_marked}
 use Rattle.anb_report.proofs.seen.marks_of_seen.Goals as goal

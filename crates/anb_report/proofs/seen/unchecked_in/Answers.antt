@@ -1,6 +1,6 @@
 use Rattle.std.proofs.Common.{◌≡◌, List, ℕ, replicate, false, sym, subst, ap, ◌∙◌}
 use Rattle.std.specs.Prelude.{IfOk}
-use Rattle.anb_resolve.specs.Seen.{marked}
+use Rattle.anb_protocol.specs.Seen.{marked}
 use Rattle.anb_report.specs.Looking.{seen}
 use Rattle.anb_report.proofs.Looked.{unchecked_told}
 use Rattle.anb_report.proofs.seen.unchecked_in.Goals as goal

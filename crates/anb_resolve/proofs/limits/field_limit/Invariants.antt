@@ -3,9 +3,9 @@ use Rattle.std.specs.List.{AllByRecursion}
 use Rattle.anb_format.specs.Formats.{field_count}
 use Rattle.anb_syntax.specs.Grammar.{FormatItem}
 use Rattle.anb_syntax.specs.Views.{format_of}
-use Rattle.anb_resolve.specs.Choices.{first}
-use Rattle.anb_resolve.specs.Checks.{above}
-use Rattle.anb_resolve.specs.declared.refusals.Kind.TheVariants.{Fields}
+use Rattle.anb_protocol.specs.Choices.{first}
+use Rattle.anb_protocol.specs.Checks.{above}
+use Rattle.anb_protocol.specs.declared.refusals.Kind.TheVariants.{Fields}
 use Rattle.anb_resolve.proofs.limits.field_limit.Given as goal
 
 abbrev pub invariant-loop-format : goal.invariant-loop-format

@@ -4,13 +4,13 @@ use Rattle.anb_format.specs.Formats.{field_count}
 use Rattle.anb_syntax.specs.declared.narration.FormatItem.{FormatItem}
 use Rattle.anb_syntax.specs.Grammar as grammar
 use Rattle.anb_syntax.specs.Views.{format_of, narration_of}
-use Rattle.anb_resolve.specs.declared.refusals.ResolveNo.{ResolveNo}
-use Rattle.anb_resolve.specs.declared.refusals.Kind.TheVariants.{Name, Fields}
-use Rattle.anb_resolve.specs.Choices.{first}
-use Rattle.anb_resolve.specs.Names.{Use, used_name, declared_names}
-use Rattle.anb_resolve.specs.Checks.{above, name_limit, format_limit, field_limit, role_limit, action_limit}
-use Rattle.anb_resolve.specs.Views.{use_of}
-use Rattle.anb_resolve.proofs.OrLemmas.{skip, stop}
+use Rattle.anb_protocol.specs.declared.refusals.ResolveNo.{ResolveNo}
+use Rattle.anb_protocol.specs.declared.refusals.Kind.TheVariants.{Name, Fields}
+use Rattle.anb_protocol.specs.Choices.{first}
+use Rattle.anb_protocol.specs.Names.{Use, used_name, declared_names}
+use Rattle.anb_protocol.specs.Checks.{above, name_limit, format_limit, field_limit, role_limit, action_limit}
+use Rattle.anb_resolve.specs.Uses.{use_of}
+use Rattle.anb_protocol.proofs.OrLemmas.{skip, stop}
 use Rattle.anb_resolve.proofs.limits.limit_fault.Goals as goal
 
 pub returns-in-Some-field_limit : goal.returns-in-Some-field_limit

@@ -1,10 +1,11 @@
 use Rattle.std.proofs.Common.{◌≡◌, ◌<◌, ◌^◌, ◌++◌, ◌∷◌, List, ℕ, length, map, drop}
 use Rattle.std.specs.List.{AllByRecursion}
-use Rattle.anb_resolve.specs.Choices.{first}
-use Rattle.anb_resolve.specs.Names.{used_name}
-use Rattle.anb_resolve.specs.Checks.{above}
-use Rattle.anb_resolve.specs.declared.refusals.Kind.TheVariants.{Name}
-use Rattle.anb_resolve.specs.Views.{pointed, use_of}
+use Rattle.anb_protocol.specs.Choices.{first}
+use Rattle.anb_protocol.specs.Names.{used_name}
+use Rattle.anb_protocol.specs.Checks.{above}
+use Rattle.anb_protocol.specs.declared.refusals.Kind.TheVariants.{Name}
+use Rattle.anb_protocol.specs.Views.{pointed}
+use Rattle.anb_resolve.specs.Uses.{use_of}
 use Rattle.anb_resolve.proofs.limits.name_limit.Given as goal
 
 abbrev pub invariant-loop-name : goal.invariant-loop-name

@@ -5,11 +5,11 @@ use Rattle.anb_syntax.specs.Grammar.{Tree}
 use Rattle.anb_syntax.specs.declared.narration.Tree as code
 use Rattle.anb_syntax.specs.Views.{narration_of, tree_of}
 use denote.Ref.{Bor}
-use Rattle.anb_resolve.specs.declared.refusals.Kind.TheVariants.{TermNodes, AllNodes}
-use Rattle.anb_resolve.specs.Choices.{first}
-use Rattle.anb_resolve.specs.Checks.{above, term_limit, all_limit, tree_nodes}
-use Rattle.anb_resolve.specs.Views.{pointed}
-use Rattle.anb_resolve.proofs.OrLemmas.{skip, stop}
+use Rattle.anb_protocol.specs.declared.refusals.Kind.TheVariants.{TermNodes, AllNodes}
+use Rattle.anb_protocol.specs.Choices.{first}
+use Rattle.anb_protocol.specs.Checks.{above, term_limit, all_limit, tree_nodes}
+use Rattle.anb_protocol.specs.Views.{pointed}
+use Rattle.anb_protocol.proofs.OrLemmas.{skip, stop}
 use Rattle.anb_resolve.proofs.limits.node_limits.Goals as goal
 
 pub returns-in-Some : goal.returns-in-Some

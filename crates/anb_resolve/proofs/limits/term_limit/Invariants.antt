@@ -1,10 +1,10 @@
 use Rattle.std.proofs.Common.{◌≡◌, ◌≤◌, map, drop}
 use Rattle.std.specs.List.{sum_by}
 use Rattle.anb_syntax.specs.Views.{tree_of}
-use Rattle.anb_resolve.specs.Choices.{first}
-use Rattle.anb_resolve.specs.Checks.{above, tree_nodes}
-use Rattle.anb_resolve.specs.declared.refusals.Kind.TheVariants.{TermNodes}
-use Rattle.anb_resolve.specs.Views.{pointed}
+use Rattle.anb_protocol.specs.Choices.{first}
+use Rattle.anb_protocol.specs.Checks.{above, tree_nodes}
+use Rattle.anb_protocol.specs.declared.refusals.Kind.TheVariants.{TermNodes}
+use Rattle.anb_protocol.specs.Views.{pointed}
 use Rattle.anb_resolve.proofs.limits.term_limit.Given as goal
 
 abbrev pub invariant-loop-term : goal.invariant-loop-term

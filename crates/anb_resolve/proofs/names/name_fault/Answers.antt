@@ -5,14 +5,15 @@ use Rattle.anb_lemmas.proofs.Options.{or_none}
 use Rattle.anb_syntax.specs.declared.narration.FormatItem.{FormatItem}
 use Rattle.anb_syntax.specs.Views.{format_of, narration_of}
 use denote.Ref.{Bor}
-use Rattle.anb_resolve.specs.declared.parts.Atom.{Atom}
-use Rattle.anb_resolve.specs.declared.refusals.ResolveNo.{ResolveNo}
-use Rattle.anb_resolve.specs.declared.refusals.ResolveNo.TheVariants.{Unknown, WrongSort, WrongCount}
-use Rattle.anb_resolve.specs.Choices.{first, refuse_if}
-use Rattle.anb_resolve.specs.Names.{Use, used_name, atoms, declared_names}
-use Rattle.anb_resolve.specs.Checks.{declared_twice, line_twice, unknown, wrong_sort, wrong_count, is_missorted, is_miscounted, twice_among}
-use Rattle.anb_resolve.specs.Views.{pointed, use_of}
-use Rattle.anb_resolve.proofs.OrLemmas.{skip, stop}
+use Rattle.anb_protocol.specs.declared.parts.Atom.{Atom}
+use Rattle.anb_protocol.specs.declared.refusals.ResolveNo.{ResolveNo}
+use Rattle.anb_protocol.specs.declared.refusals.ResolveNo.TheVariants.{Unknown, WrongSort, WrongCount}
+use Rattle.anb_protocol.specs.Choices.{first, refuse_if}
+use Rattle.anb_protocol.specs.Names.{Use, used_name, atoms, declared_names}
+use Rattle.anb_protocol.specs.Checks.{declared_twice, line_twice, unknown, wrong_sort, wrong_count, is_missorted, is_miscounted, twice_among}
+use Rattle.anb_protocol.specs.Views.{pointed}
+use Rattle.anb_resolve.specs.Uses.{use_of}
+use Rattle.anb_protocol.proofs.OrLemmas.{skip, stop}
 use Rattle.anb_resolve.proofs.names.name_fault.Goals as goal
 
 pub returns-in-Some-4 : goal.returns-in-Some-4

@@ -1,13 +1,13 @@
 use Rattle.std.proofs.Common.{ℕ, List, ◌++◌, ◌∷◌, [], ap, sym, ◌∙◌, arith, Some}
 use Rattle.anb_index.specs.Places.{among}
 use denote.Ref.{Bor}
-use Rattle.anb_resolve.specs.declared.refusals.ResolveNo.TheVariants.{Twice}
-use Rattle.anb_resolve.specs.Choices.{refuse_if}
-use Rattle.anb_resolve.specs.Checks.{twice_among}
-use Rattle.anb_resolve.specs.Views.{pointed}
-use Rattle.anb_resolve.proofs.Elements.{seen_as, within_map}
-use Rattle.anb_resolve.proofs.FirstLemmas.{first_here, first_next, refuses, passes}
-use Rattle.anb_resolve.proofs.UseLemmas.{next_name}
+use Rattle.anb_protocol.specs.declared.refusals.ResolveNo.TheVariants.{Twice}
+use Rattle.anb_protocol.specs.Choices.{refuse_if}
+use Rattle.anb_protocol.specs.Checks.{twice_among}
+use Rattle.anb_protocol.specs.Views.{pointed}
+use Rattle.anb_protocol.proofs.Elements.{seen_as, within_map}
+use Rattle.anb_protocol.proofs.FirstLemmas.{first_here, first_next, refuses, passes}
+use Rattle.anb_protocol.proofs.UseLemmas.{next_name}
 use Rattle.anb_resolve.proofs.names.twice.Goals as goal
 
 pub returns-then-branch-clause-first : goal.returns-then-branch-clause-first

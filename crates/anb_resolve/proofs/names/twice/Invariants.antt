@@ -1,9 +1,9 @@
 use Rattle.std.proofs.Common.{◌≡◌, take, drop}
 use Rattle.anb_index.specs.Places.{among}
-use Rattle.anb_resolve.specs.Choices.{first_after, refuse_if}
-use Rattle.anb_resolve.specs.Checks.{twice_among}
-use Rattle.anb_resolve.specs.declared.refusals.ResolveNo.TheVariants.{Twice}
-use Rattle.anb_resolve.specs.Views.{pointed}
+use Rattle.anb_protocol.specs.Choices.{first_after, refuse_if}
+use Rattle.anb_protocol.specs.Checks.{twice_among}
+use Rattle.anb_protocol.specs.declared.refusals.ResolveNo.TheVariants.{Twice}
+use Rattle.anb_protocol.specs.Views.{pointed}
 use Rattle.anb_resolve.proofs.names.twice.Given as goal
 
 abbrev pub invariant-loop-name : goal.invariant-loop-name

@@ -1,10 +1,10 @@
 use Rattle.std.proofs.Common.{◌≡◌, map, drop}
 use Rattle.std.specs.Prelude.{not}
 use Rattle.anb_index.specs.Places.{among}
-use Rattle.anb_resolve.specs.Choices.{first, refuse_if}
-use Rattle.anb_resolve.specs.Names.{used_name}
-use Rattle.anb_resolve.specs.declared.refusals.ResolveNo.TheVariants.{Unknown}
-use Rattle.anb_resolve.specs.Views.{use_of}
+use Rattle.anb_protocol.specs.Choices.{first, refuse_if}
+use Rattle.anb_protocol.specs.Names.{used_name}
+use Rattle.anb_protocol.specs.declared.refusals.ResolveNo.TheVariants.{Unknown}
+use Rattle.anb_resolve.specs.Uses.{use_of}
 use Rattle.anb_resolve.proofs.names.unknown.Given as goal
 
 abbrev pub invariant-loop-used : goal.invariant-loop-used

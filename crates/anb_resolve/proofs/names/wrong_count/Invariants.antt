@@ -1,10 +1,10 @@
 use Rattle.std.proofs.Common.{◌≡◌, map, drop}
 use Rattle.anb_syntax.specs.Views.{format_of}
-use Rattle.anb_resolve.specs.Choices.{first, refuse_if}
-use Rattle.anb_resolve.specs.Names.{used_name}
-use Rattle.anb_resolve.specs.Checks.{is_miscounted}
-use Rattle.anb_resolve.specs.declared.refusals.ResolveNo.TheVariants.{WrongCount}
-use Rattle.anb_resolve.specs.Views.{use_of}
+use Rattle.anb_protocol.specs.Choices.{first, refuse_if}
+use Rattle.anb_protocol.specs.Names.{used_name}
+use Rattle.anb_protocol.specs.Checks.{is_miscounted}
+use Rattle.anb_protocol.specs.declared.refusals.ResolveNo.TheVariants.{WrongCount}
+use Rattle.anb_resolve.specs.Uses.{use_of}
 use Rattle.anb_resolve.proofs.names.wrong_count.Given as goal
 
 abbrev pub invariant-loop-used : goal.invariant-loop-used

@@ -2,10 +2,10 @@ use Rattle.std.proofs.Common.{List, ℕ, map, ap, ◌∙◌, refl}
 use denote.Ref.{Bor}
 use Rattle.anb_format.specs.Formats.{FormatValue}
 use Rattle.anb_syntax.specs.Views.{narration_of}
-use Rattle.anb_resolve.specs.declared.parts.Atom.{Atom}
-use Rattle.anb_resolve.specs.Protocols.{action_of}
-use Rattle.anb_resolve.specs.Views.{pointed}
-use Rattle.anb_resolve.proofs.Building.{is_protocol, knows_by}
+use Rattle.anb_protocol.specs.declared.parts.Atom.{Atom}
+use Rattle.anb_protocol.specs.Protocols.{action_of}
+use Rattle.anb_protocol.specs.Views.{pointed}
+use Rattle.anb_protocol.proofs.Building.{is_protocol, knows_by}
 use Rattle.anb_resolve.proofs.resolving.parts_of.Goals as goal
 
 pub returns : goal.returns

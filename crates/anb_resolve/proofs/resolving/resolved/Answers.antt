@@ -6,13 +6,13 @@ use Rattle.anb_format.specs.Formats.{FormatValue, IsSound}
 use Rattle.anb_syntax.specs.declared.narration.FormatItem.{FormatItem}
 use Rattle.anb_syntax.specs.Grammar as grammar
 use Rattle.anb_syntax.specs.Views.{format_of, narration_of}
-use Rattle.anb_resolve.specs.declared.refusals.ResolveNo.TheVariants.{FormatShape}
-use Rattle.anb_resolve.specs.Choices.{first, first_after}
-use Rattle.anb_resolve.specs.Protocols.{ActionValue, ProtocolValue, format_value, formats_of}
-use Rattle.anb_resolve.specs.Checks.{first_fault, limit_checks, name_checks, protocol_checks, misshapen, overlap, overlaps, shape_fault}
-use Rattle.anb_resolve.specs.WellFormed.{AreFew, CanBeChecked}
-use Rattle.anb_resolve.proofs.Holding.{few_formats}
-use Rattle.anb_resolve.proofs.Building.{ends_below, can_be_checked, sound_formats, fault_limits, fault_names, fault_shapes, fault_overlaps, fault_protocol}
+use Rattle.anb_protocol.specs.declared.refusals.ResolveNo.TheVariants.{FormatShape}
+use Rattle.anb_protocol.specs.Choices.{first, first_after}
+use Rattle.anb_protocol.specs.Protocols.{ActionValue, ProtocolValue, format_value, formats_of}
+use Rattle.anb_protocol.specs.Checks.{first_fault, limit_checks, name_checks, protocol_checks, misshapen, overlap, overlaps, shape_fault}
+use Rattle.anb_protocol.specs.WellFormed.{AreFew, CanBeChecked}
+use Rattle.anb_protocol.proofs.Holding.{few_formats}
+use Rattle.anb_protocol.proofs.Building.{ends_below, can_be_checked, sound_formats, fault_limits, fault_names, fault_shapes, fault_overlaps, fault_protocol}
 use Rattle.anb_resolve.proofs.resolving.resolved.Goals as goal
 
 pub returns-in-Some : goal.returns-in-Some

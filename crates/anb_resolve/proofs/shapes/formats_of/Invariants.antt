@@ -3,7 +3,7 @@ use Rattle.std.specs.List.{AllByRecursion}
 use Rattle.anb_format.specs.Formats.{IsSound}
 use Rattle.anb_syntax.specs.Grammar.{FormatItem}
 use Rattle.anb_syntax.specs.Views.{format_of}
-use Rattle.anb_resolve.specs.Protocols.{format_value}
+use Rattle.anb_protocol.specs.Protocols.{format_value}
 use Rattle.anb_resolve.proofs.shapes.formats_of.Given as goal
 
 abbrev pub invariant-loop-item : goal.invariant-loop-item

@@ -4,11 +4,11 @@ use Rattle.std.specs.Option.{option_map}
 use Rattle.anb_format.specs.Formats.{IsSound}
 use Rattle.anb_syntax.specs.Grammar.{FormatItem}
 use Rattle.anb_syntax.specs.Views.{format_of}
-use Rattle.anb_resolve.specs.declared.refusals.ResolveNo.{ResolveNo}
-use Rattle.anb_resolve.specs.declared.refusals.ResolveNo.TheVariants.{FormatShape}
-use Rattle.anb_resolve.specs.Checks.{shape_fault}
-use Rattle.anb_resolve.proofs.FirstLemmas.{plain_here, plain_next, all_rest}
-use Rattle.anb_resolve.proofs.ShapeLemmas.{shape_told, shape_none}
+use Rattle.anb_protocol.specs.declared.refusals.ResolveNo.{ResolveNo}
+use Rattle.anb_protocol.specs.declared.refusals.ResolveNo.TheVariants.{FormatShape}
+use Rattle.anb_protocol.specs.Checks.{shape_fault}
+use Rattle.anb_protocol.proofs.FirstLemmas.{plain_here, plain_next, all_rest}
+use Rattle.anb_protocol.proofs.ShapeLemmas.{shape_told, shape_none}
 use Rattle.anb_resolve.proofs.shapes.misshapen.Goals as goal
 
 pub returns-in-Err : goal.returns-in-Err

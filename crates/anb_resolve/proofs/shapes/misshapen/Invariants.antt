@@ -3,9 +3,9 @@ use Rattle.std.specs.List.{AllByRecursion}
 use Rattle.std.specs.Option.{option_map}
 use Rattle.anb_syntax.specs.Grammar.{FormatItem}
 use Rattle.anb_syntax.specs.Views.{format_of}
-use Rattle.anb_resolve.specs.Choices.{first}
-use Rattle.anb_resolve.specs.Checks.{shape_fault}
-use Rattle.anb_resolve.specs.declared.refusals.ResolveNo.TheVariants.{FormatShape}
+use Rattle.anb_protocol.specs.Choices.{first}
+use Rattle.anb_protocol.specs.Checks.{shape_fault}
+use Rattle.anb_protocol.specs.declared.refusals.ResolveNo.TheVariants.{FormatShape}
 use Rattle.anb_resolve.proofs.shapes.misshapen.Given as goal
 
 abbrev pub invariant-loop-format : goal.invariant-loop-format

@@ -1,6 +1,6 @@
 use Rattle.std.proofs.Common.{sym, ◌∙◌, arith}
-use Rattle.anb_resolve.specs.Checks.{overlaps}
-use Rattle.anb_resolve.proofs.FirstLemmas.{first_here, first_next}
+use Rattle.anb_protocol.specs.Checks.{overlaps}
+use Rattle.anb_protocol.proofs.FirstLemmas.{first_here, first_next}
 use Rattle.anb_resolve.proofs.shapes.overlap.Goals as goal
 
 pub loop-i-preserved : goal.loop-i-preserved

@@ -1,6 +1,6 @@
 use Rattle.std.proofs.Common.{◌≡◌, [], take, drop}
-use Rattle.anb_resolve.specs.Choices.{first_after}
-use Rattle.anb_resolve.specs.Checks.{overlaps}
+use Rattle.anb_protocol.specs.Choices.{first_after}
+use Rattle.anb_protocol.specs.Checks.{overlaps}
 use Rattle.anb_resolve.proofs.shapes.overlap.Given as goal
 
 abbrev pub invariant-loop-i : goal.invariant-loop-i

@@ -1,6 +1,6 @@
 use Rattle.std.proofs.Common.{◌≡◌, ap, ◌∙◌, arith, Some}
-use Rattle.anb_resolve.specs.declared.refusals.ResolveNo.TheVariants.{Overlap}
-use Rattle.anb_resolve.proofs.ApartLemmas.{overlap_here, overlap_next}
+use Rattle.anb_protocol.specs.declared.refusals.ResolveNo.TheVariants.{Overlap}
+use Rattle.anb_protocol.proofs.ApartLemmas.{overlap_here, overlap_next}
 use Rattle.anb_resolve.proofs.shapes.overlap_with.Goals as goal
 
 pub returns-then-not-apart : goal.returns-then-not-apart

@@ -1,5 +1,5 @@
 use Rattle.std.proofs.Common.{◌≡◌, drop}
-use Rattle.anb_resolve.specs.Checks.{overlaps}
+use Rattle.anb_protocol.specs.Checks.{overlaps}
 use Rattle.anb_resolve.proofs.shapes.overlap_with.Given as goal
 
 abbrev pub invariant-loop-other : goal.invariant-loop-other

@@ -6,7 +6,7 @@ use Rattle.anb_term.specs.View.{tree_of as term_tree}
 use Rattle.anb_syntax.specs.declared.narration.Tree.{Tree}
 use Rattle.anb_syntax.specs.Grammar.{trees_of}
 use Rattle.anb_syntax.specs.Views.{tree_of}
-use Rattle.anb_resolve.specs.Protocols.{resolved_all}
+use Rattle.anb_protocol.specs.Protocols.{resolved_all}
 use Rattle.anb_resolve.proofs.terms.+resolve.Goals as goal
 
 pub resolved_all-returns-clause-trees : goal.resolved_all-returns-clause-trees

@@ -3,7 +3,7 @@ use Rattle.anb_term.specs.Tree as term
 use Rattle.anb_term.specs.View.{tree_of as term_tree}
 use Rattle.anb_syntax.specs.Grammar.{trees_of}
 use Rattle.anb_syntax.specs.Views.{tree_of}
-use Rattle.anb_resolve.specs.Protocols.{resolved_all}
+use Rattle.anb_protocol.specs.Protocols.{resolved_all}
 use Rattle.anb_resolve.proofs.terms.+resolve.Given as goal
 
 abbrev pub invariant-resolved_all-loop-tree : goal.invariant-resolved_all-loop-tree

@@ -1,7 +1,7 @@
 use Rattle.std.proofs.Common.{◌≡◌, ◌++◌, map, drop}
 use Rattle.anb_syntax.specs.Views.{action_of as action_item}
-use Rattle.anb_resolve.specs.Protocols.{action_of}
-use Rattle.anb_resolve.specs.Views.{action_value}
+use Rattle.anb_protocol.specs.Protocols.{action_of}
+use Rattle.anb_protocol.specs.Views.{action_value}
 use Rattle.anb_resolve.proofs.terms.actions_of.Given as goal
 
 abbrev pub invariant-loop-item : goal.invariant-loop-item

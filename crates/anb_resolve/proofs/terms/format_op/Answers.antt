@@ -2,8 +2,8 @@ use Rattle.std.proofs.Common.{ap, ◌∙◌, arith}
 use Rattle.std.specs.Str.{bytes_eq}
 use Rattle.anb_format.specs.Formats.{FormatValue}
 use Rattle.anb_term.specs.declared.term.Op.TheVariants.{Format}
-use Rattle.anb_resolve.specs.Protocols.{fields_at, format_number}
-use Rattle.anb_resolve.proofs.PlaceLemmas.{place_low}
+use Rattle.anb_protocol.specs.Protocols.{fields_at, format_number}
+use Rattle.anb_protocol.proofs.PlaceLemmas.{place_low}
 use Rattle.anb_resolve.proofs.terms.format_op.Goals as goal
 
 pub overflow_cast-result : goal.overflow_cast-result

@@ -5,7 +5,7 @@ use Rattle.anb_lemmas.proofs.Lists.{map_drop_next}
 use Rattle.anb_term.specs.Tree as term
 use Rattle.anb_syntax.specs.Grammar.{Trees, KnowItem}
 use Rattle.anb_syntax.specs.Views.{know_of}
-use Rattle.anb_resolve.specs.Protocols.{line_of, resolved_all}
+use Rattle.anb_protocol.specs.Protocols.{line_of, resolved_all}
 use Rattle.anb_resolve.proofs.terms.known_by.Goals as goal
 
 pub returns-then-eq : goal.returns-then-eq

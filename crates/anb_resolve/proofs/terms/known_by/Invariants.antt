@@ -1,6 +1,6 @@
 use Rattle.std.proofs.Common.{◌≡◌, map, drop}
 use Rattle.anb_syntax.specs.Views.{know_of}
-use Rattle.anb_resolve.specs.Protocols.{line_of}
+use Rattle.anb_protocol.specs.Protocols.{line_of}
 use Rattle.anb_resolve.proofs.terms.known_by.Given as goal
 
 abbrev pub invariant-loop-line : goal.invariant-loop-line

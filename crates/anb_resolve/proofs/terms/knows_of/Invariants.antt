@@ -1,7 +1,7 @@
 use Rattle.std.proofs.Common.{◌≡◌, ◌++◌, map, drop}
 use Rattle.anb_term.specs.Tree as term
 use Rattle.anb_syntax.specs.Views.{know_of}
-use Rattle.anb_resolve.specs.Protocols.{line_of, resolved_all}
+use Rattle.anb_protocol.specs.Protocols.{line_of, resolved_all}
 use Rattle.anb_resolve.proofs.terms.knows_of.Given as goal
 
 abbrev pub invariant-loop-role : goal.invariant-loop-role

@@ -4,9 +4,9 @@ use Rattle.anb_syntax.specs.declared.narration.Tree.{Tree, the_lemmas}
 use Rattle.anb_syntax.specs.Grammar as grammar
 use Rattle.anb_syntax.specs.Grammar.{trees_of}
 use Rattle.anb_syntax.specs.Views.{tree_of}
-use Rattle.anb_resolve.specs.Names.{as_format, tree_uses, trees_uses}
-use Rattle.anb_resolve.specs.Views.{use_of}
-use Rattle.anb_resolve.proofs.UseLemmas.{joined, length-trees}
+use Rattle.anb_protocol.specs.Names.{as_format, tree_uses, trees_uses}
+use Rattle.anb_resolve.specs.Uses.{use_of}
+use Rattle.anb_protocol.proofs.UseLemmas.{joined, length-trees}
 use Rattle.anb_resolve.proofs.uses.+uses.Goals as goal
 
 pub put_tree_uses-returns-in_ok-put_tree_uses-in-Mac-2 : goal.put_tree_uses-returns-in_ok-put_tree_uses-in-Mac-2

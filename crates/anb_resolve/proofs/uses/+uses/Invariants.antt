@@ -1,8 +1,8 @@
 use Rattle.std.proofs.Common.{◌≡◌, ◌++◌, map, drop}
 use Rattle.anb_syntax.specs.Grammar.{trees_of}
 use Rattle.anb_syntax.specs.Views.{tree_of}
-use Rattle.anb_resolve.specs.Names.{trees_uses}
-use Rattle.anb_resolve.specs.Views.{use_of}
+use Rattle.anb_protocol.specs.Names.{trees_uses}
+use Rattle.anb_resolve.specs.Uses.{use_of}
 use Rattle.anb_resolve.proofs.uses.+uses.Given as goal
 
 abbrev pub invariant-put_trees_uses-loop-tree : goal.invariant-put_trees_uses-loop-tree

@@ -1,7 +1,7 @@
 use Rattle.std.proofs.Common.{◌≡◌, ◌++◌, map, drop}
 use Rattle.std.specs.List.{flat_map}
 use Rattle.anb_syntax.specs.Views.{type_of}
-use Rattle.anb_resolve.specs.Names.{item_atoms}
+use Rattle.anb_protocol.specs.Names.{item_atoms}
 use Rattle.anb_resolve.proofs.uses.atoms_of.Given as goal
 
 abbrev pub invariant-loop-item : goal.invariant-loop-item

@@ -1,10 +1,10 @@
 use Rattle.std.proofs.Common.{List, ℕ, ◌++◌, ◌∷◌, [], ap, ◌∙◌, arith}
 use Rattle.std.specs.Str.{bytes_eq}
 use denote.Ref.{Bor}
-use Rattle.anb_resolve.specs.Names.{first_new}
-use Rattle.anb_resolve.specs.Views.{pointed}
-use Rattle.anb_resolve.proofs.Elements.{seen_as, within_map}
-use Rattle.anb_resolve.proofs.UseLemmas.{distinct_out, next_name}
+use Rattle.anb_protocol.specs.Names.{first_new}
+use Rattle.anb_protocol.specs.Views.{pointed}
+use Rattle.anb_protocol.proofs.Elements.{seen_as, within_map}
+use Rattle.anb_protocol.proofs.UseLemmas.{distinct_out, next_name}
 use Rattle.anb_resolve.proofs.uses.distinct.Goals as goal
 
 pub loop-name-preserved : goal.loop-name-preserved

@@ -1,7 +1,7 @@
 use Rattle.std.proofs.Common.{◌≡◌, ◌++◌, map, drop}
 use Rattle.anb_syntax.specs.Views.{know_of}
 use Rattle.anb_syntax.specs.Grammar.{KnowItem}
-use Rattle.anb_resolve.specs.Views.{pointed}
+use Rattle.anb_protocol.specs.Views.{pointed}
 use Rattle.anb_resolve.proofs.uses.line_names.Given as goal
 
 abbrev pub invariant-loop-item : goal.invariant-loop-item

@@ -1,7 +1,7 @@
 use Rattle.std.proofs.Common.{◌≡◌, ◌++◌, map, drop}
 use Rattle.anb_syntax.specs.Grammar.{FormatItem}
 use Rattle.anb_syntax.specs.Views.{format_of}
-use Rattle.anb_resolve.specs.Views.{pointed}
+use Rattle.anb_protocol.specs.Views.{pointed}
 use Rattle.anb_resolve.proofs.uses.put_format_names.Given as goal
 
 abbrev pub invariant-loop-format : goal.invariant-loop-format

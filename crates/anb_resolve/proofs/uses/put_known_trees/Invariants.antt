@@ -2,7 +2,7 @@ use Rattle.std.proofs.Common.{◌≡◌, ◌++◌, map, drop}
 use Rattle.std.specs.List.{flat_map}
 use Rattle.anb_syntax.specs.Grammar.{KnowItem, list_of}
 use Rattle.anb_syntax.specs.Views.{tree_of, know_of}
-use Rattle.anb_resolve.specs.Views.{pointed}
+use Rattle.anb_protocol.specs.Views.{pointed}
 use Rattle.anb_resolve.proofs.uses.put_known_trees.Given as goal
 
 abbrev pub invariant-loop-item : goal.invariant-loop-item

@@ -2,7 +2,7 @@ use Rattle.std.proofs.Common.{◌≡◌, ◌++◌, map, drop}
 use Rattle.anb_syntax.specs.Grammar.{ActionItem}
 use Rattle.anb_syntax.specs.Views.{action_of}
 use Rattle.anb_syntax.specs.Views.{tree_of}
-use Rattle.anb_resolve.specs.Views.{pointed}
+use Rattle.anb_protocol.specs.Views.{pointed}
 use Rattle.anb_resolve.proofs.uses.put_messages.Given as goal
 
 abbrev pub invariant-loop-item : goal.invariant-loop-item

@@ -1,7 +1,7 @@
 use Rattle.std.proofs.Common.{◌≡◌, ◌++◌, map, drop}
 use Rattle.anb_syntax.specs.Grammar.{trees_of, list_of}
 use Rattle.anb_syntax.specs.Views.{tree_of}
-use Rattle.anb_resolve.specs.Views.{pointed}
+use Rattle.anb_protocol.specs.Views.{pointed}
 use Rattle.anb_resolve.proofs.uses.put_trees.Given as goal
 
 abbrev pub invariant-loop-tree : goal.invariant-loop-tree

@@ -1,5 +1,5 @@
 use Rattle.std.proofs.Common.{[], ◌∷◌}
-use Rattle.anb_command.specs.Commands.{place_by}
+use Rattle.anb_words.specs.Commands.{place_by}
 use Rattle.anb_command.proofs.Answering.{refuses_over, runs_over}
 use Rattle.anb_command.proofs.Causes.{early_cause, early_reaches, only_memory, wire_cause}
 use Rattle.anb_command.proofs.Failing.{IsFailure-map}

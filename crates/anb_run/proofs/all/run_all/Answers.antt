@@ -1,5 +1,5 @@
 use Rattle.std.proofs.Common.{sym, [], ◌∷◌}
-use Rattle.anb_command.specs.Words.{asked_of}
+use Rattle.anb_words.specs.Words.{asked_of}
 use Rattle.anb_stage_commands.specs.Asking.{staged}
 use Rattle.anb_run.proofs.Usage.{usage_none, usage_some}
 use Rattle.anb_run.proofs.all.run_all.Goals as goal

@@ -1,5 +1,5 @@
 use Rattle.std.proofs.Common.{◌∙◌, ◌++◌, ◌∷◌, [], ◌+◌, List, ap, sym, subst, arith, true, false}
-use Rattle.anb_resolve.specs.Plans.{PlanEvent}
+use Rattle.anb_protocol.specs.Plans.{PlanEvent}
 use Rattle.anb_stage.specs.Parts.{IsAlone}
 use Rattle.anb_stage.proofs.PlanParts.{ends_next, plans_few}
 use Rattle.anb_stage.proofs.ends.ends_of.Goals as goal

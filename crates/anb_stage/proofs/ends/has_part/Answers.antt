@@ -1,6 +1,6 @@
 use Rattle.std.proofs.Common.{sym, ap, ◌∙◌}
 use Rattle.std.specs.List.{list_any}
-use Rattle.anb_resolve.specs.Views.{plan_event}
+use Rattle.anb_protocol.specs.Views.{plan_event}
 use Rattle.anb_stage.specs.Parts.{is_part}
 use Rattle.anb_stage.proofs.Events.{any_at}
 use Rattle.anb_stage.proofs.ends.has_part.Goals as goal

@@ -1,9 +1,9 @@
 use Rattle.std.proofs.Common.{map}
 use Rattle.std.specs.Prelude.{filter}
 use Rattle.anb_lemmas.proofs.Each.{each_got}
-use Rattle.anb_resolve.specs.Plans.{PlanEvent, term_in}
-use Rattle.anb_resolve.specs.Texts.{IsTermOf}
-use Rattle.anb_resolve.specs.Views.{plan_event}
+use Rattle.anb_protocol.specs.Plans.{PlanEvent, term_in}
+use Rattle.anb_protocol.specs.Texts.{IsTermOf}
+use Rattle.anb_protocol.specs.Views.{plan_event}
 use Rattle.anb_explain.specs.Explained.{is_message}
 use Rattle.anb_trace.proofs.Placing.{all_kept}
 use Rattle.anb_trace.proofs.events.put_event_line.Goals as goal

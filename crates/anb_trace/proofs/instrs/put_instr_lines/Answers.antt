@@ -2,7 +2,7 @@ use Rattle.std.proofs.Common.{sym, subst, arith}
 use Rattle.std.specs.List.{AllByRecursion}
 use Rattle.anb_term.specs.Tree.{Tree}
 use Rattle.anb_term.proofs.Lists.{all_drop}
-use Rattle.anb_resolve.specs.Texts.{IsTermOf}
+use Rattle.anb_protocol.specs.Texts.{IsTermOf}
 use Rattle.anb_trace.proofs.Placing.{count_front}
 use Rattle.anb_trace.proofs.instrs.put_instr_lines.Goals as goal
 

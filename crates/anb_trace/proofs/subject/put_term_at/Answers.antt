@@ -3,7 +3,7 @@ use Rattle.std.specs.Prelude.{slice_get}
 use Rattle.anb_lemmas.proofs.Each.{each_got}
 use Rattle.anb_term.specs.Tree.{Tree}
 use Rattle.anb_term.specs.View.{tree_of}
-use Rattle.anb_resolve.specs.Texts.{IsTermOf}
+use Rattle.anb_protocol.specs.Texts.{IsTermOf}
 use Rattle.anb_trace.proofs.subject.put_term_at.Goals as goal
 
 pub put_term-requires : goal.put_term-requires

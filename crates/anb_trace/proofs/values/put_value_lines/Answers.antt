@@ -3,7 +3,7 @@ use Rattle.std.proofs.lemmas.List.{append-nil}
 use Rattle.anb_lemmas.proofs.Each.{each_got}
 use Rattle.anb_term.specs.View.{tree_of}
 use Rattle.anb_term.proofs.Lists.{slice_get-at}
-use Rattle.anb_resolve.specs.Texts.{IsTermOf}
+use Rattle.anb_protocol.specs.Texts.{IsTermOf}
 use Rattle.anb_trace.specs.Words.{value_line, value_lines}
 use Rattle.anb_trace.proofs.Placing.{lines_over, one_line}
 use Rattle.anb_trace.proofs.values.put_value_lines.Goals as goal

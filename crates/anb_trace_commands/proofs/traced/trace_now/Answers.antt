@@ -1,5 +1,5 @@
 use Rattle.std.proofs.Common.{◌++◌, ℕ, List, inl, inr, refl, sym, ◌∙◌, subst}
-use Rattle.anb_command.specs.declared.status.Status.{Status}
+use Rattle.anb_status.specs.declared.status.Status.{Status}
 use Rattle.anb_trace.specs.Traces.{trace}
 use Rattle.anb_trace.specs.Words.{subject_of}
 use Rattle.anb_trace_commands.specs.TraceCommand.{differing_line}

@@ -1,8 +1,8 @@
 use Rattle.std.proofs.Common.{◌≡◌, ◌+◌, List, [], map, take, drop, take_all, refl, sym, ap, ◌∙◌, subst, arith}
 use Rattle.std.proofs.lemmas.List.{drop_all}
 use Rattle.anb_lemmas.proofs.Lists.{map_drop_next}
-use Rattle.anb_resolve.specs.Plans.{PlanEvent}
-use Rattle.anb_resolve.specs.Views.{plan_event}
+use Rattle.anb_protocol.specs.Plans.{PlanEvent}
+use Rattle.anb_protocol.specs.Views.{plan_event}
 use Rattle.anb_compile.specs.Emitting.{IsPlan, HasDone}
 use Rattle.anb_compile.proofs.Lists.{map_taken}
 use Rattle.anb_compile.proofs.Whole.{begun_done, events_parted, refused_by}

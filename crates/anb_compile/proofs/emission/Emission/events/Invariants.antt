@@ -1,6 +1,6 @@
 use Rattle.std.proofs.Common.{◌≡◌, map, take, drop}
 use Rattle.anb_code.specs.Taking.{take_texts}
-use Rattle.anb_resolve.specs.Views.{plan_event}
+use Rattle.anb_protocol.specs.Views.{plan_event}
 use Rattle.anb_compile.specs.Writing.{Context}
 use Rattle.anb_compile.specs.Emitting.{IsPlan, HasDone}
 use Rattle.anb_compile.proofs.emission.Emission.events.Given as goal

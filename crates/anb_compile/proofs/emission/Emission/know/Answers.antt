@@ -1,6 +1,6 @@
 use Rattle.std.proofs.Common.{◌≡◌, ◌+◌, [], ◌∷◌, ◌++◌, refl, ap, ◌∙◌, arith}
 use Rattle.anb_term.specs.View.{tree_of}
-use Rattle.anb_resolve.specs.Plans.{to_know}
+use Rattle.anb_protocol.specs.Plans.{to_know}
 use Rattle.anb_compile.proofs.Doing.{known_labelled, count_small, plan_on}
 use Rattle.anb_compile.proofs.emission.Emission.know.Goals as goal
 

@@ -3,7 +3,7 @@ use Rattle.anb_term.specs.View.{tree_of}
 use Rattle.anb_plays.specs.Plans.{recv}
 use Rattle.anb_plays.specs.Codes.{receives}
 use Rattle.anb_code.specs.declared.instr.Instr.TheVariants.{Recv}
-use Rattle.anb_resolve.specs.Plans.{to_receive}
+use Rattle.anb_protocol.specs.Plans.{to_receive}
 use Rattle.anb_code.specs.Taking.{take_texts}
 use Rattle.anb_compile.proofs.Writing.{texts_put}
 use Rattle.anb_compile.proofs.Doing.{heard_labelled, plan_on, message_fits, enough_heard}

@@ -12,7 +12,7 @@ use Rattle.anb_close.proofs.Rows.{made_small}
 use Rattle.anb_close.proofs.Finding.{rows_length}
 use Rattle.anb_close.proofs.Sound.{no_recipe, some_recipe}
 use Rattle.anb_code.specs.declared.instr.Instr.TheVariants.{Send}
-use Rattle.anb_resolve.specs.Plans.{to_send}
+use Rattle.anb_protocol.specs.Plans.{to_send}
 use Rattle.anb_compile.specs.Writing.{IsOver}
 use Rattle.anb_compile.proofs.Writing.{texts_put}
 use Rattle.anb_compile.proofs.Opened.{made_over}

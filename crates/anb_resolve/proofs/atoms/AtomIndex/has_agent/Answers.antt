@@ -1,6 +1,6 @@
 use Rattle.std.proofs.Common.{ap, ◌∙◌}
 use Rattle.anb_index.specs.Places.{among}
-use Rattle.anb_resolve.specs.Checks.{names_agent}
+use Rattle.anb_protocol.specs.Checks.{names_agent}
 use Rattle.anb_resolve.proofs.AtomNames.{agents_named}
 use Rattle.anb_resolve.proofs.atoms.AtomIndex.has_agent.Goals as goal
 

@@ -1,7 +1,7 @@
 use Rattle.std.proofs.Common.{◌≡◌, map, take}
 use Rattle.std.specs.List.{flat_map}
-use Rattle.anb_resolve.specs.declared.parts.Atom.{Atom}
-use Rattle.anb_resolve.specs.Checks.{agent_names}
+use Rattle.anb_protocol.specs.declared.parts.Atom.{Atom}
+use Rattle.anb_protocol.specs.Checks.{agent_names}
 use Rattle.anb_resolve.proofs.atoms.AtomIndex.new.Given as goal
 
 abbrev pub invariant-loop-atom : goal.invariant-loop-atom

@@ -2,10 +2,10 @@ use Rattle.std.proofs.Common.{◌≡◌, ap, ◌∙◌, arith}
 use Rattle.std.specs.Prelude.{unwrap_or}
 use Rattle.std.specs.Str.{bytes_eq}
 use Rattle.anb_index.specs.Places.{place_of}
-use Rattle.anb_resolve.specs.declared.parts.Atom.{Atom}
-use Rattle.anb_resolve.specs.Protocols.{atom_number}
+use Rattle.anb_protocol.specs.declared.parts.Atom.{Atom}
+use Rattle.anb_protocol.specs.Protocols.{atom_number}
 use Rattle.anb_resolve.proofs.AtomNames.{atom_numbered}
-use Rattle.anb_resolve.proofs.PlaceLemmas.{place_low}
+use Rattle.anb_protocol.proofs.PlaceLemmas.{place_low}
 use Rattle.anb_resolve.proofs.atoms.AtomIndex.number.Goals as goal
 
 pub overflow_cast-result : goal.overflow_cast-result

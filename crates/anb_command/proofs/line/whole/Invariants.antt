@@ -1,6 +1,0 @@
-use Rattle.std.proofs.Common.{◌≡◌, take}
-use Rattle.anb_command.specs.Pieces.{joined}
-use Rattle.anb_command.proofs.line.whole.Given as goal
-
-abbrev pub invariant-loop-piece : goal.invariant-loop-piece
-invariant-loop-piece l = l.line.bytes ≡ joined (take l.piece-index l.pieces)

@@ -1,5 +1,0 @@
-use Rattle.anb_resolve.proofs.Differing.{known_texts_apart}
-use Rattle.anb_resolve.proofs.laws.known_texts_differ.Goals as goal
-
-pub returns : goal.returns
-returns c = known_texts_apart

@@ -1,5 +1,0 @@
-use Rattle.anb_resolve.proofs.PlanLaws.{made_new}
-use Rattle.anb_resolve.proofs.laws.made_is_new.Goals as goal
-
-pub returns : goal.returns
-returns c = made_new

@@ -1,5 +1,0 @@
-use Rattle.anb_resolve.proofs.PlanLaws.{knows_first}
-use Rattle.anb_resolve.proofs.laws.plans_know_first.Goals as goal
-
-pub returns : goal.returns
-returns c = knows_first

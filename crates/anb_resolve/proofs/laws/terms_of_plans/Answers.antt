@@ -1,6 +1,0 @@
-use Rattle.anb_resolve.proofs.Holds.{holds}
-use Rattle.anb_resolve.proofs.PlanTerms.{plan_of_terms}
-use Rattle.anb_resolve.proofs.laws.terms_of_plans.Goals as goal
-
-pub returns : goal.returns
-returns c p role is = plan_of_terms p role (holds p is).terms

@@ -1,0 +1,4 @@
+pub mod Lines
+pub mod Statuses
+-- for proofs alone
+pub mod Pieces
