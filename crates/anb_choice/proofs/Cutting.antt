@@ -45,17 +45,17 @@ module _ (test : Word → Bool) where
   only_one (f ∷ front) (o ∷ other) rest behind a t free later e = only_one front other rest behind a t free.1 later (let s : front ++ a ∷ rest ≡ other ++ a ∷ behind = cc in s)
 
 -- of two fronts of a list one is a front of the other
-pub one_front : (a b c d : List Word) → a ++ b ≡ c ++ d → ((m : List Word) × (c ≡ a ++ m) × (b ≡ m ++ d)) ⊎ ((m : List Word) × (a ≡ c ++ m) × (d ≡ m ++ b))
+pub one_front : {A : Type 0} (a b c d : List A) → a ++ b ≡ c ++ d → ((m : List A) × (c ≡ a ++ m) × (b ≡ m ++ d)) ⊎ ((m : List A) × (a ≡ c ++ m) × (d ≡ m ++ b))
 one_front [] b c d e = inl (c, refl, e)
 one_front (x ∷ a) b [] d e = inr (x ∷ a, refl, sym e)
-one_front (x ∷ a) b (y ∷ c) d e = by (one_front a b c d (let s : a ++ b ≡ c ++ d = cc in s)) where
+one_front {A} (x ∷ a) b (y ∷ c) d e = by (one_front a b c d (let s : a ++ b ≡ c ++ d = cc in s)) where
   same : x ≡ y
   same = cc
 
-  by : ((m : List Word) × (c ≡ a ++ m) × (b ≡ m ++ d)) ⊎ ((m : List Word) × (a ≡ c ++ m) × (d ≡ m ++ b))
-      → ((m : List Word) × (y ∷ c ≡ x ∷ a ++ m) × (b ≡ m ++ d)) ⊎ ((m : List Word) × (x ∷ a ≡ y ∷ c ++ m) × (d ≡ m ++ b))
-  by (inl (m, f, g)) = inl (m, ap (λ v. v ∷ c) (sym same) ∙ ap (λ (l : List Word). x ∷ l) f, g)
-  by (inr (m, f, g)) = inr (m, ap (λ v. v ∷ a) same ∙ ap (λ (l : List Word). y ∷ l) f, g)
+  by : ((m : List A) × (c ≡ a ++ m) × (b ≡ m ++ d)) ⊎ ((m : List A) × (a ≡ c ++ m) × (d ≡ m ++ b))
+      → ((m : List A) × (y ∷ c ≡ x ∷ a ++ m) × (b ≡ m ++ d)) ⊎ ((m : List A) × (x ∷ a ≡ y ∷ c ++ m) × (d ≡ m ++ b))
+  by (inl (m, f, g)) = inl (m, ap (λ v. v ∷ c) (sym same) ∙ ap (λ (l : List A). x ∷ l) f, g)
+  by (inr (m, f, g)) = inr (m, ap (λ v. v ∷ a) same ∙ ap (λ (l : List A). y ∷ l) f, g)
 
 -- ---- which words a narration has where
 

@@ -33,6 +33,7 @@ use Rattle.anb_choice.specs.Parsing.{order}
 use Rattle.anb_choice.proofs.Agreeing.{is_like}
 use Rattle.anb_choice.proofs.Faults.{choice_refusal}
 use Rattle.anb_choice.proofs.Names.{none_refused}
+use Rattle.anb_choice.proofs.Misplaced.{misplaced_of}
 use Rattle.anb_choice.proofs.Ordering.{has_order}
 use Rattle.anb_choice.proofs.Straights.{stem_of, stem_text}
 
@@ -161,7 +162,7 @@ module _ (reads : EachTextIsEither) where
     by_arms ms spans o (inr (why, refused, is)) = inr (why, is x ms spans refl o)
 
     by_order : (ms : List Mark) → AreMarks x ms → bad_at ms ≡ None → (r : Result (List Span) ℕ) → order ms ≡ r → Either
-    by_order ms marks none (Err at) e = inr (Shape at, (ms, marks, none, e))
+    by_order ms marks none (Err at) e = inr (Shape at, (ms, marks, none, misplaced_of x ms at marks none e))
     by_order ms marks none (Ok spans) e = by_arms ms spans (record { marks = marks; tokens = none; order = has_order x ms spans marks e }) (arms_told [] [] (straights x ms spans) tt)
 
     by_bad : (ms : List Mark) → AreMarks x ms → (o : Option ℕ) → bad_at ms ≡ o → Either

@@ -15,3 +15,4 @@ pub mod Ordering
 pub mod Straights
 pub mod Agreeing
 pub mod Lawfully
+pub mod Misplaced

@@ -79,7 +79,7 @@ kind_one Bad Other e = cc
 kind_one Bad Stop e = cc
 kind_one Bad Bad e = refl
 
-kind_same : (k : Kind) → kind_eqb k k ≡ true
+pub kind_same : (k : Kind) → kind_eqb k k ≡ true
 kind_same Choice = refl
 kind_same Actions = refl
 kind_same Colon = refl
@@ -179,12 +179,12 @@ stop_last x (t ∷ ts) (f ∷ front) others m e stop = by (ends_looking (kind_of
 -- ---- the choice's tokens
 
 -- four tokens of these kinds, and others
-record Chosen (ms : List Mark) : Type 0 where
-  choice : List Mark
-  others : List Mark
-  are : ms ≡ choice ++ others
-  kinds : kinds_of choice ≡ choice_heading
-  behind : drop 4 ms ≡ others
+pub record Chosen (ms : List Mark) : Type 0 where
+  pub choice : List Mark
+  pub others : List Mark
+  pub are : ms ≡ choice ++ others
+  pub kinds : kinds_of choice ≡ choice_heading
+  pub behind : drop 4 ms ≡ others
 
 four : (a b c d : Mark) (ms : List Mark) → misfit choice_heading (a ∷ b ∷ c ∷ d ∷ ms) ≡ None → Chosen (a ∷ b ∷ c ∷ d ∷ ms)
 four a b c d ms e =
@@ -207,7 +207,7 @@ four a b c d ms e =
 nothing_fits : (k : Kind) (ks : List Kind) → misfit (k ∷ ks) [] ≡ None → ⊥
 nothing_fits k ks e = cc
 
-chosen : (ms : List Mark) → misfit choice_heading ms ≡ None → Chosen ms
+pub chosen : (ms : List Mark) → misfit choice_heading ms ≡ None → Chosen ms
 chosen [] e = absurd (nothing_fits Choice (Colon ∷ Name ∷ Semicolon ∷ []) e)
 chosen (a ∷ []) e = absurd (nothing_fits Colon (Name ∷ Semicolon ∷ []) (fits_first Choice (Colon ∷ Name ∷ Semicolon ∷ []) a [] e).1)
 chosen (a ∷ b ∷ []) e =
@@ -242,7 +242,7 @@ two_last ms (suc n) h colon actions =
       less : (k : ℕ) → suc k - 1 ≡ k
       less k = omega arith
 
-closed_taken : (ms : List Mark) (n : ℕ) → n < length ms → closes_at ms (suc n) ≡ true → IsClosed (take (suc n) ms)
+pub closed_taken : (ms : List Mark) (n : ℕ) → n < length ms → closes_at ms (suc n) ≡ true → IsClosed (take (suc n) ms)
 closed_taken ms n h e = by (kind_at ms n) refl e where
   ends_so : kind_at ms n ≡ Semicolon → IsClosed (take (suc n) ms)
   ends_so is = let (m, are, k) = last_taken ms n h in (take n ms, m ∷ [], are, inl (ap (λ l. l ∷ []) (sym k ∙ is)))
@@ -323,7 +323,7 @@ kind_behind (f ∷ front) ms i = ap (kind_at (f ∷ front ++ ms)) (next (length 
 closes_next : (ms : List Mark) (n k : ℕ) → n ≡ suc k → (kind_eqb (kind_at ms k) Semicolon || (kind_eqb (kind_at ms k) Colon && kind_eqb (kind_at ms (k - 1)) Actions)) ≡ true → closes_at ms n ≡ true
 closes_next ms n k is e = subst (λ m. closes_at ms m ≡ true) (sym is) e
 
-closes_there : (stem more : List Mark) → IsClosed stem → closes_at (stem ++ more) (length stem) ≡ true
+pub closes_there : (stem more : List Mark) → IsClosed stem → closes_at (stem ++ more) (length stem) ≡ true
 closes_there stem more (front, last, are, inl e) =
     let (m, one, is) = one_of last Semicolon e in
     let whole : stem ++ more ≡ front ++ m ∷ more = ap (λ l. l ++ more) (are ∙ ap (λ l. front ++ l) one) ∙ append_assoc front (m ∷ []) more in
@@ -344,7 +344,7 @@ closes_there stem more (front, last, are, inr e) =
       back : (j : ℕ) → j + 1 - 1 ≡ j + 0
       back j = omega arith
 
-misfit_first : (k : Kind) (ks : List Kind) (m : Mark) (ms : List Mark) → m.kind ≡ k → misfit (k ∷ ks) (m ∷ ms) ≡ misfit ks ms
+pub misfit_first : (k : Kind) (ks : List Kind) (m : Mark) (ms : List Mark) → m.kind ≡ k → misfit (k ∷ ks) (m ∷ ms) ≡ misfit ks ms
 misfit_first k ks m ms e = ap (λ b. cond b (misfit ks ms) (Some m.at)) (ap (kind_eqb k) e ∙ kind_same k)
 
 pub dropped : (front ms : List Mark) → drop (length front) (front ++ ms) ≡ ms
@@ -364,6 +364,26 @@ joined arms = flat_map (λ (arm : List Mark). arm) arms
 abbrev found : List Span → Result (List Span) ℕ
 found spans = Ok spans
 
+module _ (x y : Mark) (body z : List Mark) (m : Mark) (ms : List Mark) (z_is : z ≡ m ∷ ms) (ends : list_any (kind_eqb m.kind) arm_ends ≡ true) (plain : HasNone arm_ends body) where
+  abbrev whole : List Mark
+  whole = x ∷ y ∷ body ++ z
+
+  size_is : arm_size whole ≡ length body
+  size_is = ap (λ l. before arm_ends (body ++ l)) z_is ∙ before_plain arm_ends body m ms plain ends
+
+  pub behind_is : behind_arm whole ≡ z
+  behind_is = ap (λ n. drop n (body ++ z)) size_is ∙ dropped body z
+
+  to_is : past_at whole (arm_size whole + 1) ≡ past_last (y ∷ body)
+  to_is =
+      ap (λ n. past_at whole (n + 1)) size_is ∙ ap (past_at whole) (one_more (length body)) ∙ past_of_last y (body ++ z) (length body) (omega (arith, length-append body z))
+      ∙ ap (λ l. past_last (y ∷ l)) (taken body z)
+
+  span_is : (s : Span) → s.from ≡ y.past → s.to ≡ past_last (y ∷ body) → arm_span whole ≡ s
+  span_is s from to =
+      let span : ℕ → ℕ → Span = λ a b. record { from = a; to = b } in
+      ap (λ n. span y.past n) (to_is ∙ sym to) ∙ ap (λ n. span n s.to) (sym from)
+
 module _ (t : Mark) (stop : t.kind ≡ Stop) where
   -- behind an arm another one begins, or the text ends
   begins : (arms : List (List Mark)) (spans : List Span) → AllZip IsArm arms spans → (m : Mark) × (ms : List Mark) × (joined arms ++ t ∷ [] ≡ m ∷ ms) × (list_any (kind_eqb m.kind) arm_ends ≡ true)
@@ -374,26 +394,6 @@ module _ (t : Mark) (stop : t.kind ≡ Stop) where
       let (x, y, two, first, second) = two_of each.0.heading Actions Colon each.0.headed in
       let are : arm ≡ x ∷ y ∷ each.0.body = each.0.are ∙ ap (λ l. l ++ each.0.body) two in
       (x, y ∷ each.0.body ++ (joined arms ++ t ∷ []), append_assoc arm (joined arms) (t ∷ []) ∙ ap (λ l. l ++ (joined arms ++ t ∷ [])) are, ap (λ k. list_any (kind_eqb k) arm_ends) first)
-
-  module _ (x y : Mark) (body z : List Mark) (m : Mark) (ms : List Mark) (z_is : z ≡ m ∷ ms) (ends : list_any (kind_eqb m.kind) arm_ends ≡ true) (plain : HasNone arm_ends body) where
-    abbrev whole : List Mark
-    whole = x ∷ y ∷ body ++ z
-
-    size_is : arm_size whole ≡ length body
-    size_is = ap (λ l. before arm_ends (body ++ l)) z_is ∙ before_plain arm_ends body m ms plain ends
-
-    behind_is : behind_arm whole ≡ z
-    behind_is = ap (λ n. drop n (body ++ z)) size_is ∙ dropped body z
-
-    to_is : past_at whole (arm_size whole + 1) ≡ past_last (y ∷ body)
-    to_is =
-        ap (λ n. past_at whole (n + 1)) size_is ∙ ap (past_at whole) (one_more (length body)) ∙ past_of_last y (body ++ z) (length body) (omega (arith, length-append body z))
-        ∙ ap (λ l. past_last (y ∷ l)) (taken body z)
-
-    span_is : (s : Span) → s.from ≡ y.past → s.to ≡ past_last (y ∷ body) → arm_span whole ≡ s
-    span_is s from to =
-        let span : ℕ → ℕ → Span = λ a b. record { from = a; to = b } in
-        ap (λ n. span y.past n) (to_is ∙ sym to) ∙ ap (λ n. span n s.to) (sym from)
 
   arms_there : (arms : List (List Mark)) (spans : List Span) (least most : ℕ) → AllZip IsArm arms spans → least ≤ length spans → length spans ≤ most → arms_at least most (joined arms ++ t ∷ []) ≡ found spans
   arms_there [] [] least most each low high =

@@ -237,7 +237,7 @@ module _ (least : ℕ) (ms : List Mark) where
   at_stop zero e = ap (λ b. cond b (at_end least ms) (Err (place_at ms 0))) e
   at_stop (suc most) e = ap (λ b. cond b (at_end least ms) (unless (misfit arm_heading ms) (with_front (arm_span ms ∷ []) (arms_at (least - 1) most (behind_arm ms))))) e
 
-  at_most : kind_eqb (kind_at ms 0) Stop ≡ false → arms_at least 0 ms ≡ Err (place_at ms 0)
+  pub at_most : kind_eqb (kind_at ms 0) Stop ≡ false → arms_at least 0 ms ≡ Err (place_at ms 0)
   unfolding arms_at
   at_most e = ap (λ b. cond b (at_end least ms) (Err (place_at ms 0))) e
 

@@ -72,7 +72,7 @@ semicolon_same (sign c) =
 semicolon_same end = refl
 semicolon_same bad = refl
 
-passes : (w : Word) → ends_looking (kind_of w) ≡ false → IsPassed w × (is_stop w ≡ false)
+pub passes : (w : Word) → ends_looking (kind_of w) ≡ false → IsPassed w × (is_stop w ≡ false)
 passes (name b) e = (tt, by (bytes_eq goals_word b) refl) where
   by : (u : Bool) → bytes_eq goals_word b ≡ u → bytes_eq goals_word b ≡ false
   by true g = let never : true ≡ false = ap (λ z. ends_looking (word_kind z)) (bytes_are_one goals_word b g) ∙ e in absurd (cc)

@@ -17,6 +17,7 @@ use Rattle.anb_choice.specs.ArmRefusals.{IsRefusedAs}
 use Rattle.anb_choice.specs.Lawful.{BranchedValue}
 use Rattle.anb_choice.specs.Order.{AreMarks, bad_at, chooser_in, looked, stem_actions}
 use Rattle.anb_choice.specs.Parsing.{order}
+use Rattle.anb_choice.proofs.Misplaced.{order_err}
 use Rattle.anb_choice.proofs.Ordering.{order_there}
 
 abbrev found : List Span → Result (List Span) ℕ
@@ -61,7 +62,7 @@ of_choice x why r = inr (r.1.marks, r.1.spans, r.1.ordered, inr (r.0, (r.1.arms,
 
 form : (x : List ℕ) (why : BranchNo) → IsRefusal x why → Form x why
 form x (Token at) r = inl (r.0, r.1, ap (λ z. option_or (option_map Token z) (shape_of (order r.0))) r.2)
-form x (Shape at) r = inl (r.0, r.1, head_of None (Err at) r.0 r.2 r.3)
+form x (Shape at) r = inl (r.0, r.1, head_of None (Err at) r.0 r.2 (order_err x r.0 at r.1 r.2 r.3))
 form x (ArmRead arm why) r = inr (r.0, r.1, r.2, inl r.3)
 form x (ArmResolve arm why) r = inr (r.0, r.1, r.2, inl r.3)
 form x (Roles arm) r = of_choice x (Roles arm) r

@@ -85,13 +85,13 @@ lexed_of [] at x h = absurd h
 lexed_of (w ∷ ws) at x h = lexed_here at x w ws (λ a z k. lexed_of ws a z k) (token_here (drop (gap_len x) x)) refl h
 
 -- what a token that is passed is
-record IsHere (Others : ℕ → Type 0) (o : Option (Word × ℕ)) (w : Word) : Type 0 where
-  token : Word × ℕ
-  is : o ≡ Some token
-  word : w ≡ token.0
-  others : Others token.1
+pub record IsHere (Others : ℕ → Type 0) (o : Option (Word × ℕ)) (w : Word) : Type 0 where
+  pub token : Word × ℕ
+  pub is : o ≡ Some token
+  pub word : w ≡ token.0
+  pub others : Others token.1
 
-is_here : (O : ℕ → Type 0) (l : Type 0) (x : List ℕ) (o : Option (Word × ℕ)) (w : Word) → IsPassed w → LexesHere O l x o w → IsHere O o w
+pub is_here : (O : ℕ → Type 0) (l : Type 0) (x : List ℕ) (o : Option (Word × ℕ)) (w : Word) → IsPassed w → LexesHere O l x o w → IsHere O o w
 is_here O l [] None w p h = absurd (subst IsPassed h.0 p)
 is_here O l (b ∷ x) None w p h = absurd (subst IsPassed h.0 p)
 is_here O l [] (Some t) w p h = record { token = t; is = refl; word = h.0; others = h.1 }

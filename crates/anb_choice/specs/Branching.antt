@@ -1,5 +1,5 @@
 -- What a branched text tells, and why a text is none.
-use Rattle.std.specs.Prelude.{◌≡◌, ℕ, ◌+◌, List, [], ◌∷◌, ◌++◌, length, map, not, Option, Some, None, Err}
+use Rattle.std.specs.Prelude.{◌≡◌, ℕ, ◌+◌, List, [], ◌∷◌, ◌++◌, length, map, not, Option, Some, None}
 use Rattle.std.specs.Option.{option_map, option_or}
 use Rattle.std.specs.List.{AllZip}
 use Rattle.anb_index.specs.Places.{among}
@@ -15,8 +15,7 @@ use Rattle.anb_choice.specs.declared.order.Span.{Span}
 use Rattle.anb_outcomes.specs.declared.choices.BranchNo.{BranchNo}
 use Rattle.anb_outcomes.specs.declared.choices.BranchNo.TheVariants.{Token, Shape, ArmRead, ArmResolve, Roles, Chooser, Blind, NoMemory}
 use Rattle.anb_choice.specs.Lawful.{BranchedValue, roles_in, are_same_names, blind}
-use Rattle.anb_choice.specs.Parsing.{order}
-use Rattle.anb_choice.specs.Order.{AreMarks, HasOrder, bad_at, chooser_in, stem_actions, straight}
+use Rattle.anb_choice.specs.Order.{AreMarks, HasOrder, IsMisplaced, bad_at, chooser_in, stem_actions, straight}
 
 -- the protocol of the text's narration, which is well formed
 pub record Tells (text : List ℕ) (p : ProtocolValue) : Type 0 where
@@ -85,7 +84,7 @@ RefusesChoice x why = (b : BranchedValue) × BranchedText x b × (choice_fault b
 -- Why a text is no branched text: the first cause. Want of memory has none.
 abbrev pub IsRefusal : List ℕ → BranchNo → Type 0
 IsRefusal x (Token at) = (ms : List Mark) × AreMarks x ms × (bad_at ms ≡ Some at)
-IsRefusal x (Shape at) = (ms : List Mark) × AreMarks x ms × (bad_at ms ≡ None) × (order ms ≡ Err at)
+IsRefusal x (Shape at) = (ms : List Mark) × AreMarks x ms × (bad_at ms ≡ None) × IsMisplaced ms at
 IsRefusal x (ArmRead arm why) = RefusesArm x (ArmRead arm why)
 IsRefusal x (ArmResolve arm why) = RefusesArm x (ArmResolve arm why)
 IsRefusal x (Roles arm) = RefusesChoice x (Roles arm)

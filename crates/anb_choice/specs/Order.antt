@@ -140,6 +140,17 @@ pub record HasOrder (ms : List Mark) (spans : List Span) : Type 0 where
   pub most : length spans ≤ 8
   pub stops : kinds_of stop ≡ Stop ∷ []
 
+-- The first token that is out of order stands at this offset: some text with a choice begins with the
+-- tokens before it, and none with these and it.
+pub record IsMisplaced (ms : List Mark) (at : ℕ) : Type 0 where
+  pub front : List Mark
+  pub next : Mark
+  pub others : List Mark
+  pub are : ms ≡ front ++ next ∷ others
+  pub is : at ≡ next.at
+  pub viable : (more : List Mark) × (spans : List Span) × HasOrder (front ++ more) spans
+  pub none : (more : List Mark) (spans : List Span) → HasOrder (front ++ next ∷ more) spans → ⊥
+
 -- ---- what stands where
 
 -- the offset past the stem

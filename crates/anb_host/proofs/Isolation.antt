@@ -48,7 +48,7 @@ module _ (s t : ℕ) where
       (choice (is_oversize x) (Refused s cause.Oversize ∷ []) _ (refusal cause.Oversize) (of_notices _ _)))))
 
 -- the events of a session among its own
-events_of-same : (s : ℕ) (events : List HostEvent) → events_of s (events_of s events) ≡ events_of s events
+pub events_of-same : (s : ℕ) (events : List HostEvent) → events_of s (events_of s events) ≡ events_of s events
 events_of-same s [] = refl
 events_of-same s (x ∷ events) = by (session_of x == s) refl (events_of-same s events) where
   by : (b : Bool) → (session_of x == s) ≡ b → events_of s (events_of s events) ≡ events_of s events

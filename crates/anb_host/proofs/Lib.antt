@@ -1,3 +1,4 @@
+pub mod Alone
 pub mod Isolation
 pub mod Past
 pub mod Pieces

@@ -1,3 +1,4 @@
+pub mod Alone
 pub mod HostFrames
 pub mod Hosts
 pub mod Own

@@ -13,5 +13,5 @@ mod session;
 
 pub use event::{Cause, HostEvent, Notice};
 pub use host::Host;
-pub use laws::{inputs_have_one_reading, sessions_are_isolated};
+pub use laws::{inputs_have_one_reading, sessions_are_alone, sessions_are_isolated};
 pub use serving::{HostEnd, serve};

@@ -10,7 +10,6 @@ pub mod HonestSends
 pub mod HonestStage
 pub mod Lines
 pub mod Messages
-pub mod PlanParts
 pub mod PlaysGrow
 pub mod Roles
 pub mod Stamps
@@ -18,3 +17,4 @@ pub mod Starts
 pub mod Steps
 pub mod Totals
 pub mod Whole
+pub mod Within

@@ -1,7 +1,8 @@
 -- Messages of more actions.
-use Rattle.std.proofs.Common.{◌≡◌, ◌+◌, ℕ, List, [], ◌∷◌, ◌++◌, length, take, Option, Some, None, refl, sym, ap, ◌∙◌, subst, arith, append_assoc, length-append}
+use Rattle.std.proofs.Common.{◌≡◌, ◌+◌, ◌<◌, ℕ, List, [], ◌∷◌, ◌++◌, length, map, take, get_or, Option, Some, None, refl, sym, ap, ◌∙◌, subst, arith, append_assoc, length-append}
 use Rattle.std.proofs.Math.Seq.{take-append_seam, take-append-add}
-use Rattle.std.proofs.lemmas.List.{append-nil, take-append-le}
+use Rattle.std.proofs.lemmas.List.{append-nil, map-append, take-append-le}
+use Rattle.anb_lemmas.proofs.Each.{take_next}
 use Rattle.anb_lemmas.proofs.Options.{or_is_none}
 use Rattle.anb_base.specs.Moves.{Put, PutPrefix}
 use Rattle.anb_base.proofs.Joined.{Put-joined}
@@ -53,3 +54,10 @@ put_prefix-more old mid new xs ys zs put more =
 -- an item more on both sides
 pub appended : {X : Type 0} (old new known more : List X) (x : X) → new ≡ old ++ x ∷ [] → old ≡ known → more ≡ known ++ x ∷ [] → new ≡ more
 appended old new known more x e f g = e ∙ ap (λ t. t ++ x ∷ []) f ∙ sym g
+
+-- what two maps make of one item more
+pub mapped_next : {X Y Z : Type 0} (f : X → Y) (g : Y → Z) (old new : List Z) (xs : List X) (i : ℕ) (x : X) → i < length xs → x ≡ get_or xs i x → old ≡ map g (map f (take i xs))
+    → new ≡ old ++ g (f x) ∷ [] → new ≡ map g (map f (take (i + 1) xs))
+mapped_next f g old new xs i x below is before pushed =
+    pushed ∙ ap (λ l. l ++ g (f x) ∷ []) before
+    ∙ sym (ap (λ l. map g (map f l)) (take_next xs i x below is) ∙ ap (map g) (map-append f (take i xs) (x ∷ [])) ∙ map-append g (map f (take i xs)) (f x ∷ []))

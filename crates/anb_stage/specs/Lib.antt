@@ -7,4 +7,3 @@ pub mod Honest
 -- for proofs alone
 pub mod Sides
 pub mod Steps
-pub mod Parts

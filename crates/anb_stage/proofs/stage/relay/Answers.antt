@@ -1,5 +1,5 @@
 use Rattle.std.proofs.Common.{◌≡◌, ◌∙◌, List, subst, IfOk}
-use Rattle.anb_stage.proofs.PlanParts.{ends_within}
+use Rattle.anb_stage.proofs.Within.{ends_within}
 use Rattle.anb_stage.specs.Relays.{report}
 use Rattle.anb_stage.specs.declared.ends.Ends.{Ends}
 use Rattle.anb_stage.proofs.stage.relay.Goals as goal
