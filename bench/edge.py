@@ -333,7 +333,9 @@ def slow_peers(program):
 def with_hosts(program, hosts, words):
     """The words under a file of hosts that is this row's, which it may write."""
     program.write("hosts", hosts)
-    inner = 'mount --bind hosts /etc/hosts && exec "$0" "$@"'
+    # Nobody else is asked for a name.
+    program.write("nobody", "nameserver 127.0.0.1\noptions timeout:1 attempts:1\n")
+    inner = 'mount --bind hosts /etc/hosts && mount --bind nobody /etc/resolv.conf && exec "$0" "$@"'
     command = ["unshare", "-rm", "sh", "-c", inner, program.path, *words]
     pipes = {"stdin": subprocess.DEVNULL, "stdout": subprocess.PIPE, "stderr": subprocess.PIPE}
     return subprocess.Popen(command, cwd=program.folder, **pipes)
@@ -389,7 +391,7 @@ def free_ports(program):
     write_ping(program)
     for host, limit in (("127.0.0.1", []), ("127.0.0.1", ["--timeout", "30"]), ("localhost", [])):
         run = program.start("play", "ping.anb", "B", "ping.values", "--listen", f"{host}:0", *limit, stderr=subprocess.PIPE)
-        told = run.child.stderr.readline()
+        told = run.first_line()
         want("what is told", told.startswith(b"anb: listening at ") and told.endswith(b"\n"), True)
         peer = dial_to(told.split()[-1].decode())
         peer.sendall(FRAME)
@@ -609,6 +611,8 @@ def main():
     if not words:
         sys.exit(__doc__)
     is_quick = "--quick" in sys.argv
+    # What runs in the background may ignore it, and would hand that on.
+    signal.signal(signal.SIGINT, signal.default_int_handler)
     failed = 0
     for name in words[1:] or [row.__name__ for row in QUICK] + [row.__name__ for row in LONG if not is_quick]:
         with tempfile.TemporaryDirectory() as folder:

@@ -92,6 +92,14 @@ class Run:
         self.line.seek(0)
         return self.child.returncode, wrote, self.line.read()
 
+    def first_line(self, within=10.0):
+        """The first line on standard error, which is a pipe. The program is killed where none comes."""
+        late = threading.Timer(within, self.kill)
+        late.start()
+        line = self.child.stderr.readline()
+        late.cancel()
+        return line
+
     def kill(self):
         """Kills the program with all that it started."""
         with contextlib.suppress(ProcessLookupError):

@@ -134,15 +134,16 @@ def named_children(program):
     shutil.copy(program.path, path)
     want("in a folder that isn't UTF-8", program.run("stage", "ping.anb", ".", path=path)[1], ended(0))
 
-    # It reads its narration once the file of the program is gone.
-    os.mkfifo(os.path.join(program.folder, "fifo.anb"))
+    # It reads its narration, and starts its children, once the file of the program is gone.
+    narration = os.path.join(program.folder, "fifo.anb")
+    os.mkfifo(narration)
     run = program.start("stage", "fifo.anb", ".", path=path)
-    with open(os.path.join(program.folder, "fifo.anb"), "wb") as narration:
+    with open(narration, "wb") as fifo:
         os.remove(path)
-        narration.write(program.read("ping.anb"))
-    found = run.end()
-    # The children can't read the narration, which was read; but they are started.
-    want("that children were started", b"child A failed" in found[2], False)
+        os.remove(narration)
+        program.write("fifo.anb", program.read("ping.anb"))
+        fifo.write(program.read("ping.anb"))
+    want("where the file of the program is gone", run.end(), ended(0))
     says = "4 names refused, a path of other bytes, a file that is gone"
     if not can_unshare():
         return f"{says}; without /proc not tried"
@@ -243,13 +244,15 @@ def unkillable_child(program):
     command = ["setpriv", "--reuid=65534", "--regid=65534", "--clear-groups", "./anb", "stage", "ping.anb", "."]
     began = time.monotonic()
     env = {**os.environ, "ANB_CHILD": "./child"}
-    done = subprocess.run(command, cwd=program.folder, env=env, capture_output=True, timeout=PATIENCE)
+    # The child that is left holds standard error.
+    with open(os.path.join(program.folder, "told"), "wb") as told:
+        done = subprocess.run(command, cwd=program.folder, env=env, stdout=told, stderr=told, timeout=PATIENCE)
     seconds = time.monotonic() - began
     first = [pid for pid in pids(program) if is_process(pid)]
     want("the status", done.returncode, 32)
     want("that one is left", len(first), 1)
-    line = f"process {first[0]} can't be killed\nchild B ended with 0\nno message of action 2"
-    want("the lines", sorted(done.stderr.splitlines()), sorted(lines(line).splitlines()))
+    line = f"child B ended with 0\nprocess {first[0]} can't be killed\nno message of action 2"
+    want("the lines", program.read("told"), lines(line))
     os.kill(int(first[0]), signal.SIGKILL)
     want_below("seconds", seconds, 2.5)
     return f"{seconds:.1f} s"
@@ -313,6 +316,8 @@ def signalled_stages(program):
             write_child(program, f"{SAYS}; {WAITS}", WAITS)
             run = start_stage(program)
             wait_until("two children", lambda: len(pids(program)) == 2)
+            # A child is watched over just after it was started.
+            time.sleep(0.1)
             if to_group:
                 os.killpg(run.child.pid, kind)
             else:
