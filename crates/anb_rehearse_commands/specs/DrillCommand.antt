@@ -7,14 +7,16 @@ use Rattle.anb_status.specs.declared.status.Status.{Status}
 use Rattle.anb_command.specs.Steps.{Answer, given}
 use Rattle.anb_command.specs.Writing.{CompletesText, IsWritingOne}
 
+-- the rest of a line that tells counts
 abbrev pub counts_text : Counts → List ℕ
 counts_text c =
-    codes "actions " ++ decimal c.actions ++ codes ", turns " ++ decimal c.turns
-    ++ codes ", passed " ++ decimal c.passed ++ codes ", bytes " ++ decimal c.bytes
+    codes ": actions " ++ decimal c.actions
+    ++ codes ", turns " ++ decimal c.turns ++ codes ", passed " ++ decimal c.passed ++ codes ", bytes "
+    ++ decimal c.bytes ++ 10 ∷ []
 
 -- the counts of the rehearsal of a drill's narration
 abbrev pub drill_text : ℕ → List ℕ
-drill_text n = codes "drill " ++ decimal n ++ codes ": " ++ counts_text (drill_counts n) ++ 10 ∷ []
+drill_text n = codes "drill " ++ decimal n ++ counts_text (drill_counts n)
 
 abbrev pub DrillText : ℕ → Answer (List ℕ) → Type 0
 DrillText n answer = answer ≡ given (drill_text n)

@@ -30,9 +30,10 @@ fn drill_text(alloc: Global, n: u64) -> Result<Vec<u8>, NoMemory>
 {
     let actions = n + 2;
     let turns = 2 * actions;
+    let passed: u64 = 0;
     let bytes = 96 + 99 * n;
     let line = format!(in alloc;
-        "drill {n}: actions {actions}, turns {turns}, passed 0, bytes {bytes}\n"
+        "drill {n}: actions {actions}, turns {turns}, passed {passed}, bytes {bytes}\n"
     )?;
     Ok(line.into_bytes())
 }
