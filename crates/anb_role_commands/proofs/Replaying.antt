@@ -210,6 +210,9 @@ module _ (S T : WireState) where
   pub replayed_wire : HasReached Stdio S T → (R : List (List ℕ) → Played (List ℕ)) (lines : List TranscriptLine) (s : Status) → IsReplayed R lines s → OverWire Stdio false s S T
   replayed_wire at R lines s (end, replays, is) = subst (λ (t : Status). OverWire Stdio false t S T) (sym is) (only_reached Stdio S T at (status_of end) (after_end end) (no_cause end T))
 
+  pub reached_only : HasReached Stdio S T → T ≡ record S { reached = T.reached; reach_faults = T.reach_faults }
+  reached_only at = at.same ∙ ap (λ (n : ℕ). record S { reached = T.reached; reach_faults = n }) (sym (ap (λ (w : WireState). w.reach_faults) at.same))
+
   pub tried_only : DidNotReach S T → OnlyReaches S T
   tried_only tried = tried.same ∙ ap (λ (r : Option (List ℕ)). record S { reached = r; reach_faults = T.reach_faults }) (sym (ap (λ (w : WireState). w.reached) tried.same))
 

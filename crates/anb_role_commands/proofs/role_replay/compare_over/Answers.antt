@@ -1,13 +1,13 @@
 use Rattle.std.proofs.Common.{inl, inr}
 use Rattle.anb_role_commands.specs.Playing.{play_by}
-use Rattle.anb_role_commands.proofs.Replaying.{replayed_wire, tried_only, tried_wire}
+use Rattle.anb_role_commands.proofs.Replaying.{reached_only, replayed_wire, tried_only, tried_wire}
 use Rattle.anb_role_commands.proofs.role_replay.compare_over.Goals as goal
 
 pub returns-in-Ok-clause-compared : goal.returns-in-Ok-clause-compared
 returns-in-Ok-clause-compared g c = inr c.compare.ensures
 
 pub returns-in-Ok-clause-only_reaches : goal.returns-in-Ok-clause-only_reaches
-returns-in-Ok-clause-only_reaches g c = c.in-Ok.ensures.reached.same
+returns-in-Ok-clause-only_reaches g c = reached_only (g.W.Wire.state c.args.wire.now) (g.W.Wire.state c.reach_stdio.new.wire) c.in-Ok.ensures.reached
 
 pub returns-in-Ok-clause-wire : goal.returns-in-Ok-clause-wire
 returns-in-Ok-clause-wire g c =
