@@ -373,8 +373,7 @@ module _ (narrations : NarrationsAreUnique) (refusals : RefusalsAreUnique) (none
       is s out rest (bs, tail, cut, inr (asked, asks, it)) =
           let same = same_session r finds asked asks in
           let q = it.play in
-          let goes : GoesOn session bs q = subst (λ (a : RoleSession). GoesOn a bs q) same it.plays in
-          (
+          let goes : GoesOn session bs q = subst (λ (a : RoleSession). GoesOn a bs q) same it.plays in (
             playing.status_at q.end tail,
             frames q.sent,
             subst (λ (o : List ℕ). EndsAs (playing.status_at q.end tail) (frames q.sent) s o) (sym it.writes)
@@ -411,8 +410,7 @@ module _ (narrations : NarrationsAreUnique) (refusals : RefusalsAreUnique) (none
             was = st.it_plays;
             plays = subst (λ (p : Played (List ℕ)). PlayOf st.job (st.arrivals ++ bs) p) (ap (λ (l : List (List ℕ)). made l w.end w.left) went.sent) plays_it;
           } in
-          let kept_now = record_after session bs in
-          (
+          let kept_now = record_after session bs in (
             status_at w.end tail,
             frames went.later,
             frames (due q tail kept_now),
@@ -491,8 +489,7 @@ module _ (narrations : NarrationsAreUnique) (refusals : RefusalsAreUnique) (none
     is s out rest (bs, tail, cut, inr (asked, asks, it)) =
         let (job, other, id, job_asks, also, id_is, same) = session_is asked asks in
         let q = it.play in
-        let plays_it : PlayOf job bs q = subst (λ (a : RoleSession). Begins a bs q) same it.plays in
-        (
+        let plays_it : PlayOf job bs q = subst (λ (a : RoleSession). Begins a bs q) same it.plays in (
           playing.status_at q.end tail,
           frames q.sent,
           subst (λ (o : List ℕ). EndsAs (playing.status_at q.end tail) (frames q.sent) s o) (sym it.writes)
@@ -515,8 +512,7 @@ module _ (narrations : NarrationsAreUnique) (refusals : RefusalsAreUnique) (none
         let id = identity of.n name in
         let s : RoleSession = record { protocol = job.protocol; role = job.role; parked = started id job.initial job.seed 0; key = secret } in
         let q = it.play in
-        let kept_now = record_after s bs in
-        (
+        let kept_now = record_after s bs in (
           status_at q.end tail,
           frames q.sent,
           frames (due q tail kept_now),

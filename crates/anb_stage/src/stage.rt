@@ -5,9 +5,9 @@ ghost use Rattle.anb_frame.specs.Cuts.{Tail};
 ghost use Rattle.anb_stage.specs.Words.{asked_lists};
 ghost use Rattle.anb_stage.specs.Relays.{AreCut, ends_in, report, IsRelayed, IsRefused};
 
-use crate::{RelayNo, Spawner};
 use crate::ends::ends_of;
 use crate::relaying::relay_all;
+use crate::{RelayNo, Spawner};
 use anb_base::{ARRIVAL, Sent, Text};
 use anb_protocol::{Protocol, protocols_hold};
 use std::alloc::Global;
