@@ -195,9 +195,10 @@ impl Running {
     /// Kills the child where it still runs, and waits for it. One that can't be killed, as that of
     /// another user, isn't waited for, and is left.
     pub(crate) fn kill(&mut self) {
+        // Its input ends only then: it has nothing more to say.
+        self.is_left = self.killed().is_err();
         self.input = None;
         self.output = None;
-        self.is_left = self.killed().is_err();
     }
 
     fn killed(&mut self) -> io::Result<()> {
