@@ -19,6 +19,8 @@ ROOT = pathlib.Path(__file__).resolve().parent.parent
 CRATES = ROOT / "crates"
 PAGES = [ROOT / "README.md", *sorted((ROOT / "docs").glob("*.md"))]
 PROOFS_ALONE = "-- for proofs alone"
+# The calls of the C library, whose names begin as those of crates do.
+CALLS = tuple(f"anb_{it}" for it in ("version", "status_text", "compile", "open", "next", "arrive", "park", "resume", "close"))
 # Words that stand in the place of a clause's name.
 NO_CLAUSE = {"", "each"}
 
@@ -101,7 +103,7 @@ def lost_files(crates):
                 if crate in crates and not is_there(crate, path):
                     yield f"{page.relative_to(ROOT)}:{number}: {crate} has no {path}"
             for crate in re.findall(r"\banb_\w+", line):
-                if crate not in crates:
+                if crate not in crates and crate not in CALLS:
                     yield f"{page.relative_to(ROOT)}:{number}: there is no crate {crate}"
 
 

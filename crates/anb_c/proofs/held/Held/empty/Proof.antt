@@ -1,0 +1,46 @@
+-- A walk of `empty`. Assumes `Logic`.
+use Rattle.std.proofs.Common.{◌≡◌, [], ◌∷◌, refl, None}
+use mir.Syntax.{Fn}
+use mir.Val.{Val}
+use base.Logic.{SProp, emp}
+use base.Fml.{ftrue}
+use contract.Monad.{fact, fact_i}
+use contract.Running.{tables}
+use types.Kit.{‵, raw, ◌⊛◌, ◌$◌, ◌∵◌, !, qed, by, move, drop, use0, split, fjoin}
+use types.Part.{agg}
+use types.Run.{lit, no_more, and_then, returns, enter}
+use types.ByLocal.{alloc_all, pass_all, free_all, look_at, sets}
+use denote.RattleType.{owns}
+use denote.RawPtr.{null_ptr}
+use denote.Signature.{types_at}
+use denote.Steps.{nothing}
+use denote.Triple.Entry.{alive}
+use denote.Triple.Walked.{Stays, walk_of}
+use Rattle.std.proofs.raw_atomic.Walks.{proved_at, leaves}
+use Rattle.anb_c.specs.contracts.held.Held as held
+use Rattle.anb_c.proofs.Values.{held_val, held_own, held_made, held_typed}
+use Rattle.anb_c.specs.contracts.held.Held.empty.{ended, clauses}
+use Rattle.anb_c.specs.contracts.held.Held.empty.Key.{name as #self}
+use Rattle.anb_c.proofs.held.Held.empty.Statement.{statement}
+use Rattle.anb_c.proofs.held.Held.empty.Code as compiled
+
+pub empty_spec : {M : Type 1} → statement M
+empty_spec 𝓤 𝓛 𝓜 𝓡 wired =
+    let H = 𝓛.H in
+    let c = clauses 𝓛 𝓜.mem 𝓡.returns in
+    let fn : Fn = compiled.function in
+    let stays : Stays (ended).signature.params (ended).kept = tt in
+    let C = (tables 𝓤 H 𝓜 𝓡 𝓡.env).C in
+    let Λ = (tables 𝓤 H 𝓜 𝓡 𝓡.env).Λ in
+    proved_at 𝓛 ended stays c 𝓜 𝓡 tt #self fn (compiled.unfolded 𝓤 H 𝓜 𝓡 wired) (λ z are.
+    let Post : Val → SProp 𝓤 = (walk_of 𝓛 ended stays c).post z in
+    let a = z.0.3 in
+    let vss = z.0.4 in
+    qed 𝓛 ((raw (alive 𝓛 (ended).signature z.0.0 z.0.1) ⊛ ‵ (owns (types_at (ended).signature.params z.0.0) a vss)) ∷ ‵ ftrue ∷ []) ∵ move ! (1 ∷ []) $ drop ! $ split ! $ move ! (1 ∷ []) $ drop ! $
+    enter ! C Λ fn [] Post $
+    alloc_all ! (λ l. pass_all ! refl tt $
+    sets ! (agg ! (and_then ! (lit ! tt) (no_more !))) refl (held_typed null_ptr) $
+    returns ! (look_at ! 0 refl) $ free_all ! refl $
+    let y : (held.the_row).Denot = record { at = null_ptr; session = None } in
+    nothing ! $ use0 𝓛 (‵ (held_own null_ptr (held_val null_ptr ∷ []))) (held_made 𝓛 null_ptr) $ fjoin ! $ use0 𝓛 (raw (fact 𝓤 (y.session ≡ None))) (fact_i 𝓤 (y.session ≡ None) (emp 𝓤) refl) $ nothing ! $ move ! (3 ∷ 0 ∷ 2 ∷ 1 ∷ []) $
+    by ! (leaves 𝓛 ended stays c z (held_val null_ptr) y tt tt)))
