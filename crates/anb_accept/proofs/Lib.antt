@@ -11,3 +11,4 @@ pub mod Readings
 pub mod Finishing
 pub mod Whole
 pub mod OfPlans
+pub mod Freeing

@@ -7,6 +7,7 @@ use Rattle.anb_plays.specs.Plans.{Event, known, Sendable}
 use Rattle.anb_plays.specs.Plays.{Played, Play, done}
 use Rattle.anb_plays.specs.Honest.{honest, made, LabelsAreFormed}
 use Rattle.anb_accept.specs.Patterns.{IsInstance, ArePatterns}
+use Rattle.anb_accept.specs.Parts.{part_at, IsFree, IsUncheckedAt}
 
 -- a play that used all that came, and is over
 pub record GoesOn {A : Type 0} (m : Meaning A) (draw : ℕ → A) (plan : List Event) (init arrivals : List A) : Type 0 where
@@ -28,3 +29,9 @@ InstancesGoOn {A} m = (names : ℕ) (plan : List Event) (patterns : List Tree) (
 abbrev pub PatternsAreOne : Type 0
 PatternsAreOne = (has : Op → Bool) (names : ℕ) (plan : List Event) (one other : List Tree)
     → ArePatterns has names plan one → ArePatterns has names plan other → IsInstance names one other
+
+-- a part may be anything, whatever else comes, exactly where a variable stands that stands nowhere else
+abbrev pub FreeIsUnchecked : Type 0
+FreeIsUnchecked = (has : Op → Bool) (names : ℕ) (plan : List Event) (patterns : List Tree) (place : List ℕ) (t : Tree)
+    → ArePatterns has names plan patterns → part_at place patterns ≡ Some t
+    → (IsFree has plan place → IsUncheckedAt names patterns place) × (IsUncheckedAt names patterns place → IsFree has plan place)

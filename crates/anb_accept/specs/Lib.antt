@@ -1,5 +1,6 @@
 pub mod Taking
 pub mod Patterns
+pub mod Parts
 pub mod Laws
 -- for proofs alone
 pub mod Equations

@@ -1,5 +1,5 @@
 //! Laws of patterns.
-ghost use Rattle.anb_accept.specs.Laws.{InstancesGoOn, PatternsAreOne};
+ghost use Rattle.anb_accept.specs.Laws.{FreeIsUnchecked, InstancesGoOn, PatternsAreOne};
 
 use anb_plays::laws::honest_agree;
 use anb_term::Algebra;
@@ -17,4 +17,10 @@ pub fn instances_go_on<A: Algebra>(a: &A)
 /// Patterns are one up to the names of their variables.
 pub fn patterns_are_one()
     ensures { PatternsAreOne }
+{}
+
+/// A part of arrivals may be anything, whatever else comes, exactly where a variable stands that
+/// stands nowhere else.
+pub fn free_is_unchecked()
+    ensures { FreeIsUnchecked }
 {}

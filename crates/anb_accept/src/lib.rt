@@ -18,5 +18,5 @@ mod laws;
 mod patterns;
 mod reading;
 
-pub use laws::{instances_go_on, patterns_are_one};
+pub use laws::{free_is_unchecked, instances_go_on, patterns_are_one};
 pub use patterns::patterns_of;
