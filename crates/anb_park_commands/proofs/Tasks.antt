@@ -23,7 +23,7 @@ key_of_one : (bytes : List ℕ) → HasOneAnswer (KeyOf bytes)
 key_of_one [] x y xs ys = xs ∙ sym ys
 key_of_one (byte ∷ rest) x y xs ys = is_one (byte ∷ rest) x y xs ys
 
-key_one : (files : Files) (key : List ℕ) → HasOneAnswer (KeyIs files key)
+pub key_one : (files : Files) (key : List ℕ) → HasOneAnswer (KeyIs files key)
 key_one files key = then_one (FileIs files key KEY_LIMIT) KeyOf (file_one files key KEY_LIMIT) key_of_one
 
 key_of_quiet : (bytes : List ℕ) → RefusesQuietly (KeyOf bytes)
