@@ -553,7 +553,7 @@ SIGNALS = {
 def closed_pipes(program):
     """a reader that has gone is a fault of writing for every command, and never a signal"""
     all_words = commands(program)
-    want("the commands", [words[0] for words in all_words], [line.split()[1].decode() for line in program.run("help")[1][1].splitlines()])
+    want("the commands", sorted(words[0] for words in all_words), sorted(line.split()[1].decode() for line in program.run("help")[1][1].splitlines()))
     gone, closed = os.pipe()
     os.close(gone)
     given = os.path.join(program.folder, "given")
