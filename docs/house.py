@@ -8,6 +8,7 @@
 - A module that specs/Lib.antt lists under `-- for proofs alone` is named by no other crate.
 - What a page calls `crate/specs/File`, or `crate, src/file.rt`, is there; and in docs/THEOREMS.md each clause of a row
   is a clause of the crates that the row names, and each edit that it says refuses something is one of theirs.
+- What a page links to is there, down to the heading; and each row that docs/EDGE.md names is one of bench/edge.py.
 """
 
 import functools
@@ -107,6 +108,31 @@ def lost_files(crates):
                     yield f"{page.relative_to(ROOT)}:{number}: there is no crate {crate}"
 
 
+def anchors(page):
+    """The headings of a page, as links name them."""
+    headings = re.findall(r"^#+ (.+)$", re.sub(r"^```.*?^```", "", page.read_text(), flags=re.M | re.S), re.M)
+    return {re.sub(r"[^\w -]", "", it.lower()).replace(" ", "-") for it in headings}
+
+
+def lost_links():
+    """The links of pages to files and headings that aren't there."""
+    for page in [*PAGES, ROOT / "examples" / "README.md"]:
+        for number, line in enumerate(page.read_text().splitlines(), 1):
+            for path, heading in re.findall(r"\]\(([^()#:]*)(?:#([\w-]+))?\)", re.sub(r"`[^`]*`", "", line)):
+                there = page.parent / path if path else page
+                if not there.exists() or heading and heading not in anchors(there):
+                    yield f"{page.relative_to(ROOT)}:{number}: there is no {path}{'#' * bool(heading)}{heading}"
+
+
+def lost_rows():
+    """The rows of docs/EDGE.md that bench/edge.py doesn't have."""
+    said = "".join((ROOT / "bench" / name).read_text() for name in ("edge.py", "edge_stages.py"))
+    for line in (ROOT / "docs" / "EDGE.md").read_text().splitlines():
+        for name in re.findall(r"`(\w+)`", line.rpartition(" | ")[2]) if line.startswith("| ") else []:
+            if f"def {name}(" not in said:
+                yield f"docs/EDGE.md: bench/edge.py has no row {name}"
+
+
 @functools.cache
 def clauses(crate):
     """The names of the clauses and functions of a crate, and of the fields of its records."""
@@ -146,6 +172,8 @@ def faults():
         *intruded(crates),
         *lost_files(crates),
         *lost_clauses(crates),
+        *lost_links(),
+        *lost_rows(),
     ]
 
 
