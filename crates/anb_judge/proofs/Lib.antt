@@ -1,0 +1,4 @@
+pub mod Putting
+pub mod Seeing
+mod Observing
+mod Played
