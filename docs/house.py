@@ -8,7 +8,7 @@
 - A module that specs/Lib.antt lists under `-- for proofs alone` is named by no other crate.
 - What a page calls `crate/specs/File`, or `crate, src/file.rt`, is there; and in docs/THEOREMS.md each clause of a row
   is a clause of the crates that the row names, and each edit that it says refuses something is one of theirs.
-- What a page links to is there, down to the heading; and each row that docs/EDGE.md names is one of bench/edge.py.
+- What a page links to is there, down to the heading; docs/REFERENCE.md and docs/THEOREMS.md list their parts; and each row that docs/EDGE.md names is one of bench/edge.py.
 """
 
 import functools
@@ -108,9 +108,9 @@ def lost_files(crates):
                     yield f"{page.relative_to(ROOT)}:{number}: there is no crate {crate}"
 
 
-def anchors(page):
-    """The headings of a page, as links name them."""
-    headings = re.findall(r"^#+ (.+)$", re.sub(r"^```.*?^```", "", page.read_text(), flags=re.M | re.S), re.M)
+def anchors(text, level="#+"):
+    """The headings of a text, as links name them."""
+    headings = re.findall(rf"^{level} (.+)$", re.sub(r"^```.*?^```", "", text, flags=re.M | re.S), re.M)
     return {re.sub(r"[^\w -]", "", it.lower()).replace(" ", "-") for it in headings}
 
 
@@ -120,8 +120,17 @@ def lost_links():
         for number, line in enumerate(page.read_text().splitlines(), 1):
             for path, heading in re.findall(r"\]\(([^()#:]*)(?:#([\w-]+))?\)", re.sub(r"`[^`]*`", "", line)):
                 there = page.parent / path if path else page
-                if not there.exists() or heading and heading not in anchors(there):
+                if not there.exists() or heading and heading not in anchors(there.read_text()):
                     yield f"{page.relative_to(ROOT)}:{number}: there is no {path}{'#' * bool(heading)}{heading}"
+
+
+def unlisted():
+    """The parts of long pages that their lists of contents don't have."""
+    for name in ("REFERENCE.md", "THEOREMS.md"):
+        _, mark, behind = (ROOT / "docs" / name).read_text().partition("\n- [")
+        for heading in sorted(anchors(behind, "##")):
+            if f"](#{heading})" not in mark + behind:
+                yield f"docs/{name}: its contents don't list {heading}"
 
 
 def lost_rows():
@@ -173,6 +182,7 @@ def faults():
         *lost_files(crates),
         *lost_clauses(crates),
         *lost_links(),
+        *unlisted(),
         *lost_rows(),
     ]
 
