@@ -4,7 +4,8 @@
     python3 docs/house.py      says what doesn't agree; the status is 0 where all does
 
 - crates.txt lists the crates under comment lines, one a layer, and each library that a crate lists it uses.
-- docs/ARCHITECTURE.md has these layers as headings, in the same order, each with exactly its crates.
+- docs/ARCHITECTURE.md has these layers as headings, in the same order, each with exactly its crates, and the picture
+  of them that docs/layers.py writes.
 - A module that specs/Lib.antt lists under `-- for proofs alone` is named by no other crate.
 - What a page calls `crate/specs/File`, or `crate, src/file.rt`, is there; and in docs/THEOREMS.md each clause of a row
   is a clause of the crates that the row names, and each edit that it says refuses something is one of theirs.
@@ -15,6 +16,8 @@ import functools
 import pathlib
 import re
 import sys
+
+import layers as drawn
 
 ROOT = pathlib.Path(__file__).resolve().parent.parent
 CRATES = ROOT / "crates"
@@ -70,6 +73,13 @@ def misplaced():
     for one, other in zip(layers() + [("", [])] * len(told), told + [("", [])] * len(layers())):
         if one != other and (one[1] or other[1]):
             yield f"docs/ARCHITECTURE.md: layer {other[0]} has {' '.join(other[1])}, where crates.txt has {one[0]}: {' '.join(one[1])}"
+
+
+def undrawn():
+    """Whether the picture of the layers is that of crates.txt."""
+    page = drawn.PAGE.read_text()
+    if drawn.in_page(page) != page:
+        yield "docs/ARCHITECTURE.md: another picture of the layers; python3 docs/layers.py writes it"
 
 
 def intruded(crates):
@@ -178,6 +188,7 @@ def faults():
     return [
         *unused(crates),
         *misplaced(),
+        *undrawn(),
         *intruded(crates),
         *lost_files(crates),
         *lost_clauses(crates),
