@@ -1,58 +1,114 @@
-# Completion of anb for bash. Each command has a line with the words that it takes.
+# Completion of anb for bash. Each command has a line with the words that it takes before its options.
 
-_anb_words() {
+_anb_kinds() {
     case $1 in
-        fmt) echo narration ;;
-        compile | explain) echo narration role ;;
-        play | host) echo narration role values place ;;
-        branch) echo narration role values arm ;;
+        check | chart | fmt | why) echo narration ;;
+        explain | compile) echo narration role ;;
+        play | branch | host) echo narration role values ;;
+        park) echo narration role values file ;;
+        resume) echo narration role file file ;;
         replay | trace) echo narration role values file ;;
-        rehearse) echo narration values file ;;
-        certify) echo narration role file ;;
-        why) echo narration ;;
-        park) echo narration role values file place ;;
-        resume) echo narration role file file place ;;
-        chart) echo narration flag ;;
-        check) echo narration ;;
-        enact) echo file values place ;;
         stage) echo narration folder ;;
+        rehearse) echo narration values file ;;
+        drill) echo number ;;
+        enact) echo file values ;;
+        certify) echo narration role file ;;
     esac
 }
 
-# The agents that a narration declares.
+# The options that can follow these words of a command, which stand after all others.
+_anb_options() {
+    local command=$1 arm='' place=''
+    shift
+    [[ $command == chart && $# == 0 ]] && echo --role
+    case $command in
+        branch) arm=--arm place='--dial --listen' ;;
+        play | host | park | resume | enact) place='--dial --listen' ;;
+    esac
+    [[ $1 == --arm ]] && shift 2 && arm=''
+    case $# in
+        0) echo "$arm" "$place" ;;
+        2) [[ $1 == --dial || $1 == --listen ]] && echo --timeout ;;
+    esac
+}
+
+# The file that a word of the line names: without quotes, and with the home folder for ~ and $HOME.
+_anb_file() {
+    local word=$1 mark=${1:0:1}
+    case $mark in
+        \" | \') word=${word:1} word=${word%"$mark"} ;;
+        *) word=${word//\\/} ;;
+    esac
+    [[ $mark == \' ]] || case $word in
+        '$HOME/'*) word=$HOME/${word#*/} ;;
+        '${HOME}/'*) word=$HOME/${word#*/} ;;
+        '~/'*) [[ $mark == \" ]] || word=$HOME/${word#*/} ;;
+    esac
+    printf '%s' "$word"
+}
+
+# The agents that a narration declares, in all lists, also over several lines.
 _anb_roles() {
-    [[ -f $1 ]] && sed -n 's/#.*//; s/.*Agent \([^;]*\);.*/\1/p' -- "$1" | tr -s ', ' '\n'
+    local file
+    file=$(_anb_file "$1")
+    [[ -f $file ]] && awk '
+        { sub(/#.*/, ""); text = text " " $0 }
+        END {
+            sub(/(Formats|Knowledge|Actions)[ \t\r]*:.*/, "", text)
+            count = split(text, items, ";")
+            for (i = 1; i <= count; i++)
+                if (match(items[i], /(^|[^A-Za-z0-9_])Agent[ \t\r]+/)) {
+                    names = substr(items[i], RSTART + RLENGTH)
+                    gsub(/[^A-Za-z0-9_]+/, " ", names)
+                    print names
+                }
+        }' <"$file"
+}
+
+# What is offered: these words, or files with this ending, or folders.
+_anb_offer() {
+    mapfile -t COMPREPLY < <(compgen -W "$1" -- "$word")
 }
 
 _anb_files() {
-    compopt -o filenames
-    mapfile -t COMPREPLY < <(compgen -f -X "!*.$2" -- "$1"; compgen -d -- "$1")
+    local file=$word
+    [[ $word == '~'* ]] || file=$(_anb_file "$word")
+    compopt -o filenames 2>/dev/null
+    mapfile -t COMPREPLY < <(compgen -f -X "!*$1" -- "$file"; [[ $1 ]] && compgen -d -- "$file")
 }
 
 _anb() {
-    local word=${COMP_WORDS[COMP_CWORD]} before=${COMP_WORDS[COMP_CWORD-1]} kinds kind
+    local word=${COMP_WORDS[COMP_CWORD]} words=() kinds part at
     COMPREPLY=()
-    if ((COMP_CWORD == 1)); then
-        mapfile -t COMPREPLY < <(compgen -W 'fmt compile explain play enact host replay rehearse drill branch certify why park resume stage chart check trace help' -- "$word")
+    # bash takes an address apart at its colon.
+    for part in "${COMP_WORDS[@]:0:COMP_CWORD+1}"; do
+        at=$((${#words[@]} - 1))
+        if ((at >= 0)) && [[ $part == :* || ${words[at]} == *: ]]; then
+            words[at]+=$part
+        else
+            words+=("$part")
+        fi
+    done
+    at=$((${#words[@]} - 1))
+    if ((at == 1)); then
+        _anb_offer 'check chart explain fmt why play branch park resume host replay trace stage rehearse drill compile enact certify help'
         return
     fi
-    read -ra kinds < <(_anb_words "${COMP_WORDS[1]}")
-    kind=${kinds[COMP_CWORD - 2]-}
-    case $kind in
-        narration) _anb_files "$word" anb ;;
-        values) _anb_files "$word" values ;;
-        role) mapfile -t COMPREPLY < <(compgen -W "$(_anb_roles "${COMP_WORDS[COMP_CWORD-1]}")" -- "$word") ;;
-        flag) mapfile -t COMPREPLY < <(compgen -W '--role' -- "$word") ;;
-        arm) mapfile -t COMPREPLY < <(compgen -W '--arm --dial --listen' -- "$word") ;;
-        place) mapfile -t COMPREPLY < <(compgen -W '--dial --listen' -- "$word") ;;
-        folder) compopt -o filenames; mapfile -t COMPREPLY < <(compgen -d -- "$word") ;;
-        file) compopt -o filenames; mapfile -t COMPREPLY < <(compgen -f -- "$word") ;;
+    read -ra kinds < <(_anb_kinds "${words[1]}")
+    case ${kinds[at - 2]-} in
+        narration) _anb_files .anb ;;
+        values) _anb_files .values ;;
+        file) _anb_files '' ;;
+        folder) compopt -o filenames 2>/dev/null; mapfile -t COMPREPLY < <(compgen -d -- "$(_anb_file "$word")") ;;
+        role) _anb_offer "$(_anb_roles "${words[2]}")" ;;
+        number) ;;
         *)
-            case $before in
-                --role) mapfile -t COMPREPLY < <(compgen -W "$(_anb_roles "${COMP_WORDS[2]}")" -- "$word") ;;
-                --arm) mapfile -t COMPREPLY < <(compgen -W '1 2 3 4 5 6 7 8' -- "$word") ;;
+            ((${#kinds[@]})) || return
+            case ${words[at - 1]} in
+                --role) _anb_offer "$(_anb_roles "${words[2]}")" ;;
+                --arm) _anb_offer '1 2 3 4 5 6 7 8' ;;
                 --dial | --listen | --timeout) ;;
-                *) [[ " ${COMP_WORDS[*]} " == *' --'[dl]* ]] && mapfile -t COMPREPLY < <(compgen -W '--timeout' -- "$word") ;;
+                *) _anb_offer "$(_anb_options "${words[1]}" "${words[@]:${#kinds[@]}+2:at-${#kinds[@]}-2}")" ;;
             esac
             ;;
     esac

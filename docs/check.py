@@ -19,6 +19,9 @@ Pages: in a fenced block that begins with a line `$ ...` each such line is a com
 it writes, errors too. The commands run in a folder of their own with a copy of examples/, block by block, with `anb` on
 the path. A fenced block with two words behind its fence, as ```anb mine.anb, is a file that the reader writes.
 
+Words: what `help` lists is what REFERENCE and the manual page list, and the manual page says what each file is; README
+names each command, and completions are tried in their shells (docs/check_completions.py).
+
 The edge to the machine: the rows of bench/edge.py that take little time.
 """
 
@@ -34,6 +37,7 @@ import sys
 import tempfile
 
 import charts
+import check_completions
 import house
 import narration
 
@@ -45,6 +49,8 @@ PAGES = ["README.md", "docs/TUTORIAL.md", "docs/REFERENCE.md"]
 GATE = ROOT / "crates" / "anb_examples"
 # What names each command of the program.
 LISTS = ["README.md", "docs/REFERENCE.md", "anb.1", "completions/anb.bash", "completions/_anb", "completions/anb.fish"]
+# The words of commands that stand for no file.
+NO_FILES = {"role", "name", "n", "folder", "place", "seconds"}
 MARK = "\x1e"
 
 
@@ -434,6 +440,34 @@ def check_lists(program):
     return len(gaps)
 
 
+def plain(form):
+    """A command's words without what sets them off, in `help`, a page or the manual page."""
+    return " ".join(re.sub(r"^\.BI? |\\f[A-Z]|[\"<>]", "", form).replace(r"\-", "-").split())
+
+
+def check_words(program):
+    """The pages list the words that `help` does, and the manual page has an entry for each file among them."""
+    wanted = {plain(line): line for line in run(program, "help").splitlines()}
+    reference, manual = (ROOT / "docs" / "REFERENCE.md").read_text(), (ROOT / "anb.1").read_text()
+    synopsis, files = (manual.partition(f".SH {name}\n")[2].partition(".SH ")[0] for name in ("SYNOPSIS", "FILES"))
+    told = {
+        "docs/REFERENCE.md": re.findall(r"^\| `(anb [^`]+)` \|", reference, re.M),
+        "anb.1": re.findall(r"^\.BI? .*anb .*$", synopsis, re.M),
+    }
+    gaps = [f"{name}: {form}" for name, forms in told.items() for form in sorted(set(wanted) ^ set(map(plain, forms)))]
+    named = {word for line in wanted.values() for word in re.findall(r"<(\w+)>", line)} - NO_FILES
+    gaps += [f"anb.1: nothing on the file {word}" for word in sorted(named) if f".I {word}\n" not in files]
+    print(*gaps, sep="\n", end="\n" * bool(gaps))
+    return len(gaps)
+
+
+def check_completions_of(program):
+    """The completions offer what they should, in each shell that is installed."""
+    found = list(check_completions.faults(commands_of(program)))
+    print(*found, sep="\n", end="\n" * bool(found))
+    return len(found)
+
+
 def check_house():
     """crates.txt and the pages agree with the sources."""
     found = house.faults()
@@ -494,7 +528,8 @@ def main():
         sys.exit(__doc__)
     program, write = pathlib.Path(words[0]).resolve(), "--write" in sys.argv
     examples, faults = check_examples(program, write)
-    faults += check_lists(program) + check_index(program, write) + check_gate(write) + check_house()
+    faults += check_lists(program) + check_words(program) + check_completions_of(program)
+    faults += check_index(program, write) + check_gate(write) + check_house()
     commands = 0
     for name in PAGES:
         if (ROOT / name).exists():

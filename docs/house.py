@@ -9,6 +9,7 @@
 - A module that specs/Lib.antt lists under `-- for proofs alone` is named by no other crate.
 - What a page calls `crate/specs/File`, or `crate, src/file.rt`, is there; and in docs/THEOREMS.md each clause of a row
   is a clause of the crates that the row names, and each edit that it says refuses something is one of theirs.
+- docs/REFERENCE.md and anb.1 have each status of the program, and the 125 of the script `./anb`.
 - What a page links to is there, down to the heading; docs/REFERENCE.md and docs/THEOREMS.md list their parts; and each row that docs/EDGE.md names is one of bench/edge.py.
 """
 
@@ -152,6 +153,21 @@ def lost_rows():
                 yield f"docs/EDGE.md: bench/edge.py has no row {name}"
 
 
+def lost_statuses():
+    """The statuses that the pages don't have, or that the program doesn't."""
+    said = (CRATES / "anb_status" / "src" / "status.rt").read_text()
+    there = {int(it) for it in re.findall(r"^ +Status::\w+.* => (\d+),$", said, re.M)} | {125}
+    table = (ROOT / "docs" / "REFERENCE.md").read_text().partition("\n## Statuses\n")[2].partition("\n### ")[0]
+    manual = (ROOT / "anb.1").read_text().partition(".SH EXIT STATUS\n")[2].partition(".SH ")[0]
+    told = {
+        "docs/REFERENCE.md": re.findall(r"^\| (\d+) \|", table, re.M),
+        "anb.1": re.findall(r"^\.B (\d+)$", manual, re.M) + re.findall(r"\b(125)\b", manual),
+    }
+    for page, numbers in told.items():
+        for number in sorted(there ^ set(map(int, numbers))):
+            yield f"{page}: status {number} {'is missing' if number in there else 'is none'}"
+
+
 @functools.cache
 def clauses(crate):
     """The names of the clauses and functions of a crate, and of the fields of its records."""
@@ -192,6 +208,7 @@ def faults():
         *intruded(crates),
         *lost_files(crates),
         *lost_clauses(crates),
+        *lost_statuses(),
         *lost_links(),
         *unlisted(),
         *lost_rows(),
