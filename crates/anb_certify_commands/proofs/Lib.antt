@@ -1,5 +1,3 @@
-mod Sending
-mod Ordered
 mod Reasons
 mod Telling
 mod WhyWritten

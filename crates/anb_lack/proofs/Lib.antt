@@ -1,4 +1,4 @@
-pub mod Noting
 pub mod Parting
+pub mod Having
 pub mod Showing
 pub mod Written

@@ -1,104 +1,61 @@
 -- What the lists of a text are worth.
-use Rattle.std.proofs.Common.{◌≡◌, List, [], ◌∷◌, ◌++◌, Bool, true, false, Some, refl, sym, ap, ◌∙◌, subst, inl, inr}
-use Rattle.std.specs.Prelude.{cond, filter, not, map}
-use Rattle.std.specs.List.{AllByRecursion, flat_map, list_any}
-use Rattle.std.proofs.lemmas.Grind.{flat_map-append}
+use Rattle.std.proofs.Common.{◌≡◌, ℕ, ◌<◌, ◌≤◌, List, [], ◌∷◌, ◌++◌, length, take, Bool, true, false, refl, sym, ap, ◌∙◌, subst, arith, inl, inr, ◌⊎◌}
+use Rattle.std.specs.Prelude.{cond, filter, not}
+use Rattle.std.specs.List.{AllByRecursion, list_any}
+use Rattle.std.proofs.lemmas.List.{take_all}
+use Rattle.std.proofs.Math.Seq.{take-append_seam}
+use Rattle.anb_lemmas.proofs.Numbers.{below_or_not}
 use Rattle.anb_term.specs.Tree.{Tree, leaf, node, Trees, none, more, tree_eqb}
 use Rattle.anb_term.specs.View.{tree_of}
 use Rattle.anb_term.specs.Composes.{Among, Composes}
+use Rattle.anb_term.specs.Agree.{HasRecipe}
 use Rattle.anb_algebra.specs.ByteMeaning.{has_operator}
 use Rattle.anb_protocol.specs.Choices.{each_after}
 use Rattle.anb_protocol.specs.Names.{distinct, first_new}
-use Rattle.anb_protocol.specs.Plans.{PlanEvent, to_know, to_make, to_send, to_receive, plan_of}
+use Rattle.anb_protocol.specs.Plans.{PlanEvent, to_send, plan_of}
 use Rattle.anb_protocol.specs.Protocols.{ProtocolValue}
 use Rattle.anb_protocol.specs.Texts.{IsTermOf, AreTermsOf}
 use Rattle.anb_compile.specs.Unsent.{labels_of}
 use Rattle.anb_reason.specs.declared.reasons.Refusal.{Refusal}
 use Rattle.anb_reason.specs.Decided.{composes}
-use Rattle.anb_reason.specs.Reach.{IsReason, OccursInOne}
-use Rattle.anb_reason.specs.Shut.{Occurs, OccursIn, ShutHasNone}
-use Rattle.anb_reason.proofs.Deciding.{among_all, among_true, decided, decides}
-use Rattle.anb_lack.specs.declared.origins.Origin.{Origin}
-use Rattle.anb_lack.specs.Lacking.{brought, first_from, first_origin}
+use Rattle.anb_reason.specs.Reach.{IsReason}
+use Rattle.anb_reason.specs.Shut.{ShutHasNone}
+use Rattle.anb_reason.proofs.Deciding.{among_all, decided, decides}
 use Rattle.anb_lack.specs.Laws.{HadIsFrom, HadIsMade, IsMade, LackingIsNotMade, MessageIsLacking}
-use Rattle.anb_lack.specs.Parts.{is_part, lacking, lacks, parts, parts_of_all}
-use Rattle.anb_lack.proofs.Noting.{among_split, first_stays}
+use Rattle.anb_lack.specs.Origins.{HasBy, IsOrigin}
+use Rattle.anb_lack.specs.Parts.{lacking, lacks, parts, parts_of_all}
+use Rattle.anb_lack.proofs.Having.{has_later}
 
--- ---- what occurs in a term is a part of it
+among_split : (xs ys : List Tree) (u : Tree) → Among (xs ++ ys) u → Among xs u ⊎ Among ys u
+among_split [] ys u h = inr h
+among_split (x ∷ xs) ys u (inl e) = inl (inl e)
+among_split (x ∷ xs) ys u (inr h) = step (among_split xs ys u h) where
+  step : Among xs u ⊎ Among ys u → Among (x ∷ xs) u ⊎ Among ys u
+  step (inl a) = inl (inr a)
+  step (inr b) = inr b
 
-among_left : (xs ys : List Tree) (u : Tree) → Among xs u → Among (xs ++ ys) u
-among_left [] ys u h = absurd h
-among_left (x ∷ xs) ys u (inl e) = inl e
-among_left (x ∷ xs) ys u (inr h) = inr (among_left xs ys u h)
-
-among_right : (xs ys : List Tree) (u : Tree) → Among ys u → Among (xs ++ ys) u
-among_right [] ys u h = h
-among_right (x ∷ xs) ys u h = inr (among_right xs ys u h)
-
-mutual
-  occurs_part : (u t : Tree) → Occurs u t → Among (parts t) u
-  occurs_part u (leaf n) e = inl (sym e)
-  occurs_part u (node o ts) (inl e) = inl (sym e)
-  occurs_part u (node o ts) (inr h) = inr (occurs_parts u ts h)
-
-  occurs_parts : (u : Tree) (ts : Trees) → OccursIn u ts → Among (parts_of_all ts) u
-  occurs_parts u none never = absurd never
-  occurs_parts u (more t ts) (inl h) = among_left (parts t) (parts_of_all ts) u (occurs_part u t h)
-  occurs_parts u (more t ts) (inr h) = among_right (parts t) (parts_of_all ts) u (occurs_parts u ts h)
-
-is_part_there : (u t : Tree) → Occurs u t → is_part u t ≡ true
-is_part_there u t h = among_true (parts t) u (occurs_part u t h)
-
--- ---- where a term that occurs in labels first stands
-
-abbrev From : List (Tree × Origin) → Tree → Type 0
-From xs u = (origin : Origin) × (first_from xs u ≡ Some origin)
-
--- the first of these, or a later one
-from_first : (t : Tree) (q : Origin) (xs : List (Tree × Origin)) (u : Tree) → Occurs u t → From ((t, q) ∷ xs) u
-from_first t q xs u h = (q, ap (λ b. cond b (Some q) (first_from xs u)) (is_part_there u t h))
-
-from_later : (t : Tree) (q : Origin) (xs : List (Tree × Origin)) (u : Tree) → From xs u → From ((t, q) ∷ xs) u
-from_later t q xs u (o, e) = by (is_part u t) refl where
-  by : (b : Bool) → is_part u t ≡ b → From ((t, q) ∷ xs) u
-  by true is = (q, ap (λ b. cond b (Some q) (first_from xs u)) is)
-  by false is = (o, ap (λ b. cond b (Some q) (first_from xs u)) is ∙ e)
-
-pub had_from : (events : List PlanEvent) (u : Tree) → OccursInOne (labels_of events) u → From (flat_map brought events) u
-had_from [] u never = absurd never
-had_from (to_know t ∷ events) u (inl h) = from_first t _ (flat_map brought events) u h
-had_from (to_know t ∷ events) u (inr h) = from_later t _ (flat_map brought events) u (had_from events u h)
-had_from (to_make t ∷ events) u (inl h) = from_first t _ (flat_map brought events) u h
-had_from (to_make t ∷ events) u (inr h) = from_later t _ (flat_map brought events) u (had_from events u h)
-had_from (to_send action t ∷ events) u h = had_from events u h
-had_from (to_receive action t ∷ events) u (inl h) = from_first t _ (flat_map brought events) u h
-had_from (to_receive action t ∷ events) u (inr h) = from_later t _ (flat_map brought events) u (had_from events u h)
-
--- later events change nothing of it
-pub origin_stays : (before after : List PlanEvent) (u : Tree) → OccursInOne (labels_of before) u → first_origin (before ++ after) u ≡ first_origin before u
-origin_stays before after u h =
-    let r = had_from before u h in
-    ap (λ xs. first_from xs u) (flat_map-append brought before after) ∙ first_stays (flat_map brought before) (flat_map brought after) u r.0 r.1
-
-origins_stay : (before after : List PlanEvent) (us : List Tree) → AllByRecursion (OccursInOne (labels_of before)) us → map (first_origin (before ++ after)) us ≡ map (first_origin before) us
-origins_stay before after [] all = refl
-origins_stay before after (u ∷ us) all =
-    ap (λ o. o ∷ map (first_origin (before ++ after)) us) (origin_stays before after u all.0) ∙ ap (λ l. first_origin before u ∷ l) (origins_stay before after us all.1)
-
-module _ (p : ProtocolValue) (r : Refusal) (reason : IsReason p r) where
-  occurring : AllByRecursion (OccursInOne (labels_of reason.unsent.before)) r.terms
-  occurring = among_all (OccursInOne (labels_of reason.unsent.before)) r.terms (λ u h. (reason.reach.held u h).0)
-
-  -- the origins in the whole plan are those before the send
-  pub origins_before : map (first_origin (plan_of p r.role)) r.terms ≡ map (first_origin reason.unsent.before) r.terms
-  origins_before =
-      ap (λ events. map (first_origin events) r.terms) reason.unsent.plan
-      ∙ origins_stay reason.unsent.before (to_send r.action reason.unsent.message ∷ reason.unsent.after) r.terms occurring
+-- ---- what the role has
 
 pub had_is_from : HadIsFrom
 had_is_from p r reason =
-    among_all (λ t. (origin : Origin) × (first_origin reason.unsent.before t ≡ Some origin)) r.terms
-    (λ u h. had_from reason.unsent.before u (reason.reach.held u h).0)
+    among_all (λ t. (n : ℕ) (e : PlanEvent) → IsOrigin p (plan_of p r.role) t n e → n < length reason.unsent.before) r.terms
+    (λ u h n e origin. by u n e (reason.reach.held u h).1 origin (below_or_not n (length reason.unsent.before))) where
+      front : take (length reason.unsent.before) (plan_of p r.role) ≡ reason.unsent.before
+      front = ap (take (length reason.unsent.before)) reason.unsent.plan ∙ take-append_seam reason.unsent.before (to_send r.action reason.unsent.message ∷ reason.unsent.after)
+
+      by : (u : Tree) (n : ℕ) (e : PlanEvent) → HasRecipe (has_operator p.formats) (labels_of reason.unsent.before) u → IsOrigin p (plan_of p r.role) u n e
+          → (n < length reason.unsent.before) ⊎ (length reason.unsent.before ≤ n) → n < length reason.unsent.before
+      by u n e has origin (inl less) = less
+      by u n e has origin (inr later) =
+          absurd (origin.new (length reason.unsent.before) later (subst (λ es. HasRecipe (has_operator p.formats) (labels_of es) u) (sym front) has))
+
+-- by the plan's end it has them still
+pub had_at_end : (p : ProtocolValue) (r : Refusal) → IsReason p r → AllByRecursion (HasBy p (plan_of p r.role) (length (plan_of p r.role))) r.terms
+had_at_end p r reason =
+    among_all (HasBy p (plan_of p r.role) (length (plan_of p r.role))) r.terms
+    (λ u h. subst (λ es. HasRecipe (has_operator p.formats) (labels_of es) u) (sym whole) (has_later p reason.unsent.before (to_send r.action reason.unsent.message ∷ reason.unsent.after) u (reason.reach.held u h).1)) where
+      whole : take (length (plan_of p r.role)) (plan_of p r.role) ≡ reason.unsent.before ++ (to_send r.action reason.unsent.message ∷ reason.unsent.after)
+      whole = take_all (length (plan_of p r.role)) (plan_of p r.role) (omega arith) ∙ reason.unsent.plan
 
 pub had_is_made : HadIsMade
 had_is_made p r reason = among_all (IsMade p r reason) r.terms (λ u h. (reason.reach.held u h).1)

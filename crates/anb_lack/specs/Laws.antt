@@ -1,16 +1,17 @@
 -- What the lists of a refusal's text are worth.
-use Rattle.std.specs.Prelude.{◌≡◌, List, ◌∷◌, Some}
+use Rattle.std.specs.Prelude.{◌≡◌, ℕ, ◌<◌, List, ◌∷◌, length}
 use Rattle.std.specs.List.{AllByRecursion}
 use Rattle.anb_term.specs.Agree.{HasRecipe}
 use Rattle.anb_term.specs.Tree.{Tree}
 use Rattle.anb_term.specs.View.{tree_of}
 use Rattle.anb_algebra.specs.ByteMeaning.{has_operator}
+use Rattle.anb_protocol.specs.Plans.{PlanEvent, plan_of}
 use Rattle.anb_protocol.specs.Protocols.{ProtocolValue}
 use Rattle.anb_compile.specs.Unsent.{labels_of}
 use Rattle.anb_reason.specs.declared.reasons.Refusal.{Refusal}
 use Rattle.anb_reason.specs.Reach.{IsReason}
 use Rattle.anb_lack.specs.declared.origins.Origin.{Origin}
-use Rattle.anb_lack.specs.Lacking.{first_origin}
+use Rattle.anb_lack.specs.Origins.{ComesFrom, IsOrigin}
 use Rattle.anb_lack.specs.Parts.{lacking}
 
 -- a recipe over what the sender has before the send gives the term
@@ -21,10 +22,15 @@ IsMade p r reason t = HasRecipe (has_operator p.formats) (labels_of reason.unsen
 abbrev pub HadIsMade : Type 0
 HadIsMade = (p : ProtocolValue) (r : Refusal) (reason : IsReason p r) → AllByRecursion (IsMade p r reason) r.terms
 
--- and it first stands somewhere before the send
+-- and the event from which on the role has it stands before the send
 abbrev pub HadIsFrom : Type 0
 HadIsFrom = (p : ProtocolValue) (r : Refusal) (reason : IsReason p r)
-    → AllByRecursion (λ t. (origin : Origin) × (first_origin reason.unsent.before t ≡ Some origin)) r.terms
+    → AllByRecursion (λ t. (n : ℕ) (e : PlanEvent) → IsOrigin p (plan_of p r.role) t n e → n < length reason.unsent.before) r.terms
+
+-- a term is from one place at most, whatever the plan
+abbrev pub OriginsAreOne : Type 0
+OriginsAreOne = (p : ProtocolValue) (plan : List PlanEvent) (t : Tree) (one other : Origin)
+    → ComesFrom p plan t one → ComesFrom p plan t other → one ≡ other
 
 -- no recipe gives a part of the message that is listed as lacking
 abbrev pub LackingIsNotMade : Type 0

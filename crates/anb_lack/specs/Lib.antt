@@ -1,6 +1,7 @@
 pub mod Parts
+pub mod Origins
 pub mod Lacking
 pub mod Laws
 -- for proofs alone
-pub mod Noted
+pub mod Held
 pub mod Listing

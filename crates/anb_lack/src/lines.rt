@@ -1,11 +1,10 @@
 //! The lines of a refusal's text.
-ghost use Rattle.std.specs.Prelude.{◌≡◌, ◌++◌, List, OnOk, codes, decimal, length, map};
+ghost use Rattle.std.specs.Prelude.{◌≡◌, ◌++◌, OnOk, codes, decimal, length, map};
 ghost use Rattle.std.specs.List.{AllByRecursion, flat_map};
 ghost use Rattle.anb_term.specs.View.{tree_of};
-ghost use Rattle.anb_protocol.specs.Plans.{PlanEvent};
 ghost use Rattle.anb_protocol.specs.Texts.{IsTermOf};
-ghost use Rattle.anb_lack.specs.Lacking.{first_origin, had_line, had_text, lacking_line};
-ghost use Rattle.anb_lack.specs.Lacking.{lacking_text, origin_line, origin_text, refused_line};
+ghost use Rattle.anb_lack.specs.Lacking.{had_text, lacking_line, lacking_text};
+ghost use Rattle.anb_lack.specs.Lacking.{origin_line, origin_lines, origin_text, refused_line};
 
 use crate::origins::Origin;
 use anb_base::{NoMemory, Text};
@@ -43,14 +42,12 @@ pub(crate) fn put_had(
     out: &mut Vec<u8>,
     protocol: &Protocol,
     terms: &[Term],
-    origins: &[Option<Origin>],
+    origins: &[Origin],
 ) -> Result<(), NoMemory>
     requires terms { AllByRecursion (IsTermOf protocol.now) (map tree_of terms.now) }
     requires long { length origins.now ≡ length terms.now }
-    ensures { (events : List PlanEvent)
-        → origins.now ≡ map (first_origin events) (map tree_of terms.now)
-        → OnOk result (out.new.items
-        ≡ out.old.items ++ had_text protocol.now events (map tree_of terms.now)) }
+    ensures { OnOk result (out.new.items
+        ≡ out.old.items ++ had_text protocol.now (map tree_of terms.now) origins.now) }
 {
     if terms.is_empty() {
         return put(out, "it has nothing\n");
@@ -66,14 +63,12 @@ fn put_had_lines(
     out: &mut Vec<u8>,
     protocol: &Protocol,
     terms: &[Term],
-    origins: &[Option<Origin>],
+    origins: &[Origin],
 ) -> Result<(), NoMemory>
     requires terms { AllByRecursion (IsTermOf protocol.now) (map tree_of terms.now) }
     requires long { length origins.now ≡ length terms.now }
-    ensures { (events : List PlanEvent)
-        → origins.now ≡ map (first_origin events) (map tree_of terms.now)
-        → OnOk result (out.new.items
-        ≡ out.old.items ++ flat_map (had_line protocol.now events) (map tree_of terms.now)) }
+    ensures { OnOk result (out.new.items
+        ≡ out.old.items ++ origin_lines protocol.now (map tree_of terms.now) origins.now) }
 {
     for i in 0..terms.len() {
         put_had_line(alloc, out, protocol, &terms[i], origins[i])?;
@@ -87,7 +82,7 @@ fn put_had_line(
     out: &mut Vec<u8>,
     protocol: &Protocol,
     term: &Term,
-    origin: Option<Origin>,
+    origin: Origin,
 ) -> Result<(), NoMemory>
     requires { IsTermOf protocol.now (tree_of term.now) }
     ensures { OnOk result (out.new.items
@@ -102,14 +97,13 @@ fn put_had_line(
 }
 
 /// Appends where a term is from.
-fn put_origin(out: &mut Vec<u8>, origin: Option<Origin>) -> Result<(), NoMemory>
+fn put_origin(out: &mut Vec<u8>, origin: Origin) -> Result<(), NoMemory>
     ensures { OnOk result (out.new.items ≡ out.old.items ++ origin_text origin) }
 {
     match origin {
-        Some(Origin::Known) => put(out, "known"),
-        Some(Origin::Made) => put(out, "made"),
-        Some(Origin::Received(action)) => put_action(out, action),
-        None => Ok(()),
+        Origin::Known => put(out, "known"),
+        Origin::Made => put(out, "made"),
+        Origin::Received(action) => put_action(out, action),
     }
 }
 

@@ -1,19 +1,25 @@
 //! Where the terms that a role has are from.
-ghost use Rattle.std.specs.Prelude.{◌≡◌, [], ◌∷◌, List, Some, length, map, slice_get, IfOk, MatchOption, OnOk};
-ghost use Rattle.std.specs.List.{flat_map};
+ghost use Rattle.std.specs.Prelude.{◌≡◌, ◌↔◌, ◌<◌, ◌≤◌, ◌∷◌, [], ℕ, true, length, map, IfOk, MatchOption};
+ghost use Rattle.std.specs.List.{AllByRecursion, AllZip};
+ghost use Rattle.anb_term.specs.Tree.{nodes, trees_of, IsFormed};
 ghost use Rattle.anb_term.specs.View.{tree_of};
+ghost use Rattle.anb_close.specs.MadeView.{made_tree};
+ghost use Rattle.anb_protocol.specs.Laws.{HoldsOf};
+ghost use Rattle.anb_protocol.specs.Plans.{plan_of};
+ghost use Rattle.anb_protocol.specs.Texts.{IsTermOf};
 ghost use Rattle.anb_protocol.specs.Views.{plan_event};
-ghost use Rattle.anb_lack.specs.Lacking.{brought, first_from, first_origin};
-ghost use Rattle.anb_lack.specs.Noted.{IsNoted};
+ghost use Rattle.anb_compile.specs.Unsent.{label_of, labels_of};
+ghost use Rattle.anb_lack.specs.Held.{AreWithin, IsHeld, IsWithin};
+ghost use Rattle.anb_lack.specs.Origins.{ComesFrom, HasBy, IsFrom};
 
 use anb_base::NoMemory;
-use anb_intern::{Node, NodeId, Pool};
-use anb_protocol::Event;
+use anb_close::{Closure, Compositions, Made};
+use anb_protocol::{Event, Protocol};
 use anb_term::Term;
 use std::alloc::Global;
 
-/// Where a role has a term from: it knows it from the start, makes it, or receives it in the message of
-/// an action, numbered from 1.
+/// Where a role has a term from: it knows it from the start, makes it, or can have it once it has
+/// received the message of an action, numbered from 1.
 #[derive(Clone, Copy, Debug, PartialEq, Eq)]
 pub enum Origin {
     Known,
@@ -21,61 +27,59 @@ pub enum Origin {
     Received(u32),
 }
 
-/// Terms by number, and for each number where its term first stands.
+/// What a role can have, and where each entry is from.
 #[derive(Drop)]
-pub(crate) struct Noted {
-    pub(crate) pool: Pool,
-    pub(crate) origins: Vec<Origin>,
+pub(crate) struct Held {
+    pub(crate) closure: Closure,
+    pub(crate) from: Vec<Origin>,
 }
 
-/// Where each of these terms first stands in what the events bring. Each node of what they bring, and
-/// of these terms, takes one look-up by its hash.
+/// Where a role has each of these terms from, which it can have. Its plan is closed under opening once,
+/// and each term is composed once, so this costs no more than `reason` does.
 pub(crate) fn origins(
     alloc: Global,
-    events: &[Event],
+    p: &Protocol,
+    role: u32,
     terms: &[Term],
-) -> Result<Vec<Option<Origin>>, anb_base::NoMemory>
-    ensures { IfOk result (λ origins. origins.items
-        ≡ map (first_origin (map plan_event events.now)) (map tree_of terms.now)) }
+) -> Result<Vec<Origin>, NoMemory>
+    requires role { role < length p.now.roles }
+    requires holds { HoldsOf p.now }
+    requires terms { AllByRecursion (IsTermOf p.now) (map tree_of terms.now) }
+    requires had { AllByRecursion (HasBy p.now (plan_of p.now role) (length (plan_of p.now role)))
+        (map tree_of terms.now) }
+    ensures { IfOk result (λ origins.
+        AllZip (ComesFrom p.now (plan_of p.now role)) (map tree_of terms.now) origins.items) }
 {
-    match origins_of(alloc, events, terms) {
-        Ok(origins) => Ok(origins),
-        Err(NoMemory) => Err(anb_base::NoMemory),
-    }
-}
-
-fn origins_of(
-    alloc: Global,
-    events: &[Event],
-    terms: &[Term],
-) -> Result<Vec<Option<Origin>>, NoMemory>
-    ensures { IfOk result (λ origins. origins.items
-        ≡ map (first_origin (map plan_event events.now)) (map tree_of terms.now)) }
-{
-    let noted = note_events(alloc, events)?;
+    let plan = p.plan(alloc, role)?;
+    let held = hold(alloc, plan.events())?;
     let mut origins = Vec::new(alloc);
     for term in terms {
-        origins.push(noted.origin(alloc, term)?)?;
+        let origin = held.origin(alloc, term)?;
+        origins.push(origin)?;
     }
     Ok(origins)
 }
 
-/// All that stands in what these events bring.
-fn note_events(alloc: Global, events: &[Event]) -> Result<Noted, NoMemory>
-    ensures { IfOk result (λ noted. IsNoted (flat_map brought (map plan_event events.now))
-        noted.pool noted.origins.items) }
+/// What a role can have after these events.
+fn hold(alloc: Global, events: &[Event]) -> Result<Held, NoMemory>
+    requires formed { AllByRecursion (IsFormed (λ o. true))
+        (labels_of (map plan_event events.now)) }
+    requires few { nodes (labels_of (map plan_event events.now)) < 4294967295 }
+    ensures { IfOk result (λ held.
+        IsHeld (map plan_event events.now) (length events.now) held.closure held.from.items) }
 {
-    let mut noted = Noted::new(alloc);
+    let mut held = Held::new(alloc);
     for event in events {
-        noted.learn(alloc, event)?;
+        held.learn(alloc, event)?;
     }
-    Ok(noted)
+    Ok(held)
 }
 
 /// What an event brings, if anything.
 fn brought(event: &Event) -> Option<(&Term, Origin)>
-    ensures { MatchOption result (brought (plan_event event.now) ≡ [])
-        (λ x. brought (plan_event event.now) ≡ (tree_of x.0.now, x.1) ∷ []) }
+    ensures { MatchOption result (label_of (plan_event event.now) ≡ [])
+        (λ x. (label_of (plan_event event.now) ≡ tree_of x.0.now ∷ [])
+        × IsFrom (plan_event event.now) x.1) }
 {
     match event {
         Event::Know(term) => Some((term, Origin::Known)),
@@ -85,118 +89,105 @@ fn brought(event: &Event) -> Option<(&Term, Origin)>
     }
 }
 
-impl Noted {
-    ghost use Rattle.std.specs.Prelude.{◌≡◌, ◌++◌, ℕ, List, [], Some, length, map, slice_get, IfOk, OnOk};
-    ghost use Rattle.std.specs.List.{AllByRecursion};
-    ghost use Rattle.anb_term.specs.Tree.{Tree, trees_of};
-    ghost use Rattle.anb_term.specs.Composes.{Among};
-    ghost use Rattle.anb_term.specs.View.{tree_of};
-    ghost use Rattle.anb_intern.specs.Nodes.{operands_at, AreUnder, IsOver, tree_at};
-    ghost use Rattle.anb_protocol.specs.Views.{plan_event};
-    ghost use Rattle.anb_lack.specs.Lacking.{brought, first_from};
-    ghost use Rattle.anb_lack.specs.Noted.{Grows, IsNoted};
-    ghost use Rattle.anb_lack.specs.Parts.{parts, parts_of_all};
+/// How many of the first entries a composition needs.
+#[cycle(needed)]
+fn needed(made: &Made) -> usize
+    ensures { (count : ℕ) → (result ≤ count) ↔ IsWithin count (made_tree made.now) }
+{
+    match made {
+        Made::Entry(n) => *n as usize + 1,
+        Made::Build(_, operands) => needed_by_all(operands),
+    }
+}
 
-    fn new(alloc: Global) -> Noted
-        ensures { IsNoted [] result.pool result.origins.items }
+/// How many all of these need.
+#[cycle(needed)]
+fn needed_by_all(all: &Compositions) -> usize
+    ensures { (count : ℕ) → (result ≤ count) ↔ AreWithin count (trees_of all.now) }
+{
+    let mut most = 0;
+    for made in all.as_slice() {
+        let count = needed(made);
+        if count > most {
+            most = count;
+        }
+    }
+    most
+}
+
+impl Held {
+    ghost use Rattle.std.specs.Prelude.{◌≡◌, ◌+◌, ◌<◌, ℕ, List, Bool, true, length, Some, slice_get, IfOk, OnOk};
+    ghost use Rattle.std.specs.List.{AllByRecursion};
+    ghost use Rattle.anb_term.specs.declared.term.Op.{Op};
+    ghost use Rattle.anb_term.specs.Agree.{HasRecipe};
+    ghost use Rattle.anb_term.specs.Tree.{nodes, trees_of, AreFormed, IsFormed};
+    ghost use Rattle.anb_term.specs.View.{tree_of};
+    ghost use Rattle.anb_algebra.specs.ByteMeaning.{has_operator};
+    ghost use Rattle.anb_close.specs.Entries as entries;
+    ghost use Rattle.anb_protocol.specs.Plans.{PlanEvent};
+    ghost use Rattle.anb_protocol.specs.Protocols.{ProtocolValue};
+    ghost use Rattle.anb_protocol.specs.Views.{plan_event};
+    ghost use Rattle.anb_compile.specs.Unsent.{label_of};
+    ghost use Rattle.anb_lack.specs.Held.{IsHeld};
+    ghost use Rattle.anb_lack.specs.Origins.{ComesFrom};
+
+    fn new(alloc: Global) -> Held
+        ensures { (plan : List PlanEvent) → IsHeld plan 0 result.closure result.from.items }
     {
-        Noted {
-            pool: Pool::new(alloc),
-            origins: Vec::new(alloc),
+        Held {
+            closure: Closure::new(alloc),
+            from: Vec::new(alloc),
         }
     }
 
     /// Takes what an event brings.
     fn learn(&mut self, alloc: Global, event: &Event) -> Result<(), NoMemory>
-        ensures { OnOk result ((xs : List (Tree × Origin))
-            → IsNoted xs self.old.pool self.old.origins.items
-            → IsNoted (xs ++ brought (plan_event event.now))
-            self.new.pool self.new.origins.items) }
+        requires formed { AllByRecursion (IsFormed (λ o. true)) (label_of (plan_event event.now)) }
+        requires few { nodes (entries.labels_of self.old.closure)
+            + nodes (label_of (plan_event event.now)) < 4294967295 }
+        ensures { OnOk result ((plan : List PlanEvent) (i : ℕ)
+            → slice_get plan i ≡ Some (plan_event event.now)
+            → IsHeld plan i self.old.closure self.old.from.items
+            → IsHeld plan (i + 1) self.new.closure self.new.from.items) }
     {
         match brought(event) {
             Some((term, origin)) => {
-                let id = self.note(alloc, term, origin)?;
-                let _ = id;
-                let _ = self.pool.len();
+                let _ = self.closure.add(alloc, term)?;
+                let count = self.closure.entries().len();
+                for k in self.from.len()..count {
+                    let _ = k;
+                    self.from.push(origin)?;
+                }
                 Ok(())
             }
-            None => Ok(()),
-        }
-    }
-
-    /// Puts in a term with all that it is made of. What wasn't there is from this origin.
-    #[cycle(note)]
-    fn note(&mut self, alloc: Global, t: &Term, origin: Origin) -> Result<NodeId, NoMemory>
-        ensures stored { IfOk result (λ id. slice_get self.new.pool id.0 ≡ Some (tree_of t.now)) }
-        ensures grows { OnOk result ((all : List Tree)
-            → AllByRecursion (Among all) (parts (tree_of t.now))
-            → Grows all origin self.old.pool self.old.origins.items
-            self.new.pool self.new.origins.items) }
-    {
-        match t {
-            Term::Atom(n) => self.put(Node::Atom(*n), origin),
-            Term::Node(op, operands) => {
-                let ids = self.note_all(alloc, operands.as_slice(), origin)?;
-                let id = self.put(Node::Apply(*op, ids), origin)?;
-                Ok(id)
+            None => {
+                let _ = self.closure.entries();
+                Ok(())
             }
         }
     }
 
-    /// Puts in all of these terms.
-    #[cycle(note)]
-    fn note_all(
-        &mut self,
-        alloc: Global,
-        ts: &[Term],
-        origin: Origin,
-    ) -> Result<Vec<NodeId>, NoMemory>
-        ensures under { IfOk result (λ ids. AreUnder (length self.new.pool) ids.items) }
-        ensures stored { IfOk result (λ ids.
-            operands_at self.new.pool ids.items ≡ map tree_of ts.now) }
-        ensures grows { OnOk result ((all : List Tree)
-            → AllByRecursion (Among all) (parts_of_all (trees_of (map tree_of ts.now)))
-            → Grows all origin self.old.pool self.old.origins.items
-            self.new.pool self.new.origins.items) }
+    /// Where a term is from that the role can have.
+    fn origin(&self, alloc: Global, term: &Term) -> Result<Origin, NoMemory>
+        requires formed { IsFormed (λ o. true) (tree_of term.now) }
+        requires had { (has : Op → Bool)
+            × HasRecipe has (entries.labels_of self.now.closure) (tree_of term.now) }
+        requires all { length self.now.from.items ≡ length self.now.closure }
+        ensures { IfOk result (λ origin. (p : ProtocolValue) (plan : List PlanEvent) (i : ℕ)
+            → IsHeld plan i self.now.closure self.now.from.items
+            → AreFormed (has_operator p.formats) (trees_of (entries.labels_of self.now.closure))
+            → IsFormed (has_operator p.formats) (tree_of term.now)
+            → ComesFrom p plan (tree_of term.now) origin) }
     {
-        let mut ids = Vec::new(alloc);
-        for t in ts {
-            let id = self.note(alloc, t, origin)?;
-            ids.push(id)?;
-        }
-        Ok(ids)
-    }
-
-    /// Puts in a node's term, where a number is left.
-    fn put(&mut self, node: Node, origin: Origin) -> Result<NodeId, NoMemory>
-        requires { IsOver (length self.old.pool) node }
-        ensures stored { IfOk result (λ id.
-            slice_get self.new.pool id.0 ≡ Some (tree_at self.old.pool node)) }
-        ensures grows { OnOk result ((all : List Tree) → Among all (tree_at self.old.pool node)
-            → Grows all origin self.old.pool self.old.origins.items
-            self.new.pool self.new.origins.items) }
-    {
-        let count = self.pool.len();
-        if count == u32::MAX {
-            return Err(NoMemory);
-        }
-        let id = self.pool.put(node)?;
-        if self.pool.len() > count {
-            self.origins.push(origin)?;
-        }
-        Ok(id)
-    }
-
-    /// Where a term is from, if it stands anywhere.
-    fn origin(&self, alloc: Global, t: &Term) -> Result<Option<Origin>, NoMemory>
-        requires { length self.now.origins.items ≡ length self.now.pool }
-        ensures { IfOk result (λ origin. (xs : List (Tree × Origin))
-            → IsNoted xs self.now.pool self.now.origins.items
-            → origin ≡ first_from xs (tree_of t.now)) }
-    {
-        match self.pool.find_term(alloc, t)? {
-            Some(id) => Ok(Some(self.origins[id.0 as usize])),
-            None => Ok(None),
+        match self.closure.compose(alloc, term)? {
+            Some(made) => {
+                let count = needed(&made);
+                if count == 0 {
+                    return Ok(Origin::Known);
+                }
+                Ok(self.from[count - 1])
+            }
+            None => unreachable!(),
         }
     }
 }

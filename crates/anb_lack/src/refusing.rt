@@ -2,6 +2,7 @@
 ghost use Rattle.std.specs.Prelude.{◌≡◌, ◌++◌, IfOk, MatchOption, OnOk, map};
 ghost use Rattle.std.specs.List.{AllByRecursion};
 ghost use Rattle.anb_term.specs.View.{tree_of};
+ghost use Rattle.anb_protocol.specs.Laws.{HoldsOf};
 ghost use Rattle.anb_protocol.specs.Plays.{IsSendable};
 ghost use Rattle.anb_protocol.specs.Texts.{IsTermOf};
 ghost use Rattle.anb_reason.specs.Reach.{IsReason};
@@ -11,17 +12,20 @@ use crate::lines::{put_had, put_lacking, put_refused};
 use crate::origins::origins;
 use crate::parts::lacking;
 use anb_base::{Bytes, NoMemory};
-use anb_protocol::Protocol;
+use anb_protocol::{Protocol, protocols_hold};
 use anb_reason::{Refusal, reason};
 use std::alloc::Global;
 
 /// What the sender of the first message that can't be sent lacks, or None where each role can send what
 /// it has to. Beside what `reason` costs, each term of the sender's plan and of the message is looked at
-/// a few times, and each line of the text once more; a look-up costs one hash.
+/// a few times, and each line of the text once more. Where a term is from costs what `reason` does
+/// once more.
 pub fn lack_text(alloc: Global, protocol: &Protocol) -> Result<Option<Bytes>, NoMemory>
     ensures { IfOk result (λ text.
         MatchOption text (IsSendable protocol.now) (IsLackText protocol.now)) }
 {
+    protocols_hold();
+    let _ = protocol.name();
     match reason(alloc, protocol)? {
         Some(refusal) => Ok(Some(refusal_text(alloc, protocol, &refusal)?)),
         None => Ok(None),
@@ -30,6 +34,7 @@ pub fn lack_text(alloc: Global, protocol: &Protocol) -> Result<Option<Bytes>, No
 
 /// The text of a refusal.
 fn refusal_text(alloc: Global, protocol: &Protocol, refusal: &Refusal) -> Result<Bytes, NoMemory>
+    requires holds { HoldsOf protocol.now }
     requires reason { IsReason protocol.now refusal.now }
     requires message { IsTermOf protocol.now (tree_of refusal.now.term) }
     requires terms { AllByRecursion (IsTermOf protocol.now) refusal.now.terms }
@@ -37,8 +42,7 @@ fn refusal_text(alloc: Global, protocol: &Protocol, refusal: &Refusal) -> Result
 {
     let terms = refusal.terms.as_slice();
     let sender = &protocol.roles()[refusal.role as usize];
-    let plan = protocol.plan(alloc, refusal.role)?;
-    let origins = origins(alloc, plan.events(), terms)?;
+    let origins = origins(alloc, protocol, refusal.role, terms)?;
     let lacking = lacking(alloc, terms, &refusal.term)?;
     let mut out = Vec::new(alloc);
     put_refused(alloc, &mut out, protocol, sender, refusal)?;

@@ -4,3 +4,6 @@ pub mod Flagging
 pub mod Reaching
 pub mod Finding
 pub mod Refusing
+pub mod Ordered
+pub mod Sending
+pub mod Unique

@@ -14,6 +14,6 @@ put_had_line-requires c =
     each_got (IsTermOf c.args.protocol.now) (map tree_of ts) i (tree_of x) c.requires.terms (slice_get-map tree_of ts i x (slice_get-at ts i x (omega arith) c.index-terms-i.is))
 
 pub loop-i-preserved : goal.loop-i-preserved
-loop-i-preserved c events is =
-    had_next c.args.protocol.now c.args.terms.now c.args.origins.now c.loop-i.i c.index-terms-i.result _ c.loop-i.out.items c.put_had_line.new.out.items _ events
-    (omega arith) (omega (arith, c.requires.long)) c.index-terms-i.is is c.in_ok-put_had_line.ensures (c.loop-i.invariant events is)
+loop-i-preserved c =
+    had_next c.args.protocol.now c.args.terms.now c.args.origins.now c.loop-i.i c.index-terms-i.result _ c.loop-i.out.items c.put_had_line.new.out.items _
+    (omega arith) (omega (arith, c.requires.long)) c.index-terms-i.is c.in_ok-put_had_line.ensures c.loop-i.invariant
