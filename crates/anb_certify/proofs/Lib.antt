@@ -16,3 +16,4 @@ pub mod Tabling
 pub mod Results
 pub mod Ending
 pub mod Followed
+pub mod Either

@@ -4,7 +4,7 @@ use Rattle.std.specs.List.{list_any, list_all}
 use Rattle.anb_close.specs.Rows.{is_at}
 use Rattle.anb_term.specs.declared.term.Op.{Op}
 use Rattle.anb_term.specs.Operator.{arity, keys, undoable, op_eqb}
-use Rattle.anb_term.specs.Tree.{Tree, leaf, node, list_of, tree_eqb}
+use Rattle.anb_term.specs.Tree.{Tree, leaf, node, list_of}
 use Rattle.anb_plays.specs.Codes.{Work, make, undo, equal}
 use Rattle.anb_certify.specs.Tied.{Did, InPairs, Tied, KeepsRules}
 use Rattle.anb_reason.specs.Decided.{composes}

@@ -1,7 +1,9 @@
 //! What a certificate is worth: laws, each a function that does nothing.
 ghost use Rattle.anb_certify.specs.Classes.{ClassesAreTied, RulesAreDecided, RulesTie};
-ghost use Rattle.anb_certify.specs.Statements.{CertifiedFits, FramesFollow, NoneIsBoth, RefusalsAreUnique};
+ghost use Rattle.anb_certify.specs.Statements.{CertifiedFits, EachIsEither, FramesFollow, NoneIsBoth};
+ghost use Rattle.anb_certify.specs.Statements.{RefusalsAreUnique};
 
+use anb_code::verified_is_runnable;
 use anb_term::Algebra;
 
 /// A law: a verified code of which nothing is found fits its plan, in every lawful algebra.
@@ -28,6 +30,13 @@ pub fn none_is_both()
 pub fn refusals_are_unique()
     ensures { RefusalsAreUnique }
 {}
+
+/// A law: a verified code is certified or has a refusal; it can't be that it is neither.
+pub fn each_is_either()
+    ensures { EachIsEither }
+{
+    verified_is_runnable();
+}
 
 /// A law: a code has a role's frame exactly where it keeps the order of the role's plan.
 pub fn frames_follow()

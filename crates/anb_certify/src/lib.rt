@@ -16,5 +16,6 @@ mod works;
 pub use anb_outcomes::CertifyNo;
 pub use certifying::certify;
 pub use laws::{
-    certified_fits, classes_are_tied, frames_follow, none_is_both, refusals_are_unique,
+    certified_fits, classes_are_tied, each_is_either, frames_follow, none_is_both,
+    refusals_are_unique,
 };
