@@ -1,3 +1,4 @@
 pub mod Checked
 pub mod Verdicts
 pub mod Sendable
+pub mod Lacks

@@ -1,3 +1,4 @@
 pub mod CheckCommand
+pub mod Laws
 -- for proofs alone
 pub mod Telling

@@ -3,6 +3,8 @@
 #![tactic(auto)]
 
 mod checking;
+mod laws;
 mod verdict;
 
 pub use checking::check;
+pub use laws::lack_texts_are_one;

@@ -1,7 +1,7 @@
 -- Plays that differ in the instructions of stops alone are told to sessions alike.
 use Rattle.std.proofs.Common.{◌≡◌, ℕ, ◌+◌, List, [], ◌∷◌, ◌++◌, length, map, drop, replicate, Bool, true, false, cond, not, ◌&&◌, ◌||◌, refl, sym, ap, ◌∙◌}
 use Rattle.std.specs.Prelude.{◌==◌, nat_lt}
-use Rattle.std.specs.List.{AllByRecursion}
+use Rattle.std.specs.List.{AllByRecursion, flat_map}
 use Rattle.anb_base.specs.Bytes.{IsBytes}
 use Rattle.anb_plays.specs.Plays.{Played, End, stopped, waiting, done, Run}
 use Rattle.anb_plays.specs.Runs.{no_place}
@@ -9,6 +9,7 @@ use Rattle.anb_host.specs.declared.event.HostEvent.{HostEvent}
 use Rattle.anb_host.specs.declared.event.Notice.{Notice}
 use Rattle.anb_host.specs.declared.event.Notice.TheVariants.{Message, Refused}
 use Rattle.anb_host.specs.declared.event.Cause.TheVariants as cause
+use Rattle.anb_host.specs.Alone.{IsToldAlone, end_in, end_of, message_in, notices_to}
 use Rattle.anb_host.specs.HostFrames.{out}
 use Rattle.anb_host.specs.Own.{session_of, is_start, is_oversize, arrival_of, events_of, has_start, is_over, end_notices, accepted_after, accepted, has_ended, sent_in, own, answer, told}
 use Rattle.anb_host.specs.Serving.{size_of, stamps}
@@ -81,6 +82,18 @@ module _ (P Q : Run) (alike : (arrivals : List (List ℕ)) → AreBytes arrivals
       let rest = same_accepted (started || is_start e) (next started on arrivals e) events (next_bytes (started && not on) arrivals e bytes b) more in
       (ap (λ o. accepted_after P (started || is_start e) (next started o arrivals e) events) over ∙ rest.0, rest.1)
 
+  -- the messages and the end of what a session has accepted
+  pub same_sent : (events : List HostEvent) → HaveBytes events → sent_in P events ≡ sent_in Q events
+  same_sent events have =
+      let so_far = same_accepted false [] events tt have in
+      ap (λ xs. cond (has_start events) (P xs).sent []) so_far.0 ∙ ap (λ m. cond (has_start events) m []) (alike (accepted Q events) so_far.1).sent
+
+  pub same_end : (s : ℕ) (events : List HostEvent) → HaveBytes events → end_of P s events ≡ end_of Q s events
+  same_end s events have =
+      let so_far = same_accepted false [] events tt have in
+      let at = accepted Q events in
+      ap (λ xs. cond (has_start events) (end_notices s (P xs).end) []) so_far.0 ∙ ap (λ n. cond (has_start events) n []) (notices_alike s (P at) (Q at) (alike at so_far.1))
+
   -- what a session is told, by what was so far and comes now
   abbrev own_by : (s : ℕ) (past : List HostEvent) (x : HostEvent) (ended : Bool) (before sent : List (List ℕ)) (ending : List Notice) → List Notice
   own_by s past x ended before sent ending =
@@ -130,3 +143,13 @@ module _ (P Q : ℕ → Run) (alike : (s : ℕ) (arrivals : List (List ℕ)) →
       ap (λ ns. replicate (size_of x) written ++ stamps P (past ++ x ∷ []) (written + length (out ns)) events) (same_answer past x have b)
       ∙ ap (λ rest. replicate (size_of x) written ++ rest)
       (same_stamps (past ++ x ∷ []) (written + length (out (answer Q past x))) events (both_have past (x ∷ []) have (b, tt)) more)
+
+  -- what is told alone by the one is by the other
+  pub same_alone : (s : ℕ) (events : List HostEvent) → HaveBytes events → IsToldAlone P s events → IsToldAlone Q s events
+  same_alone s events have alone =
+      let told_same : told P [] events ≡ told Q [] events = same_told [] events tt have in
+      let own = of_session s events have in
+      record {
+        sends = ap (λ ns. flat_map message_in (notices_to s ns)) (sym told_same) ∙ alone.sends ∙ same_sent (P s) (Q s) (alike s) (events_of s events) own;
+        ends = ap (λ ns. flat_map end_in (notices_to s ns)) (sym told_same) ∙ alone.ends ∙ same_end (P s) (Q s) (alike s) s (events_of s events) own;
+      }

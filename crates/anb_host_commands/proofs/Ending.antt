@@ -10,8 +10,10 @@ use Rattle.anb_base.proofs.Moving.{put_nothing}
 use Rattle.anb_host.specs.declared.event.HostEvent.{HostEvent}
 use Rattle.anb_host.specs.declared.serving.HostEnd.{HostEnd}
 use Rattle.anb_host.specs.declared.serving.HostEnd.TheVariants as ends
+use Rattle.anb_host.specs.Alone.{IsToldAlone, SendsOn}
 use Rattle.anb_host.specs.HostFrames.{Tail, End, Part, Bad, HostFrames, out}
 use Rattle.anb_host.specs.Own.{told}
+use Rattle.anb_host.proofs.Alone.{are_alone}
 use Rattle.anb_host.specs.Serving.{Answers, IsBehind, Reads, Serves, stamps}
 use Rattle.anb_status.specs.declared.status.Status.{Status}
 use Rattle.anb_status.specs.declared.status.Status.TheVariants.{FileFault, Spent, NoMemory}
@@ -23,7 +25,7 @@ use Rattle.anb_role_commands.specs.Jobs.{Job}
 use Rattle.anb_host_commands.specs.declared.hosting.TheConstants.{FRAMES}
 use Rattle.anb_host_commands.specs.HostCommand.{ArePlays, IsInTime, IsServing, Outcome, Takes, TakesInTime, handled, read_of_input, read_of_tail, sizes, status_before, status_of_input}
 use Rattle.anb_host_commands.specs.Serving.{IsIdle, status_of}
-use Rattle.anb_host_commands.proofs.Alike.{Alike, AreBytes, HaveBytes, same_stamps, same_told}
+use Rattle.anb_host_commands.proofs.Alike.{Alike, AreBytes, HaveBytes, same_alone, same_stamps, same_told}
 use Rattle.anb_host_commands.proofs.Sizes.{bad_above, frames_size, take_bytes, took_rest}
 
 some_map : {A : Type 0} (o : Option A) (P Q : A → Type 0) → ((x : A) → P x → Q x) → IfSome o P → IfSome o Q
@@ -38,10 +40,15 @@ take_short (suc k) (x ∷ xs) = let rest = take_short k xs in omega (arith, rest
 -- what comes of a job whose sessions are these
 module _ (Asks : Answer Job → Type 0) (one : HasOneAnswer Asks) (job : Job) (asks : Asks (given job)) (R plays : ℕ → Run) (are : ArePlays job plays)
     (alike : (others : ℕ → Run) → ArePlays job others → (s : ℕ) (arrivals : List (List ℕ)) → AreBytes arrivals → Alike (R s arrivals) (others s arrivals))
-    (left : List ℕ) (events : List HostEvent) (tail : Tail) (frames : HostFrames left events tail) (have : HaveBytes events) (S T : WireState) (is_left : S.left ≡ Some left) where
+    (grows : (s : ℕ) → SendsOn (R s)) (left : List ℕ) (events : List HostEvent) (tail : Tail) (frames : HostFrames left events tail) (have : HaveBytes events) (S T : WireState) (is_left : S.left ≡ Some left) where
   -- the first k events are told the same
   told_by : (others : ℕ → Run) → ArePlays job others → (k : ℕ) → told R [] (take k events) ≡ told others [] (take k events)
   told_by others each k = same_told R others (alike others each) [] (take k events) tt (take_bytes k events have)
+
+  -- and each session is told what its play, alone, sends
+  alone_by : (others : ℕ → Run) → ArePlays job others → (session : ℕ) → session < 1024 → IsToldAlone others session (handled events)
+  alone_by others each session below =
+      same_alone R others (alike others each) session (handled events) (take_bytes FRAMES events have) (are_alone R session (handled events) below (grows session))
 
   abbrev due_by : (k : ℕ) → List ℕ
   due_by k = out (told plays [] (take k events))
@@ -101,6 +108,7 @@ module _ (Asks : Answer Job → Type 0) (one : HasOneAnswer Asks) (job : Job) (a
         rest,
       );
       only = λ _. only;
+      alone = λ _ other asked others each. alone_by others (subst (λ (j : Job). ArePlays j others) (same_given other job (one (given other) (given job) asked asks)) each);
       cut_short = λ fault. faulty (sym fault ∙ quiet);
       in_time = in_time k z behind reads;
     }
@@ -136,6 +144,7 @@ module _ (Asks : Answer Job → Type 0) (one : HasOneAnswer Asks) (job : Job) (a
   ends_so ends.ReadFault (k, z, small, begun, reads, answers) = record {
     is = λ never. faulty never;
     only = λ never. faulty never;
+    alone = λ never. faulty never;
     cut_short = λ _. (
       due_by k,
       (job, asks, (take k events, z, begun, taken (Some left) is_left k z reads, (let short = take_short k events in omega (arith, short, small)), refl)),
@@ -146,6 +155,7 @@ module _ (Asks : Answer Job → Type 0) (one : HasOneAnswer Asks) (job : Job) (a
   ends_so ends.WriteFault (k, within, reads, (n, some, part)) = record {
     is = λ never. faulty never;
     only = λ never. faulty never;
+    alone = λ never. faulty never;
     cut_short = λ _. (
       take n (due_by k),
       (job, asks, (take k events, taken (Some left) is_left k [] reads, (let short = take_short k events in omega (arith, short, within)), (n, refl))),
@@ -156,6 +166,7 @@ module _ (Asks : Answer Job → Type 0) (one : HasOneAnswer Asks) (job : Job) (a
   ends_so ends.NoMemory (k, z, within, begun, reads, (n, some, part)) = record {
     is = λ never. faulty never;
     only = λ never. faulty never;
+    alone = λ never. faulty never;
     cut_short = λ _. (
       take n (due_by k),
       inr (job, asks, (take k events, z, begun, taken (Some left) is_left k z reads, (let short = take_short k events in omega (arith, short, within)), (n, refl))),
@@ -174,12 +185,14 @@ module _ (Asks : Answer Job → Type 0) (one : HasOneAnswer Asks) (job : Job) (a
     | inl (place, is) ↦ subst (λ (t : Status). IsServing Asks left events tail S T t) (sym is) record {
       is = λ never. faulty never;
       only = λ never. faulty never;
+      alone = λ never. faulty never;
       cut_short = λ _. ([], ((job, asks), refl, idle.left ∙ is_left), idle_put s idle);
       in_time = λ _ _. inl (idle.left, idle.taken_at);
     }
     | inr is ↦ subst (λ (t : Status). IsServing Asks left events tail S T t) (sym is) record {
       is = λ never. faulty never;
       only = λ never. faulty never;
+      alone = λ never. faulty never;
       cut_short = λ _. ([], inl (refl, idle.left ∙ is_left), idle_put s idle);
       in_time = λ _ _. inl (idle.left, idle.taken_at);
     }
@@ -191,6 +204,7 @@ module _ (Asks : Answer Job → Type 0) (one : HasOneAnswer Asks) (quiet : Refus
   quiet_refusal s asks quiet_s = record {
     is = λ _. ([], left, inl (record { refuses = asks; writes = refl; leaves = refl }), put_nothing S.written, is_left);
     only = λ _. only;
+    alone = λ _ other asked others each session below. not_both s other (one (refused s) (given other) asks asked);
     cut_short = λ fault. faulty (sym fault ∙ quiet_s);
     in_time = λ _ _. inl (refl, refl);
   } where
@@ -206,12 +220,14 @@ module _ (Asks : Answer Job → Type 0) (one : HasOneAnswer Asks) (quiet : Refus
   nothing_served (FileFault name) P fails = record {
     is = λ never. faulty never;
     only = λ never. faulty never;
+    alone = λ never. faulty never;
     cut_short = λ _. ([], (refl, is_left), put_nothing S.written);
     in_time = λ _ _. inl (refl, refl);
   }
   nothing_served NoMemory P fails = record {
     is = λ never. faulty never;
     only = λ never. faulty never;
+    alone = λ never. faulty never;
     cut_short = λ _. ([], inl (refl, is_left), put_nothing S.written);
     in_time = λ _ _. inl (refl, refl);
   }

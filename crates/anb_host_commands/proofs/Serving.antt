@@ -18,7 +18,7 @@ use Rattle.anb_role_commands.specs.Playing.{IsPlayableInEach, play_in}
 use Rattle.anb_host_commands.specs.HostCommand.{DoesHost, IsServing}
 use Rattle.anb_host_commands.specs.Serving.{EndsSo, ServesOn, runs_by}
 use Rattle.anb_host_commands.proofs.Ending.{ends_so, idles, nothing_served}
-use Rattle.anb_host_commands.proofs.Sessions.{are_plays, runs_alike}
+use Rattle.anb_host_commands.proofs.Sessions.{are_plays, runs_alike, runs_send_on}
 use Rattle.anb_host_commands.proofs.Sizes.{events_bytes}
 
 -- of an input that is told
@@ -35,13 +35,13 @@ module _ (narration name values : List ℕ) (host_seed : Option (List ℕ)) (one
     over_input : (files : Files) → IsPlayableInEach (Asks files) code initial seed → (left : List ℕ) → S.left ≡ Some left → (events : List HostEvent) (tail : Tail) → IsBytes left → HostFrames left events tail
         → IsServing (Asks files) left events tail S T s
     over_input files ready left is events tail bytes frames = elim serves [
-      | inl idle ↦ idles (Asks files) (one files) ready.asked ready.asks (runs_by code initial seed) (play_in code initial seed) (are_plays ready.asked code initial seed ready.comes) (runs_alike ready.asked code initial seed ready.comes)
+      | inl idle ↦ idles (Asks files) (one files) ready.asked ready.asks (runs_by code initial seed) (play_in code initial seed) (are_plays ready.asked code initial seed ready.comes) (runs_alike ready.asked code initial seed ready.comes) (runs_send_on code initial seed)
           left events tail frames (events_bytes left events tail bytes frames) S T is s idle
       | inr served ↦ by (served events tail (subst (λ (l : Option (List ℕ)). FramesLeft l events tail) (sym is) frames))
     ] where
       by : EndsSo (runs_by code initial seed) [] events tail S T s → IsServing (Asks files) left events tail S T s
       by (end, status_is, serves) = subst (λ t. IsServing (Asks files) left events tail S T t) (sym status_is)
-          (ends_so (Asks files) (one files) ready.asked ready.asks (runs_by code initial seed) (play_in code initial seed) (are_plays ready.asked code initial seed ready.comes) (runs_alike ready.asked code initial seed ready.comes)
+          (ends_so (Asks files) (one files) ready.asked ready.asks (runs_by code initial seed) (play_in code initial seed) (are_plays ready.asked code initial seed ready.comes) (runs_alike ready.asked code initial seed ready.comes) (runs_send_on code initial seed)
           left events tail frames (events_bytes left events tail bytes frames) S T is end serves)
 
     pub serves_host : (told : Option Files) → IfTold told (λ files. IsPlayableInEach (Asks files) code initial seed) → DoesHost narration name values told host_seed S T s

@@ -1,8 +1,15 @@
 -- A code that plays a job in each session gives what sessions of the job are told.
-use Rattle.std.proofs.Common.{◌≡◌, ℕ, List, refl, sym, ap, ◌∙◌}
+use Rattle.std.proofs.Common.{◌≡◌, ℕ, List, [], ◌++◌, refl, sym, ap, ◌∙◌, inl, inr}
+use Rattle.std.proofs.lemmas.List.{append-nil}
+use Rattle.anb_seal.specs.Streams.{draw_of}
 use Rattle.anb_code.specs.CodeValue.{CodeValue}
 use Rattle.anb_plays.specs.Plays.{Played, End, stopped, waiting, done, Run}
 use Rattle.anb_plays.specs.Runs.{no_place}
+use Rattle.anb_plays.specs.Statements.{Grows}
+use Rattle.anb_plays.proofs.Grows.{run_grows}
+use Rattle.anb_code.specs.Meaning.{acts_of}
+use Rattle.anb_host.specs.Alone.{SendsOn}
+use Rattle.anb_machine.specs.ByteRuns.{meaning_of}
 use Rattle.anb_command.specs.Prepared.{IsRunBy}
 use Rattle.anb_role_commands.specs.Jobs.{Job}
 use Rattle.anb_role_commands.specs.Playing.{PlayIn, play_in}
@@ -28,3 +35,11 @@ module _ (job : Job) (code : CodeValue) (initial : List (List ℕ)) (seed : List
         sent = sym (ap (λ (p : Played (List ℕ)). p.sent) is);
         ends = sym (ap (λ (p : Played (List ℕ)). no_place p.end) is ∙ no_place_again (runs_by code initial seed session arrivals).end);
       }
+
+-- the run of a code sends more over more arrivals
+pub runs_send_on : (code : CodeValue) (initial : List (List ℕ)) (seed : List ℕ) (session : ℕ) → SendsOn (runs_by code initial seed session)
+runs_send_on code initial seed session arrivals more = by (run_grows (meaning_of code) (draw_of seed session) (acts_of code) initial arrivals more) where
+  by : Grows (runs_by code initial seed session arrivals) (runs_by code initial seed session (arrivals ++ more)) more
+      → (rest : List (List ℕ)) × ((runs_by code initial seed session (arrivals ++ more)).sent ≡ (runs_by code initial seed session arrivals).sent ++ rest)
+  by (inl w) = (w.3, w.4)
+  by (inr w) = ([], ap (λ (p : Played (List ℕ)). p.sent) w.1 ∙ sym (append-nil (runs_by code initial seed session arrivals).sent))

@@ -6,6 +6,7 @@ use Rattle.anb_base.specs.Bytes.{IsBytes}
 use Rattle.anb_base.specs.Moves.{Put, Took}
 use Rattle.anb_base.specs.Wires.{WireState}
 use Rattle.anb_host.specs.declared.event.HostEvent.{HostEvent}
+use Rattle.anb_host.specs.Alone.{IsToldAlone}
 use Rattle.anb_host.specs.HostFrames.{Tail, End, Part, Bad, HostFrames, out}
 use Rattle.anb_host.specs.Own.{told}
 use Rattle.anb_host.specs.Serving.{IsBegun, IsBehind, size_of, stamps}
@@ -133,6 +134,9 @@ module _ (Asks : Answer Job → Type 0) (left : List ℕ) (events : List HostEve
     pub only : is_fault result ≡ false → (status : Status) (wrote rest : List ℕ)
         → Outcome status wrote rest
         → (result ≡ status) × Put old.written new.written wrote × (new.left ≡ Some rest)
+    -- each session is told what its play, alone, sends over the arrivals that it accepted, and that play's end
+    pub alone : is_fault result ≡ false → (job : Job) → Asks (given job) → (plays : ℕ → Run)
+        → ArePlays job plays → (session : ℕ) → session < 1024 → IsToldAlone plays session (handled events)
     pub cut_short : is_fault result ≡ true → (wrote : List ℕ) × CutShort result wrote new.left
         × Put old.written new.written wrote
     -- whatever the status
