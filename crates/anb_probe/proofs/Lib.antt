@@ -1,0 +1,4 @@
+pub mod Dropping
+pub mod Valued
+pub mod Following
+pub mod InPlace
