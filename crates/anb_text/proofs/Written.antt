@@ -1,5 +1,5 @@
 -- A text that is written part by part.
-use Rattle.std.proofs.Common.{◌≡◌, ℕ, ◌+◌, ◌≤◌, List, [], ◌++◌, length, take, Option, Result, Ok, Err, sym, ap, ◌∙◌, subst, append_assoc, arith, length-append}
+use Rattle.std.proofs.Common.{◌≡◌, ℕ, ◌+◌, ◌≤◌, List, [], ◌++◌, length, take, Option, Result, Ok, Err, refl, sym, ap, ◌∙◌, subst, append_assoc, arith, length-append}
 use Rattle.std.proofs.Math.Seq.{take-append-add}
 use Rattle.std.proofs.lemmas.List.{append-nil, take-append-le}
 use Rattle.anb_base.specs.Moves.{Put}
@@ -8,12 +8,12 @@ use Rattle.anb_base.proofs.Moving.{Rose-later, put_nothing}
 use Rattle.anb_text.specs.declared.writing.WriteNo.{WriteNo}
 use Rattle.anb_text.specs.Writing.{IsWritten}
 
--- of a text this is written, and this is due; no count of faults fell
+-- of a text this is written, and this is due; no call failed
 pub record Due (whole : List ℕ) (old now : Option (List ℕ)) (faults faults_now : ℕ) (due : List ℕ) : Type 0 where
   pub done : List ℕ
   pub put : Put old now done
   pub joined : done ++ due ≡ whole
-  pub never_falls : faults ≤ faults_now
+  pub quiet : faults_now ≡ faults
 
 module _ (whole : List ℕ) (a b c : Option (List ℕ)) (f g h : ℕ) (part rest : List ℕ) (due : Due whole a b f g (part ++ rest)) where
   -- a part more is written
@@ -22,7 +22,7 @@ module _ (whole : List ℕ) (a b c : Option (List ℕ)) (f g h : ℕ) (part rest
     done = due.done ++ part;
     put = Put-joined a b c due.done part due.put is.whole;
     joined = append_assoc due.done part rest ∙ due.joined;
-    never_falls = omega (arith, due.never_falls, is.never_falls);
+    quiet = is.quiet (λ failed. absurd (cc)) ∙ due.quiet;
   }
 
   front : (n : ℕ) → n ≤ length part → due.done ++ take n part ≡ take (length due.done + n) whole
@@ -42,8 +42,9 @@ module _ (whole : List ℕ) (a b c : Option (List ℕ)) (f g h : ℕ) (part rest
           omega (arith, size, length-append due.done (part ++ rest), length-append part rest, within),
           subst (Put a c) (front n within) (Put-joined a b c due.done (take n part) due.put is.part.2),
         );
-        cause = λ failed. Rose-later f g h due.never_falls (is.cause failed);
-        never_falls = omega (arith, due.never_falls, is.never_falls);
+        cause = λ failed. Rose-later f g h (omega (arith, due.quiet)) (is.cause failed);
+        quiet = λ other. is.quiet other ∙ due.quiet;
+        never_falls = omega (arith, due.quiet, is.never_falls);
       }
 
 -- all of it is
@@ -52,24 +53,25 @@ all_written whole a b f g r due = record {
   whole = subst (Put a b) (sym (append-nil due.done) ∙ due.joined) due.put;
   part = tt;
   cause = tt;
-  never_falls = due.never_falls;
+  quiet = λ other. due.quiet;
+  never_falls = omega (arith, due.quiet);
 }
 
 -- the last part is
 pub last_part : (whole : List ℕ) (a b c : Option (List ℕ)) (f g h : ℕ) (part : List ℕ) → Due whole a b f g part → (r : Result (Unit {0}) WriteNo) → IsWritten part r b c g h → IsWritten whole r a c f h
 last_part whole a b c f g h part due r is = by_result r is where
   due_all : Due whole a b f g (part ++ [])
-  due_all = record { done = due.done; put = due.put; joined = ap (λ t. due.done ++ t) (append-nil part) ∙ due.joined; never_falls = due.never_falls }
+  due_all = record { done = due.done; put = due.put; joined = ap (λ t. due.done ++ t) (append-nil part) ∙ due.joined; quiet = due.quiet }
 
   by_result : (r : Result (Unit {0}) WriteNo) → IsWritten part r b c g h → IsWritten whole r a c f h
   by_result (Ok u) is = all_written whole a c f h u (one_part whole a b c f g h part [] due_all u is)
   by_result (Err why) is = not_all whole a b c f g h part [] due_all why is
 
 pub due_as : (whole text : List ℕ) (w : Option (List ℕ)) (f : ℕ) → whole ≡ text → Due whole w w f f text
-due_as whole text w f is = record { done = []; put = put_nothing w; joined = sym is; never_falls = omega arith }
+due_as whole text w f is = record { done = []; put = put_nothing w; joined = sym is; quiet = refl }
 
 pub same_due : (whole x y : List ℕ) (a b : Option (List ℕ)) (f g : ℕ) → x ≡ y → Due whole a b f g x → Due whole a b f g y
-same_due whole x y a b f g is due = record { done = due.done; put = due.put; joined = ap (λ t. due.done ++ t) (sym is) ∙ due.joined; never_falls = due.never_falls }
+same_due whole x y a b f g is due = record { done = due.done; put = due.put; joined = ap (λ t. due.done ++ t) (sym is) ∙ due.joined; quiet = due.quiet }
 
 pub same_written : (x y : List ℕ) (r : Result (Unit {0}) WriteNo) (a b : Option (List ℕ)) (f g : ℕ) → x ≡ y → IsWritten x r a b f g → IsWritten y r a b f g
 same_written x y r a b f g is written = subst (λ t. IsWritten t r a b f g) is written

@@ -1,5 +1,5 @@
 -- Writing a text to a sink, a line at a time.
-use Rattle.std.specs.Prelude.{◌≡◌, ◌≤◌, ℕ, List, Option, Result, IfErr, OnErr, OnOk}
+use Rattle.std.specs.Prelude.{◌≡◌, ◌≢◌, ◌≤◌, ℕ, List, Option, Result, Err, IfErr, OnErr, OnOk}
 use Rattle.anb_base.specs.Moves.{Put, PutPrefix, Rose}
 use Rattle.anb_text.specs.declared.writing.WriteNo.{WriteNo}
 use Rattle.anb_text.specs.declared.writing.WriteNo.TheVariants.{Failed}
@@ -9,4 +9,6 @@ pub record IsWritten (text : List ℕ) (result : Result (Unit {0}) WriteNo) (wri
   pub whole : OnOk result (Put written written_now text)
   pub part : OnErr result (PutPrefix written written_now text)
   pub cause : IfErr result (λ no. no ≡ Failed → Rose faults faults_now)
+  -- a sink that failed is told
+  pub quiet : result ≢ Err Failed → faults_now ≡ faults
   pub never_falls : faults ≤ faults_now

@@ -1,5 +1,5 @@
 -- From one instruction of a trace to the next.
-use Rattle.std.proofs.Common.{◌≡◌, ℕ, ◌+◌, ◌≤◌, List, [], ◌∷◌, ◌++◌, length, map, drop, Bool, true, false, cond, Option, Some, Err, sym, ap, ◌∙◌, subst, arith, append-nil}
+use Rattle.std.proofs.Common.{◌≡◌, ℕ, ◌+◌, ◌≤◌, List, [], ◌∷◌, ◌++◌, length, map, drop, Bool, true, false, cond, Option, Some, Err, refl, sym, ap, ◌∙◌, subst, arith, append-nil}
 use Rattle.std.specs.Prelude.{slice_get}
 use Rattle.std.proofs.lemmas.List.{drop_all}
 use Rattle.anb_lemmas.proofs.Lists.{drop_at_got}
@@ -89,5 +89,6 @@ wanting whole a b f g rest due =
       whole = tt;
       part = (0, omega arith, put_nothing b);
       cause = λ never. absurd (cc);
+      quiet = λ other. refl;
       never_falls = omega arith;
     })
