@@ -8,6 +8,7 @@ pub mod Ones
 pub mod OverWire
 pub mod Preparing
 pub mod Prompt
+pub mod Reported
 pub mod Runs
 pub mod Senders
 pub mod States

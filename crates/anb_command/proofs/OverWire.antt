@@ -1,5 +1,5 @@
 -- What goes on on a wire, one step after another.
-use Rattle.std.proofs.Common.{◌≡◌, ℕ, ◌⊎◌, List, Bool, true, false, Option, Some, refl, ap, sym, ◌∙◌, subst, inl, inr, arith}
+use Rattle.std.proofs.Common.{◌≡◌, ℕ, ◌<◌, ◌⊎◌, List, Bool, true, false, Option, Some, refl, ap, sym, ◌∙◌, subst, inl, inr, arith}
 use Rattle.std.proofs.Math.Path.{fun_ext}
 use Rattle.anb_base.specs.Moves.{Rose, Put, PutPrefix}
 use Rattle.anb_base.specs.Places.{line_of}
@@ -15,8 +15,10 @@ use Rattle.anb_command.specs.Causes.{HasWireCause}
 use Rattle.anb_command.specs.OverWire.{DidNotReach, HasReached, OnlyWrites, OverWire, StaysReached}
 use Rattle.anb_command.specs.Prepared.{RunsOn, RunsTo}
 use Rattle.anb_command.specs.Reaches.{Reaches}
+use Rattle.anb_command.specs.Reported.{TellsWireFaults}
 use Rattle.anb_status.specs.Statuses.{Phase, before_reach, at_reach, after_reach, at_any_time, phase_of}
 use Rattle.anb_command.specs.Touches.{Touches}
+use Rattle.anb_command.proofs.Reported.{nothing_failed, writing_told}
 
 -- what holds of all that two wires tell holds of their states
 pub by_parts : (P : WireState → WireState → Type 0) (old new old_parts new_parts : WireState) → old ≡ old_parts → new ≡ new_parts → P old_parts new_parts → P old new
@@ -37,7 +39,7 @@ untouched reading phase S = record {
 }
 
 pub no_memory : (place : Place) (reading : Bool) (S : WireState) → OverWire place reading NoMemory S S
-no_memory place reading S = record { cause = tt; reached = inl refl; touches = untouched reading at_any_time S }
+no_memory place reading S = record { cause = tt; told = nothing_failed S S NoMemory refl refl refl; reached = inl refl; touches = untouched reading at_any_time S }
 
 -- ---- a place that isn't reached
 
@@ -61,6 +63,11 @@ module _ (place : Place) (S T : WireState) (tried : DidNotReach S T) where
   pub not_reached : (reading : Bool) → OverWire place reading (Unreached place) S T
   not_reached reading = record {
     cause = (refl, tried.cause);
+    told = record {
+      reads = λ rose. absurd (let same = ap (λ (w : WireState). w.read_faults) tried.same in omega (arith, same, rose));
+      writes = λ rose. absurd (let same = ap (λ (w : WireState). w.write_faults) tried.same in omega (arith, same, rose));
+      reaches = λ rose. (place, refl);
+    };
     reached = ap (λ (w : WireState). w.reached) tried.same;
     touches = touched_at_reach reading;
   }
@@ -106,6 +113,14 @@ module _ (place : Place) (S T : WireState) (at_place : HasReached place S T) whe
   same_write_faults : T.write_faults ≡ S.write_faults
   same_write_faults = ap (λ (w : WireState). w.write_faults) at_place.same
 
+  -- a fault behind the reach is told of the whole
+  told_from : (U : WireState) (s : Status) → TellsWireFaults T U s → TellsWireFaults S U s
+  told_from U s told = record {
+    reads = λ rose. told.reads (omega (arith, same_read_faults, rose));
+    writes = λ rose. told.writes (omega (arith, same_write_faults, rose));
+    reaches = λ rose. told.reaches (omega (arith, same_reach_faults, rose));
+  }
+
   -- a text is written
 
   module _ (U : WireState) (writes : OnlyWrites T U) where
@@ -125,21 +140,25 @@ module _ (place : Place) (S T : WireState) (at_place : HasReached place S T) whe
           reaches = omega (arith, reach);
         }
 
+    written_told : (s : Status) → (T.write_faults < U.write_faults → s ≡ WriteFault) → TellsWireFaults S U s
+    written_told s writing = told_from U s (writing_told T U s writes writing)
+
     told : Put S.reached U.reached (line_of place)
     told = subst (λ (r : Option (List ℕ)). Put S.reached r (line_of place)) (sym (ap (λ (w : WireState). w.reached) writes.same)) at_place.told
 
-    pub text_done : OverWire place false Done S U
-    text_done = record { cause = tt; reached = told; touches = written_touches after_reach (λ is. absurd (cc)) (λ is. absurd (cc)) }
+    pub text_done : U.write_faults ≡ T.write_faults → OverWire place false Done S U
+    text_done quiet = record { cause = tt; told = written_told Done (λ rose. absurd (omega (arith, quiet, rose))); reached = told; touches = written_touches after_reach (λ is. absurd (cc)) (λ is. absurd (cc)) }
 
     pub text_failed : Rose T.write_faults U.write_faults → OverWire place false WriteFault S U
     text_failed rose = record {
       cause = subst (λ (n : ℕ). Rose n U.write_faults) same_write_faults rose;
+      told = written_told WriteFault (λ _. refl);
       reached = told;
       touches = written_touches after_reach (λ is. absurd (cc)) (λ is. absurd (cc));
     }
 
-    pub text_wanting : OverWire place false NoMemory S U
-    text_wanting = record { cause = tt; reached = inr told; touches = written_touches at_any_time (λ is. absurd (cc)) (λ is. absurd (cc)) }
+    pub text_wanting : U.write_faults ≡ T.write_faults → OverWire place false NoMemory S U
+    text_wanting quiet = record { cause = tt; told = written_told NoMemory (λ rose. absurd (omega (arith, quiet, rose))); reached = inr told; touches = written_touches at_any_time (λ is. absurd (cc)) (λ is. absurd (cc)) }
 
     pub text_put : (text : List ℕ) → Put T.written U.written text → Put S.written U.written text
     text_put text put = subst (λ (w : Option (List ℕ)). Put w U.written text) same_written put
@@ -184,8 +203,8 @@ module _ (place : Place) (S T : WireState) (at_place : HasReached place S T) whe
       reaches = omega (arith, stays.reach_faults, same_reach_faults);
     }
 
-    pub ran : HasWireCause (Some place) T U s → OverWire place true s S U
-    ran cause = record { cause = cause_from S T U place s not_at same_read_faults same_write_faults cause; reached = run_reaches; touches = run_touches }
+    pub ran : HasWireCause (Some place) T U s → TellsWireFaults T U s → OverWire place true s S U
+    ran cause told = record { cause = cause_from S T U place s not_at same_read_faults same_write_faults cause; told = told_from U s told; reached = run_reaches; touches = run_touches }
 
   -- nothing goes on there
 
@@ -195,6 +214,7 @@ module _ (place : Place) (S T : WireState) (at_place : HasReached place S T) whe
   pub only_reached : (s : Status) → (phase_of s ≡ after_reach) ⊎ (s ≡ NoMemory) → HasWireCause (Some place) T T s → OverWire place false s S T
   only_reached s after cause = record {
     cause = cause_from S T T place s (not_at T stays_there s after) same_read_faults same_write_faults cause;
+    told = nothing_failed S T s same_read_faults same_write_faults same_reach_faults;
     reached = run_reaches T stays_there s after;
     touches = record {
       missed = λ rose. absurd (omega (arith, same_reach_faults, rose));

@@ -99,6 +99,10 @@ module _ (l m t u w x p q : Option (List ℕ)) (a b c d e f : ℕ) (S T : WireSt
   write_rose (Ok y) rose = tt
   write_rose (Err y) rose = subst (λ (n : ℕ). Rose n T.write_faults) (sym write_faults_is) (subst (λ (n : ℕ). Rose c n) (sym write_faults_now_is) rose)
 
+  pub write_quiet : (r : Result (Unit {0}) Failed) → OnOk r (d ≡ c) → OnOk r (T.write_faults ≡ S.write_faults)
+  write_quiet (Ok y) same = write_faults_now_is ∙ same ∙ sym write_faults_is
+  write_quiet (Err y) same = tt
+
 -- a text that is written, seen in all that the wire tells
 text_moved : (text : List ℕ) (r : Result (Unit {0}) WriteNo) (w x w' x' : Option (List ℕ)) (c d c' d' : ℕ) → w' ≡ w → x' ≡ x → c' ≡ c → d' ≡ d → IsWritten text r w x c d → IsWritten text r w' x' c' d'
 text_moved text r w x w' x' c d c' d' e1 e2 e3 e4 is = rw (e1, e2, e3, e4) is

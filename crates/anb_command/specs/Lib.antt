@@ -6,6 +6,7 @@ pub mod Outcomes
 pub mod Phases
 pub mod Reaches
 pub mod Refusing
+pub mod Reported
 pub mod Roles
 pub mod Seeds
 pub mod Steps

@@ -7,6 +7,7 @@ use Rattle.anb_base.specs.declared.place.Place.{Place}
 use Rattle.anb_status.specs.declared.status.Status.{Status}
 use Rattle.anb_command.specs.Causes.{HasWireCause}
 use Rattle.anb_command.specs.Reaches.{Reaches}
+use Rattle.anb_command.specs.Reported.{TellsWireFaults}
 use Rattle.anb_status.specs.Statuses.{phase_of}
 use Rattle.anb_command.specs.Touches.{Touches}
 
@@ -34,5 +35,6 @@ pub record StaysReached (old new : WireState) : Type 0 where
 -- what holds of each command at a place that ends so, whatever it does there
 pub record OverWire (place : Place) (reading : Bool) (status : Status) (old new : WireState) : Type 0 where
   pub cause : HasWireCause (Some place) old new status
+  pub told : TellsWireFaults old new status
   pub reached : Reaches (Some place) (phase_of status) old.reached new.reached
   pub touches : Touches reading (phase_of status) old new

@@ -9,6 +9,7 @@ ghost use Rattle.anb_syntax.specs.Sizes.{size};
 ghost use Rattle.anb_syntax.specs.Views.{narration_of};
 ghost use Rattle.anb_transcript.specs.Replays.{arrivals_of};
 ghost use Rattle.anb_command.specs.Fetches.{Fetches, IfTold};
+ghost use Rattle.anb_command.specs.Reported.{TellsFileFaults};
 ghost use Rattle.anb_command.specs.Files.{CodeInFile, CodeIs, HasFile, HasLonger, NarrationIs, NarrationInFile, ProtocolIs, ProtocolInFile, TranscriptIs, TranscriptInFile, ValuesAre, ValuesInFile};
 ghost use Rattle.anb_status.specs.Statuses.{IsEarly};
 ghost use Rattle.anb_command.specs.Steps.{IsFailure, refused, given};
@@ -27,7 +28,8 @@ use anb_transcript::{Transcript, TranscriptNo, read_transcript};
 use anb_values::{Fitted, ValuesNo, values};
 use std::alloc::Global;
 
-/// The file of this name, where it has at most `limit` bytes.
+/// The file of this name, where it has at most `limit` bytes. The name that a refusal tells is copied
+/// before the file is fetched, so a fault is told whatever memory there is.
 pub fn fetch_file<F: Shelf>(
     alloc: Global,
     shelf: &mut F,
@@ -43,32 +45,17 @@ pub fn fetch_file<F: Shelf>(
         × IfTold (F.files shelf.old) (λ files. HasLonger files name.now limit))) }
     ensures fetches { Fetches (name.now ∷ [])
         (F.files shelf.old) (F.files shelf.new) (F.faults shelf.old) (F.faults shelf.new) }
+    ensures told { TellsFileFaults result (F.faults shelf.old) (F.faults shelf.new) }
 {
+    let told = match name.copy(alloc) {
+        Ok(told) => told,
+        Err(NoMemory) => return Err(Status::NoMemory),
+    };
     match shelf.fetch(alloc, name.as_str(), limit) {
         Ok(text) => Ok(text),
-        Err(ShelfNo::Failed) => Err(file_fault(alloc, name)),
-        Err(ShelfNo::Long) => Err(file_long(alloc, name)),
+        Err(ShelfNo::Failed) => Err(Status::FileFault(told)),
+        Err(ShelfNo::Long) => Err(Status::FileLong(told)),
         Err(ShelfNo::NoMemory) => Err(Status::NoMemory),
-    }
-}
-
-/// The status of a file that couldn't be read.
-fn file_fault(alloc: Global, name: &Text) -> Status
-    ensures { (result ≡ status.FileFault name.now) ⊎ (result ≡ status.NoMemory) }
-{
-    match name.copy(alloc) {
-        Ok(name) => Status::FileFault(name),
-        Err(NoMemory) => Status::NoMemory,
-    }
-}
-
-/// The status of a file that is too long.
-fn file_long(alloc: Global, name: &Text) -> Status
-    ensures { (result ≡ status.FileLong name.now) ⊎ (result ≡ status.NoMemory) }
-{
-    match name.copy(alloc) {
-        Ok(name) => Status::FileLong(name),
-        Err(NoMemory) => Status::NoMemory,
     }
 }
 
@@ -88,6 +75,7 @@ pub fn narration_in_file<F: Shelf>(
     ensures early { IfErr result IsEarly }
     ensures fetches { Fetches (name.now ∷ [])
         (F.files shelf.old) (F.files shelf.new) (F.faults shelf.old) (F.faults shelf.new) }
+    ensures told { TellsFileFaults result (F.faults shelf.old) (F.faults shelf.new) }
 {
     match fetch_file(alloc, shelf, name, NARRATION_LIMIT) {
         Ok(text) => narration_of_text(alloc, text.as_slice()),
@@ -126,6 +114,7 @@ pub fn protocol_in_file<F: Shelf>(
     ensures early { IfErr result IsEarly }
     ensures fetches { Fetches (name.now ∷ [])
         (F.files shelf.old) (F.files shelf.new) (F.faults shelf.old) (F.faults shelf.new) }
+    ensures told { TellsFileFaults result (F.faults shelf.old) (F.faults shelf.new) }
 {
     match narration_in_file(alloc, shelf, name) {
         Ok(narration) => protocol_of_narration(alloc, &narration),
@@ -160,6 +149,7 @@ pub fn code_in_file<F: Shelf>(alloc: Global, shelf: &mut F, name: &Text) -> Resu
     ensures early { IfErr result IsEarly }
     ensures fetches { Fetches (name.now ∷ [])
         (F.files shelf.old) (F.files shelf.new) (F.faults shelf.old) (F.faults shelf.new) }
+    ensures told { TellsFileFaults result (F.faults shelf.old) (F.faults shelf.new) }
 {
     match fetch_file(alloc, shelf, name, ROLE_FILE_LIMIT) {
         Ok(text) => code_of_text(alloc, text.as_slice()),
@@ -203,6 +193,7 @@ pub fn transcript_in_file<F: Shelf>(
     ensures early { IfErr result IsEarly }
     ensures fetches { Fetches (name.now ∷ [])
         (F.files shelf.old) (F.files shelf.new) (F.faults shelf.old) (F.faults shelf.new) }
+    ensures told { TellsFileFaults result (F.faults shelf.old) (F.faults shelf.new) }
 {
     match fetch_file(alloc, shelf, name, TRANSCRIPT_LIMIT) {
         Ok(text) => transcript_of_text(alloc, text.as_slice()),
@@ -249,6 +240,7 @@ pub fn values_in_file<F: Shelf>(
     ensures early { IfErr result IsEarly }
     ensures fetches { Fetches (name.now ∷ [])
         (F.files shelf.old) (F.files shelf.new) (F.faults shelf.old) (F.faults shelf.new) }
+    ensures told { TellsFileFaults result (F.faults shelf.old) (F.faults shelf.new) }
 {
     match fetch_file(alloc, shelf, name, VALUES_LIMIT) {
         Ok(text) => values_of_text(alloc, text.as_slice(), names),

@@ -10,6 +10,7 @@ ghost use Rattle.anb_command.specs.Causes.{HasWireCause};
 ghost use Rattle.anb_words.specs.Commands.{place_by};
 ghost use Rattle.anb_command.specs.OverWire.{OverWire, StaysReached};
 ghost use Rattle.anb_command.specs.Prepared.{RunsOn, status_of};
+ghost use Rattle.anb_command.specs.Reported.{TellsWireFaults};
 ghost use Rattle.anb_status.specs.Statuses.{after_reach, before_reach, phase_of};
 ghost use Rattle.anb_status.specs.declared.status.Status.TheVariants as status;
 
@@ -61,6 +62,7 @@ fn run_now<W: Wire>(alloc: Global, machine: &mut Machine<'_>, wire: &mut W) -> S
     ensures after { (phase_of result ≡ after_reach) ⊎ (result ≡ status.NoMemory) }
     ensures cause { (place : Place)
         → HasWireCause (Some place) (W.state wire.old) (W.state wire.new) result }
+    ensures told { TellsWireFaults (W.state wire.old) (W.state wire.new) result }
     ensures reached { StaysReached (W.state wire.old) (W.state wire.new) }
 {
     status_of(anb_session::play(alloc, machine, wire))

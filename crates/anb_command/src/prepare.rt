@@ -7,6 +7,7 @@ ghost use Rattle.anb_base.specs.Moves.{Rose};
 ghost use Rattle.anb_code.specs.Taking.{take_texts};
 ghost use Rattle.anb_command.specs.Errands.{ErrandOf};
 ghost use Rattle.anb_command.specs.Fetches.{Fetches, IfTold};
+ghost use Rattle.anb_command.specs.Reported.{TellsFileFaults};
 ghost use Rattle.anb_command.specs.Seeds.{SeedIs};
 ghost use Rattle.anb_status.specs.Statuses.{IsEarly};
 ghost use Rattle.anb_command.specs.Steps.{IsFailure, refused, given};
@@ -48,6 +49,7 @@ pub fn prepare_code<F: Shelf>(
     ensures early { IfErr result IsEarly }
     ensures fetches { Fetches (values.now ∷ [])
         (F.files shelf.old) (F.files shelf.new) (F.faults shelf.old) (F.faults shelf.new) }
+    ensures told { TellsFileFaults result (F.faults shelf.old) (F.faults shelf.new) }
 {
     let names = match texts_of_takes(alloc, &code) {
         Ok(names) => names,

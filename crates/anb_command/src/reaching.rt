@@ -46,6 +46,8 @@ pub(crate) fn write_now<W: Wire>(wire: &mut W, text: &[u8]) -> Result<(), Failed
         (PutPrefix (W.state wire.old).written (W.state wire.new).written text.now) }
     ensures cause { OnErr result
         (Rose (W.state wire.old).write_faults (W.state wire.new).write_faults) }
+    ensures quiet { OnOk result
+        ((W.state wire.new).write_faults ≡ (W.state wire.old).write_faults) }
     ensures only { OnlyWrites (W.state wire.old) (W.state wire.new) }
 {
     write_whole(wire, text)

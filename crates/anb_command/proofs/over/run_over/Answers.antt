@@ -30,7 +30,7 @@ pub returns-in-Ok-reach-clause-wire : goal.returns-in-Ok-reach-clause-wire
 returns-in-Ok-reach-clause-wire g c =
     subst (λ (place : Place). OverWire place true c.run_now.result (g.W.Wire.state c.args.wire.now) (g.W.Wire.state c.run_now.new.wire)) c.in-Ok.ensures
     (ran c.in-Ok.place (g.W.Wire.state c.args.wire.now) (g.W.Wire.state c.reach.new.wire) c.in-Ok-reach.ensures.reached (g.W.Wire.state c.run_now.new.wire) c.run_now.ensures.reached
-    c.run_now.result c.run_now.ensures.after (c.run_now.ensures.cause c.in-Ok.place))
+    c.run_now.result c.run_now.ensures.after (c.run_now.ensures.cause c.in-Ok.place) c.run_now.ensures.told)
 
 pub returns-in-Ok-reach-clause-late : goal.returns-in-Ok-reach-clause-late
 returns-in-Ok-reach-clause-late g c =

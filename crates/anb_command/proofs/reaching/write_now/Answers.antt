@@ -1,5 +1,5 @@
 use Rattle.std.proofs.Common.{sym, ◌∙◌}
-use Rattle.anb_command.proofs.States.{only_writes, puts, puts_prefix, write_rose}
+use Rattle.anb_command.proofs.States.{only_writes, puts, puts_prefix, write_quiet, write_rose}
 use Rattle.anb_command.proofs.reaching.write_now.Goals as goal
 
 pub returns-clause-put : goal.returns-clause-put
@@ -13,6 +13,10 @@ returns-clause-failed g c =
 pub returns-clause-cause : goal.returns-clause-cause
 returns-clause-cause g c =
     write_rose _ _ _ _ _ _ _ _ _ _ _ _ _ _ _ _ (g.met.W.Wire.state_tells c.args.wire.now) (g.met.W.Wire.state_tells c.write_whole.new.snk) c.write_whole.result c.write_whole.ensures.cause
+
+pub returns-clause-quiet : goal.returns-clause-quiet
+returns-clause-quiet g c =
+    write_quiet _ _ _ _ _ _ _ _ _ _ _ _ _ _ _ _ (g.met.W.Wire.state_tells c.args.wire.now) (g.met.W.Wire.state_tells c.write_whole.new.snk) c.write_whole.result c.write_whole.ensures.quiet
 
 pub returns-clause-only : goal.returns-clause-only
 returns-clause-only g c =

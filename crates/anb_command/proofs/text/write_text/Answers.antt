@@ -7,7 +7,7 @@ pub returns-in-Ok-write_now-clause-writes : goal.returns-in-Ok-write_now-clause-
 returns-in-Ok-write_now-clause-writes g c = text_put Stdio _ _ c.in-Ok.ensures.reached _ c.write_now.ensures.only c.args.text.now c.in-Ok-write_now.ensures.put
 
 pub returns-in-Ok-write_now-clause-wire : goal.returns-in-Ok-write_now-clause-wire
-returns-in-Ok-write_now-clause-wire g c = text_done Stdio _ _ c.in-Ok.ensures.reached _ c.write_now.ensures.only
+returns-in-Ok-write_now-clause-wire g c = text_done Stdio _ _ c.in-Ok.ensures.reached _ c.write_now.ensures.only c.in-Ok-write_now.ensures.quiet
 
 pub returns-in-Err-write_now-clause-writes : goal.returns-in-Err-write_now-clause-writes
 returns-in-Err-write_now-clause-writes g c = text_prefix Stdio _ _ c.in-Ok.ensures.reached _ c.write_now.ensures.only c.args.text.now c.in-Err-write_now.ensures.failed
