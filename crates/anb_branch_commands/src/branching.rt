@@ -11,6 +11,7 @@ ghost use Rattle.anb_command.specs.Fetches.{Fetches, IfTold, IsOneOf};
 ghost use Rattle.anb_command.specs.OverWire.{OverWire, StaysReached};
 ghost use Rattle.anb_command.specs.Prepared.{RunsOn};
 ghost use Rattle.anb_command.specs.Reaches.{Reaches};
+ghost use Rattle.anb_command.specs.Reported.{TellsFaults, TellsFileFaults, TellsWireFaults};
 ghost use Rattle.anb_status.specs.Statuses.{IsEarly, after_reach, before_reach, phase_of};
 ghost use Rattle.anb_command.specs.Steps.{IsFailure, refused, given};
 ghost use Rattle.anb_command.specs.Touches.{Touches};
@@ -56,6 +57,8 @@ pub fn branch<F: Shelf, W: Wire>(
         (W.state wire.old) (W.state wire.new) result }
     ensures faults { HasCause (words.entry.play.narration.now ∷ words.entry.play.values.now ∷ [])
         (Some (place_by words.entry.play.endpoint)) (F.faults shelf.old) (F.faults shelf.new)
+        (W.state wire.old) (W.state wire.new) result }
+    ensures reported { TellsFaults (F.faults shelf.old) (F.faults shelf.new)
         (W.state wire.old) (W.state wire.new) result }
     ensures fetches { Fetches (words.entry.play.narration.now ∷ words.entry.play.values.now ∷ [])
         (F.files shelf.old) (F.files shelf.new) (F.faults shelf.old) (F.faults shelf.new) }
@@ -143,6 +146,7 @@ fn branch_now<W: Wire>(
     ensures after { (phase_of result ≡ after_reach) ⊎ (result ≡ status.NoMemory) }
     ensures cause { (place : Place)
         → HasWireCause (Some place) (W.state wire.old) (W.state wire.new) result }
+    ensures told { TellsWireFaults (W.state wire.old) (W.state wire.new) result }
     ensures reached { StaysReached (W.state wire.old) (W.state wire.new) }
 {
     let Prepared {
@@ -194,6 +198,7 @@ fn prepare<F: Shelf>(
     ensures early { IfErr result IsEarly }
     ensures fetches { Fetches (words.entry.play.narration.now ∷ words.entry.play.values.now ∷ [])
         (F.files shelf.old) (F.files shelf.new) (F.faults shelf.old) (F.faults shelf.new) }
+    ensures told { TellsFileFaults result (F.faults shelf.old) (F.faults shelf.new) }
 {
     let branched = match branch_in_file(alloc, shelf, words.play.narration) {
         Ok(branched) => branched,

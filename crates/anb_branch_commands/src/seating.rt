@@ -7,6 +7,7 @@ ghost use Rattle.anb_choice.specs.Views.{branched_of};
 ghost use Rattle.anb_branch.specs.Arms.{FitArms};
 ghost use Rattle.anb_command.specs.declared.limits.TheConstants.{NARRATION_LIMIT};
 ghost use Rattle.anb_command.specs.Fetches.{Fetches, IfTold};
+ghost use Rattle.anb_command.specs.Reported.{TellsFileFaults};
 ghost use Rattle.anb_status.specs.Statuses.{IsEarly};
 ghost use Rattle.anb_command.specs.Steps.{IsFailure, refused, given};
 ghost use Rattle.anb_branch_commands.specs.Arming.{IsSeated};
@@ -34,6 +35,7 @@ pub(crate) fn branch_in_file<F: Shelf>(
     ensures early { IfErr result IsEarly }
     ensures fetches { Fetches (name.now ∷ [])
         (F.files shelf.old) (F.files shelf.new) (F.faults shelf.old) (F.faults shelf.new) }
+    ensures told { TellsFileFaults result (F.faults shelf.old) (F.faults shelf.new) }
 {
     match fetch_file(alloc, shelf, name, NARRATION_LIMIT) {
         Ok(text) => branch_of_text(alloc, text.as_slice()),

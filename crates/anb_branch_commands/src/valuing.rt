@@ -8,6 +8,7 @@ ghost use Rattle.anb_choice.specs.Lawful.{IsLawful, roles_in};
 ghost use Rattle.anb_choice.specs.Views.{branched_of};
 ghost use Rattle.anb_command.specs.Errands.{draws};
 ghost use Rattle.anb_command.specs.Fetches.{Fetches, IfTold};
+ghost use Rattle.anb_command.specs.Reported.{TellsFileFaults};
 ghost use Rattle.anb_status.specs.Statuses.{IsEarly};
 ghost use Rattle.anb_command.specs.Steps.{IsFailure, refused, given};
 ghost use Rattle.anb_branch_commands.specs.Arming.{IsArmed, IsSeated};
@@ -60,6 +61,7 @@ pub(crate) fn means_in_file<F: Shelf>(
     ensures early { IfErr result IsEarly }
     ensures fetches { Fetches (words.entry.play.values.now ∷ [])
         (F.files shelf.old) (F.files shelf.new) (F.faults shelf.old) (F.faults shelf.new) }
+    ensures told { TellsFileFaults result (F.faults shelf.old) (F.faults shelf.new) }
 {
     arms_know_alike();
     let names = match texts_known(alloc, b, words.play.name) {

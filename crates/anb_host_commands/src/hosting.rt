@@ -11,6 +11,7 @@ ghost use Rattle.anb_words.specs.Commands.{place_by};
 ghost use Rattle.anb_command.specs.Fetches.{Fetches};
 ghost use Rattle.anb_command.specs.OverWire.{OverWire, StaysReached};
 ghost use Rattle.anb_command.specs.Reaches.{Reaches};
+ghost use Rattle.anb_command.specs.Reported.{TellsFaults, TellsWireFaults};
 ghost use Rattle.anb_status.specs.Statuses.{after_reach, before_reach, phase_of};
 ghost use Rattle.anb_command.specs.Touches.{Touches};
 ghost use Rattle.anb_status.specs.declared.status.Status.TheVariants as status;
@@ -44,6 +45,8 @@ pub fn host<F: Shelf, W: Wire>(
         (F.files shelf.old) host_seed (W.state wire.old) (W.state wire.new) result }
     ensures faults { HasCause (words.entry.narration.now ∷ words.entry.values.now ∷ [])
         (Some (place_by words.entry.endpoint)) (F.faults shelf.old) (F.faults shelf.new)
+        (W.state wire.old) (W.state wire.new) result }
+    ensures reported { TellsFaults (F.faults shelf.old) (F.faults shelf.new)
         (W.state wire.old) (W.state wire.new) result }
     ensures fetches { Fetches (words.entry.narration.now ∷ words.entry.values.now ∷ [])
         (F.files shelf.old) (F.files shelf.new) (F.faults shelf.old) (F.faults shelf.new) }
@@ -99,6 +102,7 @@ fn serve_now<W: Wire>(alloc: Global, host: &mut Host<'_>, wire: &mut W) -> Statu
     ensures after { (phase_of result ≡ after_reach) ⊎ (result ≡ status.NoMemory) }
     ensures cause { (place : Place)
         → HasWireCause (Some place) (W.state wire.old) (W.state wire.new) result }
+    ensures told { TellsWireFaults (W.state wire.old) (W.state wire.new) result }
     ensures reached { StaysReached (W.state wire.old) (W.state wire.new) }
 {
     status_of(serve(alloc, host, wire, FRAMES))

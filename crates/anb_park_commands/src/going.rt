@@ -11,6 +11,7 @@ ghost use Rattle.anb_session.specs.Sessions.{IsPrompt};
 ghost use Rattle.anb_command.specs.Causes.{HasWireCause};
 ghost use Rattle.anb_words.specs.Commands.{place_by};
 ghost use Rattle.anb_command.specs.OverWire.{OnlyWrites, OverWire, StaysReached};
+ghost use Rattle.anb_command.specs.Reported.{TellsWireFaults};
 ghost use Rattle.anb_status.specs.Statuses.{after_reach, before_reach, phase_of};
 ghost use Rattle.anb_status.specs.declared.status.Status.TheVariants as status;
 ghost use Rattle.anb_park_commands.specs.Going.{IsKept, ParksOn, Writes, ended_so, plays_on, saved};
@@ -64,6 +65,7 @@ fn go_now<W: Wire>(alloc: Global, wire: &mut W, live: &mut Live<'_>, key: &[u8])
     ensures after { (phase_of result ≡ after_reach) ⊎ (result ≡ status.NoMemory) }
     ensures cause { (place : Place)
         → HasWireCause (Some place) (W.state wire.old) (W.state wire.new) result }
+    ensures told { TellsWireFaults (W.state wire.old) (W.state wire.new) result }
     ensures reached { StaysReached (W.state wire.old) (W.state wire.new) }
 {
     match play_on(alloc, live, wire) {
@@ -101,6 +103,7 @@ fn keep<W: Wire>(alloc: Global, wire: &mut W, live: &Live<'_>, key: &[u8], event
     ensures after { (phase_of result ≡ after_reach) ⊎ (result ≡ status.NoMemory) }
     ensures cause { (place : Place)
         → HasWireCause (Some place) (W.state wire.old) (W.state wire.new) result }
+    ensures told { TellsWireFaults (W.state wire.old) (W.state wire.new) result }
     ensures only { OnlyWrites (W.state wire.old) (W.state wire.new) }
 {
     let parked = match live.park(alloc, key) {
@@ -125,6 +128,8 @@ fn put_record<W: Wire>(wire: &mut W, parked: &[u8]) -> Result<(), Failed>
         (PutPrefix (W.state wire.old).written (W.state wire.new).written (frame parked.now)) }
     ensures cause { OnErr result
         (Rose (W.state wire.old).write_faults (W.state wire.new).write_faults) }
+    ensures quiet { OnOk result
+        ((W.state wire.new).write_faults ≡ (W.state wire.old).write_faults) }
     ensures only { OnlyWrites (W.state wire.old) (W.state wire.new) }
 {
     put(wire, parked)

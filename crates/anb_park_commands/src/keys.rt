@@ -2,6 +2,7 @@
 ghost use Rattle.std.specs.Prelude.{◌≡◌, [], ◌∷◌, IfOk, IfErr};
 ghost use Rattle.anb_base.specs.Moves.{Rose};
 ghost use Rattle.anb_command.specs.Fetches.{Fetches, IfTold};
+ghost use Rattle.anb_command.specs.Reported.{TellsFileFaults};
 ghost use Rattle.anb_status.specs.Statuses.{IsEarly};
 ghost use Rattle.anb_command.specs.Steps.{IsFailure, refused, given};
 ghost use Rattle.anb_park_commands.specs.Keys.{KeyIs};
@@ -26,6 +27,7 @@ pub(crate) fn key_in_file<F: Shelf>(
     ensures early { IfErr result IsEarly }
     ensures fetches { Fetches (name.now ∷ [])
         (F.files shelf.old) (F.files shelf.new) (F.faults shelf.old) (F.faults shelf.new) }
+    ensures told { TellsFileFaults result (F.faults shelf.old) (F.faults shelf.new) }
 {
     match fetch_file(alloc, shelf, name, KEY_LIMIT) {
         Ok(key) if key.as_slice().is_empty() => Err(Status::BadRecord(ParkNo::Damaged)),

@@ -7,6 +7,7 @@ ghost use Rattle.anb_syntax.specs.Sizes.{size};
 ghost use Rattle.anb_syntax.specs.Views.{narration_of};
 ghost use Rattle.anb_command.specs.declared.limits.TheConstants.{NARRATION_LIMIT};
 ghost use Rattle.anb_command.specs.Fetches.{Fetches, IfTold};
+ghost use Rattle.anb_command.specs.Reported.{TellsFileFaults};
 ghost use Rattle.anb_command.specs.Roles.{PartInFile};
 ghost use Rattle.anb_status.specs.Statuses.{IsEarly};
 ghost use Rattle.anb_command.specs.Steps.{IsFailure, refused, given};
@@ -50,6 +51,7 @@ pub(crate) fn owner_in_file<F: Shelf>(
     ensures early { IfErr result IsEarly }
     ensures fetches { Fetches (narration.now ∷ [])
         (F.files shelf.old) (F.files shelf.new) (F.faults shelf.old) (F.faults shelf.new) }
+    ensures told { TellsFileFaults result (F.faults shelf.old) (F.faults shelf.new) }
 {
     match narration_in_file(alloc, shelf, narration) {
         Ok(narration) => owner_of(alloc, &narration, name),

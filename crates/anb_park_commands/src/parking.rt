@@ -8,6 +8,7 @@ ghost use Rattle.anb_command.specs.Causes.{HasCause, NoneRose};
 ghost use Rattle.anb_words.specs.Commands.{place_by};
 ghost use Rattle.anb_command.specs.Fetches.{Fetches, IfTold, IsOneOf};
 ghost use Rattle.anb_command.specs.Reaches.{Reaches};
+ghost use Rattle.anb_command.specs.Reported.{TellsFaults, TellsFileFaults};
 ghost use Rattle.anb_status.specs.Statuses.{IsEarly, before_reach, phase_of};
 ghost use Rattle.anb_command.specs.Steps.{IsFailure, refused};
 ghost use Rattle.anb_command.specs.Touches.{Touches};
@@ -55,6 +56,8 @@ pub fn park<F: Shelf, W: Wire>(
     ensures faults { HasCause (words.entry.play.narration.now ∷ words.entry.play.values.now
         ∷ words.entry.key.now ∷ [])
         (Some (place_by words.entry.play.endpoint)) (F.faults shelf.old) (F.faults shelf.new)
+        (W.state wire.old) (W.state wire.new) result }
+    ensures reported { TellsFaults (F.faults shelf.old) (F.faults shelf.new)
         (W.state wire.old) (W.state wire.new) result }
     ensures fetches { Fetches (words.entry.play.narration.now ∷ words.entry.play.values.now
         ∷ words.entry.key.now ∷ [])
@@ -133,6 +136,7 @@ fn prepare<F: Shelf>(
     ensures fetches { Fetches (words.entry.play.narration.now ∷ words.entry.play.values.now
         ∷ words.entry.key.now ∷ [])
         (F.files shelf.old) (F.files shelf.new) (F.faults shelf.old) (F.faults shelf.new) }
+    ensures told { TellsFileFaults result (F.faults shelf.old) (F.faults shelf.new) }
 {
     let owner = match owner_in_file(alloc, shelf, words.play.narration, words.play.name) {
         Ok(owner) => owner,

@@ -8,6 +8,7 @@ ghost use Rattle.anb_words.specs.Commands.{place_by};
 ghost use Rattle.anb_command.specs.Fetches.{Fetches, Files, IfTold};
 ghost use Rattle.anb_command.specs.Files.{FileIs};
 ghost use Rattle.anb_command.specs.Reaches.{Reaches};
+ghost use Rattle.anb_command.specs.Reported.{TellsFaults, TellsFileFaults};
 ghost use Rattle.anb_status.specs.Statuses.{IsEarly, phase_of};
 ghost use Rattle.anb_command.specs.Steps.{IsFailure, refused, given};
 ghost use Rattle.anb_command.specs.Touches.{Touches};
@@ -53,6 +54,8 @@ pub fn resume<F: Shelf, W: Wire>(
     ensures faults { HasCause (words.entry.narration.now ∷ words.entry.parked.now
         ∷ words.entry.key.now ∷ [])
         (Some (place_by words.entry.endpoint)) (F.faults shelf.old) (F.faults shelf.new)
+        (W.state wire.old) (W.state wire.new) result }
+    ensures reported { TellsFaults (F.faults shelf.old) (F.faults shelf.new)
         (W.state wire.old) (W.state wire.new) result }
     ensures fetches { Fetches (words.entry.narration.now ∷ words.entry.parked.now
         ∷ words.entry.key.now ∷ [])
@@ -103,6 +106,7 @@ fn wake<'c, F: Shelf>(
     ensures early { IfErr result IsEarly }
     ensures fetches { Fetches (words.entry.parked.now ∷ words.entry.key.now ∷ [])
         (F.files shelf.old) (F.files shelf.new) (F.faults shelf.old) (F.faults shelf.new) }
+    ensures told { TellsFileFaults result (F.faults shelf.old) (F.faults shelf.new) }
 {
     let parked = match fetch_file(alloc, shelf, words.parked, RECORD_LIMIT) {
         Ok(parked) => parked,

@@ -7,6 +7,7 @@ ghost use Rattle.anb_command.specs.Causes.{HasCause, NoneRose};
 ghost use Rattle.anb_words.specs.Commands.{place_by};
 ghost use Rattle.anb_command.specs.Fetches.{Fetches, IfTold, IsOneOf};
 ghost use Rattle.anb_command.specs.Reaches.{Reaches};
+ghost use Rattle.anb_command.specs.Reported.{TellsFaults, TellsFileFaults};
 ghost use Rattle.anb_status.specs.Statuses.{IsEarly, phase_of};
 ghost use Rattle.anb_command.specs.Steps.{IsFailure, refused, given};
 ghost use Rattle.anb_command.specs.Touches.{Touches};
@@ -34,6 +35,8 @@ pub fn enact<F: Shelf, W: Wire>(
         (F.files shelf.old) host_seed (W.state wire.old) (W.state wire.new) result }
     ensures faults { HasCause (words.entry.code.now ∷ words.entry.values.now ∷ [])
         (Some (place_by words.entry.endpoint)) (F.faults shelf.old) (F.faults shelf.new)
+        (W.state wire.old) (W.state wire.new) result }
+    ensures reported { TellsFaults (F.faults shelf.old) (F.faults shelf.new)
         (W.state wire.old) (W.state wire.new) result }
     ensures fetches { Fetches (words.entry.code.now ∷ words.entry.values.now ∷ [])
         (F.files shelf.old) (F.files shelf.new) (F.faults shelf.old) (F.faults shelf.new) }
@@ -74,6 +77,7 @@ fn load_prepared<F: Shelf>(
     ensures early { IfErr result IsEarly }
     ensures fetches { Fetches (words.entry.code.now ∷ words.entry.values.now ∷ [])
         (F.files shelf.old) (F.files shelf.new) (F.faults shelf.old) (F.faults shelf.new) }
+    ensures told { TellsFileFaults result (F.faults shelf.old) (F.faults shelf.new) }
 {
     match code_in_file(alloc, shelf, words.code) {
         Ok(code) => prepare_code(alloc, shelf, words.values, code, host_seed),

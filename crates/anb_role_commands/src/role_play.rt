@@ -11,6 +11,7 @@ ghost use Rattle.anb_command.specs.Fetches.{Fetches, IfTold, IsOneOf};
 ghost use Rattle.anb_command.specs.OverWire.{OverWire};
 ghost use Rattle.anb_command.specs.Prepared.{RunsOn};
 ghost use Rattle.anb_command.specs.Reaches.{Reaches};
+ghost use Rattle.anb_command.specs.Reported.{TellsFaults, TellsFileFaults};
 ghost use Rattle.anb_status.specs.Statuses.{IsEarly, before_reach, phase_of};
 ghost use Rattle.anb_command.specs.Steps.{IsFailure, refused, given};
 ghost use Rattle.anb_command.specs.Touches.{Touches};
@@ -44,6 +45,8 @@ pub fn play<F: Shelf, W: Wire>(
         (F.files shelf.old) host_seed (W.state wire.old) (W.state wire.new) result }
     ensures faults { HasCause (words.entry.narration.now ∷ words.entry.values.now ∷ [])
         (Some (place_by words.entry.endpoint)) (F.faults shelf.old) (F.faults shelf.new)
+        (W.state wire.old) (W.state wire.new) result }
+    ensures reported { TellsFaults (F.faults shelf.old) (F.faults shelf.new)
         (W.state wire.old) (W.state wire.new) result }
     ensures fetches { Fetches (words.entry.narration.now ∷ words.entry.values.now ∷ [])
         (F.files shelf.old) (F.files shelf.new) (F.faults shelf.old) (F.faults shelf.new) }
@@ -116,6 +119,7 @@ pub fn prepare<F: Shelf>(
     ensures early { IfErr result IsEarly }
     ensures fetches { Fetches (words.entry.narration.now ∷ words.entry.values.now ∷ [])
         (F.files shelf.old) (F.files shelf.new) (F.faults shelf.old) (F.faults shelf.new) }
+    ensures told { TellsFileFaults result (F.faults shelf.old) (F.faults shelf.new) }
 {
     match playable_in_file(alloc, shelf, words.narration, words.name) {
         Ok(playable) => prepare_role(alloc, shelf, words.values, playable, host_seed),
@@ -148,6 +152,7 @@ fn prepare_role<F: Shelf>(
     ensures early { IfErr result IsEarly }
     ensures fetches { Fetches (values.now ∷ [])
         (F.files shelf.old) (F.files shelf.new) (F.faults shelf.old) (F.faults shelf.new) }
+    ensures told { TellsFileFaults result (F.faults shelf.old) (F.faults shelf.new) }
 {
     let Playable { protocol, code, .. } = playable;
     fitting_codes_play(&protocol);

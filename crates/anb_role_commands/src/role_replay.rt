@@ -9,6 +9,7 @@ ghost use Rattle.anb_command.specs.Causes.{HasCause, NoneRose};
 ghost use Rattle.anb_command.specs.Fetches.{Fetches, IfTold, IsOneOf};
 ghost use Rattle.anb_command.specs.OverWire.{OverWire};
 ghost use Rattle.anb_command.specs.Reaches.{Reaches};
+ghost use Rattle.anb_command.specs.Reported.{TellsFaults, TellsFileFaults};
 ghost use Rattle.anb_status.specs.Statuses.{IsEarly, before_reach, phase_of};
 ghost use Rattle.anb_command.specs.Steps.{IsFailure, refused};
 ghost use Rattle.anb_command.specs.Touches.{Touches};
@@ -54,6 +55,8 @@ pub fn replay<F: Shelf, W: Wire>(
     ensures faults { HasCause (words.entry.narration.now ∷ words.entry.values.now
         ∷ words.entry.transcript.now ∷ [])
         (Some place.Stdio) (F.faults shelf.old) (F.faults shelf.new)
+        (W.state wire.old) (W.state wire.new) result }
+    ensures reported { TellsFaults (F.faults shelf.old) (F.faults shelf.new)
         (W.state wire.old) (W.state wire.new) result }
     ensures fetches { Fetches (words.entry.narration.now ∷ words.entry.values.now
         ∷ words.entry.transcript.now ∷ [])
@@ -105,6 +108,7 @@ fn prepare_comparison<F: Shelf>(
     ensures fetches { Fetches (words.entry.narration.now ∷ words.entry.values.now
         ∷ words.entry.transcript.now ∷ [])
         (F.files shelf.old) (F.files shelf.new) (F.faults shelf.old) (F.faults shelf.new) }
+    ensures told { TellsFileFaults result (F.faults shelf.old) (F.faults shelf.new) }
 {
     let play = PlayWords {
         narration: words.narration,

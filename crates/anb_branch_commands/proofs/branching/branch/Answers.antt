@@ -1,4 +1,4 @@
-use Rattle.std.proofs.Common.{[], ◌∷◌}
+use Rattle.std.proofs.Common.{[], ◌∷◌, refl}
 use Rattle.anb_choice.specs.Views.{branched_of}
 use Rattle.anb_branch.specs.Taken.{run_taken}
 use Rattle.anb_words.specs.Commands.{place_by}
@@ -11,6 +11,7 @@ use Rattle.anb_branch_commands.specs.BranchJobs.{BranchJobIs, IsReadToBranch}
 use Rattle.anb_branch_commands.proofs.Completing.{completes_branch}
 use Rattle.anb_branch_commands.proofs.Preparing.{job_ready}
 use Rattle.anb_branch_commands.proofs.Tasks.{branch_job_one, branch_job_quiet}
+use Rattle.anb_command.proofs.Reported.{told_before, told_behind}
 use Rattle.anb_branch_commands.proofs.branching.branch.Goals as goal
 
 pub returns-in-Ok-clause-does : goal.returns-in-Ok-clause-does
@@ -76,3 +77,9 @@ returns-in-Err-clause-reached g c = early_reaches (place_by c.args.words.play.en
 
 pub returns-in-Err-clause-touches : goal.returns-in-Err-clause-touches
 returns-in-Err-clause-touches g c = untouched _ _ _
+
+pub returns-in-Ok-clause-reported : goal.returns-in-Ok-clause-reported
+returns-in-Ok-clause-reported g c = told_behind _ _ _ _ _ (c.in-Ok.ensures.told refl) c.branch_over.ensures.wire.told
+
+pub returns-in-Err-clause-reported : goal.returns-in-Err-clause-reported
+returns-in-Err-clause-reported g c = told_before _ _ _ _ c.in-Err.ensures.told

@@ -4,9 +4,12 @@ use Rattle.anb_choice.specs.Views.{branched_of}
 use Rattle.anb_branch.specs.Taken.{run_taken}
 use Rattle.anb_command.specs.Causes.{HasWireCause}
 use Rattle.anb_command.specs.OverWire.{StaysReached}
-use Rattle.anb_command.specs.Prepared.{RunsOn}
+use Rattle.anb_session.specs.declared.PlayEnd.TheVariants as ends
+use Rattle.anb_command.specs.Prepared.{RunsOn, status_of}
+use Rattle.anb_command.specs.Reported.{TellsWireFaults}
 use Rattle.anb_command.proofs.Causes.{after_of, cause_of}
 use Rattle.anb_command.proofs.OverWire.{by_parts}
+use Rattle.anb_command.proofs.Reported.{end_told}
 use Rattle.anb_command.proofs.Runs.{runs_to}
 use Rattle.anb_command.proofs.States.{telling}
 use Rattle.anb_branch_commands.proofs.branching.branch_now.Goals as goal
@@ -29,6 +32,11 @@ returns-clause-cause g c = λ place.
     let T = telling (g.W.Source.left v) (g.W.Source.taken_at v) (g.W.Source.faults v) (g.W.Sink.written v) (g.W.Sink.faults v) (g.W.Wire.reached v) (g.W.Wire.reach_faults v) in
     by_parts (λ (S T : WireState). HasWireCause (Some place) S T c.status_of.result) (g.W.Wire.state w) (g.W.Wire.state v) S T (g.met.W.Wire.state_tells w) (g.met.W.Wire.state_tells v)
     (rw c.status_of.ensures (cause_of c.branch_play.result place S T c.branch_play.ensures.read_fault c.branch_play.ensures.write_fault))
+
+pub returns-clause-told : goal.returns-clause-told
+returns-clause-told g c =
+    by_parts (λ (S T : WireState). TellsWireFaults S T c.status_of.result) _ _ _ _ (g.met.W.Wire.state_tells c.args.wire.now) (g.met.W.Wire.state_tells c.branch_play.new.wire)
+    (rw c.status_of.ensures (end_told status_of c.branch_play.result ends.ReadFault ends.WriteFault refl refl _ _ c.branch_play.ensures.read_told c.branch_play.ensures.write_told c.branch_play.ensures.reach_faults))
 
 pub returns-clause-reached : goal.returns-clause-reached
 returns-clause-reached g c =

@@ -1,4 +1,4 @@
-use Rattle.std.proofs.Common.{inl, inr}
+use Rattle.std.proofs.Common.{inl, inr, refl, ◌∙◌}
 use Rattle.anb_base.proofs.Moving.{Rose-later}
 use Rattle.anb_choice.specs.Views.{branched_of}
 use Rattle.anb_command.proofs.Failing.{IsFailure-map}
@@ -48,3 +48,15 @@ returns-in-Err-means_in_file-clause-refused g c =
     ))
     (λ is. job_answers told play.narration.now play.name.now play.values.now words.told c.args.host_seed b _ c.in-Ok.ensures.given c.in-Ok-codes_for.ensures.given is)
     (rw kept.same_files at c.in-Err-means_in_file.ensures.refused)
+
+pub returns-in-Ok-means_in_file-clause-told : goal.returns-in-Ok-means_in_file-clause-told
+returns-in-Ok-means_in_file-clause-told g c = λ _. c.in-Ok-means_in_file.ensures.told refl ∙ c.in-Ok.ensures.told refl
+
+pub returns-in-Err-means_in_file-clause-told : goal.returns-in-Err-means_in_file-clause-told
+returns-in-Err-means_in_file-clause-told g c = λ other. c.in-Err-means_in_file.ensures.told other ∙ c.in-Ok.ensures.told refl
+
+pub returns-in-Err-codes_for-clause-told : goal.returns-in-Err-codes_for-clause-told
+returns-in-Err-codes_for-clause-told g c = λ _. c.in-Ok.ensures.told refl
+
+pub returns-in-Err-clause-told : goal.returns-in-Err-clause-told
+returns-in-Err-clause-told g c = c.in-Err.ensures.told

@@ -1,4 +1,4 @@
-use Rattle.std.proofs.Common.{[], ◌∷◌}
+use Rattle.std.proofs.Common.{[], ◌∷◌, refl}
 use Rattle.anb_words.specs.Commands.{place_by}
 use Rattle.anb_command.proofs.Causes.{early_cause, early_reaches, only_memory, wire_cause}
 use Rattle.anb_command.proofs.Failing.{IsFailure-map}
@@ -6,6 +6,7 @@ use Rattle.anb_command.proofs.OverWire.{untouched}
 use Rattle.anb_role_commands.proofs.Tasks.{job_one, job_quiet}
 use Rattle.anb_host_commands.proofs.Completing.{completes_host}
 use Rattle.anb_host_commands.proofs.Serving.{refuses_host, serves_host}
+use Rattle.anb_command.proofs.Reported.{told_before, told_behind}
 use Rattle.anb_host_commands.proofs.hosting.host.Goals as goal
 
 pub returns-in-Ok-clause-does : goal.returns-in-Ok-clause-does
@@ -64,3 +65,9 @@ returns-in-Err-clause-reached g c = early_reaches (place_by c.args.words.endpoin
 
 pub returns-in-Err-clause-touches : goal.returns-in-Err-clause-touches
 returns-in-Err-clause-touches g c = untouched _ _ _
+
+pub returns-in-Ok-clause-reported : goal.returns-in-Ok-clause-reported
+returns-in-Ok-clause-reported g c = told_behind _ _ _ _ _ (c.in-Ok.ensures.told refl) c.serve_over.ensures.wire.told
+
+pub returns-in-Err-clause-reported : goal.returns-in-Err-clause-reported
+returns-in-Err-clause-reported g c = told_before _ _ _ _ c.in-Err.ensures.told

@@ -24,7 +24,7 @@ pub returns-in-Ok-reach-clause-wire : goal.returns-in-Ok-reach-clause-wire
 returns-in-Ok-reach-clause-wire g c =
     subst (λ (place : Place). OverWire place true c.serve_now.result (g.W.Wire.state c.args.wire.now) (g.W.Wire.state c.serve_now.new.wire)) c.in-Ok.ensures
     (ran c.in-Ok.place (g.W.Wire.state c.args.wire.now) (g.W.Wire.state c.reach.new.wire) c.in-Ok-reach.ensures.reached (g.W.Wire.state c.serve_now.new.wire) c.serve_now.ensures.reached
-    c.serve_now.result c.serve_now.ensures.after (c.serve_now.ensures.cause c.in-Ok.place))
+    c.serve_now.result c.serve_now.ensures.after (c.serve_now.ensures.cause c.in-Ok.place) c.serve_now.ensures.told)
 
 pub returns-in-Err-clause-serves : goal.returns-in-Err-clause-serves
 returns-in-Err-clause-serves g c = inl (idle_no_memory (g.W.Wire.state c.args.wire.now))

@@ -6,11 +6,14 @@ use Rattle.anb_machine.specs.Machines.{gives}
 use Rattle.anb_park.specs.Records.{after}
 use Rattle.anb_session.specs.declared.PlayEnd.TheVariants as ends
 use Rattle.anb_command.specs.Causes.{HasWireCause}
+use Rattle.anb_status.specs.declared.status.Status.TheVariants.{Waiting}
 use Rattle.anb_command.specs.OverWire.{StaysReached}
+use Rattle.anb_command.specs.Reported.{TellsWireFaults}
 use Rattle.anb_command.proofs.OverWire.{by_parts}
 use Rattle.anb_session.proofs.Prompt.{prompt_placeless}
+use Rattle.anb_command.proofs.Reported.{end_told, told_further}
 use Rattle.anb_command.proofs.States.{telling}
-use Rattle.anb_park_commands.specs.Going.{plays_on, saved}
+use Rattle.anb_park_commands.specs.Going.{ended_so, plays_on, saved}
 use Rattle.anb_park_commands.proofs.Reached.{RunsSo, after_of, cause_further, cause_of, never_parked, parks_ended, parks_waiting, prompt_writing, stays_writing}
 use Rattle.anb_park_commands.proofs.going.go_now.Goals as goal
 
@@ -60,6 +63,19 @@ returns-in-Waiting-clause-cause g c = λ place.
       reads = c.in-Waiting.ensures.reading_never_falls;
       writes = c.in-Waiting.ensures.writing_never_falls;
     })) c.keep.ensures.only place c.keep.result (c.keep.ensures.cause place)
+
+pub returns-in-Waiting-clause-told : goal.returns-in-Waiting-clause-told
+returns-in-Waiting-clause-told g c =
+    let e = c.in-Waiting.ensures in
+    told_further _ _ (Waiting c.in-Waiting.event) refl
+    (by_parts (λ (S T : WireState). TellsWireFaults S T (Waiting c.in-Waiting.event)) _ _ _ _ (g.met.W.Wire.state_tells c.args.wire.now) (g.met.W.Wire.state_tells c.play_on.new.wire)
+    (end_told ended_so (ends.Waiting c.in-Waiting.event) ends.ReadFault ends.WriteFault refl refl _ _ e.read_told e.write_told e.reach_faults))
+    _ c.keep.result c.keep.ensures.told
+
+pub returns-in_default-clause-told : goal.returns-in_default-clause-told
+returns-in_default-clause-told g c =
+    by_parts (λ (S T : WireState). TellsWireFaults S T c.ended.result) _ _ _ _ (g.met.W.Wire.state_tells c.args.wire.now) (g.met.W.Wire.state_tells c.play_on.new.wire)
+    (rw c.ended.ensures (end_told ended_so c.play_on.result ends.ReadFault ends.WriteFault refl refl _ _ c.play_on.ensures.read_told c.play_on.ensures.write_told c.play_on.ensures.reach_faults))
 
 pub returns-in_default-clause-parks : goal.returns-in_default-clause-parks
 returns-in_default-clause-parks g c = λ code s sent stands.

@@ -26,7 +26,7 @@ pub returns-in-Ok-reach-clause-wire : goal.returns-in-Ok-reach-clause-wire
 returns-in-Ok-reach-clause-wire g c =
     subst (λ (place : Place). OverWire place true c.go_now.result (g.W.Wire.state c.args.wire.now) (g.W.Wire.state c.go_now.new.wire)) c.in-Ok.ensures
     (ran c.in-Ok.place (g.W.Wire.state c.args.wire.now) (g.W.Wire.state c.reach.new.wire) c.in-Ok-reach.ensures.reached (g.W.Wire.state c.go_now.new.wire) c.go_now.ensures.reached
-    c.go_now.result c.go_now.ensures.after (c.go_now.ensures.cause c.in-Ok.place))
+    c.go_now.result c.go_now.ensures.after (c.go_now.ensures.cause c.in-Ok.place) c.go_now.ensures.told)
 
 pub returns-in-Ok-reach-clause-late : goal.returns-in-Ok-reach-clause-late
 returns-in-Ok-reach-clause-late g c =

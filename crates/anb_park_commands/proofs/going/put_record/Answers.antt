@@ -1,6 +1,6 @@
 use Rattle.std.proofs.Common.{sym, ◌∙◌}
 use Rattle.anb_frame.specs.Frames.{frame}
-use Rattle.anb_command.proofs.States.{only_writes, puts, puts_prefix, write_rose}
+use Rattle.anb_command.proofs.States.{only_writes, puts, puts_prefix, write_quiet, write_rose}
 use Rattle.anb_park_commands.proofs.going.put_record.Goals as goal
 
 pub returns-clause-put : goal.returns-clause-put
@@ -14,6 +14,10 @@ returns-clause-failed g c =
 pub returns-clause-cause : goal.returns-clause-cause
 returns-clause-cause g c =
     write_rose _ _ _ _ _ _ _ _ _ _ _ _ _ _ _ _ (g.met.W.Wire.state_tells c.args.wire.now) (g.met.W.Wire.state_tells c.put.new.snk) c.put.result c.put.ensures.cause
+
+pub returns-clause-quiet : goal.returns-clause-quiet
+returns-clause-quiet g c =
+    write_quiet _ _ _ _ _ _ _ _ _ _ _ _ _ _ _ _ (g.met.W.Wire.state_tells c.args.wire.now) (g.met.W.Wire.state_tells c.put.new.snk) c.put.result c.put.ensures.quiet
 
 pub returns-clause-only : goal.returns-clause-only
 returns-clause-only g c =

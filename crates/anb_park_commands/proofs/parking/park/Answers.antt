@@ -1,4 +1,4 @@
-use Rattle.std.proofs.Common.{[], ◌∷◌}
+use Rattle.std.proofs.Common.{[], ◌∷◌, refl}
 use Rattle.anb_role_commands.specs.Playing.{play_by}
 use Rattle.anb_words.specs.Commands.{place_by}
 use Rattle.anb_command.proofs.Causes.{early_cause, early_reaches, only_memory, wire_cause}
@@ -12,6 +12,7 @@ use Rattle.anb_park_commands.proofs.Answering.{parks_over, refuses_over}
 use Rattle.anb_park_commands.proofs.Completing.{completes_played, completes_refused}
 use Rattle.anb_park_commands.proofs.Ready.{Keeps, begins_ready}
 use Rattle.anb_park_commands.proofs.Tasks.{new_session_one, new_session_quiet}
+use Rattle.anb_command.proofs.Reported.{told_before, told_behind}
 use Rattle.anb_park_commands.proofs.parking.park.Goals as goal
 
 pub returns-in-Ok-clause-does : goal.returns-in-Ok-clause-does
@@ -84,3 +85,9 @@ returns-in-Err-clause-reached g c = early_reaches (place_by c.args.words.play.en
 
 pub returns-in-Err-clause-touches : goal.returns-in-Err-clause-touches
 returns-in-Err-clause-touches g c = untouched _ _ _
+
+pub returns-in-Ok-clause-reported : goal.returns-in-Ok-clause-reported
+returns-in-Ok-clause-reported g c = told_behind _ _ _ _ _ (c.in-Ok.ensures.told refl) c.begin_over.ensures.wire.told
+
+pub returns-in-Err-clause-reported : goal.returns-in-Err-clause-reported
+returns-in-Err-clause-reported g c = told_before _ _ _ _ c.in-Err.ensures.told

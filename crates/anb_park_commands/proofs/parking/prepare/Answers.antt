@@ -1,4 +1,4 @@
-use Rattle.std.proofs.Common.{Option, ◌∙◌, subst, inl, inr}
+use Rattle.std.proofs.Common.{Option, ◌∙◌, subst, inl, inr, refl}
 use Rattle.anb_base.proofs.Moving.{Rose-later}
 use Rattle.anb_command.specs.Errands.{ErrandOf}
 use Rattle.anb_command.specs.Fetches.{Files, IfTold}
@@ -62,3 +62,15 @@ returns-clause-refused g c =
     (λ is. begun_no_key told play.narration.now play.name.now play.values.now c.args.words.key.now c.args.host_seed role.protocol role.role role.code c.in-Ok.ensures.fits
     p.code p.initial p.seed c.in-Ok-prepare_code.ensures.same c.in-Ok.ensures.given (subst (λ (t : Option Files). IfTold t (λ files. ErrandOf files play.values.now c.args.host_seed role.code (given (record { code = p.code; initial = p.initial; seed = p.seed })))) kept.same_files c.in-Ok-prepare_code.ensures.given) s is)
     (rw kept.same_files at (rw next.same_files at c.in-Err-key_in_file.ensures.refused))
+
+pub returns-in-Ok-key_in_file-clause-told : goal.returns-in-Ok-key_in_file-clause-told
+returns-in-Ok-key_in_file-clause-told g c = λ _. c.in-Ok-key_in_file.ensures.told refl ∙ c.in-Ok-prepare_code.ensures.told refl ∙ c.in-Ok.ensures.told refl
+
+pub returns-in-Err-prepare_code-clause-told : goal.returns-in-Err-prepare_code-clause-told
+returns-in-Err-prepare_code-clause-told g c = λ other. c.in-Err-prepare_code.ensures.told other ∙ c.in-Ok.ensures.told refl
+
+pub returns-clause-told : goal.returns-clause-told
+returns-clause-told g c = λ other. c.in-Err-key_in_file.ensures.told other ∙ c.in-Ok-prepare_code.ensures.told refl ∙ c.in-Ok.ensures.told refl
+
+pub returns-in-Err-clause-told : goal.returns-in-Err-clause-told
+returns-in-Err-clause-told g c = c.in-Err.ensures.told

@@ -1,4 +1,4 @@
-use Rattle.std.proofs.Common.{[], ◌∷◌, inl, inr}
+use Rattle.std.proofs.Common.{[], ◌∷◌, inl, inr, refl, ◌∙◌}
 use Rattle.anb_base.proofs.Moving.{Rose-later}
 use Rattle.anb_words.specs.Commands.{place_by}
 use Rattle.anb_command.proofs.Chains.{told_map}
@@ -13,6 +13,7 @@ use Rattle.anb_park_commands.proofs.Chains.{narration_read_again, record_read, r
 use Rattle.anb_park_commands.proofs.Completing.{completes_played, completes_refused}
 use Rattle.anb_park_commands.proofs.Ready.{Keeps, goes_on_ready}
 use Rattle.anb_park_commands.proofs.Tasks.{resumed_one, resumed_quiet}
+use Rattle.anb_command.proofs.Reported.{told_before, told_behind}
 use Rattle.anb_park_commands.proofs.resuming.resume.Goals as goal
 
 pub returns-in-Ok-wake-clause-does : goal.returns-in-Ok-wake-clause-does
@@ -148,3 +149,12 @@ returns-in-Err-clause-reached g c = early_reaches (place_by c.args.words.endpoin
 
 pub returns-in-Err-clause-touches : goal.returns-in-Err-clause-touches
 returns-in-Err-clause-touches g c = untouched _ _ _
+
+pub returns-in-Ok-wake-clause-reported : goal.returns-in-Ok-wake-clause-reported
+returns-in-Ok-wake-clause-reported g c = told_behind _ _ _ _ _ (c.in-Ok-wake.ensures.told refl ∙ c.in-Ok.ensures.told refl) c.go_over.ensures.wire.told
+
+pub returns-clause-reported : goal.returns-clause-reported
+returns-clause-reported g c = told_before _ _ _ _ (λ other. c.in-Err-wake.ensures.told other ∙ c.in-Ok.ensures.told refl)
+
+pub returns-in-Err-clause-reported : goal.returns-in-Err-clause-reported
+returns-in-Err-clause-reported g c = told_before _ _ _ _ c.in-Err.ensures.told

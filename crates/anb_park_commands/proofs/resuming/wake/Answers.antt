@@ -1,4 +1,4 @@
-use Rattle.std.proofs.Common.{Option, refl, subst, inl, inr}
+use Rattle.std.proofs.Common.{Option, refl, subst, inl, inr, ◌∙◌}
 use Rattle.anb_base.proofs.Moving.{Rose-later}
 use Rattle.anb_command.specs.Fetches.{Files, IfTold}
 use Rattle.anb_command.specs.Steps.{given, refused}
@@ -38,3 +38,15 @@ returns-clause-refused g c =
     told_both told (λ files f k. inr (c.in-Ok.parked, f, inr (key, k, why))) c.in-Ok.ensures.file
     (subst (λ (t : Option Files). IfTold t (λ files. KeyIs files c.args.words.key.now (given key))) kept c.in-Ok-key_in_file.ensures.given))
     (rw (c.as_slice.ensures, c.as_slice-2.ensures) at c.in-Err-live_in.ensures.refused)
+
+pub returns-in-Ok-live_in-clause-told : goal.returns-in-Ok-live_in-clause-told
+returns-in-Ok-live_in-clause-told g c = λ _. c.in-Ok-key_in_file.ensures.told refl ∙ c.in-Ok.ensures.told refl
+
+pub returns-in-Err-key_in_file-clause-told : goal.returns-in-Err-key_in_file-clause-told
+returns-in-Err-key_in_file-clause-told g c = λ other. c.in-Err-key_in_file.ensures.told other ∙ c.in-Ok.ensures.told refl
+
+pub returns-clause-told : goal.returns-clause-told
+returns-clause-told g c = λ _. c.in-Ok-key_in_file.ensures.told refl ∙ c.in-Ok.ensures.told refl
+
+pub returns-in-Err-clause-told : goal.returns-in-Err-clause-told
+returns-in-Err-clause-told g c = c.in-Err.ensures.told

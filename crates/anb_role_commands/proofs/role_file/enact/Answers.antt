@@ -1,4 +1,4 @@
-use Rattle.std.proofs.Common.{[], ◌∷◌}
+use Rattle.std.proofs.Common.{[], ◌∷◌, refl}
 use Rattle.anb_machine.specs.ByteRuns.{run_bytes}
 use Rattle.anb_words.specs.Commands.{place_by}
 use Rattle.anb_command.proofs.Answering.{refuses_over, runs_over}
@@ -8,6 +8,7 @@ use Rattle.anb_command.proofs.OverWire.{untouched}
 use Rattle.anb_role_commands.specs.EnactCommand.{ErrandIs, IsReadFor, RunOf}
 use Rattle.anb_role_commands.proofs.Enacting.{completes_enact, errand_ready}
 use Rattle.anb_role_commands.proofs.Tasks.{errand_one, errand_quiet}
+use Rattle.anb_command.proofs.Reported.{told_before, told_behind}
 use Rattle.anb_role_commands.proofs.role_file.enact.Goals as goal
 
 pub returns-in-Ok-clause-does : goal.returns-in-Ok-clause-does
@@ -65,3 +66,9 @@ returns-in-Err-clause-reached g c = early_reaches (place_by c.args.words.endpoin
 
 pub returns-in-Err-clause-touches : goal.returns-in-Err-clause-touches
 returns-in-Err-clause-touches g c = untouched _ _ _
+
+pub returns-in-Ok-clause-reported : goal.returns-in-Ok-clause-reported
+returns-in-Ok-clause-reported g c = told_behind _ _ _ _ _ (c.in-Ok.ensures.told refl) c.run_over.ensures.wire.told
+
+pub returns-in-Err-clause-reported : goal.returns-in-Err-clause-reported
+returns-in-Err-clause-reported g c = told_before _ _ _ _ c.in-Err.ensures.told

@@ -1,4 +1,4 @@
-use Rattle.std.proofs.Common.{inl, inr}
+use Rattle.std.proofs.Common.{inl, inr, refl, ◌∙◌}
 use Rattle.anb_base.proofs.Moving.{Rose-later}
 use Rattle.anb_lemmas.proofs.Results.{if_ok_map}
 use Rattle.anb_role_commands.proofs.Enacting.{code_read, code_refused, errand_answers, values_read}
@@ -33,3 +33,9 @@ returns-in-Err-clause-refused g c =
     (λ name at. (inl at.0, at.1, code_read told words.code.now words.values.now c.args.host_seed name at.0))
     (λ is. code_refused told words.code.now words.values.now c.args.host_seed c.in-Err.status is)
     c.in-Err.ensures.refused
+
+pub returns-in-Ok-clause-told : goal.returns-in-Ok-clause-told
+returns-in-Ok-clause-told g c = λ other. c.prepare_code.ensures.told other ∙ c.in-Ok.ensures.told refl
+
+pub returns-in-Err-clause-told : goal.returns-in-Err-clause-told
+returns-in-Err-clause-told g c = c.in-Err.ensures.told

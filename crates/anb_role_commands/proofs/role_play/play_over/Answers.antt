@@ -1,7 +1,9 @@
 use Rattle.std.proofs.Common.{refl}
 use Rattle.anb_machine.specs.ByteRuns.{run_bytes}
 use Rattle.anb_session.proofs.Prompt.{prompt_placeless}
+use Rattle.anb_command.proofs.Reported.{calm_told}
 use Rattle.anb_command.proofs.Runs.{ends_untold, stops_untold}
+use Rattle.anb_status.specs.declared.status.Status.TheVariants.{Stopped}
 use Rattle.anb_role_commands.specs.Playing.{play_by}
 use Rattle.anb_role_commands.proofs.role_play.play_over.Goals as goal
 
@@ -17,7 +19,7 @@ returns-in-Stopped-clause-prompt g c =
 
 pub returns-in-Stopped-clause-wire : goal.returns-in-Stopped-clause-wire
 returns-in-Stopped-clause-wire g c =
-    let wire = c.in-Stopped.ensures.wire in record { cause = tt; reached = wire.reached; touches = wire.touches }
+    let wire = c.in-Stopped.ensures.wire in record { cause = tt; told = calm_told _ _ (Stopped c.in-Stopped.halt) refl wire.told _; reached = wire.reached; touches = wire.touches }
 
 pub returns-in_default-clause-runs : goal.returns-in_default-clause-runs
 returns-in_default-clause-runs g c = λ arrivals tail cut.

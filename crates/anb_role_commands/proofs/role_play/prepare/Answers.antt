@@ -1,4 +1,4 @@
-use Rattle.std.proofs.Common.{inl, inr}
+use Rattle.std.proofs.Common.{inl, inr, refl, ◌∙◌}
 use Rattle.anb_base.proofs.Moving.{Rose-later}
 use Rattle.anb_lemmas.proofs.Results.{if_ok_map}
 use Rattle.anb_command.specs.Roles.{Part}
@@ -41,3 +41,9 @@ returns-in-Err-clause-refused g c =
     (λ file at. (inl at.0, at.1, narration_read told c.args.words.narration.now c.args.words.name.now c.args.words.values.now c.args.host_seed file at.0))
     (λ is. part_refused told c.args.words.narration.now c.args.words.name.now c.args.words.values.now c.args.host_seed c.in-Err.status is)
     c.in-Err.ensures.refused
+
+pub returns-in-Ok-clause-told : goal.returns-in-Ok-clause-told
+returns-in-Ok-clause-told g c = λ other. c.prepare_role.ensures.told other ∙ c.in-Ok.ensures.told refl
+
+pub returns-in-Err-clause-told : goal.returns-in-Err-clause-told
+returns-in-Err-clause-told g c = c.in-Err.ensures.told

@@ -1,4 +1,4 @@
-use Rattle.std.proofs.Common.{inl}
+use Rattle.std.proofs.Common.{inl, refl, ◌∙◌}
 use Rattle.anb_base.proofs.Moving.{Rose-later}
 use Rattle.anb_command.proofs.Chains.{told_map}
 use Rattle.anb_command.proofs.Failing.{IsFailure-map}
@@ -36,3 +36,12 @@ returns-in-Err-clause-refused g c =
     (λ file at. (two_of_three words.narration.now words.values.now words.transcript.now file at.0, at.1, told_map told (λ files read. inl read) at.2))
     (λ is. play_refused words.narration.now words.name.now words.values.now words.transcript.now c.args.host_seed told c.in-Err.status is)
     c.in-Err.ensures.refused
+
+pub returns-in-Ok-transcript_in_file-clause-told : goal.returns-in-Ok-transcript_in_file-clause-told
+returns-in-Ok-transcript_in_file-clause-told g c = λ _. c.in-Ok-transcript_in_file.ensures.told refl ∙ c.in-Ok.ensures.told refl
+
+pub returns-in-Err-transcript_in_file-clause-told : goal.returns-in-Err-transcript_in_file-clause-told
+returns-in-Err-transcript_in_file-clause-told g c = λ other. c.in-Err-transcript_in_file.ensures.told other ∙ c.in-Ok.ensures.told refl
+
+pub returns-in-Err-clause-told : goal.returns-in-Err-clause-told
+returns-in-Err-clause-told g c = c.in-Err.ensures.told
