@@ -5,6 +5,7 @@ ghost use Rattle.anb_base.specs.declared.place.Place.TheVariants as place;
 ghost use Rattle.anb_command.specs.Causes.{HasCause, NoneRose};
 ghost use Rattle.anb_command.specs.Fetches.{Fetches, IfTold, IsOneOf};
 ghost use Rattle.anb_command.specs.Reaches.{Reaches};
+ghost use Rattle.anb_command.specs.Reported.{TellsFaults, TellsFileFaults};
 ghost use Rattle.anb_status.specs.Statuses.{IsEarly, phase_of};
 ghost use Rattle.anb_command.specs.Steps.{IsFailure, refused, given};
 ghost use Rattle.anb_command.specs.Touches.{Touches};
@@ -35,6 +36,8 @@ pub fn certify<F: Shelf, W: Wire>(
         (F.files shelf.old) result }
     ensures faults { HasCause (words.entry.narration.now ∷ words.entry.code.now ∷ [])
         (Some place.Stdio) (F.faults shelf.old) (F.faults shelf.new)
+        (W.state wire.old) (W.state wire.new) result }
+    ensures reported { TellsFaults (F.faults shelf.old) (F.faults shelf.new)
         (W.state wire.old) (W.state wire.new) result }
     ensures fetches { Fetches (words.entry.narration.now ∷ words.entry.code.now ∷ [])
         (F.files shelf.old) (F.files shelf.new) (F.faults shelf.old) (F.faults shelf.new) }
@@ -76,6 +79,7 @@ fn certified_in_file<F: Shelf>(
     ensures early { IfErr result IsEarly }
     ensures fetches { Fetches (words.entry.narration.now ∷ words.entry.code.now ∷ [])
         (F.files shelf.old) (F.files shelf.new) (F.faults shelf.old) (F.faults shelf.new) }
+    ensures told { TellsFileFaults result (F.faults shelf.old) (F.faults shelf.new) }
 {
     let protocol = match protocol_in_file(alloc, shelf, words.narration) {
         Ok(protocol) => protocol,

@@ -9,6 +9,7 @@ ghost use Rattle.anb_base.specs.Moves.{Rose};
 ghost use Rattle.anb_command.specs.Fetches.{Fetches, IfTold};
 ghost use Rattle.anb_command.specs.OverWire.{OnlyWrites, OverWire};
 ghost use Rattle.anb_command.specs.Reaches.{Reaches};
+ghost use Rattle.anb_command.specs.Reported.{TellsFaults, TellsFileFaults};
 ghost use Rattle.anb_status.specs.Statuses.{IsEarly, phase_of};
 ghost use Rattle.anb_command.specs.Steps.{IsFailure, given, refused};
 ghost use Rattle.anb_command.specs.Touches.{Touches};
@@ -39,6 +40,8 @@ pub fn chart<F: Shelf, W: Wire>(
         → CompletesChart narration.now (F.files shelf.old) result }
     ensures faults { HasCause (narration.now ∷ []) (Some place.Stdio)
         (F.faults shelf.old) (F.faults shelf.new) (W.state wire.old) (W.state wire.new) result }
+    ensures reported { TellsFaults (F.faults shelf.old) (F.faults shelf.new)
+        (W.state wire.old) (W.state wire.new) result }
     ensures fetches { Fetches (narration.now ∷ [])
         (F.files shelf.old) (F.files shelf.new) (F.faults shelf.old) (F.faults shelf.new) }
     ensures reached { Reaches (Some place.Stdio) (phase_of result)
@@ -96,6 +99,8 @@ pub fn chart_for<F: Shelf, W: Wire>(
         → CompletesRoleChart narration.now role.now (F.files shelf.old) result }
     ensures faults { HasCause (narration.now ∷ []) (Some place.Stdio)
         (F.faults shelf.old) (F.faults shelf.new) (W.state wire.old) (W.state wire.new) result }
+    ensures reported { TellsFaults (F.faults shelf.old) (F.faults shelf.new)
+        (W.state wire.old) (W.state wire.new) result }
     ensures fetches { Fetches (narration.now ∷ [])
         (F.files shelf.old) (F.files shelf.new) (F.faults shelf.old) (F.faults shelf.new) }
     ensures reached { Reaches (Some place.Stdio) (phase_of result)
@@ -127,6 +132,7 @@ fn role_charted<F: Shelf>(
     ensures early { IfErr result IsEarly }
     ensures fetches { Fetches (narration.now ∷ [])
         (F.files shelf.old) (F.files shelf.new) (F.faults shelf.old) (F.faults shelf.new) }
+    ensures told { TellsFileFaults result (F.faults shelf.old) (F.faults shelf.new) }
 {
     let playable = match playable_in_file(alloc, shelf, narration, role) {
         Ok(playable) => playable,

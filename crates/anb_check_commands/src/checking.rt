@@ -5,6 +5,7 @@ ghost use Rattle.anb_command.specs.Causes.{HasCause, HasWireCause, NoneRose};
 ghost use Rattle.anb_command.specs.Fetches.{Fetches};
 ghost use Rattle.anb_command.specs.Phases.{told_phase};
 ghost use Rattle.anb_command.specs.Reaches.{Reaches};
+ghost use Rattle.anb_command.specs.Reported.{TellsFaults, TellsWireFaults};
 ghost use Rattle.anb_command.specs.Touches.{Touches};
 ghost use Rattle.anb_check_commands.specs.CheckCommand.{CompletesCheck, DoesCheck};
 ghost use Rattle.anb_check_commands.specs.Telling.{IsLast, IsTold};
@@ -31,6 +32,8 @@ pub fn check<F: Shelf, W: Wire>(
         → CompletesCheck narration.now (F.files shelf.old) result }
     ensures faults { HasCause (narration.now ∷ []) (Some place.Stdio)
         (F.faults shelf.old) (F.faults shelf.new) (W.state wire.old) (W.state wire.new) result }
+    ensures reported { TellsFaults (F.faults shelf.old) (F.faults shelf.new)
+        (W.state wire.old) (W.state wire.new) result }
     ensures fetches { Fetches (narration.now ∷ [])
         (F.files shelf.old) (F.files shelf.new) (F.faults shelf.old) (F.faults shelf.new) }
     ensures reached { Reaches (Some place.Stdio) (told_phase result)
@@ -57,6 +60,7 @@ fn tell_verdict<W: Wire>(wire: &mut W, verdict: Verdict) -> Status
         (W.state wire.old).written (W.state wire.new).written }
     ensures cause { HasWireCause (Some place.Stdio)
         (W.state wire.old) (W.state wire.new) result }
+    ensures told { TellsWireFaults (W.state wire.old) (W.state wire.new) result }
     ensures reached { Reaches (Some place.Stdio) (told_phase result)
         (W.state wire.old).reached (W.state wire.new).reached }
     ensures touches { Touches false (told_phase result) (W.state wire.old) (W.state wire.new) }

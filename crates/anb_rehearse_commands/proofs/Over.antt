@@ -7,6 +7,7 @@ use Rattle.anb_status.specs.declared.status.Status.{Status}
 use Rattle.anb_status.specs.declared.status.Status.TheVariants.{Unreached, NoMemory}
 use Rattle.anb_command.specs.Causes.{HasWireCause}
 use Rattle.anb_command.specs.OverWire.{DidNotReach, HasReached, OnlyWrites, OverWire, StaysReached}
+use Rattle.anb_command.specs.Reported.{TellsWireFaults}
 use Rattle.anb_status.specs.Statuses.{after_reach, at_reach, before_reach, phase_of}
 use Rattle.anb_command.proofs.OverWire.{not_before, not_reached, ran, written_unreached}
 use Rattle.anb_rehearse_commands.specs.Telling.{IsTold}
@@ -25,11 +26,12 @@ module _ (S T : WireState) (at_place : HasReached Stdio S T) (U : WireState) (wr
   pub late_enough : phase_of s ≡ before_reach → ⊥
   late_enough = not_before Stdio S T at_place U stays s after
 
-  pub wrote : HasWireCause (Some Stdio) T U s → OverWire Stdio false s S U
-  wrote cause =
-      let r = ran Stdio S T at_place U stays s after cause in
+  pub wrote : HasWireCause (Some Stdio) T U s → TellsWireFaults T U s → OverWire Stdio false s S U
+  wrote cause told =
+      let r = ran Stdio S T at_place U stays s after cause told in
       record {
         cause = r.cause;
+        told = r.told;
         reached = r.reached;
         touches = record {
           before = r.touches.before;

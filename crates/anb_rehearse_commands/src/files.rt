@@ -9,6 +9,7 @@ ghost use Rattle.anb_honest.specs.declared.TheConstants.{TURNS};
 ghost use Rattle.anb_protocol.specs.Plays.{IsSendable};
 ghost use Rattle.anb_protocol.specs.Texts.{known_names};
 ghost use Rattle.anb_command.specs.Fetches.{Fetches, IfTold, IsOneOf};
+ghost use Rattle.anb_command.specs.Reported.{TellsFileFaults};
 ghost use Rattle.anb_command.specs.Files.{ValuesInFile};
 ghost use Rattle.anb_command.specs.Roles.{SendableInFile};
 ghost use Rattle.anb_status.specs.Statuses.{IsEarly};
@@ -79,6 +80,7 @@ pub(crate) fn prepare<F: Shelf>(
     ensures fetches { Fetches (words.entry.narration.now ∷ words.entry.values.now
         ∷ words.entry.schedule.now ∷ [])
         (F.files shelf.old) (F.files shelf.new) (F.faults shelf.old) (F.faults shelf.new) }
+    ensures told { TellsFileFaults result (F.faults shelf.old) (F.faults shelf.new) }
 {
     let staged = match staged_in_files(alloc, shelf, words.narration, words.values, host_seed) {
         Ok(staged) => staged,
@@ -115,6 +117,7 @@ fn staged_in_files<F: Shelf>(
     ensures early { IfErr result IsEarly }
     ensures fetches { Fetches (narration.now ∷ values.now ∷ [])
         (F.files shelf.old) (F.files shelf.new) (F.faults shelf.old) (F.faults shelf.new) }
+    ensures told { TellsFileFaults result (F.faults shelf.old) (F.faults shelf.new) }
 {
     let Company { protocol, codes } = match company_in_file(alloc, shelf, narration) {
         Ok(company) => company,
@@ -152,6 +155,7 @@ fn company_in_file<F: Shelf>(
     ensures early { IfErr result IsEarly }
     ensures fetches { Fetches (narration.now ∷ [])
         (F.files shelf.old) (F.files shelf.new) (F.faults shelf.old) (F.faults shelf.new) }
+    ensures told { TellsFileFaults result (F.faults shelf.old) (F.faults shelf.new) }
 {
     let protocol = match protocol_in_file(alloc, shelf, narration) {
         Ok(protocol) => protocol,
@@ -183,6 +187,7 @@ fn values_for<F: Shelf>(
     ensures early { IfErr result IsEarly }
     ensures fetches { Fetches (values.now ∷ [])
         (F.files shelf.old) (F.files shelf.new) (F.faults shelf.old) (F.faults shelf.new) }
+    ensures told { TellsFileFaults result (F.faults shelf.old) (F.faults shelf.new) }
 {
     known_names_differ();
     let _ = protocol.name();
@@ -210,6 +215,7 @@ fn schedule_in_file<F: Shelf>(
     ensures early { IfErr result IsEarly }
     ensures fetches { Fetches (name.now ∷ [])
         (F.files shelf.old) (F.files shelf.new) (F.faults shelf.old) (F.faults shelf.new) }
+    ensures told { TellsFileFaults result (F.faults shelf.old) (F.faults shelf.new) }
 {
     match fetch_file(alloc, shelf, name, SCHEDULE_LIMIT) {
         Ok(text) => schedule_of_text(alloc, protocol, text.as_slice()),

@@ -11,6 +11,7 @@ ghost use Rattle.anb_command.specs.Causes.{HasCause, HasWireCause, NoneRose};
 ghost use Rattle.anb_command.specs.Fetches.{Fetches};
 ghost use Rattle.anb_command.specs.OverWire.{OnlyWrites, OverWire};
 ghost use Rattle.anb_command.specs.Reaches.{Reaches};
+ghost use Rattle.anb_command.specs.Reported.{TellsFaults, TellsWireFaults};
 ghost use Rattle.anb_status.specs.Statuses.{after_reach, before_reach, phase_of};
 ghost use Rattle.anb_command.specs.Touches.{Touches};
 ghost use Rattle.anb_status.specs.declared.status.Status.TheVariants as status;
@@ -52,6 +53,8 @@ pub fn rehearse<F: Shelf, W: Wire>(
     ensures faults { HasCause (words.entry.narration.now ∷ words.entry.values.now
         ∷ words.entry.schedule.now ∷ [])
         (Some place.Stdio) (F.faults shelf.old) (F.faults shelf.new)
+        (W.state wire.old) (W.state wire.new) result }
+    ensures reported { TellsFaults (F.faults shelf.old) (F.faults shelf.new)
         (W.state wire.old) (W.state wire.new) result }
     ensures fetches { Fetches (words.entry.narration.now ∷ words.entry.values.now
         ∷ words.entry.schedule.now ∷ [])
@@ -109,6 +112,7 @@ fn rehearse_now<W: Wire>(alloc: Global, wire: &mut W, prepared: &Prepared) -> St
         (W.state wire.old).written (W.state wire.new).written }
     ensures after { (phase_of result ≡ after_reach) ⊎ (result ≡ status.NoMemory) }
     ensures cause { HasWireCause (Some place.Stdio) (W.state wire.old) (W.state wire.new) result }
+    ensures reported { TellsWireFaults (W.state wire.old) (W.state wire.new) result }
     ensures only { OnlyWrites (W.state wire.old) (W.state wire.new) }
 {
     let Prepared { staged, turns } = prepared;
@@ -132,6 +136,7 @@ fn write_end<W: Wire>(alloc: Global, wire: &mut W, end: RehearseEnd) -> Status
     ensures told { IsTold end result (W.state wire.old).written (W.state wire.new).written }
     ensures after { (phase_of result ≡ after_reach) ⊎ (result ≡ status.NoMemory) }
     ensures cause { HasWireCause (Some place.Stdio) (W.state wire.old) (W.state wire.new) result }
+    ensures reported { TellsWireFaults (W.state wire.old) (W.state wire.new) result }
     ensures only { OnlyWrites (W.state wire.old) (W.state wire.new) }
 {
     match end {

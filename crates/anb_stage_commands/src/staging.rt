@@ -6,6 +6,7 @@ ghost use Rattle.anb_stage.specs.declared.TheConstants.{ROLES};
 ghost use Rattle.anb_command.specs.Causes.{NoneRose};
 ghost use Rattle.anb_command.specs.Fetches.{Fetches, IfTold};
 ghost use Rattle.anb_command.specs.Reaches.{Reaches};
+ghost use Rattle.anb_command.specs.Reported.{TellsFaults, TellsFileFaults};
 ghost use Rattle.anb_status.specs.Statuses.{phase_of};
 ghost use Rattle.anb_command.specs.Touches.{Touches};
 ghost use Rattle.anb_stage_commands.specs.Asking.{staged};
@@ -43,6 +44,8 @@ pub fn stage<F: Shelf, P: Spawner, W: Wire>(
     ensures faults { HasStageCause (words.entry.narration.now ∷ [])
         (F.faults shelf.old) (F.faults shelf.new) (P.child spawner.old) (P.child spawner.new)
         (W.state wire.old) (W.state wire.new) result }
+    ensures reported { TellsFaults (F.faults shelf.old) (F.faults shelf.new)
+        (W.state wire.old) (W.state wire.new) result }
     ensures fetches { Fetches (words.entry.narration.now ∷ [])
         (F.files shelf.old) (F.files shelf.new) (F.faults shelf.old) (F.faults shelf.new) }
     ensures reached { Reaches (Some place.Stdio) (phase_of result)
@@ -76,6 +79,7 @@ fn relayed_in_file<F: Shelf, P: Spawner>(
         (P.child spawner.old) (P.child spawner.new) (F.faults shelf.old) (F.faults shelf.new)) }
     ensures fetches { Fetches (words.entry.narration.now ∷ [])
         (F.files shelf.old) (F.files shelf.new) (F.faults shelf.old) (F.faults shelf.new) }
+    ensures told { TellsFileFaults result (F.faults shelf.old) (F.faults shelf.new) }
 {
     match sendable_in_file(alloc, shelf, words.narration) {
         Ok(protocol) => relayed(alloc, spawner, &protocol, words),

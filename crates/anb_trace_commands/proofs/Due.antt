@@ -60,9 +60,9 @@ module _ (p : ProtocolValue) (role : ℕ) (code : CodeValue) (initial : List (Li
 
   pub ends_so : (r : Result (Unit {0}) WriteNo) (s : Status) (text : List ℕ) (S T : WireState) → IsReplayed (play_by code initial seed) lines s → IsWritten text r S.written T.written S.write_faults T.write_faults
       → EndsAs (ended_by r s) S T
-  ends_so (Ok y) s text S T (end, replays, is) written = inl (end, is)
+  ends_so (Ok y) s text S T (end, replays, is) written = inl (end, is, written.quiet (λ failed. absurd (cc)))
   ends_so (Err writing.Failed) s text S T replays written = inr (inl (refl, written.cause refl))
-  ends_so (Err writing.NoMemory) s text S T replays written = inr (inr refl)
+  ends_so (Err writing.NoMemory) s text S T replays written = inr (inr (refl, written.quiet (λ failed. absurd (cc))))
 
 -- nothing was written
 pub only_same : (S : WireState) → OnlyWrites S S

@@ -57,8 +57,9 @@ module _ (p : ProtocolValue) (role : ℕ) (code : CodeValue) (initial : List (Li
 -- how a command ends at a place that was reached: as the replay, by a fault of writing, or for want of memory
 abbrev pub EndsAs : Status → (old new : WireState) → Type 0
 EndsAs status old new =
-    ((end : ReplayEnd) × (status ≡ status_of end))
-    ⊎ (((status ≡ WriteFault) × Rose old.write_faults new.write_faults) ⊎ (status ≡ NoMemory))
+    ((end : ReplayEnd) × (status ≡ status_of end) × (new.write_faults ≡ old.write_faults))
+    ⊎ (((status ≡ WriteFault) × Rose old.write_faults new.write_faults)
+    ⊎ ((status ≡ NoMemory) × (new.write_faults ≡ old.write_faults)))
 
 -- the status of a trace that was written so, behind a replay with this status
 abbrev pub ended_by : Result (Unit {0}) WriteNo → Status → Status

@@ -7,6 +7,7 @@ ghost use Rattle.anb_code.specs.Verified.{IsVerifiedCode};
 ghost use Rattle.anb_compile.specs.Fitting.{FitsRole};
 ghost use Rattle.anb_transcript.specs.Replays.{arrivals_of};
 ghost use Rattle.anb_command.specs.Fetches.{Fetches, IfTold, IsOneOf};
+ghost use Rattle.anb_command.specs.Reported.{TellsFileFaults};
 ghost use Rattle.anb_status.specs.Statuses.{IsEarly};
 ghost use Rattle.anb_command.specs.Steps.{IsFailure, refused};
 ghost use Rattle.anb_role_commands.specs.ReplayCommand.{ComparisonIs, IsReadToCompare};
@@ -64,6 +65,7 @@ pub(crate) fn prepare<F: Shelf>(
     ensures fetches { Fetches (words.entry.narration.now ∷ words.entry.values.now
         ∷ words.entry.transcript.now ∷ [])
         (F.files shelf.old) (F.files shelf.new) (F.faults shelf.old) (F.faults shelf.new) }
+    ensures told { TellsFileFaults result (F.faults shelf.old) (F.faults shelf.new) }
 {
     let Playable {
         protocol,

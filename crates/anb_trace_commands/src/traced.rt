@@ -14,6 +14,7 @@ ghost use Rattle.anb_command.specs.Causes.{HasCause, NoneRose};
 ghost use Rattle.anb_command.specs.Fetches.{Fetches};
 ghost use Rattle.anb_command.specs.OverWire.{OnlyWrites, OverWire};
 ghost use Rattle.anb_command.specs.Reaches.{Reaches};
+ghost use Rattle.anb_command.specs.Reported.{TellsFaults};
 ghost use Rattle.anb_status.specs.Statuses.{before_reach, phase_of};
 ghost use Rattle.anb_command.specs.Touches.{Touches};
 ghost use Rattle.anb_role_commands.specs.Comparing.{IsReplayed};
@@ -55,6 +56,8 @@ pub fn trace<F: Shelf, W: Wire>(
     ensures faults { HasCause (words.entry.narration.now ∷ words.entry.values.now
         ∷ words.entry.transcript.now ∷ [])
         (Some place.Stdio) (F.faults shelf.old) (F.faults shelf.new)
+        (W.state wire.old) (W.state wire.new) result }
+    ensures reported { TellsFaults (F.faults shelf.old) (F.faults shelf.new)
         (W.state wire.old) (W.state wire.new) result }
     ensures fetches { Fetches (words.entry.narration.now ∷ words.entry.values.now
         ∷ words.entry.transcript.now ∷ [])

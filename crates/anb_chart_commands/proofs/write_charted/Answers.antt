@@ -19,4 +19,4 @@ returns-in-Ok-write_lines-clause-writes g c =
     (text_put Stdio _ _ c.in-Ok.ensures.reached _ c.write_lines.ensures.only _ c.in-Ok-write_lines.ensures.writes.whole)
 
 pub returns-in-Ok-write_lines-clause-wire : goal.returns-in-Ok-write_lines-clause-wire
-returns-in-Ok-write_lines-clause-wire g c = text_done Stdio _ _ c.in-Ok.ensures.reached _ c.write_lines.ensures.only
+returns-in-Ok-write_lines-clause-wire g c = text_done Stdio _ _ c.in-Ok.ensures.reached _ c.write_lines.ensures.only (c.in-Ok-write_lines.ensures.writes.quiet (λ failed. absurd (cc)))

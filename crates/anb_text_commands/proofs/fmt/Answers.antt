@@ -1,9 +1,10 @@
-use Rattle.std.proofs.Common.{[], ◌∷◌, inl}
+use Rattle.std.proofs.Common.{[], ◌∷◌, inl, refl}
 use Rattle.anb_base.specs.declared.place.Place.TheVariants.{Stdio}
 use Rattle.anb_command.proofs.Causes.{early_cause, early_reaches, only_memory, wire_cause}
 use Rattle.anb_command.proofs.Failing.{IsFailure-map}
 use Rattle.anb_command.proofs.OverWire.{untouched}
 use Rattle.anb_text_commands.proofs.Texts.{completes_fmt, refuses_fmt, writes_fmt}
+use Rattle.anb_command.proofs.Reported.{told_before, told_behind}
 use Rattle.anb_text_commands.proofs.fmt.Goals as goal
 
 pub returns-in-Ok-clause-does : goal.returns-in-Ok-clause-does
@@ -46,3 +47,9 @@ returns-in-Err-clause-reached g c = early_reaches Stdio c.in-Err.status (g.W.Wir
 
 pub returns-in-Err-clause-touches : goal.returns-in-Err-clause-touches
 returns-in-Err-clause-touches g c = untouched _ _ _
+
+pub returns-in-Ok-clause-reported : goal.returns-in-Ok-clause-reported
+returns-in-Ok-clause-reported g c = told_behind _ _ _ _ _ (c.in-Ok.ensures.told refl) c.write_text.ensures.wire.told
+
+pub returns-in-Err-clause-reported : goal.returns-in-Err-clause-reported
+returns-in-Err-clause-reported g c = told_before _ _ _ _ c.in-Err.ensures.told

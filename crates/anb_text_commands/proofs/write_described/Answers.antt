@@ -7,7 +7,7 @@ pub returns-in-Ok-write_lines-clause-writes : goal.returns-in-Ok-write_lines-cla
 returns-in-Ok-write_lines-clause-writes g c = text_put Stdio _ _ c.in-Ok.ensures.reached _ c.write_lines.ensures.only _ c.in-Ok-write_lines.ensures.writes.whole
 
 pub returns-in-Ok-write_lines-clause-wire : goal.returns-in-Ok-write_lines-clause-wire
-returns-in-Ok-write_lines-clause-wire g c = text_done Stdio _ _ c.in-Ok.ensures.reached _ c.write_lines.ensures.only
+returns-in-Ok-write_lines-clause-wire g c = text_done Stdio _ _ c.in-Ok.ensures.reached _ c.write_lines.ensures.only (c.in-Ok-write_lines.ensures.writes.quiet (λ failed. absurd (cc)))
 
 pub returns-in-Err-clause-writes : goal.returns-in-Err-clause-writes
 returns-in-Err-clause-writes g c = written_unreached Stdio _ _ c.in-Err.ensures.failed

@@ -1,4 +1,4 @@
-use Rattle.std.proofs.Common.{codes, inl, inr}
+use Rattle.std.proofs.Common.{codes, inl, inr, refl, ◌∙◌}
 use Rattle.anb_base.proofs.Moving.{Rose-later}
 use Rattle.anb_command.specs.Steps.{given, refused}
 use Rattle.anb_command.proofs.Failing.{IsFailure-map}
@@ -58,3 +58,15 @@ returns-clause-refused g c =
     (λ is. code_answers told words.narration.now words.name.now words.code.now c.in-Ok.protocol c.in-Ok.ensures.given role.role role.ensures.given
     c.in-Ok-code_in_file.code (refused s) (rw kept.same_files at c.in-Ok-code_in_file.ensures.given) is) fails)
     c.certified_code.ensures.refused
+
+pub returns-in-Err-role_named-clause-told : goal.returns-in-Err-role_named-clause-told
+returns-in-Err-role_named-clause-told g c = λ _. c.in-Ok.ensures.told refl
+
+pub returns-in-Err-code_in_file-clause-told : goal.returns-in-Err-code_in_file-clause-told
+returns-in-Err-code_in_file-clause-told g c = λ other. c.in-Err-code_in_file.ensures.told other ∙ c.in-Ok.ensures.told refl
+
+pub returns-clause-told : goal.returns-clause-told
+returns-clause-told g c = λ _. c.in-Ok-code_in_file.ensures.told refl ∙ c.in-Ok.ensures.told refl
+
+pub returns-in-Err-clause-told : goal.returns-in-Err-clause-told
+returns-in-Err-clause-told g c = c.in-Err.ensures.told

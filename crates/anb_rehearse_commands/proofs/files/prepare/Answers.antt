@@ -2,6 +2,7 @@ use Rattle.anb_command.proofs.Failing.{IsFailure-map}
 use Rattle.anb_base.proofs.Moving.{Rose-later}
 use Rattle.anb_rehearse_commands.specs.Telling.{setting_by}
 use Rattle.anb_rehearse_commands.proofs.Asking.{earlier_read, rehearsal_given, schedule_read, schedule_refused, setting_refused, third_of_three, two_of_three}
+use Rattle.std.proofs.Common.{refl, ◌∙◌}
 use Rattle.anb_rehearse_commands.proofs.files.prepare.Goals as goal
 
 pub returns-in-Ok-schedule_in_file-clause-given : goal.returns-in-Ok-schedule_in_file-clause-given
@@ -50,3 +51,12 @@ returns-in-Err-clause-refused g c =
       earlier_read told words.narration.now words.values.now c.args.host_seed words.schedule.now file at.2,
     ))
     (λ is. setting_refused told words.narration.now words.values.now c.args.host_seed words.schedule.now c.in-Err.status is) c.in-Err.ensures.refused
+
+pub returns-in-Ok-schedule_in_file-clause-told : goal.returns-in-Ok-schedule_in_file-clause-told
+returns-in-Ok-schedule_in_file-clause-told g c = λ _. c.in-Ok-schedule_in_file.ensures.told refl ∙ c.in-Ok.ensures.told refl
+
+pub returns-in-Err-schedule_in_file-clause-told : goal.returns-in-Err-schedule_in_file-clause-told
+returns-in-Err-schedule_in_file-clause-told g c = λ other. c.in-Err-schedule_in_file.ensures.told other ∙ c.in-Ok.ensures.told refl
+
+pub returns-in-Err-clause-told : goal.returns-in-Err-clause-told
+returns-in-Err-clause-told g c = c.in-Err.ensures.told

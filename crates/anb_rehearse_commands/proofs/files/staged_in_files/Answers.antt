@@ -1,6 +1,7 @@
 use Rattle.anb_base.proofs.Moving.{Rose-later}
 use Rattle.anb_command.proofs.Failing.{IsFailure-map}
 use Rattle.anb_rehearse_commands.proofs.Asking.{company_refused, narration_read, one_of_two, other_of_two, seed_refused, setting_given, values_read, values_refused}
+use Rattle.std.proofs.Common.{refl, ◌∙◌}
 use Rattle.anb_rehearse_commands.proofs.files.staged_in_files.Goals as goal
 
 pub returns-in-Ok-seed_of-clause-given : goal.returns-in-Ok-seed_of-clause-given
@@ -36,3 +37,15 @@ returns-in-Err-clause-refused g c =
     IsFailure-map c.in-Err.status _ _ _ _
     (λ file at. (one_of_two narration values file at.0, at.1, narration_read told narration values c.args.host_seed file at.0))
     (λ is. company_refused told narration values c.args.host_seed c.in-Err.status is) c.in-Err.ensures.refused
+
+pub returns-in-Ok-seed_of-clause-told : goal.returns-in-Ok-seed_of-clause-told
+returns-in-Ok-seed_of-clause-told g c = λ _. c.in-Ok-values_for.ensures.told refl ∙ c.in-Ok.ensures.told refl
+
+pub returns-in-Err-seed_of-clause-told : goal.returns-in-Err-seed_of-clause-told
+returns-in-Err-seed_of-clause-told g c = λ _. c.in-Ok-values_for.ensures.told refl ∙ c.in-Ok.ensures.told refl
+
+pub returns-in-Err-values_for-clause-told : goal.returns-in-Err-values_for-clause-told
+returns-in-Err-values_for-clause-told g c = λ other. c.in-Err-values_for.ensures.told other ∙ c.in-Ok.ensures.told refl
+
+pub returns-in-Err-clause-told : goal.returns-in-Err-clause-told
+returns-in-Err-clause-told g c = c.in-Err.ensures.told

@@ -27,7 +27,7 @@ returns-in-Ok-clause-late g c =
 pub returns-in-Ok-clause-wire : goal.returns-in-Ok-clause-wire
 returns-in-Ok-clause-wire g c =
     let now = c.rehearse_now.ensures in
-    wrote (g.W.Wire.state c.args.wire.now) (g.W.Wire.state c.reach_stdio.new.wire) c.in-Ok.ensures.reached (g.W.Wire.state c.rehearse_now.new.wire) now.only c.rehearse_now.result now.after now.cause
+    wrote (g.W.Wire.state c.args.wire.now) (g.W.Wire.state c.reach_stdio.new.wire) c.in-Ok.ensures.reached (g.W.Wire.state c.rehearse_now.new.wire) now.only c.rehearse_now.result now.after now.cause now.reported
 
 pub returns-in-Err-clause-comes : goal.returns-in-Err-clause-comes
 returns-in-Err-clause-comes g c =

@@ -2,6 +2,7 @@ use Rattle.std.proofs.Common.{refl}
 use Rattle.anb_stage_commands.specs.Asking.{staged}
 use Rattle.anb_stage_commands.proofs.Answering.{does_refused, does_text}
 use Rattle.anb_stage_commands.proofs.Outcomes.{before_cause, completes, stage_cause}
+use Rattle.anb_command.proofs.Reported.{told_before, told_behind}
 use Rattle.anb_stage_commands.proofs.staging.stage.Goals as goal
 
 pub returns-in-Ok-clause-does : goal.returns-in-Ok-clause-does
@@ -38,3 +39,9 @@ returns-in-Err-clause-completes g c = λ quiet calm.
     (g.P.Spawner.child c.args.spawner.now) (g.P.Spawner.child c.relayed_in_file.new.spawner) (g.F.Shelf.faults c.args.shelf.now) (g.F.Shelf.faults c.relayed_in_file.new.shelf)
     (g.W.Wire.state c.args.wire.now) (g.W.Wire.state c.args.wire.now) quiet calm c.in-Err.status (g.W.Wire.state c.args.wire.now).written
     (g.W.Wire.state c.args.wire.now).written (returns-in-Err-clause-faults g c) (returns-in-Err-clause-does g c).stages
+
+pub returns-in-Ok-clause-reported : goal.returns-in-Ok-clause-reported
+returns-in-Ok-clause-reported g c = told_behind _ _ _ _ _ (c.in-Ok.ensures.told refl) c.write_text.ensures.wire.told
+
+pub returns-in-Err-clause-reported : goal.returns-in-Err-clause-reported
+returns-in-Err-clause-reported g c = told_before _ _ _ _ c.in-Err.ensures.told

@@ -1,4 +1,4 @@
-use Rattle.std.proofs.Common.{inl, inr}
+use Rattle.std.proofs.Common.{inl, inr, refl, ◌∙◌}
 use Rattle.anb_base.proofs.Moving.{Rose-later}
 use Rattle.anb_command.specs.Roles.{Part}
 use Rattle.anb_command.proofs.Chains.{told_map}
@@ -73,3 +73,15 @@ returns-in-Err-transcript_in_file-clause-refused g c =
     (λ is. lines_refused words.narration.now words.name.now words.values.now words.transcript.now c.args.host_seed told playable.protocol playable.role
     playable.code p.code p.initial p.seed c.in-Ok.ensures.fits errand.same c.in-Ok.ensures.given (rw kept.same_files at errand.given) s is)
     (rw kept.same_files at (rw next.same_files at c.in-Err-transcript_in_file.ensures.refused))
+
+pub returns-in-Ok-transcript_in_file-clause-told : goal.returns-in-Ok-transcript_in_file-clause-told
+returns-in-Ok-transcript_in_file-clause-told g c = λ _. c.in-Ok-transcript_in_file.ensures.told refl ∙ c.in-Ok-prepare_code.ensures.told refl ∙ c.in-Ok.ensures.told refl
+
+pub returns-in-Err-transcript_in_file-clause-told : goal.returns-in-Err-transcript_in_file-clause-told
+returns-in-Err-transcript_in_file-clause-told g c = λ other. c.in-Err-transcript_in_file.ensures.told other ∙ c.in-Ok-prepare_code.ensures.told refl ∙ c.in-Ok.ensures.told refl
+
+pub returns-in-Err-prepare_code-clause-told : goal.returns-in-Err-prepare_code-clause-told
+returns-in-Err-prepare_code-clause-told g c = λ other. c.in-Err-prepare_code.ensures.told other ∙ c.in-Ok.ensures.told refl
+
+pub returns-in-Err-clause-told : goal.returns-in-Err-clause-told
+returns-in-Err-clause-told g c = c.in-Err.ensures.told

@@ -27,7 +27,7 @@ pub returns-in-Err-clause-comes : goal.returns-in-Err-clause-comes
 returns-in-Err-clause-comes g c = inl refl
 
 pub returns-in-Err-clause-ends : goal.returns-in-Err-clause-ends
-returns-in-Err-clause-ends g c = inr (inr refl)
+returns-in-Err-clause-ends g c = inr (inr (refl, refl))
 
 pub returns-in-Err-clause-only : goal.returns-in-Err-clause-only
 returns-in-Err-clause-only g c = only_same _
@@ -36,7 +36,7 @@ pub returns-in-Err-compared-clause-comes : goal.returns-in-Err-compared-clause-c
 returns-in-Err-compared-clause-comes g c = inl refl
 
 pub returns-in-Err-compared-clause-ends : goal.returns-in-Err-compared-clause-ends
-returns-in-Err-compared-clause-ends g c = inr (inr refl)
+returns-in-Err-compared-clause-ends g c = inr (inr (refl, refl))
 
 pub returns-in-Err-compared-clause-only : goal.returns-in-Err-compared-clause-only
 returns-in-Err-compared-clause-only g c = only_same _
@@ -45,7 +45,7 @@ pub returns-in-Err-arrivals_of-clause-comes : goal.returns-in-Err-arrivals_of-cl
 returns-in-Err-arrivals_of-clause-comes g c = inl refl
 
 pub returns-in-Err-arrivals_of-clause-ends : goal.returns-in-Err-arrivals_of-clause-ends
-returns-in-Err-arrivals_of-clause-ends g c = inr (inr refl)
+returns-in-Err-arrivals_of-clause-ends g c = inr (inr (refl, refl))
 
 pub returns-in-Err-arrivals_of-clause-only : goal.returns-in-Err-arrivals_of-clause-only
 returns-in-Err-arrivals_of-clause-only g c = only_same _
