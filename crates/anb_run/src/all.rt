@@ -5,6 +5,7 @@ ghost use Rattle.anb_command.specs.Causes.{NoneRose};
 ghost use Rattle.anb_command.specs.Fetches.{Fetches};
 ghost use Rattle.anb_status.specs.Lines.{Tells};
 ghost use Rattle.anb_command.specs.Reaches.{Reaches};
+ghost use Rattle.anb_command.specs.Reported.{TellsFaults};
 ghost use Rattle.anb_status.specs.Statuses.{line_of};
 ghost use Rattle.anb_command.specs.Touches.{Touches};
 ghost use Rattle.anb_words.specs.Words.{asked_of};
@@ -43,6 +44,8 @@ pub fn run_all<F: Shelf, P: Spawner, W: Wire, E: Sink>(
     ensures faults { HasAnyCause (asked_of words.now) (F.faults shelf.old) (F.faults shelf.new)
         (P.child spawner.old) (P.child spawner.new)
         (W.state wire.old) (W.state wire.new) result (staged_of words.now) }
+    ensures reported { TellsFaults (F.faults shelf.old) (F.faults shelf.new)
+        (W.state wire.old) (W.state wire.new) result }
     ensures no_children { staged_of words.now ≡ None → spawner.new ≡ spawner.old }
 
     // What else is touched, and what is told.

@@ -12,6 +12,7 @@ ghost use Rattle.anb_command.specs.Fetches.{Fetches};
 ghost use Rattle.anb_status.specs.Lines.{Tells};
 ghost use Rattle.anb_command.specs.Phases.{phase_in};
 ghost use Rattle.anb_command.specs.Reaches.{Reaches};
+ghost use Rattle.anb_command.specs.Reported.{TellsFaults};
 ghost use Rattle.anb_status.specs.Statuses.{line_of};
 ghost use Rattle.anb_command.specs.Touches.{Touches};
 ghost use Rattle.anb_words.specs.Words.{asked_of, files_of, is_reading, place_of};
@@ -69,6 +70,8 @@ pub fn run<F: Shelf, W: Wire, E: Sink>(
     ensures usage { (result ≡ Usage) ↔ (asked_of words.now ≡ None) }
     ensures faults { HasCause (files_of (asked_of words.now)) (place_of (asked_of words.now))
         (F.faults shelf.old) (F.faults shelf.new) (W.state wire.old) (W.state wire.new) result }
+    ensures reported { TellsFaults (F.faults shelf.old) (F.faults shelf.new)
+        (W.state wire.old) (W.state wire.new) result }
 
     // What else is touched, and what is told.
     ensures fetches { Fetches (files_of (asked_of words.now))

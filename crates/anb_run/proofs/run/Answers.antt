@@ -2,6 +2,7 @@ use Rattle.std.proofs.Common.{[], refl, sym}
 use Rattle.anb_base.specs.declared.place.Place.TheVariants.{Stdio}
 use Rattle.anb_command.proofs.Causes.{only_memory, wire_cause}
 use Rattle.anb_command.proofs.OverWire.{untouched}
+use Rattle.anb_command.proofs.Reported.{told_before, told_behind}
 use Rattle.anb_run.proofs.Idle.{fetches_none}
 use Rattle.anb_run.proofs.run.Goals as goal
 use Rattle.anb_run.proofs.run.Goals.{in-None, in-Some-Fmt, in-Some-Describe, in-Some-Play, in-Some-Enact, in-Some-Replay, in-Some-Host, in-Some-Rehearse, in-Some-Drill, in-Some-Help, in-Some-Branch, in-Some-Certify, in-Some-Why, in-Some-Park, in-Some-Resume, in-Some-Chart, in-Some-RoleChart, in-Some-Check, in-Some-Trace}
@@ -73,6 +74,29 @@ returns-clause-touches g c = elim c.match-read.branch [
   | in-Some-RoleChart w ↦ rw (sym c.read.ensures, w.in-Some-RoleChart.is, w.in-Some-RoleChart.field-0-is, w.wire-is, w.status-is) (w.chart_for-status.ensures.touches)
   | in-Some-Check w ↦ rw (sym c.read.ensures, w.in-Some-Check.is, w.in-Some-Check.field-0-is, w.wire-is, w.status-is) (w.check-status.ensures.touches)
   | in-Some-Trace w ↦ rw (sym c.read.ensures, w.in-Some-Trace.is, w.in-Some-Trace.field-0-is, w.wire-is, w.status-is) (w.trace-status.ensures.touches)
+]
+
+pub returns-clause-reported : goal.returns-clause-reported
+returns-clause-reported g c = elim c.match-read.branch [
+  | in-None w ↦ rw (w.shelf-is, w.wire-is, w.status-is) (told_before _ _ _ _ (λ _. refl))
+  | in-Some-Fmt w ↦ rw (w.shelf-is, w.wire-is, w.status-is) w.fmt-status.ensures.reported
+  | in-Some-Describe w ↦ rw (w.shelf-is, w.wire-is, w.status-is) w.describe-status.ensures.reported
+  | in-Some-Play w ↦ rw (w.shelf-is, w.wire-is, w.status-is) w.play-status.ensures.reported
+  | in-Some-Enact w ↦ rw (w.shelf-is, w.wire-is, w.status-is) w.enact-status.ensures.reported
+  | in-Some-Replay w ↦ rw (w.shelf-is, w.wire-is, w.status-is) w.replay-status.ensures.reported
+  | in-Some-Host w ↦ rw (w.shelf-is, w.wire-is, w.status-is) w.host-status.ensures.reported
+  | in-Some-Rehearse w ↦ rw (w.shelf-is, w.wire-is, w.status-is) w.rehearse-status.ensures.reported
+  | in-Some-Drill w ↦ rw (w.shelf-is, w.wire-is, w.status-is) (told_behind _ _ _ _ _ refl w.drill-status.ensures.wire.told)
+  | in-Some-Help w ↦ rw (w.shelf-is, w.wire-is, w.status-is) (told_behind _ _ _ _ _ refl w.help-status.ensures.wire.told)
+  | in-Some-Branch w ↦ rw (w.shelf-is, w.wire-is, w.status-is) w.branch-status.ensures.reported
+  | in-Some-Certify w ↦ rw (w.shelf-is, w.wire-is, w.status-is) w.certify-status.ensures.reported
+  | in-Some-Why w ↦ rw (w.shelf-is, w.wire-is, w.status-is) w.why-status.ensures.reported
+  | in-Some-Park w ↦ rw (w.shelf-is, w.wire-is, w.status-is) w.park-status.ensures.reported
+  | in-Some-Resume w ↦ rw (w.shelf-is, w.wire-is, w.status-is) w.resume-status.ensures.reported
+  | in-Some-Chart w ↦ rw (w.shelf-is, w.wire-is, w.status-is) w.chart-status.ensures.reported
+  | in-Some-RoleChart w ↦ rw (w.shelf-is, w.wire-is, w.status-is) w.chart_for-status.ensures.reported
+  | in-Some-Check w ↦ rw (w.shelf-is, w.wire-is, w.status-is) w.check-status.ensures.reported
+  | in-Some-Trace w ↦ rw (w.shelf-is, w.wire-is, w.status-is) w.trace-status.ensures.reported
 ]
 
 pub returns-clause-completes : goal.returns-clause-completes

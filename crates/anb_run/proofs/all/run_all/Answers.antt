@@ -52,3 +52,9 @@ returns-in-Some-clause-reached g c = rw (sym c.in-Some.ensures) c.stage-status.e
 
 pub returns-in-Some-clause-touches : goal.returns-in-Some-clause-touches
 returns-in-Some-clause-touches g c = rw (sym c.in-Some.ensures) c.stage-status.ensures.touches
+
+pub returns-in-None-clause-reported : goal.returns-in-None-clause-reported
+returns-in-None-clause-reported g c = c.run.ensures.reported
+
+pub returns-in-Some-clause-reported : goal.returns-in-Some-clause-reported
+returns-in-Some-clause-reported g c = c.stage-status.ensures.reported
