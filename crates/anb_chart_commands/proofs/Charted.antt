@@ -4,7 +4,7 @@ use Rattle.anb_read.specs.Laws.{NarrationsAreUnique, RefusalsAreUnique, NoneIsBo
 use Rattle.anb_protocol.specs.Protocols.{ProtocolValue}
 use Rattle.anb_chart.specs.Charts.{chart}
 use Rattle.anb_status.specs.declared.status.Status.{Status}
-use Rattle.anb_status.specs.declared.status.Status.TheVariants.{ChildFault, FileFault, Unreached, WriteFault, NoMemory}
+use Rattle.anb_status.specs.declared.status.Status.TheVariants.{ChildFault, ChildSilent, FileFault, Unreached, WriteFault, NoMemory}
 use Rattle.anb_command.specs.Fetches.{Files, IfTold}
 use Rattle.anb_command.specs.Files.{ProtocolInFile}
 use Rattle.anb_status.specs.Statuses.{is_fault}
@@ -36,6 +36,7 @@ module _ {A : Type 0} (First : Answer A → Type 0) (Next : A → Answer (List �
   less (Unreached place) out ((text, due), none) = ((text, inr (a, first, due)), none)
   less (FileFault name) out none = none
   less (ChildFault child) out none = none
+  less (ChildSilent child seconds) out none = none
   less _ out never = absurd never
 
 module _ {A : Type 0} (First : Answer A → Type 0) (Next : A → Answer (List ℕ) → Type 0) (one : HasOneAnswer (InTurn First Next)) (s : Status) where

@@ -6,7 +6,7 @@ use Rattle.anb_base.specs.declared.place.Place.{Place}
 use Rattle.anb_session.specs.declared.PlayEnd.{PlayEnd}
 use Rattle.anb_session.specs.declared.PlayEnd.TheVariants as ends
 use Rattle.anb_status.specs.declared.status.Status.{Status}
-use Rattle.anb_status.specs.declared.status.Status.TheVariants.{Usage, FileFault, Unreached, ReadFault, WriteFault, ChildFault, NoMemory}
+use Rattle.anb_status.specs.declared.status.Status.TheVariants.{Usage, FileFault, Unreached, ReadFault, WriteFault, ChildFault, ChildSilent, Unwritten, NoMemory}
 use Rattle.anb_command.specs.Causes.{HasCause, HasWireCause, NoneRose}
 use Rattle.anb_command.specs.Fetches.{IsOneOf}
 use Rattle.anb_command.specs.Prepared.{status_of}
@@ -46,6 +46,10 @@ module _ (names : List (List ℕ)) (place : Place) (faults faults_now : List ℕ
   early_cause Usage Refused (inr never) fails = absurd (cc)
   early_cause (ChildFault role) Refused (inl early) fails = absurd early.1
   early_cause (ChildFault role) Refused (inr never) fails = absurd (cc)
+  early_cause (ChildSilent role seconds) Refused (inl early) fails = absurd early.1
+  early_cause (ChildSilent role seconds) Refused (inr never) fails = absurd (cc)
+  early_cause (Unwritten file) Refused (inl early) fails = absurd (let never = early.0 in cc)
+  early_cause (Unwritten file) Refused (inr never) fails = absurd (cc)
   early_cause _ Refused early fails = tt
 
   -- where nothing failed, a fault is want of memory
@@ -55,6 +59,8 @@ module _ (names : List (List ℕ)) (place : Place) (faults faults_now : List ℕ
   only_memory none ReadFault cause fault = absurd (none.reads cause)
   only_memory none WriteFault cause fault = absurd (none.writes cause)
   only_memory none (ChildFault role) cause fault = absurd cause
+  only_memory none (ChildSilent role seconds) cause fault = absurd cause
+  only_memory none (Unwritten file) cause fault = absurd cause
   only_memory none NoMemory cause fault = refl
   only_memory none _ cause fault = absurd (cc)
 

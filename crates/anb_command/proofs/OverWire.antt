@@ -10,7 +10,7 @@ use Rattle.anb_base.specs.declared.TheConstants.{ARRIVAL}
 use Rattle.anb_base.proofs.Moving.{put_nothing}
 use Rattle.anb_plays.specs.Plays.{Played}
 use Rattle.anb_status.specs.declared.status.Status.{Status}
-use Rattle.anb_status.specs.declared.status.Status.TheVariants.{Done, Usage, FileFault, Unreached, ReadFault, WriteFault, ChildFault, NoMemory}
+use Rattle.anb_status.specs.declared.status.Status.TheVariants.{Done, Usage, FileFault, Unreached, ReadFault, WriteFault, ChildFault, ChildSilent, Unwritten, NoMemory}
 use Rattle.anb_command.specs.Causes.{HasWireCause}
 use Rattle.anb_command.specs.OverWire.{DidNotReach, HasReached, OnlyWrites, OverWire, StaysReached}
 use Rattle.anb_command.specs.Prepared.{RunsOn, RunsTo}
@@ -91,6 +91,8 @@ cause_from S T U place ReadFault not_at reads writes cause = subst (λ (n : ℕ)
 cause_from S T U place WriteFault not_at reads writes cause = subst (λ (n : ℕ). Rose n U.write_faults) writes cause
 cause_from S T U place (FileFault file) not_at reads writes cause = cause
 cause_from S T U place (ChildFault role) not_at reads writes cause = cause
+cause_from S T U place (ChildSilent role seconds) not_at reads writes cause = cause
+cause_from S T U place (Unwritten file) not_at reads writes cause = cause
 cause_from S T U place Usage not_at reads writes cause = cause
 cause_from S T U place _ not_at reads writes cause = tt
 

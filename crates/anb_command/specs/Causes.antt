@@ -4,7 +4,7 @@ use Rattle.anb_base.specs.Moves.{Rose}
 use Rattle.anb_base.specs.Wires.{WireState}
 use Rattle.anb_base.specs.declared.place.Place.{Place}
 use Rattle.anb_status.specs.declared.status.Status.{Status}
-use Rattle.anb_status.specs.declared.status.Status.TheVariants.{Usage, FileFault, Unreached, ReadFault, WriteFault, ChildFault}
+use Rattle.anb_status.specs.declared.status.Status.TheVariants.{Usage, FileFault, Unreached, ReadFault, WriteFault, ChildFault, ChildSilent, Unwritten}
 use Rattle.anb_command.specs.Fetches.{IsOneOf}
 
 -- of the wire, which is reached at this place; words that fit no command have none. No child is there
@@ -14,6 +14,8 @@ HasWireCause place old new ReadFault = Rose old.read_faults new.read_faults
 HasWireCause place old new WriteFault = Rose old.write_faults new.write_faults
 HasWireCause place old new (FileFault file) = ⊥
 HasWireCause place old new (ChildFault role) = ⊥
+HasWireCause place old new (ChildSilent role seconds) = ⊥
+HasWireCause place old new (Unwritten file) = ⊥
 HasWireCause place old new Usage = place ≡ None
 HasWireCause place old new status = Unit {0}
 

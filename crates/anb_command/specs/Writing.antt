@@ -2,7 +2,7 @@
 use Rattle.std.specs.Prelude.{◌≡◌, ℕ, ◌⊎◌, true, false, List, [], take, Option}
 use Rattle.anb_base.specs.Moves.{Put, PutPrefix}
 use Rattle.anb_status.specs.declared.status.Status.{Status}
-use Rattle.anb_status.specs.declared.status.Status.TheVariants.{Done, FileFault, Unreached, WriteFault, ChildFault, NoMemory}
+use Rattle.anb_status.specs.declared.status.Status.TheVariants.{Done, FileFault, Unreached, WriteFault, ChildFault, ChildSilent, NoMemory}
 use Rattle.anb_status.specs.Statuses.{is_fault}
 use Rattle.anb_command.specs.Steps.{Answer, refused, given}
 
@@ -20,6 +20,7 @@ WritesLess Due NoMemory out = (out ≡ []) ⊎ WritesPart Due out
 WritesLess Due (Unreached place) out = ((text : List ℕ) × Due (given text)) × (out ≡ [])
 WritesLess Due (FileFault name) out = out ≡ []
 WritesLess Due (ChildFault role) out = out ≡ []
+WritesLess Due (ChildSilent role seconds) out = out ≡ []
 WritesLess Due status out = ⊥
 
 -- A text that is due is written. More than one may be due.

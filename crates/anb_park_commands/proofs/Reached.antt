@@ -67,6 +67,8 @@ module _ (S T U : WireState) (stays : StaysReached S T) (writes : OnlyWrites T U
   cause_further place ended.WriteFault cause = Rose-later S.write_faults T.write_faults U.write_faults stays.writes cause
   cause_further place (ended.FileFault file) cause = cause
   cause_further place (ended.ChildFault role) cause = cause
+  cause_further place (ended.ChildSilent role seconds) cause = cause
+  cause_further place (ended.Unwritten file) cause = cause
   cause_further place ended.Usage cause = cause
   cause_further place _ cause = tt
 

@@ -10,7 +10,7 @@ use Rattle.anb_honest.specs.Honest.{AreHonest, honest_end}
 use Rattle.anb_honest.specs.Joint.{is_complete}
 use Rattle.anb_protocol.specs.Schedules.{IsComplete, taken}
 use Rattle.anb_status.specs.declared.status.Status.{Status}
-use Rattle.anb_status.specs.declared.status.Status.TheVariants.{Done, FileFault, Unreached, ReadFault, WriteFault, NotAll, ChildFault, NoMemory}
+use Rattle.anb_status.specs.declared.status.Status.TheVariants.{Done, FileFault, Unreached, ReadFault, WriteFault, NotAll, ChildFault, ChildSilent, Unwritten, NoMemory}
 use Rattle.anb_command.specs.Fetches.{Files, IfTold}
 use Rattle.anb_status.specs.Statuses.{before_reach, is_fault, phase_of}
 use Rattle.anb_command.specs.Steps.{Answer, refused, given, HasOneAnswer, IsFailure}
@@ -93,6 +93,8 @@ module _ (Asks : Answer Rehearsal → Type 0) (one : HasOneAnswer Asks) (r : Reh
   comes (FileFault name) o = absurd (o.told o.some.0 o.some.1)
   comes ReadFault o = absurd (o.told o.some.0 o.some.1)
   comes (ChildFault role) o = absurd (o.told o.some.0 o.some.1)
+  comes (ChildSilent role seconds) o = absurd (o.told o.some.0 o.some.1)
+  comes (Unwritten file) o = absurd (o.told o.some.0 o.some.1)
   comes (Unreached place) o = record {
     is = faulty;
     only = faulty;

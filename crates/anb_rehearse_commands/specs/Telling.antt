@@ -15,7 +15,7 @@ use Rattle.anb_protocol.specs.Plays.{IsSendable}
 use Rattle.anb_protocol.specs.Protocols.{ProtocolValue}
 use Rattle.anb_protocol.specs.Texts.{known_names}
 use Rattle.anb_status.specs.declared.status.Status.{Status}
-use Rattle.anb_status.specs.declared.status.Status.TheVariants.{FileFault, Unreached, ReadFault, WriteFault, ChildFault, NoMemory}
+use Rattle.anb_status.specs.declared.status.Status.TheVariants.{FileFault, Unreached, ReadFault, WriteFault, ChildFault, ChildSilent, Unwritten, NoMemory}
 use Rattle.anb_rehearse_commands.specs.Rehearsals.{Rehearsal, Setting}
 use Rattle.anb_rehearse_commands.specs.RehearseCommand.{RolesPlay, Tells, cast_of}
 
@@ -47,6 +47,8 @@ abbrev pub IsTold : RehearseEnd → Status → (written written_now : Option (Li
 IsTold end (FileFault name) written written_now = ⊥
 IsTold end ReadFault written written_now = ⊥
 IsTold end (ChildFault role) written written_now = ⊥
+IsTold end (ChildSilent role seconds) written written_now = ⊥
+IsTold end (Unwritten file) written written_now = ⊥
 IsTold end (Unreached place) written written_now = written_now ≡ written
 IsTold end WriteFault written written_now =
     (status : Status) × (out : List ℕ) × Tells end status out × PutPrefix written written_now out

@@ -15,7 +15,7 @@ use Rattle.anb_stage.specs.Relays.{AreCut, IsRefused, IsRelayed, ends_in, report
 use Rattle.anb_stage.specs.declared.refusal.RelayNo.{RelayNo}
 use Rattle.anb_stage.specs.declared.refusal.RelayNo.TheVariants as no
 use Rattle.anb_status.specs.declared.status.Status.{Status}
-use Rattle.anb_status.specs.declared.status.Status.TheVariants.{Done, Usage, FileFault, Unreached, ReadFault, WriteFault, ChildFault, NoMemory}
+use Rattle.anb_status.specs.declared.status.Status.TheVariants.{Done, Usage, FileFault, Unreached, ReadFault, WriteFault, ChildFault, ChildSilent, Unwritten, NoMemory}
 use Rattle.anb_command.specs.Causes.{HasWireCause, NoneRose}
 use Rattle.anb_command.specs.Fetches.{Files, IfTold}
 use Rattle.anb_command.specs.Roles.{SendableInFile}
@@ -136,6 +136,8 @@ module _ (narration : List ℕ) (faults faults_now : List ℕ → ℕ) (old new 
       → HasStageCause (narration ∷ []) faults faults_now old new S S status
   before_cause s named (FileFault file) before cause = (inl (cause.0 ∙ named), cause.1)
   before_cause s named (ChildFault name) before cause = cause
+  before_cause s named (ChildSilent name seconds) before cause = cause
+  before_cause s named (Unwritten file) before cause = cause
   before_cause s named (Unreached at) (inl before) cause = absurd (let never = before.0 in cc)
   before_cause s named (Unreached at) (inr never) cause = absurd (cc)
   before_cause s named ReadFault (inl before) cause = absurd (let never = before.0 in cc)

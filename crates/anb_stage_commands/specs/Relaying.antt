@@ -8,7 +8,7 @@ use Rattle.anb_stage.specs.Relays.{AreCut, IsRefused, IsRelayed, ends_in, report
 use Rattle.anb_stage.specs.declared.refusal.RelayNo.{RelayNo}
 use Rattle.anb_stage.specs.declared.refusal.RelayNo.TheVariants as no
 use Rattle.anb_status.specs.declared.status.Status.{Status}
-use Rattle.anb_status.specs.declared.status.Status.TheVariants.{Usage, FileFault, ChildFault, NoMemory}
+use Rattle.anb_status.specs.declared.status.Status.TheVariants.{Usage, FileFault, ChildFault, ChildSilent, Unwritten, NoMemory}
 use Rattle.anb_command.specs.Fetches.{Files, IfTold}
 use Rattle.anb_command.specs.Roles.{SendableInFile}
 use Rattle.anb_status.specs.Statuses.{before_reach, phase_of}
@@ -31,7 +31,9 @@ IsBefore status = ((phase_of status ≡ before_reach) × (status ≡ Usage → �
 abbrev pub HasChildCause : (old new : ℕ → Child) → Status → Type 0
 HasChildCause old new (ChildFault name) =
     (role : ℕ) × (role < 32) × Rose (old role).faults (new role).faults
+HasChildCause old new (ChildSilent name seconds) = ⊥
 HasChildCause old new (FileFault file) = ⊥
+HasChildCause old new (Unwritten file) = ⊥
 HasChildCause old new status = Unit {0}
 
 module _ (s : Staged) (old new : ℕ → Child) where
@@ -70,4 +72,6 @@ module _ (s : Staged) (old new : ℕ → Child) where
       (file ≡ s.narration) × Rose (faults file) (faults_now file)
   HasCauseBefore faults faults_now (ChildFault name) =
       (role : ℕ) × (role < 32) × Rose (old role).faults (new role).faults
+  HasCauseBefore faults faults_now (ChildSilent name seconds) = ⊥
+  HasCauseBefore faults faults_now (Unwritten file) = ⊥
   HasCauseBefore faults faults_now status = Unit {0}

@@ -1,4 +1,3 @@
 pub mod Lines
-pub mod Statuses
--- for proofs alone
 pub mod Pieces
+pub mod Statuses

@@ -25,7 +25,7 @@ use Rattle.anb_values.specs.declared.refusal.ValuesNo.TheVariants as fitting
 use Rattle.anb_status.specs.declared.status.NarrationNo.{NarrationNo}
 use Rattle.anb_status.specs.declared.status.NarrationNo.TheVariants.{Read, Resolve}
 use Rattle.anb_status.specs.declared.status.Status.{Status}
-use Rattle.anb_status.specs.declared.status.Status.TheVariants.{Done, Usage, FileFault, FileLong, BadNarration, NoRole, CannotSend, BadValues, NoSeed, Unreached, Stopped, Waiting, Truncated, TooLarge, ReadFault, WriteFault, BadRoleFile, BadTranscript, Differs, Short, BadKind, Spent, LongMessage, BadTurn, NotAll, BadBranch, ArmCannotSend, BadArm, NotCertified, Parked, BadRecord, ChildFault, ChildEnded, ChildCut, ChildLong, ChildBad, NoMemory}
+use Rattle.anb_status.specs.declared.status.Status.TheVariants.{Done, Usage, FileFault, FileLong, BadNarration, NoRole, CannotSend, BadValues, NoSeed, Unreached, Stopped, Waiting, Truncated, TooLarge, ReadFault, WriteFault, BadRoleFile, BadTranscript, Differs, Short, BadKind, Spent, LongMessage, BadTurn, NotAll, BadBranch, ArmCannotSend, BadArm, NotCertified, Parked, BadRecord, ChildFault, ChildEnded, ChildCut, ChildLong, ChildBad, CasesNotOk, ChildSilent, Unwritten, NoMemory}
 
 abbrev pub number_of : Status → ℕ
 number_of Done = 0
@@ -64,6 +64,9 @@ number_of (ChildEnded action) = 32
 number_of (ChildCut action have need) = 33
 number_of (ChildLong action len) = 34
 number_of (ChildBad role status) = 35
+number_of (CasesNotOk failed cases) = 36
+number_of (ChildSilent role seconds) = 37
+number_of (Unwritten file) = 38
 number_of NoMemory = 99
 
 -- why a text is no narration
@@ -194,6 +197,9 @@ text_of (ChildCut action have need) =
     codes "message of action " ++ (decimal action ++ (codes " ends after " ++ (decimal have ++ (codes " of " ++ (decimal need ++ codes " bytes")))))
 text_of (ChildLong action len) = codes "message of action " ++ (decimal action ++ (codes " has " ++ (decimal len ++ codes " bytes")))
 text_of (ChildBad role status) = codes "child " ++ (role ++ (codes " ended with " ++ decimal status))
+text_of (CasesNotOk failed cases) = decimal failed ++ (codes " of " ++ (decimal cases ++ codes " cases not ok"))
+text_of (ChildSilent role seconds) = codes "child " ++ (role ++ (codes " was silent for " ++ (decimal seconds ++ codes " seconds")))
+text_of (Unwritten file) = codes "can't write " ++ file
 text_of NoMemory = codes "no memory"
 
 -- its line; there is none where all was done
@@ -208,6 +214,8 @@ is_fault (Unreached place) = true
 is_fault ReadFault = true
 is_fault WriteFault = true
 is_fault (ChildFault role) = true
+is_fault (ChildSilent role seconds) = true
+is_fault (Unwritten file) = true
 is_fault NoMemory = true
 is_fault status = false
 
@@ -250,6 +258,7 @@ phase_of (ChildEnded action) = before_reach
 phase_of (ChildCut action have need) = before_reach
 phase_of (ChildLong action len) = before_reach
 phase_of (ChildBad role status) = before_reach
+phase_of (ChildSilent role seconds) = before_reach
 phase_of (Unreached place) = at_reach
 phase_of NoMemory = at_any_time
 phase_of status = after_reach
@@ -265,6 +274,7 @@ is_untouched at_any_time = false
 abbrev pub IsOfFiles : Status → Type 0
 IsOfFiles Usage = ⊥
 IsOfFiles (ChildFault role) = ⊥
+IsOfFiles (ChildSilent role seconds) = ⊥
 IsOfFiles status = Unit {0}
 
 -- a refusal of files before the place is reached, or want of memory

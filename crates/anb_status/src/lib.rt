@@ -2,7 +2,9 @@
 #![tactic(auto)]
 
 mod line;
+mod pieces;
 mod status;
 
 pub use line::tell;
+pub use pieces::{Pieces, gathered};
 pub use status::{BranchNo, CertifyNo, Due, Halt, NarrationNo, ParkNo, Report, Status, ill_formed};

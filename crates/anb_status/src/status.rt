@@ -1,7 +1,9 @@
 //! Statuses: why a command did its work or didn't, their numbers and their lines.
-ghost use Rattle.std.specs.Prelude.{◌≡◌, ◌++◌};
+ghost use Rattle.std.specs.Prelude.{◌≡◌, ◌++◌, codes, decimal};
+ghost use Rattle.anb_status.specs.Pieces.{said};
 ghost use Rattle.anb_status.specs.Statuses.{instruction_text, item_text, kind_text, uncertified_at, where_text, why_ill_formed, why_misshapen, why_unaccepted, why_unfit, why_unloaded, why_unread};
 
+use crate::pieces::{Pieces, five, four, one, seven, three, two};
 use anb_base::{NoMemory, Place, Text};
 use anb_code::CodeNo;
 use anb_format::FormatNo;
@@ -105,6 +107,12 @@ pub enum Status {
     ChildLong { action: u32, len: u32 },
     /// The child of this role ended with another status than 0.
     ChildBad { role: Text, status: u8 },
+    /// So many of the cases aren't ok; the report is written.
+    CasesNotOk { failed: u32, cases: u32 },
+    /// The child of this role gave nothing, or took nothing, for so many seconds.
+    ChildSilent { role: Text, seconds: u32 },
+    /// The file of this name couldn't be written.
+    Unwritten(Text),
     /// No memory was left.
     NoMemory,
 }
@@ -119,17 +127,6 @@ impl From<NoMemory> for Status {
         Status::NoMemory
     }
 }
-
-/// A text in pieces.
-pub type Pieces<'a> = (
-    &'a str,
-    &'a str,
-    &'a str,
-    &'a str,
-    &'a str,
-    &'a str,
-    &'a str,
-);
 
 /// Room for the digits of the three numbers that a line may have.
 #[derive(Drop)]
@@ -150,7 +147,8 @@ impl Digits {
 }
 
 impl Status {
-    ghost use Rattle.std.specs.Prelude.{◌≡◌, ◌++◌};
+    ghost use Rattle.std.specs.Prelude.{◌≡◌};
+    ghost use Rattle.anb_status.specs.Pieces.{said};
     ghost use Rattle.anb_status.specs.Statuses.{number_of, text_of};
 
     /// The exit status of the program.
@@ -194,15 +192,16 @@ impl Status {
             Status::ChildCut { .. } => 33,
             Status::ChildLong { .. } => 34,
             Status::ChildBad { .. } => 35,
+            Status::CasesNotOk { .. } => 36,
+            Status::ChildSilent { .. } => 37,
+            Status::Unwritten(_) => 38,
             Status::NoMemory => 99,
         }
     }
 
     /// What the status says, in pieces. The digits hold those that are numbers.
     pub fn pieces<'a>(&'a self, digits: &'a mut Digits) -> Pieces<'a>
-        ensures { text_of self.now ≡
-            result.0.now ++ (result.1.now ++ (result.2.now ++ (result.3.now
-            ++ (result.4.now ++ (result.5.now ++ result.6.now))))) }
+        ensures { said result ≡ text_of self.now }
     {
         let Digits {
             first,
@@ -210,150 +209,69 @@ impl Status {
             third,
         } = digits;
         match self {
-            Status::Done => ("", "", "", "", "", "", ""),
-            Status::Usage => ("the words fit no command", "", "", "", "", "", ""),
-            Status::FileFault(name) => ("can't read ", name.as_str(), "", "", "", "", ""),
-            Status::FileLong(name) => (name.as_str(), " is too long", "", "", "", "", ""),
-            Status::BadNarration(why) => {
-                let (a, b, c, d) = why.pieces(first);
-                ("narration: ", a, b, c, d, "", "")
-            }
-            Status::NoRole(name) => ("no role ", name.as_str(), "", "", "", "", ""),
-            Status::CannotSend { action, role } => (
+            Status::Done => one(""),
+            Status::Usage => one("the words fit no command"),
+            Status::FileFault(name) => two("can't read ", name.as_str()),
+            Status::FileLong(name) => two(name.as_str(), " is too long"),
+            Status::BadNarration(why) => why.pieces("narration: ", first),
+            Status::NoRole(name) => two("no role ", name.as_str()),
+            Status::CannotSend { action, role } => three(
                 role.as_str(),
                 " can't compose the message of action ",
                 first.format(*action),
-                "",
-                "",
-                "",
-                "",
             ),
-            Status::BadValues(why) => {
-                let (what, which) = unfit(why, first);
-                ("values: ", what, which, "", "", "", "")
-            }
-            Status::NoSeed => ("no seed", "", "", "", "", "", ""),
-            Status::Unreached(place) => ("can't reach ", where_text(place), "", "", "", "", ""),
-            Status::Stopped(halt) => {
-                let (what, which) = instruction(halt.at, second);
-                (
-                    "stopped at event ",
-                    first.format(halt.event),
-                    what,
-                    which,
-                    "",
-                    "",
-                    "",
-                )
-            }
-            Status::Waiting(event) => (
-                "waiting at event ",
-                first.format(*event),
-                "",
-                "",
-                "",
-                "",
-                "",
-            ),
-            Status::Truncated { have, need } => (
+            Status::BadValues(why) => unfit("values: ", why, first),
+            Status::NoSeed => one("no seed"),
+            Status::Unreached(place) => two("can't reach ", where_text(place)),
+            Status::Stopped(halt) => stopped(*halt, first, second),
+            Status::Waiting(event) => two("waiting at event ", first.format(*event)),
+            Status::Truncated { have, need } => five(
                 "input ends after ",
                 first.format(*have),
                 " of ",
                 second.format(*need),
                 " bytes",
-                "",
-                "",
             ),
-            Status::TooLarge(len) => ("a frame of ", first.format(*len), " bytes", "", "", "", ""),
-            Status::ReadFault => ("read failed", "", "", "", "", "", ""),
-            Status::WriteFault => ("write failed", "", "", "", "", "", ""),
-            Status::BadRoleFile(why) => {
-                let (what, which, is) = unloaded(*why, first);
-                ("role file: ", what, which, is, "", "", "")
+            Status::TooLarge(len) => three("a frame of ", first.format(*len), " bytes"),
+            Status::ReadFault => one("read failed"),
+            Status::WriteFault => one("write failed"),
+            Status::BadRoleFile(why) => unloaded("role file: ", *why, first),
+            Status::BadTranscript(line) => {
+                three("transcript line ", first.format(*line), " can't be read")
             }
-            Status::BadTranscript(line) => (
-                "transcript line ",
-                first.format(*line),
-                " can't be read",
-                "",
-                "",
-                "",
-                "",
-            ),
             Status::Differs { line, .. } => {
-                (
-                    "transcript line ",
-                    first.format(*line),
-                    " differs",
-                    "",
-                    "",
-                    "",
-                    "",
-                )
+                three("transcript line ", first.format(*line), " differs")
             }
-            Status::Short(event) => (
-                "transcript ends before event ",
-                first.format(*event),
-                "",
-                "",
-                "",
-                "",
-                "",
-            ),
-            Status::BadKind(kind) => ("no frame kind ", first.format(*kind), "", "", "", "", ""),
-            Status::Spent(frames) => (first.format(*frames), " frames handled", "", "", "", "", ""),
-            Status::LongMessage { action, len } => (
+            Status::Short(event) => two("transcript ends before event ", first.format(*event)),
+            Status::BadKind(kind) => two("no frame kind ", first.format(*kind)),
+            Status::Spent(frames) => two(first.format(*frames), " frames handled"),
+            Status::LongMessage { action, len } => five(
                 "message of action ",
                 first.format(*action),
                 " has ",
                 second.format(*len),
                 " bytes",
-                "",
-                "",
             ),
-            Status::BadTurn(turn) => (
-                "turn ",
-                first.format(*turn),
-                " names no role",
-                "",
-                "",
-                "",
-                "",
-            ),
-            Status::NotAll(_) => ("not all roles are done", "", "", "", "", "", ""),
-            Status::BadBranch(_) => ("branch refused", "", "", "", "", "", ""),
-            Status::ArmCannotSend { arm, action, role } => (
+            Status::BadTurn(turn) => three("turn ", first.format(*turn), " names no role"),
+            Status::NotAll(_) => one("not all roles are done"),
+            Status::BadBranch(_) => one("branch refused"),
+            Status::ArmCannotSend { arm, action, role } => five(
                 role.as_str(),
                 " can't compose the message of action ",
                 first.format(*action),
                 " in arm ",
                 second.format(*arm),
-                "",
-                "",
             ),
-            Status::BadArm(arm) => ("arm ", first.format(*arm), " doesn't fit", "", "", "", ""),
-            Status::NotCertified(why) => (
+            Status::BadArm(arm) => three("arm ", first.format(*arm), " doesn't fit"),
+            Status::NotCertified(why) => two(
                 "not certified at instruction ",
                 first.format(uncertified(*why)),
-                "",
-                "",
-                "",
-                "",
-                "",
             ),
-            Status::Parked(event) => ("parked at event ", first.format(*event), "", "", "", "", ""),
-            Status::BadRecord(_) => ("record refused", "", "", "", "", "", ""),
-            Status::ChildFault(role) => ("child ", role.as_str(), " failed", "", "", "", ""),
-            Status::ChildEnded(action) => (
-                "no message of action ",
-                first.format(*action),
-                "",
-                "",
-                "",
-                "",
-                "",
-            ),
-            Status::ChildCut { action, have, need } => (
+            Status::Parked(event) => two("parked at event ", first.format(*event)),
+            Status::BadRecord(_) => one("record refused"),
+            Status::ChildFault(role) => three("child ", role.as_str(), " failed"),
+            Status::ChildEnded(action) => two("no message of action ", first.format(*action)),
+            Status::ChildCut { action, have, need } => seven(
                 "message of action ",
                 first.format(*action),
                 " ends after ",
@@ -362,90 +280,96 @@ impl Status {
                 third.format(*need),
                 " bytes",
             ),
-            Status::ChildLong { action, len } => (
+            Status::ChildLong { action, len } => five(
                 "message of action ",
                 first.format(*action),
                 " has ",
                 second.format(*len),
                 " bytes",
-                "",
-                "",
             ),
-            Status::ChildBad { role, status } => (
+            Status::ChildBad { role, status } => {
+                four("child ", role.as_str(), " ended with ", first.format(*status))
+            }
+            Status::CasesNotOk { failed, cases } => four(
+                first.format(*failed),
+                " of ",
+                second.format(*cases),
+                " cases not ok",
+            ),
+            Status::ChildSilent { role, seconds } => five(
                 "child ",
                 role.as_str(),
-                " ended with ",
-                first.format(*status),
-                "",
-                "",
-                "",
+                " was silent for ",
+                first.format(*seconds),
+                " seconds",
             ),
-            Status::NoMemory => ("no memory", "", "", "", "", "", ""),
+            Status::Unwritten(name) => two("can't write ", name.as_str()),
+            Status::NoMemory => one("no memory"),
         }
     }
 }
 
 impl NarrationNo {
     ghost use Rattle.std.specs.Prelude.{◌≡◌, ◌++◌};
+    ghost use Rattle.anb_status.specs.Pieces.{said};
     ghost use Rattle.anb_status.specs.Statuses.{why_bad};
 
-    /// Why the file holds no narration.
-    fn pieces<'a>(&'a self, digits: &'a mut Buffer) -> (&'a str, &'a str, &'a str, &'a str)
-        ensures { why_bad self.now ≡
-            result.0.now ++ (result.1.now ++ (result.2.now ++ result.3.now)) }
+    /// Why the file holds no narration, behind another text.
+    fn pieces<'a>(&'a self, front: &'a str, digits: &'a mut Buffer) -> Pieces<'a>
+        ensures { said result ≡ front.now ++ why_bad self.now }
     {
         match self {
-            NarrationNo::Read(why) => {
-                let (what, at) = unread(*why, digits);
-                (what, at, "", "")
-            }
-            NarrationNo::Resolve(why) => ill_formed(why, digits),
+            NarrationNo::Read(why) => unread(front, *why, digits),
+            NarrationNo::Resolve(why) => ill_formed(front, why, digits),
         }
     }
 }
 
-/// Why a text is no narration, and where.
-fn unread(why: ReadNo, digits: &mut Buffer) -> (&str, &str)
-    ensures { why_unread why ≡ result.0.now ++ result.1.now }
+/// Why a text is no narration, and where, behind another text.
+fn unread<'a>(front: &'a str, why: ReadNo, digits: &'a mut Buffer) -> Pieces<'a>
+    ensures { said result ≡ front.now ++ why_unread why }
 {
     match why {
-        ReadNo::Token { at } => ("no token at ", digits.format(at)),
-        ReadNo::Grammar { at } => ("unexpected at ", digits.format(at)),
-        ReadNo::Deep { at } => ("too deep at ", digits.format(at)),
-        ReadNo::NoMemory => ("no memory", ""),
+        ReadNo::Token { at } => three(front, "no token at ", digits.format(at)),
+        ReadNo::Grammar { at } => three(front, "unexpected at ", digits.format(at)),
+        ReadNo::Deep { at } => three(front, "too deep at ", digits.format(at)),
+        ReadNo::NoMemory => two(front, "no memory"),
     }
 }
 
-/// Why a narration isn't well formed, in pieces.
+/// Why a narration isn't well formed, behind another text.
 pub fn ill_formed<'a>(
+    front: &'a str,
     why: &'a ResolveNo,
     digits: &'a mut Buffer,
-) -> (&'a str, &'a str, &'a str, &'a str)
-    ensures { why_ill_formed why.now ≡
-        result.0.now ++ (result.1.now ++ (result.2.now ++ result.3.now)) }
+) -> Pieces<'a>
+    ensures { said result ≡ front.now ++ why_ill_formed why.now }
 {
     match why {
-        ResolveNo::Limit(kind, count) => {
-            ("too many ", kind_text(*kind), ": ", digits.format(*count))
+        ResolveNo::Limit(kind, count) => five(
+            front,
+            "too many ",
+            kind_text(*kind),
+            ": ",
+            digits.format(*count),
+        ),
+        ResolveNo::Twice(name) => three(front, name.as_str(), " twice"),
+        ResolveNo::Unknown(name) => three(front, name.as_str(), " unknown"),
+        ResolveNo::WrongSort(name) => three(front, name.as_str(), " has the wrong sort"),
+        ResolveNo::WrongCount(name) => three(front, name.as_str(), " has the wrong count"),
+        ResolveNo::FormatShape(name, why) => misshapen(front, name, *why, digits),
+        ResolveNo::Overlap(f, g) => five(front, f.as_str(), " and ", g.as_str(), " overlap"),
+        ResolveNo::SelfSend(n) => {
+            four(front, "action ", digits.format(*n), " goes to its sender")
         }
-        ResolveNo::Twice(name) => (name.as_str(), " twice", "", ""),
-        ResolveNo::Unknown(name) => (name.as_str(), " unknown", "", ""),
-        ResolveNo::WrongSort(name) => (name.as_str(), " has the wrong sort", "", ""),
-        ResolveNo::WrongCount(name) => (name.as_str(), " has the wrong count", "", ""),
-        ResolveNo::FormatShape(name, why) => {
-            let (what, at) = misshapen(*why, digits);
-            (name.as_str(), what, at, "")
-        }
-        ResolveNo::Overlap(f, g) => (f.as_str(), " and ", g.as_str(), " overlap"),
-        ResolveNo::SelfSend(n) => ("action ", digits.format(*n), " goes to its sender", ""),
         ResolveNo::KnowledgeTwice(role, term) => {
-            (role.as_str(), " knows ", term.as_str(), " twice")
+            five(front, role.as_str(), " knows ", term.as_str(), " twice")
         }
         ResolveNo::Wide(what) => {
             let (kind, which) = item(what, digits);
-            (kind, which, " is too wide", "")
+            four(front, kind, which, " is too wide")
         }
-        ResolveNo::NoMemory => ("no memory", "", "", ""),
+        ResolveNo::NoMemory => two(front, "no memory"),
     }
 }
 
@@ -463,13 +387,20 @@ fn kind_text(kind: Kind) -> &'static str
     }
 }
 
-/// Why a format's pieces make none.
-fn misshapen(why: FormatNo, digits: &mut Buffer) -> (&str, &str)
-    ensures { why_misshapen why ≡ result.0.now ++ result.1.now }
+/// Why the pieces of the format of this name make none, behind another text.
+fn misshapen<'a>(
+    front: &'a str,
+    name: &'a Text,
+    why: FormatNo,
+    digits: &'a mut Buffer,
+) -> Pieces<'a>
+    ensures { said result ≡ front.now ++ (name.now ++ why_misshapen why) }
 {
     match why {
-        FormatNo::NoHead => (" has no head", ""),
-        FormatNo::RestNotLast(at) => (" has a rest at ", digits.format(at)),
+        FormatNo::NoHead => three(front, name.as_str(), " has no head"),
+        FormatNo::RestNotLast(at) => {
+            four(front, name.as_str(), " has a rest at ", digits.format(at))
+        }
     }
 }
 
@@ -483,46 +414,46 @@ fn item<'a>(what: &'a Item, digits: &'a mut Buffer) -> (&'a str, &'a str)
     }
 }
 
-/// Why a values file doesn't fit.
-fn unfit<'a>(why: &'a ValuesNo, digits: &'a mut Buffer) -> (&'a str, &'a str)
-    ensures { why_unfit why.now ≡ result.0.now ++ result.1.now }
+/// Why a values file doesn't fit, behind another text.
+fn unfit<'a>(front: &'a str, why: &'a ValuesNo, digits: &'a mut Buffer) -> Pieces<'a>
+    ensures { said result ≡ front.now ++ why_unfit why.now }
 {
     match why {
-        ValuesNo::Line(n) => ("line ", digits.format(*n)),
-        ValuesNo::Extra(name) => (name.as_str(), " isn't asked for"),
-        ValuesNo::Twice(name) => (name.as_str(), " twice"),
-        ValuesNo::Long(name) => (name.as_str(), " is too long"),
-        ValuesNo::Missing(name) => (name.as_str(), " is missing"),
-        ValuesNo::NoMemory => ("no memory", ""),
+        ValuesNo::Line(n) => three(front, "line ", digits.format(*n)),
+        ValuesNo::Extra(name) => three(front, name.as_str(), " isn't asked for"),
+        ValuesNo::Twice(name) => three(front, name.as_str(), " twice"),
+        ValuesNo::Long(name) => three(front, name.as_str(), " is too long"),
+        ValuesNo::Missing(name) => three(front, name.as_str(), " is missing"),
+        ValuesNo::NoMemory => two(front, "no memory"),
     }
 }
 
-/// Why a role file gives no code.
-fn unloaded(why: LoadNo, digits: &mut Buffer) -> (&str, &str, &str)
-    ensures { why_unloaded why ≡ result.0.now ++ (result.1.now ++ result.2.now) }
+/// Why a role file gives no code, behind another text.
+fn unloaded<'a>(front: &'a str, why: LoadNo, digits: &'a mut Buffer) -> Pieces<'a>
+    ensures { said result ≡ front.now ++ why_unloaded why }
 {
     match why {
-        LoadNo::Line(n) => ("line ", digits.format(n), ""),
-        LoadNo::Code(why) => unaccepted(why, digits),
-        LoadNo::NoMemory => ("no memory", "", ""),
+        LoadNo::Line(n) => three(front, "line ", digits.format(n)),
+        LoadNo::Code(why) => unaccepted(front, why, digits),
+        LoadNo::NoMemory => two(front, "no memory"),
     }
 }
 
-/// Why a code isn't accepted.
-fn unaccepted(why: CodeNo, digits: &mut Buffer) -> (&str, &str, &str)
-    ensures { why_unaccepted why ≡ result.0.now ++ (result.1.now ++ result.2.now) }
+/// Why a code isn't accepted, behind another text.
+fn unaccepted<'a>(front: &'a str, why: CodeNo, digits: &'a mut Buffer) -> Pieces<'a>
+    ensures { said result ≡ front.now ++ why_unaccepted why }
 {
     match why {
-        CodeNo::Many(f) => ("format ", digits.format(f), " is too much"),
-        CodeNo::Twice(f) => ("format ", digits.format(f), " has an earlier name"),
-        CodeNo::Shape(f, _) => ("format ", digits.format(f), " has no shape"),
-        CodeNo::Late(at) => ("instruction ", digits.format(at), ": late take"),
-        CodeNo::TakeTwice(at) => ("instruction ", digits.format(at), ": take twice"),
-        CodeNo::BadFormat(at) => ("instruction ", digits.format(at), ": bad format"),
-        CodeNo::Unwritten(at) => ("instruction ", digits.format(at), ": unwritten"),
-        CodeNo::Order(at) => ("instruction ", digits.format(at), ": out of order"),
-        CodeNo::Wide(at) => ("instruction ", digits.format(at), ": too wide"),
-        CodeNo::NoMemory => ("no memory", "", ""),
+        CodeNo::Many(f) => four(front, "format ", digits.format(f), " is too much"),
+        CodeNo::Twice(f) => four(front, "format ", digits.format(f), " has an earlier name"),
+        CodeNo::Shape(f, _) => four(front, "format ", digits.format(f), " has no shape"),
+        CodeNo::Late(at) => four(front, "instruction ", digits.format(at), ": late take"),
+        CodeNo::TakeTwice(at) => four(front, "instruction ", digits.format(at), ": take twice"),
+        CodeNo::BadFormat(at) => four(front, "instruction ", digits.format(at), ": bad format"),
+        CodeNo::Unwritten(at) => four(front, "instruction ", digits.format(at), ": unwritten"),
+        CodeNo::Order(at) => four(front, "instruction ", digits.format(at), ": out of order"),
+        CodeNo::Wide(at) => four(front, "instruction ", digits.format(at), ": too wide"),
+        CodeNo::NoMemory => two(front, "no memory"),
     }
 }
 
@@ -539,14 +470,20 @@ fn uncertified(why: CertifyNo) -> u32
     }
 }
 
-/// At which instruction a run stopped, where that is told.
-fn instruction(at: u32, digits: &mut Buffer) -> (&str, &str)
-    ensures { instruction_text at ≡ result.0.now ++ result.1.now }
+/// Where a run stopped, with its instruction where one is told.
+fn stopped<'a>(halt: Halt, event: &'a mut Buffer, at: &'a mut Buffer) -> Pieces<'a>
+    ensures { said result ≡ codes "stopped at event "
+        ++ (decimal halt.event ++ instruction_text halt.at) }
 {
-    if at == 0 {
-        ("", "")
+    if halt.at == 0 {
+        two("stopped at event ", event.format(halt.event))
     } else {
-        (", instruction ", digits.format(at))
+        four(
+            "stopped at event ",
+            event.format(halt.event),
+            ", instruction ",
+            at.format(halt.at),
+        )
     }
 }
 

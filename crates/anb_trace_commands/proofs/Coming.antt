@@ -18,7 +18,7 @@ use Rattle.anb_transcript.specs.declared.following.ReplayEnd.{ReplayEnd}
 use Rattle.anb_transcript.specs.declared.following.ReplayEnd.TheVariants as replayed
 use Rattle.anb_transcript.specs.declared.transcript.TranscriptLine.{TranscriptLine}
 use Rattle.anb_status.specs.declared.status.Status.{Status}
-use Rattle.anb_status.specs.declared.status.Status.TheVariants.{FileFault, Unreached, ReadFault, WriteFault, ChildFault, NoMemory}
+use Rattle.anb_status.specs.declared.status.Status.TheVariants.{FileFault, Unreached, ReadFault, WriteFault, ChildFault, ChildSilent, Unwritten, NoMemory}
 use Rattle.anb_command.specs.Fetches.{Files, IfTold}
 use Rattle.anb_status.specs.Statuses.{before_reach, is_fault, phase_of}
 use Rattle.anb_command.specs.Steps.{Answer, refused, given, HasOneAnswer, IsFailure}
@@ -116,6 +116,8 @@ module _ (narration name values transcript : List ℕ) (host_seed : Option (List
         comes (FileFault file) o = absurd o
         comes ReadFault o = absurd o
         comes (ChildFault child) o = absurd o
+        comes (ChildSilent child seconds) o = absurd o
+        comes (Unwritten file) o = absurd o
         comes (Unreached place) o = record { is = faulty; only = faulty; cut_short = λ _. ([], ((asked, ready.asks), refl), unmoved o) }
         comes WriteFault o = record { is = faulty; only = faulty; cut_short = λ _. part_of o }
         comes NoMemory o = record { is = faulty; only = faulty; cut_short = λ _. by o } where

@@ -15,7 +15,7 @@ use Rattle.anb_transcript.specs.Replays.{arrivals_of}
 use Rattle.anb_transcript.specs.declared.following.ReplayEnd.{ReplayEnd}
 use Rattle.anb_transcript.specs.declared.transcript.TranscriptLine.{TranscriptLine}
 use Rattle.anb_status.specs.declared.status.Status.{Status}
-use Rattle.anb_status.specs.declared.status.Status.TheVariants.{FileFault, Unreached, ReadFault, WriteFault, ChildFault, NoMemory}
+use Rattle.anb_status.specs.declared.status.Status.TheVariants.{FileFault, Unreached, ReadFault, WriteFault, ChildFault, ChildSilent, Unwritten, NoMemory}
 use Rattle.anb_command.specs.Prepared.{IsRunBy}
 use Rattle.anb_command.specs.Steps.{Answer, given}
 use Rattle.anb_role_commands.specs.Comparing.{IsReplayed}
@@ -48,6 +48,8 @@ module _ (p : ProtocolValue) (role : ℕ) (code : CodeValue) (initial : List (Li
   HasComeOf (FileFault name) written written_now = ⊥
   HasComeOf ReadFault written written_now = ⊥
   HasComeOf (ChildFault child) written written_now = ⊥
+  HasComeOf (ChildSilent child seconds) written written_now = ⊥
+  HasComeOf (Unwritten file) written written_now = ⊥
   HasComeOf (Unreached place) written written_now = written_now ≡ written
   HasComeOf WriteFault written written_now = (status : Status) × (text : List ℕ) × IsDueAs status text × PutPrefix written written_now text
   HasComeOf NoMemory written written_now =
