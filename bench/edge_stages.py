@@ -7,7 +7,7 @@ import signal
 import subprocess
 import time
 
-from edge_runs import AT_ONCE, PATIENCE, Fault, can_unshare, is_process, wait_until, want, want_below, write_ping
+from edge_runs import AT_ONCE, LATE, PATIENCE, Fault, can_unshare, is_process, wait_until, want, want_below, write_ping
 
 # A child of a stage, with what A does, and what B does.
 CHILD = r"""#!/bin/sh
@@ -62,12 +62,12 @@ def want_nobody(program, what):
     want(what, [pid for pid in pids(program) if is_process(pid)], [])
 
 
-def start_stage(program, child="./child", **how):
-    return program.start("stage", "ping.anb", ".", before=f"export ANB_CHILD={child};", **how)
+def start_stage(program, *words, child="./child", **how):
+    return program.start("stage", "ping.anb", ".", *words, before=f"export ANB_CHILD={child};", **how)
 
 
-def stage(program, within=PATIENCE, **how):
-    run = start_stage(program, **how)
+def stage(program, *words, within=PATIENCE, **how):
+    run = start_stage(program, *words, **how)
     return run, run.end(within=within)
 
 
@@ -167,7 +167,7 @@ def ended_children(program):
         program.write("left", "")
         write_child(program, a, b)
         try:
-            run, outcome = stage(program, SHORT)
+            run, outcome = stage(program, within=SHORT)
         finally:
             for pid in program.read("left").split():
                 os.kill(int(pid), signal.SIGKILL)
@@ -193,7 +193,7 @@ def dropped_output(program):
         ("silence, then an end", "sleep 2.5", 0),
     ):
         write_child(program, PLAYS, f"{ANSWERS}; {b}")
-        run, outcome = stage(program, SHORT)
+        run, outcome = stage(program, within=SHORT)
         want(what, outcome, ended(*wanted))
         want_nobody(program, "children that are left")
         found.append(f"{run.seconds:.1f}")
@@ -327,12 +327,48 @@ def signalled_stages(program):
     return f"{', '.join(kind.name for kind in kinds)}, to the stage alone and to its group"
 
 
+# A message of 200,000 bytes, which no pipe takes at once, and one whose bytes come one after another.
+LONG = r"printf '\0\3\15\100'; head -c 200000 /dev/zero"
+SLOW = "; ".join(f"printf '{byte}'; sleep 0.6" for byte in (r"\0", r"\0", r"\0", r"\2", "a", "b"))
+
+# What A and B do with a limit of a second, and whose child was silent.
+SILENT = (
+    ("A says nothing", WAITS, ANSWERS, "A"),
+    ("A stops within its message", rf"printf '\0\0'; {WAITS}", ANSWERS, "A"),
+    ("B says nothing", f"{SAYS}; {WAITS}", f"{HEARS}; {WAITS}", "B"),
+    ("B hears nothing", f"{LONG}; {WAITS}", WAITS, "B"),
+    ("A doesn't end", f"{PLAYS}; {WAITS}", ANSWERS, "A"),
+    ("B ends its output and runs on", PLAYS, f"{ANSWERS}; exec >&-; {WAITS}", "B"),
+)
+
+
+def silent_children(program):
+    """with --timeout no child is waited for longer without a byte, and all are ended"""
+    write_ping(program)
+    found = []
+    for what, a, b, role in SILENT:
+        write_child(program, a, b)
+        run, outcome = stage(program, "--timeout", "1", within=SHORT)
+        want(what, outcome, ended(37, f"child {role} was silent for 1 seconds"))
+        want_below("seconds", run.seconds, 1 + LATE)
+        want_below("seconds of the processor", run.processor, LATE)
+        want_nobody(program, "children that are left")
+        found.append(f"{run.seconds:.2f}")
+    write_child(program, f"{SLOW}; {HEARS}", f"{ANSWERS}; sleep 0.6; exit 0")
+    run, outcome = stage(program, "--timeout", "1", within=SHORT)
+    want("children that are slow", outcome, ended(0))
+    for words in (("--timeout",), ("--timeout", "0"), ("--timeout", "86401"), ("--timeout", "1s"), ("--limit", "1")):
+        want(f"the words {words}", program.run("stage", "ping.anb", ".", *words)[1], ended(1, "the words fit no command"))
+    return f"{', '.join(found)} s; slow children {run.seconds:.1f} s"
+
+
 STAGES = (
     children_of_stages,
     children_end_first,
     named_children,
     ended_children,
     dropped_output,
+    silent_children,
     three_streams,
     unkillable_child,
     one_answer,

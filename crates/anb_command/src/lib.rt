@@ -15,7 +15,7 @@ pub use anb_status::{
 };
 pub use anb_words::{
     BranchWords, CertifyWords, Command, EnactWords, Endpoint, ParkWords, PlayWords, RehearseWords,
-    ReplayWords, ResumeWords, RoleText, is_operand,
+    ReplayWords, ResumeWords, RoleText, is_operand, read_seconds,
 };
 pub use files::{
     code_in_file, fetch_file, narration_in_file, protocol_in_file, protocol_of_narration,

@@ -1,11 +1,12 @@
--- What is told of the child programs of the machine: their phases, and how often a call for each role
--- has failed.
-use Rattle.std.specs.Prelude.{◌≡◌, ◌≢◌, ℕ, List, get_or, None}
+-- What is told of the child programs of the machine: their phases, how often a call for each role has
+-- failed, and whether the last one was that the child was silent.
+use Rattle.std.specs.Prelude.{◌≡◌, ◌≢◌, ℕ, Bool, false, List, get_or, None}
 use Rattle.anb_stage.specs.Children.{Child}
 
 pub record Children : Type 0 where
   pub phases : List ℕ
   pub faults : List ℕ
+  pub silent : List Bool
 
 abbrev pub child_of : Children → ℕ → Child
 child_of s role = record {
@@ -15,6 +16,7 @@ child_of s role = record {
   asked = None;
   status = None;
   faults = get_or s.faults role 0;
+  silent = get_or s.silent role false;
   phase = get_or s.phases role 0;
 }
 

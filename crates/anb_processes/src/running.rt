@@ -82,9 +82,15 @@ impl Running {
 
     /// What the child wrote, once there is some. Its output is also at its end where it has ended and
     /// whoever else holds its pipe writes nothing for two seconds.
-    pub(crate) fn read(&mut self, rt: &HostRuntime, buf: &mut [u8]) -> io::Result<usize>
+    pub(crate) fn read(
+        &mut self,
+        rt: &HostRuntime,
+        limit: Option<Duration>,
+        buf: &mut [u8],
+    ) -> io::Result<usize>
         ensures { IfOk result (λ n. n ≤ length buf.new) }
     {
+        let start = Instant::now(rt)?;
         let mut pauses = Pauses::new();
         for _ in 0..u64::MAX {
             let Some(output) = &mut self.output else {
@@ -97,15 +103,24 @@ impl Running {
             if self.is_long_over(rt)? {
                 return Ok(0);
             }
+            if is_beyond(rt, limit, start)? {
+                break;
+            }
             pauses.pause(rt);
         }
-        Err(io::Error::from(ErrorKind::TimedOut))
+        Err(silence())
     }
 
     /// Hands the child the first bytes of the piece. What it no longer takes is dropped.
-    pub(crate) fn write(&mut self, rt: &HostRuntime, piece: &[u8]) -> io::Result<usize>
+    pub(crate) fn write(
+        &mut self,
+        rt: &HostRuntime,
+        limit: Option<Duration>,
+        piece: &[u8],
+    ) -> io::Result<usize>
         ensures { IfOk result (λ n. n ≤ length piece.now) }
     {
+        let start = Instant::now(rt)?;
         let mut pauses = Pauses::new();
         for _ in 0..u64::MAX {
             let Some(input) = &mut self.input else {
@@ -119,9 +134,12 @@ impl Running {
             if self.is_long_over(rt)? {
                 return Ok(piece.len());
             }
+            if is_beyond(rt, limit, start)? {
+                break;
+            }
             pauses.pause(rt);
         }
-        Err(io::Error::from(ErrorKind::TimedOut))
+        Err(silence())
     }
 
     /// Whether the child ended two seconds ago or more.
@@ -137,9 +155,10 @@ impl Running {
 
     /// Ends the child's input, waits for the child, and answers its status, where it ended by itself.
     /// What it still writes is dropped.
-    pub(crate) fn finish(&mut self, rt: &HostRuntime) -> io::Result<u8> {
+    pub(crate) fn finish(&mut self, rt: &HostRuntime, limit: Option<Duration>) -> io::Result<u8> {
         self.input = None;
         let start = Instant::now(rt)?;
+        let mut heard = start;
         let mut pauses = Pauses::new();
         let mut dropped = 0usize;
         for _ in 0..u64::MAX {
@@ -151,11 +170,16 @@ impl Running {
             if dropped >= DROPPED_BYTES || is_over(rt, dropping_time(), start)? {
                 self.output = None;
             }
-            if count == 0 {
-                pauses.pause(rt);
+            if count > 0 {
+                heard = Instant::now(rt)?;
+                continue;
             }
+            if is_beyond(rt, limit, heard)? {
+                break;
+            }
+            pauses.pause(rt);
         }
-        Err(io::Error::from(ErrorKind::TimedOut))
+        Err(silence())
     }
 
     /// Reads and drops some of what the child wrote, and answers how much. Output that is at its end
@@ -217,6 +241,24 @@ impl Running {
     pub(crate) fn id(&self) -> u32 {
         self.child.id()
     }
+}
+
+/// Whether more time went by since then than there is, where there is a limit.
+fn is_beyond(rt: &HostRuntime, limit: Option<Duration>, start: Instant) -> io::Result<bool> {
+    match limit {
+        Some(limit) => is_over(rt, limit, start),
+        None => Ok(false),
+    }
+}
+
+/// The fault of a child that was silent for too long.
+fn silence() -> io::Error {
+    io::Error::from(ErrorKind::TimedOut)
+}
+
+/// Whether a fault is that one.
+pub(crate) fn is_silence(error: &io::Error) -> bool {
+    error.kind() == ErrorKind::TimedOut
 }
 
 fn dropping_time() -> Duration {

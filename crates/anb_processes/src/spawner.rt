@@ -5,7 +5,7 @@ ghost use Rattle.anb_processes.specs.Children.{child_of};
 
 use crate::counts::Counts;
 use crate::notes::{tell_end, tell_left, tell_no_program};
-use crate::running::Running;
+use crate::running::{Running, is_silence};
 use crate::watcher::Watcher;
 use anb_base::{Failed, Text};
 use anb_stage::Spawner;
@@ -13,6 +13,7 @@ use std::alloc::Global;
 use std::io::ErrorKind;
 use std::marker::Model;
 use std::process::ExitStatus;
+use std::time::Duration;
 use std::{fs, io};
 
 /// Where this program itself is found, whatever its name is.
@@ -60,8 +61,10 @@ pub struct RealSpawner {
     children: Vec<Named>,
     /// What kills the children where a signal ends this program. There is none without a shell.
     watcher: Option<Watcher>,
+    /// How long a child may be silent at most.
+    limit: Option<Duration>,
     /// The role whose output was last found at its end.
-    silent: Option<u32>,
+    at_end: Option<u32>,
     counts: Counts,
 }
 
@@ -84,7 +87,8 @@ impl RealSpawner {
             program,
             children: Vec::new(alloc),
             watcher: None,
-            silent: None,
+            limit: None,
+            at_end: None,
             counts: Counts::new(),
         }
     }
@@ -98,10 +102,11 @@ impl RealSpawner {
             program: _,
             mut children,
             watcher,
-            silent,
+            limit: _,
+            at_end,
             counts: _,
         } = self;
-        let ended = match silent {
+        let ended = match at_end {
             Some(role) => end_of(&rt, &mut children, role),
             None => None,
         };
@@ -195,6 +200,10 @@ fn explain(rt: &HostRuntime, program: &ChildProgram) {
     }
 }
 
+fn no_child() -> io::Error {
+    io::Error::from(ErrorKind::NotFound)
+}
+
 /// The child of a role.
 fn child_in(children: &mut [Named], role: u32) -> Option<&mut Named> {
     children.iter_mut().find(|child| child.running.role == role)
@@ -213,53 +222,65 @@ impl Spawner for RealSpawner {
             }
             Err(_) => {
                 explain(&self.rt, &self.program);
-                Err(self.counts.fail(role))
+                Err(self.counts.fail(role, false))
             }
         }
     }
 
     fn read(&mut self, role: u32, buf: &mut [u8]) -> Result<usize, Failed> {
         let got = match child_in(&mut self.children, role) {
-            Some(child) => child.running.read(&self.rt, buf).ok(),
-            None => None,
+            Some(child) => child.running.read(&self.rt, self.limit, buf),
+            None => Err(no_child()),
         };
         match got {
-            Some(n) => {
+            Ok(n) => {
                 if n == 0 && !buf.is_empty() {
-                    self.silent = Some(role);
+                    self.at_end = Some(role);
                 }
                 Ok(n)
             }
-            None => Err(self.counts.fail(role)),
+            Err(error) => Err(self.counts.fail(role, is_silence(&error))),
         }
     }
 
     fn write(&mut self, role: u32, piece: &[u8]) -> Result<usize, Failed> {
         let put = match child_in(&mut self.children, role) {
-            Some(child) => child.running.write(&self.rt, piece).ok(),
-            None => None,
+            Some(child) => child.running.write(&self.rt, self.limit, piece),
+            None => Err(no_child()),
         };
         match put {
-            Some(n) if n > 0 || piece.is_empty() => Ok(n),
-            _ => Err(self.counts.fail(role)),
+            Ok(n) if n > 0 || piece.is_empty() => Ok(n),
+            Ok(_) => Err(self.counts.fail(role, false)),
+            Err(error) => Err(self.counts.fail(role, is_silence(&error))),
         }
     }
 
     fn finish(&mut self, role: u32) -> Result<u8, Failed> {
         let status = match child_in(&mut self.children, role) {
             Some(child) => {
-                let status = child.running.finish(&self.rt).ok();
-                let _ = unwatch(&self.rt, &mut self.watcher, child);
+                let status = child.running.finish(&self.rt, self.limit);
+                // One that was silent still runs.
+                if !matches!(&status, Err(error) if is_silence(error)) {
+                    let _ = unwatch(&self.rt, &mut self.watcher, child);
+                }
                 status
             }
-            None => None,
+            None => Err(no_child()),
         };
         match status {
-            Some(status) => {
+            Ok(status) => {
                 self.counts.enter(role, 2);
                 Ok(status)
             }
-            None => Err(self.counts.fail(role)),
+            Err(error) => Err(self.counts.fail(role, is_silence(&error))),
         }
+    }
+
+    fn wait_at_most(&mut self, seconds: u32) {
+        self.limit = Some(Duration::from_secs(u64::from(seconds)));
+    }
+
+    fn was_silent(&self, role: u32) -> bool {
+        self.counts.was_silent(role)
     }
 }

@@ -15,7 +15,7 @@ usage_none None P is = (λ p never. never, λ none. is.1 refl)
 usage_none (Some a) P is = (λ p. absurd (let never = is.0 p in cc), λ none. absurd (none tt))
 
 -- a stage has a place
-pub usage_some : (s : Staged) (asked : Option Asked) (names : List (List ℕ)) (faults faults_now : List ℕ → ℕ) (children children_now : ℕ → Child) (old new : WireState) (status : Status)
-    → HasStageCause names faults faults_now children children_now old new status → (status ≡ Usage) ↔ (IsAsked (Some s) asked → ⊥)
-usage_some s asked names faults faults_now children children_now old new status cause =
-    (λ is. absurd (let never = subst (HasStageCause names faults faults_now children children_now old new) is cause in cc), λ none. absurd (none tt))
+pub usage_some : (s : Staged) (asked : Option Asked) (limit : Option ℕ) (names : List (List ℕ)) (faults faults_now : List ℕ → ℕ) (children children_now : ℕ → Child) (old new : WireState) (status : Status)
+    → HasStageCause limit names faults faults_now children children_now old new status → (status ≡ Usage) ↔ (IsAsked (Some s) asked → ⊥)
+usage_some s asked limit names faults faults_now children children_now old new status cause =
+    (λ is. absurd (let never = subst (HasStageCause limit names faults faults_now children children_now old new) is cause in cc), λ none. absurd (none tt))

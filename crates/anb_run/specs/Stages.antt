@@ -51,5 +51,5 @@ module _ (asked : Option Asked) (told : Option Files) (seed : Option (List ℕ))
 -- why a fault is answered
 module _ (asked : Option Asked) (faults faults_now : List ℕ → ℕ) (children children_now : ℕ → Child) (old new : WireState) (status : Status) where
   abbrev pub HasAnyCause : Option Staged → Type 0
-  HasAnyCause (Some s) = HasStageCause (s.narration ∷ []) faults faults_now children children_now old new status
+  HasAnyCause (Some s) = HasStageCause s.limit (s.narration ∷ []) faults faults_now children children_now old new status
   HasAnyCause None = HasCause (files_of asked) (place_of asked) faults faults_now old new status

@@ -1,5 +1,5 @@
 -- What a lent side keeps tells all else of the spawner.
-use Rattle.std.proofs.Common.{◌≡◌, ◌≢◌, ◌<◌, ◌^◌, ℕ, zero, suc, List, length, replicate, Option, Some, None, refl, sym, ap, ◌∙◌, subst, arith, inl, inr, Result}
+use Rattle.std.proofs.Common.{◌≡◌, ◌≢◌, ◌<◌, ◌^◌, ℕ, Bool, true, false, zero, suc, List, length, replicate, Option, Some, None, refl, sym, ap, ◌∙◌, subst, arith, inl, inr, Result}
 use Rattle.std.proofs.lemmas.Bool.{cases_lt, eq-eqb}
 use Rattle.std.proofs.lemmas.List.{length-replicate}
 use Rattle.anb_lemmas.proofs.Numbers.{nat_eq-differs}
@@ -12,7 +12,7 @@ use Rattle.anb_frame.specs.declared.Taken.{Taken}
 use Rattle.anb_frame.specs.declared.FrameNo.{FrameNo}
 use Rattle.anb_stage.specs.Children.{Child, KeptByRead, KeptByWrite, written_to_all}
 use Rattle.anb_stage.specs.Steps.{Begins, OnFrame, OthersStayBelow}
-use Rattle.anb_stage.specs.Sides.{number_of, with_parts, parts_below, replaced, without_output, without_input, kept_beside, beside_input, beside_output}
+use Rattle.anb_stage.specs.Sides.{number_of, number_of_truth, with_parts, parts_below, replaced, without_output, without_input, kept_beside, beside_input, beside_output}
 use Rattle.anb_stage.proofs.Begun.{begins, stamped}
 
 abbrev Part : Type 0
@@ -27,17 +27,24 @@ number_of-one None (Some b) e = absurd (omega (arith, e))
 number_of-one (Some a) None e = absurd (omega (arith, e))
 number_of-one (Some a) (Some b) e = ap Some (omega (arith, e))
 
-same_child : (c d : Child) → c.left ≡ d.left → c.taken_at ≡ d.taken_at → c.written ≡ d.written → c.asked ≡ d.asked → c.status ≡ d.status → c.faults ≡ d.faults → c.phase ≡ d.phase → c ≡ d
-same_child c d left taken written asked status faults phase =
-    let of : Option (List ℕ) → Option (List ℕ) → Option (List ℕ) → Option (List ℕ) → Option ℕ → ℕ → ℕ → Child =
-    λ l t w a s f p. record { left = l; taken_at = t; written = w; asked = a; status = s; faults = f; phase = p } in
-    ap (λ l. of l c.taken_at c.written c.asked c.status c.faults c.phase) left
-    ∙ ap (λ t. of d.left t c.written c.asked c.status c.faults c.phase) taken
-    ∙ ap (λ w. of d.left d.taken_at w c.asked c.status c.faults c.phase) written
-    ∙ ap (λ a. of d.left d.taken_at d.written a c.status c.faults c.phase) asked
-    ∙ ap (λ s. of d.left d.taken_at d.written d.asked s c.faults c.phase) status
-    ∙ ap (λ f. of d.left d.taken_at d.written d.asked d.status f c.phase) faults
-    ∙ ap (λ p. of d.left d.taken_at d.written d.asked d.status d.faults p) phase
+truth_one : (a b : Bool) → number_of_truth a ≡ number_of_truth b → a ≡ b
+truth_one false false e = refl
+truth_one false true e = absurd (omega (arith, e))
+truth_one true false e = absurd (omega (arith, e))
+truth_one true true e = refl
+
+same_child : (c d : Child) → c.left ≡ d.left → c.taken_at ≡ d.taken_at → c.written ≡ d.written → c.asked ≡ d.asked → c.status ≡ d.status → c.faults ≡ d.faults → c.silent ≡ d.silent → c.phase ≡ d.phase → c ≡ d
+same_child c d left taken written asked status faults silent phase =
+    let of : Option (List ℕ) → Option (List ℕ) → Option (List ℕ) → Option (List ℕ) → Option ℕ → ℕ → Bool → ℕ → Child =
+    λ l t w a s f b p. record { left = l; taken_at = t; written = w; asked = a; status = s; faults = f; silent = b; phase = p } in
+    ap (λ l. of l c.taken_at c.written c.asked c.status c.faults c.silent c.phase) left
+    ∙ ap (λ t. of d.left t c.written c.asked c.status c.faults c.silent c.phase) taken
+    ∙ ap (λ w. of d.left d.taken_at w c.asked c.status c.faults c.silent c.phase) written
+    ∙ ap (λ a. of d.left d.taken_at d.written a c.status c.faults c.silent c.phase) asked
+    ∙ ap (λ s. of d.left d.taken_at d.written d.asked s c.faults c.silent c.phase) status
+    ∙ ap (λ f. of d.left d.taken_at d.written d.asked d.status f c.silent c.phase) faults
+    ∙ ap (λ b. of d.left d.taken_at d.written d.asked d.status d.faults b c.phase) silent
+    ∙ ap (λ p. of d.left d.taken_at d.written d.asked d.status d.faults d.silent p) phase
 
 record Same (c d : Child) (xs ys : List Part) : Type 0 where
   child : c ≡ d
@@ -46,7 +53,7 @@ record Same (c d : Child) (xs ys : List Part) : Type 0 where
 same_parts : (c d : Child) (xs ys : List Part) → with_parts c xs ≡ with_parts d ys → Same c d xs ys
 same_parts c d xs ys e =
     let l : (c.left, c.faults) ≡ (d.left, d.faults) = cc in
-    let w : (c.written, c.faults) ≡ (d.written, d.faults) = cc in
+    let w : (c.written, number_of_truth c.silent) ≡ (d.written, number_of_truth d.silent) = cc in
     let a : (c.asked, number_of c.status) ≡ (d.asked, number_of d.status) = cc in
     let p : (c.taken_at, c.phase) ≡ (d.taken_at, d.phase) = cc in
     let left : c.left ≡ d.left = ap (λ (x : Part). x.0) l in
@@ -55,8 +62,9 @@ same_parts c d xs ys e =
     let asked : c.asked ≡ d.asked = ap (λ (x : Part). x.0) a in
     let status : c.status ≡ d.status = number_of-one c.status d.status (ap (λ (x : Part). x.1) a) in
     let faults : c.faults ≡ d.faults = ap (λ (x : Part). x.1) l in
+    let silent : c.silent ≡ d.silent = truth_one c.silent d.silent (ap (λ (x : Part). x.1) w) in
     let phase : c.phase ≡ d.phase = ap (λ (x : Part). x.1) p in
-    record { child = same_child c d left taken written asked status faults phase; rest = cc }
+    record { child = same_child c d left taken written asked status faults silent phase; rest = cc }
 
 same_below : (n : ℕ) (f g : ℕ → Child) → parts_below n f ≡ parts_below n g → (role : ℕ) → role < n → f role ≡ g role
 unfolding parts_below

@@ -1,12 +1,13 @@
 -- What a spawner tells of the child of each role, and what each of its calls changes.
-use Rattle.std.specs.Prelude.{◌≡◌, ◌≢◌, ℕ, zero, suc, ◌+◌, List, [], ◌∷◌, ◌++◌, length, flat_map, Option}
+use Rattle.std.specs.Prelude.{◌≡◌, ◌≢◌, ℕ, Bool, zero, suc, ◌+◌, List, [], ◌∷◌, ◌++◌, length, flat_map, Option}
 use Rattle.std.specs.Option.{option_map_or}
 
 -- The bytes that are left of its output; for each byte that was read of it, in order, how many bytes
 -- had been written to all children by then; the bytes that were written to it, the words that were
 -- asked of it, each with a line feed, and the status with which it ends: each may be untold. How often
--- a call for it has failed, up to the last value of a u64. Its phase is 0 before it was started, 1 once
--- it was, and 2 once it was finished.
+-- a call for it has failed, up to the last value of a u64, and whether the last such call failed since
+-- it was silent for too long. Its phase is 0 before it was started, 1 once it was, and 2 once it was
+-- finished.
 pub record Child : Type 0 where
   pub left : Option (List ℕ)
   pub taken_at : Option (List ℕ)
@@ -14,6 +15,7 @@ pub record Child : Type 0 where
   pub asked : Option (List ℕ)
   pub status : Option ℕ
   pub faults : ℕ
+  pub silent : Bool
   pub phase : ℕ
 
 -- how many bytes are written to the first so many of these inputs; none to one that isn't told

@@ -1,12 +1,13 @@
 -- A spawner in memory: what it holds, and which of its calls fail.
-use Rattle.std.specs.Prelude.{ℕ, ◌+◌, ◌<◌, ◌≤◌, IsTrue, List, [], ◌∷◌, ◌++◌, length, drop, replicate, get_or, slice_set, Some}
+use Rattle.std.specs.Prelude.{ℕ, Bool, false, ◌+◌, ◌<◌, ◌≤◌, IsTrue, List, [], ◌∷◌, ◌++◌, length, drop, replicate, get_or, slice_set, Option, Some, None}
 use Rattle.anb_base.specs.Memory.{raised, fails_after}
 use Rattle.anb_base.specs.Moves.{last_count}
 use Rattle.anb_stage.specs.Children.{Child, lines}
 
 -- a child: what is left of its output, how many bytes had been written to all children when each byte
 -- of it was read, what was written to it, what was asked of it, its status, how many bytes can be
--- written to it, and asked of it, in all, its count of faults and its phase
+-- written to it, and asked of it, in all, its count of faults, whether the last was that it was silent,
+-- and its phase
 pub record MemoryChild : Type 0 where
   pub left : List ℕ
   pub taken_at : List ℕ
@@ -15,6 +16,7 @@ pub record MemoryChild : Type 0 where
   pub status : ℕ
   pub room : ℕ
   pub faults : ℕ
+  pub silent : Bool
   pub phase : ℕ
 
 pub record MemorySpawner : Type 0 where
@@ -22,6 +24,9 @@ pub record MemorySpawner : Type 0 where
   -- how many calls came, and the numbers from 1 of those that fail
   pub calls : ℕ
   pub fails : List ℕ
+  -- whether calls fail since a child is silent, and how many seconds are to be waited at most
+  pub is_silence : Bool
+  pub limit : Option ℕ
 
 -- what is there for a role without an output
 abbrev pub absent : MemoryChild
@@ -33,6 +38,7 @@ absent = record {
   status = 0;
   room = 0;
   faults = last_count;
+  silent = false;
   phase = 0;
 }
 
@@ -48,6 +54,7 @@ told c = record {
   asked = Some c.asked;
   status = Some c.status;
   faults = c.faults;
+  silent = c.silent;
   phase = c.phase;
 }
 
@@ -61,6 +68,7 @@ fresh_child room output status = record {
   status = status;
   room = room;
   faults = 0;
+  silent = false;
   phase = 0;
 }
 
@@ -80,6 +88,8 @@ fresh_spawner outputs statuses room fails = record {
   children = fresh_children room outputs statuses;
   calls = 0;
   fails = fails;
+  is_silence = false;
+  limit = None;
 }
 
 -- the number of the next call is one of those that fail
@@ -105,9 +115,13 @@ with_child spawner role c = record spawner {
   calls = raised spawner.calls;
 }
 
--- a child after a call that failed
-abbrev pub failed : MemoryChild → MemoryChild
-failed c = record c { faults = raised c.faults }
+-- a child after a call that failed, by silence or not
+abbrev pub failed : Bool → MemoryChild → MemoryChild
+failed silent c = record c { faults = raised c.faults; silent = silent }
+
+-- and that of a role
+abbrev pub failed_at : MemorySpawner → ℕ → MemoryChild
+failed_at spawner role = failed spawner.is_silence (child_at spawner role)
 
 -- after so many bytes were read while so many were written to all children, after bytes were written,
 -- after it was started with these words, and after it was finished

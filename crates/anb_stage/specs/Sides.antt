@@ -1,5 +1,5 @@
 -- What stands beside one side of one role's child, while that side is lent.
-use Rattle.std.specs.Prelude.{ℕ, zero, suc, ◌+◌, ◌==◌, if◌then◌else◌, List, [], ◌∷◌, replicate, Option, Some, None}
+use Rattle.std.specs.Prelude.{ℕ, zero, suc, ◌+◌, ◌==◌, if◌then◌else◌, Bool, true, false, List, [], ◌∷◌, replicate, Option, Some, None}
 use Rattle.anb_stage.specs.Children.{Child, written_to_all}
 
 -- a status and one more, or 0 where it is untold
@@ -7,10 +7,14 @@ abbrev pub number_of : Option ℕ → ℕ
 number_of None = 0
 number_of (Some status) = status + 1
 
+abbrev pub number_of_truth : Bool → ℕ
+number_of_truth false = 0
+number_of_truth true = 1
+
 -- the parts of a child, each as bytes and a number
 abbrev pub with_parts : Child → List (Option (List ℕ) × ℕ) → List (Option (List ℕ) × ℕ)
 with_parts c others =
-    (c.left, c.faults) ∷ (c.written, c.faults) ∷ (c.asked, number_of c.status)
+    (c.left, c.faults) ∷ (c.written, number_of_truth c.silent) ∷ (c.asked, number_of c.status)
     ∷ (c.taken_at, c.phase) ∷ others
 
 -- those of the children of the roles below a number
@@ -18,12 +22,12 @@ unfoldable pub parts_below : ℕ → (ℕ → Child) → List (Option (List ℕ)
 parts_below zero children = []
 parts_below (suc n) children = with_parts (children n) (parts_below n children)
 
--- a child without its output, and without its input
+-- a child without its output, and without its input, and without what is told of its faults
 abbrev pub without_output : Child → Child
-without_output c = record c { left = None; taken_at = None; faults = 0 }
+without_output c = record c { left = None; taken_at = None; faults = 0; silent = false }
 
 abbrev pub without_input : Child → Child
-without_input c = record c { written = None; faults = 0 }
+without_input c = record c { written = None; faults = 0; silent = false }
 
 -- the children, with that of one role replaced
 abbrev pub replaced : ℕ → (Child → Child) → (ℕ → Child) → ℕ → Child

@@ -1,10 +1,10 @@
 //! Children in memory.
 
-ghost use Rattle.std.specs.Prelude.{◌≡◌, ◌<◌, ◌≤◌, ◌+◌, ◌-◌, ◌^◌, ◌↔◌, ◌⊎◌, ℕ, List, [], ◌++◌, length, take, drop, min, IsTrue, IsErr, IfOk, OnOk, OnErr, vec_len, vec_capacity};
+ghost use Rattle.std.specs.Prelude.{◌≡◌, ◌<◌, ◌≤◌, ◌+◌, ◌-◌, ◌^◌, ◌↔◌, ◌⊎◌, ℕ, List, [], ◌++◌, length, take, drop, min, Some, true, IsTrue, IsErr, IfOk, OnOk, OnErr, vec_len, vec_capacity};
 ghost use Rattle.anb_base.specs.Memory.{raised, fails_after};
 ghost use Rattle.anb_base.specs.Moves.{Rose};
 ghost use Rattle.anb_stage.specs.Children.{lines, written_to_all};
-ghost use Rattle.anb_stage.specs.Memory.{fresh_child, fresh_spawner, child_at, children_of, failed, after_read, after_write, after_start, after_finish, IsDueToFail, HasNoOutput, HasNoRoom, HasNoRoomForWords, with_child};
+ghost use Rattle.anb_stage.specs.Memory.{fresh_child, fresh_spawner, child_at, children_of, failed, failed_at, after_read, after_write, after_start, after_finish, IsDueToFail, HasNoOutput, HasNoRoom, HasNoRoomForWords, with_child};
 
 use crate::{ROLES, Spawner};
 use anb_base::{Bytes, Failed, NoMemory, Text};
@@ -77,6 +77,7 @@ pub(crate) struct MemChild {
     asked: Room,
     status: u8,
     faults: u64,
+    silent: bool,
     phase: u8,
 }
 
@@ -94,6 +95,7 @@ impl Model for MemChild {
       status = c.status;
       room = c.written.limit;
       faults = c.faults;
+      silent = c.silent;
       phase = c.phase;
     } };
 
@@ -114,17 +116,19 @@ impl MemChild {
             asked: Room::new(alloc, room)?,
             status,
             faults: 0,
+            silent: false,
             phase: 0,
         })
     }
 
-    /// Counts a call that failed.
-    fn fail(&mut self) -> Failed
-        ensures failed { self.new ≡ failed self.old }
+    /// Counts a call that failed, by silence or not.
+    fn fail(&mut self, silent: bool) -> Failed
+        ensures failed { self.new ≡ failed silent self.old }
         ensures rose { Rose self.old.faults self.new.faults }
         ensures never_falls { self.old.faults ≤ self.new.faults }
     {
         self.faults = self.faults.saturating_add(1);
+        self.silent = silent;
         Failed
     }
 
@@ -198,6 +202,8 @@ pub struct MemSpawner {
     children: Vec<MemChild>,
     calls: u64,
     fails: Vec<u32>,
+    is_silence: bool,
+    limit: Option<u32>,
 }
 
 impl Model for MemSpawner {
@@ -209,6 +215,8 @@ impl Model for MemSpawner {
       children = s.children.items;
       calls = s.calls;
       fails = s.fails.items;
+      is_silence = s.is_silence;
+      limit = s.limit;
     } };
 }
 
@@ -239,7 +247,23 @@ impl MemSpawner {
             children,
             calls: 0,
             fails,
+            is_silence: false,
+            limit: None,
         })
+    }
+
+    /// From now on calls fail since their child is silent.
+    pub fn fall_silent(&mut self)
+        ensures { self.new ≡ record self.old { is_silence = true } }
+    {
+        self.is_silence = true;
+    }
+
+    /// How many seconds are to be waited for a child at most.
+    pub fn limit(&self) -> Option<u32>
+        ensures { result ≡ self.now.limit }
+    {
+        self.limit
     }
 
     /// How many roles have an output.
@@ -316,18 +340,19 @@ impl Spawner for MemSpawner {
         ensures fails { IsErr result ↔ (IsDueToFail self.old ⊎ HasNoOutput self.old role
             ⊎ HasNoRoomForWords (child_at self.old role) words.now) }
         ensures failed { OnErr result
-            (self.new ≡ with_child self.old role (failed (child_at self.old role))) }
+            (self.new ≡ with_child self.old role (failed_at self.old role)) }
         ensures started { OnOk result
             (self.new ≡ with_child self.old role (after_start (child_at self.old role) words.now)) }
         ensures never_falls { (child_at self.old role).faults ≤ (child_at self.new role).faults }
     {
         let fails = self.next_fails();
+        let silent = self.is_silence;
         if role as usize >= self.children.len() {
             return Err(Failed);
         }
         let child = &mut self.children[role as usize];
         if fails || !child.has_room_for(words) {
-            return Err(child.fail());
+            return Err(child.fail(silent));
         }
         child.ask(words);
         Ok(())
@@ -337,7 +362,7 @@ impl Spawner for MemSpawner {
         requires running { (child_at self.old role).phase ≡ 1 }
         ensures fails { IsErr result ↔ IsDueToFail self.old }
         ensures failed { OnErr result
-            (self.new ≡ with_child self.old role (failed (child_at self.old role))) }
+            (self.new ≡ with_child self.old role (failed_at self.old role)) }
         ensures count { IfOk result (λ n.
             n ≡ min (length buf.old) (length (child_at self.old role).left)) }
         ensures bytes { IfOk result (λ n.
@@ -349,10 +374,11 @@ impl Spawner for MemSpawner {
         ensures never_falls { (child_at self.old role).faults ≤ (child_at self.new role).faults }
     {
         let fails = self.next_fails();
+        let silent = self.is_silence;
         let written = self.written_to_all();
         let child = &mut self.children[role as usize];
         if fails {
-            return Err(child.fail());
+            return Err(child.fail(silent));
         }
         Ok(child.read(written, buf))
     }
@@ -362,7 +388,7 @@ impl Spawner for MemSpawner {
         ensures fails { IsErr result
             ↔ (IsDueToFail self.old ⊎ HasNoRoom (child_at self.old role) piece.now) }
         ensures failed { OnErr result
-            (self.new ≡ with_child self.old role (failed (child_at self.old role))) }
+            (self.new ≡ with_child self.old role (failed_at self.old role)) }
         ensures count { IfOk result (λ n.
             let child = child_at self.old role in
             n ≡ min (length piece.now) (child.room - length child.written)) }
@@ -372,9 +398,10 @@ impl Spawner for MemSpawner {
         ensures never_falls { (child_at self.old role).faults ≤ (child_at self.new role).faults }
     {
         let fails = self.next_fails();
+        let silent = self.is_silence;
         let child = &mut self.children[role as usize];
         if fails || child.has_no_room(piece) {
-            return Err(child.fail());
+            return Err(child.fail(silent));
         }
         Ok(child.write(piece))
     }
@@ -383,17 +410,32 @@ impl Spawner for MemSpawner {
         requires running { (child_at self.old role).phase ≡ 1 }
         ensures fails { IsErr result ↔ IsDueToFail self.old }
         ensures failed { OnErr result
-            (self.new ≡ with_child self.old role (failed (child_at self.old role))) }
+            (self.new ≡ with_child self.old role (failed_at self.old role)) }
         ensures status { IfOk result (λ n. n ≡ (child_at self.old role).status) }
         ensures finished { OnOk result
             (self.new ≡ with_child self.old role (after_finish (child_at self.old role))) }
         ensures never_falls { (child_at self.old role).faults ≤ (child_at self.new role).faults }
     {
         let fails = self.next_fails();
+        let silent = self.is_silence;
         let child = &mut self.children[role as usize];
         if fails {
-            return Err(child.fail());
+            return Err(child.fail(silent));
         }
         Ok(child.finish())
+    }
+
+    fn wait_at_most(&mut self, seconds: u32)
+        ensures { self.new ≡ record self.old { limit = Some seconds } }
+        ensures same { (role : ℕ) → child_at self.new role ≡ child_at self.old role }
+    {
+        self.limit = Some(seconds);
+    }
+
+    fn was_silent(&self, role: u32) -> bool {
+        match self.children.get(role as usize) {
+            Some(child) => child.silent,
+            None => false,
+        }
     }
 }

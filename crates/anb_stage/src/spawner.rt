@@ -85,4 +85,15 @@ pub trait Spawner {
         ensures never_falls { (child self.old role).faults ≤ (child self.new role).faults }
         ensures kept { KeptByFinish (child self.old role) (child self.new role) }
         ensures others { OthersStay role (child self.old) (child self.new) };
+
+    /// From now on a call for a child fails once the child was silent for so many seconds: it gave no
+    /// byte that was waited for, took none, or didn't end.
+    fn wait_at_most(&mut self, seconds: u32)
+        ensures { (role : ℕ) → child self.new role ≡ child self.old role };
+
+    /// Whether the last call for a role's child that failed did so since the child was silent for too
+    /// long.
+    fn was_silent(&self, role: u32) -> bool
+        requires { role < ROLES }
+        ensures { result ≡ (child self.now role).silent };
 }

@@ -1,5 +1,5 @@
 -- What is answered where the children are told is what is due.
-use Rattle.std.proofs.Common.{◌≡◌, ◌⊎◌, ℕ, true, List, [], length, Option, Some, None, refl, ap, sym, ◌∙◌, subst, inl, inr}
+use Rattle.std.proofs.Common.{◌≡◌, ◌⊎◌, ℕ, Bool, true, false, List, [], length, get_or, Option, Some, None, refl, ap, sym, ◌∙◌, subst, inl, inr}
 use Rattle.std.specs.Prelude.{IfSome}
 use Rattle.anb_base.proofs.Moving.{put_nothing}
 use Rattle.anb_frame.specs.Cuts.{Tail}
@@ -23,7 +23,7 @@ use Rattle.anb_command.proofs.Failing.{IsFailure-map}
 use Rattle.anb_command.proofs.Ones.{IsQuiet, RefusesQuietly, is_quiet, narration_in_file_quiet, not_both, one_settled, protocol_quiet, quiet_as, same_refusal, send_quiet, sendable_one, then_one, then_quiet}
 use Rattle.anb_command.proofs.Written.{faulty, refusal, the_one, written}
 use Rattle.anb_stage_commands.specs.Words.{Staged, words_for}
-use Rattle.anb_stage_commands.specs.StageCommand.{AreToldOf, DoesStage, StageOf, StageText, answer_of, status_of}
+use Rattle.anb_stage_commands.specs.StageCommand.{AreToldOf, DoesStage, StageOf, StageText, answer_of, fault_status, status_after, status_of}
 use Rattle.anb_stage_commands.specs.Relaying.{FailsInFile, FailsRelaying, Relays, RelaysInFile, Stay}
 use Rattle.anb_stage_commands.proofs.Outcomes.{staged_refused, staged_text}
 
@@ -86,13 +86,18 @@ module _ (narrations : NarrationsAreUnique) (refusals : RefusalsAreUnique) (none
         IsFailure-map status (λ file. Unit {0}) (λ file. Unit {0}) _ _ (λ file is. is) (λ f. inl (status, f, refl)) fails
         ) (put_nothing w)
 
-    by_refusal : (p : ProtocolValue) (r : RelayNo) → SendableInFile files s.narration (given p) → IsRefused (length p.roles) old new (words_for s p.roles) (ends_in p) r → IsWriting Text (status_of p r) w w
+    by_fault : (name : List ℕ) (limit : Option ℕ) (silent : Bool) → IsWriting Text (fault_status name limit silent) w w
+    by_fault name None silent = nothing_of Text w _ refl refl
+    by_fault name (Some seconds) false = nothing_of Text w _ refl refl
+    by_fault name (Some seconds) true = nothing_of Text w _ refl refl
+
+    by_refusal : (p : ProtocolValue) (r : RelayNo) → SendableInFile files s.narration (given p) → IsRefused (length p.roles) old new (words_for s p.roles) (ends_in p) r → IsWriting Text (status_after s.limit new p r) w w
     by_refusal p r f is = by r ((due outputs tails statuses (length p.roles) old new (words_for s p.roles) (ends_in p) (told p f)).1 r is) where
       due_status : (q : RelayNo) → due_in p ≡ Some q → Text (refused (status_of p q))
       due_status q e = inr (p, f, ap (answer p) (sym e))
 
-      by : (q : RelayNo) → IsDue outputs tails statuses (length p.roles) (ends_in p) q → IsWriting Text (status_of p q) w w
-      by (no.Fault role) e = nothing_of Text w _ refl refl
+      by : (q : RelayNo) → IsDue outputs tails statuses (length p.roles) (ends_in p) q → IsWriting Text (status_after s.limit new p q) w w
+      by (no.Fault role) e = by_fault (get_or p.roles role []) s.limit (new role).silent
       by no.NoMemory e = nothing_of Text w NoMemory refl (inl refl)
       by (no.Ended action) e = refusal Text (one_settled Text one) w w _ (λ file. Unit {0}) quiet (due_status (no.Ended action) e) (put_nothing w)
       by (no.Cut action have need) e = refusal Text (one_settled Text one) w w _ (λ file. Unit {0}) quiet (due_status (no.Cut action have need) e) (put_nothing w)
@@ -102,7 +107,7 @@ module _ (narrations : NarrationsAreUnique) (refusals : RefusalsAreUnique) (none
     fails : (p : ProtocolValue) (status : Status) → SendableInFile files s.narration (given p) → FailsRelaying s old new p status → IsWriting Text status w w
     fails p status f (inr (is, some)) = no_memory Text w status is
     fails p status f (inl r) = by r.is where
-      by : (status ≡ status_of p r.refusal) ⊎ (status ≡ NoMemory) → IsWriting Text status w w
+      by : (status ≡ status_after s.limit new p r.refusal) ⊎ (status ≡ NoMemory) → IsWriting Text status w w
       by (inl is) = subst (λ (t : Status). IsWriting Text t w w) (sym is) (by_refusal p r.refusal f r.refuses)
       by (inr is) = no_memory Text w status is
 

@@ -3,7 +3,8 @@ use Rattle.std.specs.Prelude.{Vec}
 use Rattle.std.specs.Global.{Global}
 use Rattle.std.proofs.lemmas.List.{length-map}
 use Rattle.anb_stage.specs.Words.{asked_lists, words_of}
-use Rattle.std.proofs.Common.{◌≡◌, ℕ, ◌≤◌, ◌⊎◌, List, [], ◌∷◌, length, Option, Some, None, IfSome, refl, sym, ap, ◌∙◌, subst, inl, inr, arith}
+use Rattle.std.proofs.Common.{◌≡◌, ℕ, Bool, true, false, ◌<◌, ◌≤◌, ◌⊎◌, List, [], ◌∷◌, length, get_or, Option, Some, None, IfSome, refl, sym, ap, ◌∙◌, subst, inl, inr, arith}
+use Rattle.anb_base.specs.Moves.{Rose}
 use Rattle.anb_base.specs.Wires.{WireState}
 use Rattle.anb_base.specs.declared.place.Place.TheVariants.{Stdio}
 use Rattle.anb_base.specs.declared.content.Sent.{Sent}
@@ -25,30 +26,35 @@ use Rattle.anb_command.proofs.Chains.{told_map}
 use Rattle.anb_command.proofs.Ones.{not_both, same_given, sendable_one}
 use Rattle.anb_stage_commands.specs.Reports.{report_text}
 use Rattle.anb_stage_commands.specs.Words.{Staged, child_words, words_for}
-use Rattle.anb_stage_commands.specs.StageCommand.{AllGoWell, CompletesStage, HasStageCause, IsIdle, IsRefusedAs, IsRelayedAs, IsReport, IsStaged, NoChildRose, status_of}
+use Rattle.anb_stage_commands.specs.StageCommand.{AllGoWell, CompletesStage, HasStageCause, IsIdle, IsRefusedAs, IsRelayedAs, IsReport, IsStaged, NoChildRose, fault_status, status_after}
 use Rattle.anb_stage_commands.specs.Relaying.{FailsInFile, FailsRelaying, HasCauseBefore, HasChildCause, IsBefore, Relays, RelaysInFile, Stay}
 
 -- ---- a refusal
 
-before_of : (p : ProtocolValue) (r : RelayNo) → IsBefore (status_of p r)
-before_of p (no.Fault role) = inl (refl, λ e. cc)
-before_of p (no.Bad role status) = inl (refl, λ e. cc)
-before_of p (no.Ended action) = inl (refl, λ e. cc)
-before_of p (no.Cut action have need) = inl (refl, λ e. cc)
-before_of p (no.Long action len) = inl (refl, λ e. cc)
-before_of p no.NoMemory = inr refl
+fault_before : (name : List ℕ) (limit : Option ℕ) (silent : Bool) → IsBefore (fault_status name limit silent)
+fault_before name None silent = inl (refl, λ e. cc)
+fault_before name (Some seconds) false = inl (refl, λ e. cc)
+fault_before name (Some seconds) true = inl (refl, λ e. cc)
 
-cause_of : (p : ProtocolValue) (n : ℕ) (old new : ℕ → Child) (words : List (List (List ℕ))) (r : RelayNo) → n ≤ 32
-    → IsRefused n old new words (ends_in p) r → HasChildCause old new (status_of p r)
-cause_of p n old new words (no.Fault role) few is = (role, omega (arith, is.cause.0, few), is.cause.1)
-cause_of p n old new words (no.Bad role status) few is = tt
-cause_of p n old new words (no.Ended action) few is = tt
-cause_of p n old new words (no.Cut action have need) few is = tt
-cause_of p n old new words (no.Long action len) few is = tt
-cause_of p n old new words no.NoMemory few is = tt
+-- the cause of a status of a fault
+module _ (limit : Option ℕ) (old new : ℕ → Child) (name : List ℕ) (role : ℕ) (within : role < 32) (rose : Rose (old role).faults (new role).faults) where
+  fault_caused : (status : Status) → status ≡ fault_status name limit (new role).silent → (l : Option ℕ) (silent : Bool) → status ≡ fault_status name l silent → HasChildCause limit old new status
+  fault_caused status is None silent e = subst (HasChildCause limit old new) (sym e) (role, within, rose, sym e ∙ is)
+  fault_caused status is (Some seconds) false e = subst (HasChildCause limit old new) (sym e) (role, within, rose, sym e ∙ is)
+  fault_caused status is (Some seconds) true e = subst (HasChildCause limit old new) (sym e) (role, within, rose, sym e ∙ is)
+
+cause_of : (p : ProtocolValue) (n : ℕ) (limit : Option ℕ) (old new : ℕ → Child) (words : List (List (List ℕ))) (r : RelayNo) → n ≤ 32
+    → IsRefused n old new words (ends_in p) r → HasChildCause limit old new (status_after limit new p r)
+cause_of p n limit old new words (no.Fault role) few is =
+    fault_caused limit old new (get_or p.roles role []) role (omega (arith, is.cause.0, few)) is.cause.1 _ refl limit (new role).silent refl
+cause_of p n limit old new words (no.Bad role status) few is = tt
+cause_of p n limit old new words (no.Ended action) few is = tt
+cause_of p n limit old new words (no.Cut action have need) few is = tt
+cause_of p n limit old new words (no.Long action len) few is = tt
+cause_of p n limit old new words no.NoMemory few is = tt
 
 module _ (s : Staged) (old new : ℕ → Child) (p : ProtocolValue) (n : ℕ) (words : List (List (List ℕ))) (count : n ≡ length p.roles) (asked : words ≡ words_for s p.roles) where
-  pub refuses_as : (r : RelayNo) (status : Status) → IsRefused n old new words (ends_in p) r → (status ≡ status_of p r) ⊎ (status ≡ NoMemory) → FailsRelaying s old new p status
+  pub refuses_as : (r : RelayNo) (status : Status) → IsRefused n old new words (ends_in p) r → (status ≡ status_after s.limit new p r) ⊎ (status ≡ NoMemory) → FailsRelaying s old new p status
   refuses_as r status is same = inl (record {
     refusal = r;
     is = same;
@@ -66,6 +72,14 @@ module _ (s : Staged) (old new : ℕ → Child) (p : ProtocolValue) (n : ℕ) (w
 -- as many roles as lists of words
 pub count_words : (s : Staged) (p : ProtocolValue) (all : List (Vec (List ℕ) Global)) → asked_lists all ≡ words_for s p.roles → length all ≡ length p.roles
 count_words s p all asked = sym (length-map all words_of) ∙ ap length asked ∙ length-map p.roles (child_words s)
+
+before_of : (limit : Option ℕ) (children : ℕ → Child) (p : ProtocolValue) (r : RelayNo) → IsBefore (status_after limit children p r)
+before_of limit children p (no.Fault role) = fault_before (get_or p.roles role []) limit (children role).silent
+before_of limit children p (no.Bad role status) = inl (refl, λ e. cc)
+before_of limit children p (no.Ended action) = inl (refl, λ e. cc)
+before_of limit children p (no.Cut action have need) = inl (refl, λ e. cc)
+before_of limit children p (no.Long action len) = inl (refl, λ e. cc)
+before_of limit children p no.NoMemory = inr refl
 
 -- ---- a file
 
@@ -127,13 +141,14 @@ module _ (s : Staged) (old new : ℕ → Child) (told : Option Files) where
 -- ---- causes
 
 module _ (narration : List ℕ) (faults faults_now : List ℕ → ℕ) (old new : ℕ → Child) (S : WireState) where
-  pub stage_cause : (T : WireState) (status : Status) → HasWireCause (Some Stdio) S T status → HasStageCause (narration ∷ []) faults faults_now old new S T status
-  stage_cause T (ChildFault name) never = absurd never
-  stage_cause T (FileFault file) never = absurd never
-  stage_cause T _ cause = cause
+  pub stage_cause : (limit : Option ℕ) (T : WireState) (status : Status) → HasWireCause (Some Stdio) S T status → HasStageCause limit (narration ∷ []) faults faults_now old new S T status
+  stage_cause limit T (ChildFault name) never = absurd never
+  stage_cause limit T (ChildSilent name seconds) never = absurd never
+  stage_cause limit T (FileFault file) never = absurd never
+  stage_cause limit T _ cause = cause
 
   pub before_cause : (s : Staged) → s.narration ≡ narration → (status : Status) → IsBefore status → HasCauseBefore s old new faults faults_now status
-      → HasStageCause (narration ∷ []) faults faults_now old new S S status
+      → HasStageCause s.limit (narration ∷ []) faults faults_now old new S S status
   before_cause s named (FileFault file) before cause = (inl (cause.0 ∙ named), cause.1)
   before_cause s named (ChildFault name) before cause = cause
   before_cause s named (ChildSilent name seconds) before cause = cause
@@ -153,7 +168,7 @@ module _ (narration : List ℕ) (faults faults_now : List ℕ → ℕ) (old new 
 module _ (narrations : NarrationsAreUnique) (refusals : RefusalsAreUnique) (none : NoneIsBoth) (s : Staged) (told : Option Files) (old new : ℕ → Child) (faults faults_now : List ℕ → ℕ) (S T : WireState)
     (quiet : NoneRose (s.narration ∷ []) faults faults_now S T) (calm : NoChildRose old new) where
   Cause : Status → Type 0
-  Cause = HasStageCause (s.narration ∷ []) faults faults_now old new S T
+  Cause = HasStageCause s.limit (s.narration ∷ []) faults faults_now old new S T
 
   AnswersAs : Status → Type 0
   AnswersAs status = (status ≡ Done) ⊎ (status ≡ NoMemory)
@@ -168,13 +183,22 @@ module _ (narrations : NarrationsAreUnique) (refusals : RefusalsAreUnique) (none
   idle files p NoMemory f cause fails = inr refl
   idle files p status f cause fails = not_both status p (sendable_one narrations refusals none files s.narration (refused status) (given p) fails f)
 
-  refused_as : (p : ProtocolValue) (status : Status) → AllGoWell p old → Cause status → (r : RelayNo) → (status ≡ status_of p r) ⊎ (status ≡ NoMemory)
+  never_faulty : {P : Type 0} (name : List ℕ) (status : Status) (limit : Option ℕ) (silent : Bool) → status ≡ fault_status name limit silent → Cause status → P
+  unfolding Cause
+  never_faulty name status None silent is cause =
+      let c = subst (HasStageCause s.limit (s.narration ∷ []) faults faults_now old new S T) is cause in absurd (calm c.0 c.1 c.2)
+  never_faulty name status (Some seconds) false is cause =
+      let c = subst (HasStageCause s.limit (s.narration ∷ []) faults faults_now old new S T) is cause in absurd (calm c.0 c.1 c.2)
+  never_faulty name status (Some seconds) true is cause =
+      let c = subst (HasStageCause s.limit (s.narration ∷ []) faults faults_now old new S T) is cause in absurd (calm c.0 c.1 c.2)
+
+  refused_as : (p : ProtocolValue) (status : Status) → AllGoWell p old → Cause status → (r : RelayNo) → (status ≡ status_after s.limit new p r) ⊎ (status ≡ NoMemory)
       → IsRefused (length p.roles) old new (words_for s p.roles) (ends_in p) r → AnswersAs status
   unfolding Cause AnswersAs
   refused_as p status well cause r (inr is) refuses = inr is
   refused_as p status well cause no.NoMemory (inl is) refuses = inr is
   refused_as p status well cause (no.Fault role) (inl is) refuses =
-      let c = subst (HasStageCause (s.narration ∷ []) faults faults_now old new S T) is cause in absurd (calm c.0 c.1 c.2)
+      never_faulty (get_or p.roles role []) status s.limit (new role).silent is cause
   refused_as p status well cause (no.Bad role n) (inl is) refuses =
       absurd (refuses.bad.1 (sym (subst (λ (o : Option ℕ). IfSome o (λ t. t ≡ n)) (well.good role refuses.bad.0) refuses.bad.2)))
   refused_as p status well cause (no.Ended action) (inl is) refuses = absurd (not_missing _ (sym well.none ∙ (refuses.writes well.outputs well.tails well.cut).0))
@@ -189,7 +213,7 @@ module _ (narrations : NarrationsAreUnique) (refusals : RefusalsAreUnique) (none
   reported text (Unreached at) w now cause is = absurd (quiet.reaches cause.1)
   reported text _ w now cause never = absurd never
 
-  pub completes : (status : Status) (w now : Option (List ℕ)) → HasStageCause (s.narration ∷ []) faults faults_now old new S T status
+  pub completes : (status : Status) (w now : Option (List ℕ)) → HasStageCause s.limit (s.narration ∷ []) faults faults_now old new S T status
       → IfTold told (λ files. IsStaged s old new w now files status) → CompletesStage s old told status
   unfolding Cause AnswersAs
   completes status w now cause does = told_map told by does where

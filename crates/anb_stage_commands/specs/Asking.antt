@@ -4,7 +4,7 @@ use Rattle.anb_stage_commands.specs.declared.words.StageWords.{StageWords}
 use Rattle.anb_stage_commands.specs.Words.{Staged}
 
 abbrev pub staged : StageWords → Staged
-staged words = record { narration = words.narration.now; folder = words.folder.now }
+staged words = record { narration = words.narration.now; folder = words.folder.now; limit = words.limit }
 
 abbrev pub staged_by : Option StageWords → Option Staged
 staged_by None = None

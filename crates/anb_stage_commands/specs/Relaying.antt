@@ -14,7 +14,7 @@ use Rattle.anb_command.specs.Roles.{SendableInFile}
 use Rattle.anb_status.specs.Statuses.{before_reach, phase_of}
 use Rattle.anb_command.specs.Steps.{IsFailure, given, refused}
 use Rattle.anb_stage_commands.specs.Reports.{report_text}
-use Rattle.anb_stage_commands.specs.StageCommand.{status_of}
+use Rattle.anb_stage_commands.specs.StageCommand.{HasChildFault, status_after}
 use Rattle.anb_stage_commands.specs.Words.{Staged, words_for}
 
 -- the roles of a refusal are the protocol's
@@ -28,13 +28,13 @@ abbrev pub IsBefore : Status → Type 0
 IsBefore status = ((phase_of status ≡ before_reach) × (status ≡ Usage → ⊥)) ⊎ (status ≡ NoMemory)
 
 -- a fault of a child
-abbrev pub HasChildCause : (old new : ℕ → Child) → Status → Type 0
-HasChildCause old new (ChildFault name) =
-    (role : ℕ) × (role < 32) × Rose (old role).faults (new role).faults
-HasChildCause old new (ChildSilent name seconds) = ⊥
-HasChildCause old new (FileFault file) = ⊥
-HasChildCause old new (Unwritten file) = ⊥
-HasChildCause old new status = Unit {0}
+abbrev pub HasChildCause : Option ℕ → (old new : ℕ → Child) → Status → Type 0
+HasChildCause limit old new (ChildFault name) = HasChildFault limit old new name (ChildFault name)
+HasChildCause limit old new (ChildSilent name seconds) =
+    HasChildFault limit old new name (ChildSilent name seconds)
+HasChildCause limit old new (FileFault file) = ⊥
+HasChildCause limit old new (Unwritten file) = ⊥
+HasChildCause limit old new status = Unit {0}
 
 module _ (s : Staged) (old new : ℕ → Child) where
   pub record Relays (p : ProtocolValue) (text : List ℕ) : Type 0 where
@@ -45,7 +45,7 @@ module _ (s : Staged) (old new : ℕ → Child) where
 
   pub record RefusesAs (p : ProtocolValue) (status : Status) : Type 0 where
     pub refusal : RelayNo
-    pub is : (status ≡ status_of p refusal) ⊎ (status ≡ NoMemory)
+    pub is : (status ≡ status_after s.limit new p refusal) ⊎ (status ≡ NoMemory)
     pub refuses : IsRefused (length p.roles) old new (words_for s p.roles) (ends_in p) refusal
 
   -- it is refused, or there is no memory for the report
@@ -71,7 +71,8 @@ module _ (s : Staged) (old new : ℕ → Child) where
   HasCauseBefore faults faults_now (FileFault file) =
       (file ≡ s.narration) × Rose (faults file) (faults_now file)
   HasCauseBefore faults faults_now (ChildFault name) =
-      (role : ℕ) × (role < 32) × Rose (old role).faults (new role).faults
-  HasCauseBefore faults faults_now (ChildSilent name seconds) = ⊥
+      HasChildFault s.limit old new name (ChildFault name)
+  HasCauseBefore faults faults_now (ChildSilent name seconds) =
+      HasChildFault s.limit old new name (ChildSilent name seconds)
   HasCauseBefore faults faults_now (Unwritten file) = ⊥
   HasCauseBefore faults faults_now status = Unit {0}

@@ -1,5 +1,5 @@
 -- What `stage` does: it relays among child programs, one for each role, and writes a report.
-use Rattle.std.specs.Prelude.{◌≡◌, ◌⊎◌, ℕ, ◌<◌, List, [], length, get_or, Option, Some, None}
+use Rattle.std.specs.Prelude.{◌≡◌, ◌⊎◌, ℕ, Bool, true, false, ◌<◌, List, [], length, get_or, Option, Some, None}
 use Rattle.anb_base.specs.Moves.{Rose}
 use Rattle.anb_base.specs.Wires.{WireState}
 use Rattle.anb_base.specs.declared.place.Place.TheVariants.{Stdio}
@@ -11,7 +11,7 @@ use Rattle.anb_stage.specs.Relays.{AreCut, IsRefused, IsRelayed, ends_in, missin
 use Rattle.anb_stage.specs.declared.refusal.RelayNo.{RelayNo}
 use Rattle.anb_stage.specs.declared.refusal.RelayNo.TheVariants as no
 use Rattle.anb_status.specs.declared.status.Status.{Status}
-use Rattle.anb_status.specs.declared.status.Status.TheVariants.{Done, ChildFault, ChildEnded, ChildCut, ChildLong, ChildBad, NoMemory}
+use Rattle.anb_status.specs.declared.status.Status.TheVariants.{Done, ChildFault, ChildSilent, ChildEnded, ChildCut, ChildLong, ChildBad, NoMemory}
 use Rattle.anb_command.specs.Causes.{HasCause}
 use Rattle.anb_command.specs.Fetches.{Files, IfTold}
 use Rattle.anb_command.specs.Roles.{SendableInFile}
@@ -28,6 +28,17 @@ status_of p (no.Cut action have need) = ChildCut action have need
 status_of p (no.Long action len) = ChildLong action len
 status_of p (no.Bad role status) = ChildBad (get_or p.roles role []) status
 status_of p no.NoMemory = NoMemory
+
+-- the status of a fault of a role's child, by the limit that is said and by whether it was silent
+abbrev pub fault_status : (role : List ℕ) → (limit : Option ℕ) → (silent : Bool) → Status
+fault_status role (Some seconds) true = ChildSilent role seconds
+fault_status role limit silent = ChildFault role
+
+-- the status of a refused relay that left these children
+abbrev pub status_after : Option ℕ → (ℕ → Child) → ProtocolValue → RelayNo → Status
+status_after limit children p (no.Fault role) =
+    fault_status (get_or p.roles role []) limit (children role).silent
+status_after limit children p refusal = status_of p refusal
 
 module _ (s : Staged) (files : Files) where
   -- for the frames in the output of each role's child, how it ends behind them, and its status
@@ -61,7 +72,7 @@ module _ (s : Staged) (old new : ℕ → Child) (written written_now : Option (L
   -- The relay is refused, and nothing is written. There may be no memory for the name of a role.
   pub record IsRefusedAs (p : ProtocolValue) (status : Status) : Type 0 where
     pub refusal : RelayNo
-    pub is : (status ≡ status_of p refusal) ⊎ (status ≡ NoMemory)
+    pub is : (status ≡ status_after s.limit new p refusal) ⊎ (status ≡ NoMemory)
     pub refuses : IsRefused (length p.roles) old new (words_for s p.roles) (ends_in p) refusal
     pub unwritten : written_now ≡ written
 
@@ -114,13 +125,21 @@ CompletesStage s children told status = IfTold told (λ files.
     (p : ProtocolValue) → SendableInFile files s.narration (given p) → AllGoWell p children
     → (status ≡ Done) ⊎ (status ≡ NoMemory))
 
--- A fault of a child is answered only where the count of a role's child rose, and all else as by the
--- other commands.
-abbrev pub HasStageCause : (names : List (List ℕ)) → (faults faults_now : List ℕ → ℕ)
+-- the count of a role's child rose, and this is its status
+abbrev pub HasChildFault : Option ℕ → (old new : ℕ → Child) → (name : List ℕ) → Status → Type 0
+HasChildFault limit old new name status =
+    (role : ℕ) × (role < 32) × Rose (old role).faults (new role).faults
+    × (status ≡ fault_status name limit (new role).silent)
+
+-- A fault of a child, or that it was silent, is answered only where the count of a role's child rose,
+-- and all else as by the other commands.
+abbrev pub HasStageCause : Option ℕ → (names : List (List ℕ)) → (faults faults_now : List ℕ → ℕ)
     → (children children_now : ℕ → Child) → (old new : WireState) → Status → Type 0
-HasStageCause names faults faults_now children children_now old new (ChildFault name) =
-    (role : ℕ) × (role < 32) × Rose (children role).faults (children_now role).faults
-HasStageCause names faults faults_now children children_now old new status =
+HasStageCause limit names faults faults_now children children_now old new (ChildFault name) =
+    HasChildFault limit children children_now name (ChildFault name)
+HasStageCause limit names faults faults_now children children_now old new (ChildSilent name seconds) =
+    HasChildFault limit children children_now name (ChildSilent name seconds)
+HasStageCause limit names faults faults_now children children_now old new status =
     HasCause names (Some Stdio) faults faults_now old new status
 
 -- no count of a child rose

@@ -1,16 +1,29 @@
 -- The words of `stage`, and those of the children that it starts.
 use Rattle.std.specs.Prelude.{ℕ, List, [], ◌∷◌, ◌++◌, codes, bytes_eq, map, ◌&&◌, Option, Some, None, if◌then◌else◌}
-use Rattle.anb_words.specs.Words.{is_operand}
+use Rattle.std.specs.Option.{option_map}
+use Rattle.anb_words.specs.Words.{is_operand, seconds_in}
 
--- the names of the narration's file and of the folder with the values of its roles
+-- the names of the narration's file and of the folder with the values of its roles, and for how many
+-- seconds a child may be silent, where that is said
 pub record Staged : Type 0 where
   pub narration : List ℕ
   pub folder : List ℕ
+  pub limit : Option ℕ
+
+-- behind the names may stand `--timeout` and seconds
+abbrev pub limit_in : List (List ℕ) → Option (Option ℕ)
+limit_in [] = Some None
+limit_in (flag ∷ seconds ∷ []) =
+    if bytes_eq flag (codes "--timeout") then option_map Some (seconds_in seconds) else None
+limit_in words = None
+
+abbrev pub stage_of : (narration folder : List ℕ) → Option ℕ → Staged
+stage_of narration folder limit = record { narration = narration; folder = folder; limit = limit }
 
 abbrev pub stage_in : List (List ℕ) → Option Staged
-stage_in (narration ∷ folder ∷ []) =
+stage_in (narration ∷ folder ∷ words) =
     if is_operand narration && is_operand folder
-    then Some (record { narration = narration; folder = folder }) else None
+    then option_map (stage_of narration folder) (limit_in words) else None
 stage_in words = None
 
 abbrev pub staged_of : List (List ℕ) → Option Staged

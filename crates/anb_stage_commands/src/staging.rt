@@ -11,7 +11,7 @@ ghost use Rattle.anb_status.specs.Statuses.{phase_of};
 ghost use Rattle.anb_command.specs.Touches.{Touches};
 ghost use Rattle.anb_stage_commands.specs.Asking.{staged};
 ghost use Rattle.anb_stage_commands.specs.StageCommand.{CompletesStage, DoesStage, HasStageCause, NoChildRose};
-ghost use Rattle.anb_stage_commands.specs.StageCommand.{status_of};
+ghost use Rattle.anb_stage_commands.specs.StageCommand.{fault_status, status_after};
 ghost use Rattle.anb_stage_commands.specs.Relaying.{FailsInFile, FailsRelaying, HasCauseBefore, HasChildCause, IsBefore, IsNamed, Relays, RelaysInFile};
 ghost use Rattle.anb_status.specs.declared.status.Status.TheVariants as status;
 
@@ -41,7 +41,7 @@ pub fn stage<F: Shelf, P: Spawner, W: Wire>(
         (F.faults shelf.old) (F.faults shelf.new) (W.state wire.old) (W.state wire.new)
         → NoChildRose (P.child spawner.old) (P.child spawner.new)
         → CompletesStage (staged words.entry) (P.child spawner.old) (F.files shelf.old) result }
-    ensures faults { HasStageCause (words.entry.narration.now ∷ [])
+    ensures faults { HasStageCause words.entry.limit (words.entry.narration.now ∷ [])
         (F.faults shelf.old) (F.faults shelf.new) (P.child spawner.old) (P.child spawner.new)
         (W.state wire.old) (W.state wire.new) result }
     ensures reported { TellsFaults (F.faults shelf.old) (F.faults shelf.new)
@@ -101,16 +101,19 @@ fn relayed<P: Spawner>(
         (P.child spawner.old) (P.child spawner.new) protocol.now) }
     ensures before { IfErr result IsBefore }
     ensures cause { IfErr result
-        (HasChildCause (P.child spawner.old) (P.child spawner.new)) }
+        (HasChildCause words.entry.limit (P.child spawner.old) (P.child spawner.new)) }
 {
     protocols_hold();
     let _ = protocol.name();
     let Ok(all) = words_for(alloc, words, protocol.roles()) else {
         return Err(Status::NoMemory);
     };
+    if let Some(seconds) = words.limit {
+        spawner.wait_at_most(seconds);
+    }
     let sent = match relay(alloc, protocol, &all, spawner) {
         Ok(sent) => sent,
-        Err(no) => return Err(refusal(alloc, protocol, no)),
+        Err(no) => return Err(refusal(alloc, protocol, words.limit, spawner, no)),
     };
     match report_text(alloc, &sent) {
         Ok(text) => Ok(text),
@@ -119,12 +122,22 @@ fn relayed<P: Spawner>(
 }
 
 /// The status of a relay that was refused.
-fn refusal(alloc: Global, protocol: &Protocol, no: RelayNo) -> Status
-    requires { IsNamed protocol.now no }
-    ensures { (result ≡ status_of protocol.now no) ⊎ (result ≡ status.NoMemory) }
+fn refusal<P: Spawner>(
+    alloc: Global,
+    protocol: &Protocol,
+    limit: Option<u32>,
+    spawner: &P,
+    no: RelayNo,
+) -> Status
+    requires few { length protocol.now.roles ≤ ROLES }
+    requires named { IsNamed protocol.now no }
+    ensures { (result ≡ status_after limit (P.child spawner.now) protocol.now no)
+        ⊎ (result ≡ status.NoMemory) }
 {
     match no {
-        RelayNo::Fault(role) => child_fault(alloc, protocol, role),
+        RelayNo::Fault(role) => {
+            child_fault(alloc, protocol, limit, spawner.was_silent(role), role)
+        }
         RelayNo::Ended(action) => Status::ChildEnded(action),
         RelayNo::Cut { action, have, need } => Status::ChildCut { action, have, need },
         RelayNo::Long { action, len } => Status::ChildLong { action, len },
@@ -133,15 +146,27 @@ fn refusal(alloc: Global, protocol: &Protocol, no: RelayNo) -> Status
     }
 }
 
-/// The status of a call for a role's child that failed.
-fn child_fault(alloc: Global, protocol: &Protocol, role: u32) -> Status
+/// The status of a call for a role's child that failed, by silence or not.
+fn child_fault(
+    alloc: Global,
+    protocol: &Protocol,
+    limit: Option<u32>,
+    silent: bool,
+    role: u32,
+) -> Status
     requires { role < length protocol.now.roles }
-    ensures { (result ≡ status.ChildFault (get_or protocol.now.roles role []))
+    ensures { (result ≡ fault_status (get_or protocol.now.roles role []) limit silent)
         ⊎ (result ≡ status.NoMemory) }
 {
-    match protocol.roles()[role as usize].copy(alloc) {
-        Ok(name) => Status::ChildFault(name),
-        Err(NoMemory) => Status::NoMemory,
+    let Ok(name) = protocol.roles()[role as usize].copy(alloc) else {
+        return Status::NoMemory;
+    };
+    match limit {
+        Some(seconds) if silent => Status::ChildSilent {
+            role: name,
+            seconds,
+        },
+        _ => Status::ChildFault(name),
     }
 }
 

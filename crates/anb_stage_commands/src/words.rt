@@ -2,18 +2,19 @@
 ghost use Rattle.std.specs.Prelude.{◌≡◌, ℕ, List, IfOk};
 ghost use Rattle.anb_stage.specs.Words.{asked_lists, words_of};
 ghost use Rattle.anb_stage_commands.specs.Asking.{staged};
-ghost use Rattle.anb_stage_commands.specs.Words.{child_words, words_for};
+ghost use Rattle.anb_stage_commands.specs.Words.{child_words, limit_in, words_for};
 
 use anb_base::{NoMemory, Text};
-use anb_command::is_operand;
+use anb_command::{is_operand, read_seconds};
 use std::alloc::Global;
 
 /// What is asked of `stage`: the names of the narration's file and of the folder with the values of
-/// its roles.
+/// its roles, and for how many seconds a child may be silent, where that is said.
 #[derive(Clone, Copy)]
 pub struct StageWords<'w> {
     pub narration: &'w Text,
     pub folder: &'w Text,
+    pub limit: Option<u32>,
 }
 
 impl<'w> StageWords<'w> {
@@ -37,12 +38,29 @@ impl<'w> StageWords<'w> {
     fn read_files(words: &'w [Text]) -> Option<Self>
         ensures { staged_by result ≡ stage_in words.now }
     {
-        match words {
-            [narration, folder] if is_operand(narration) && is_operand(folder) => {
-                Some(StageWords { narration, folder })
-            }
-            _ => None,
+        let [narration, folder, words @ ..] = words else {
+            return None;
+        };
+        if !(is_operand(narration) && is_operand(folder)) {
+            return None;
         }
+        let limit = read_limit(words)?;
+        Some(StageWords {
+            narration,
+            folder,
+            limit,
+        })
+    }
+}
+
+/// The most seconds for which a child may be silent, where the words say them.
+fn read_limit(words: &[Text]) -> Option<Option<u32>>
+    ensures { result ≡ limit_in words.now }
+{
+    match words {
+        [] => Some(None),
+        [flag, seconds] if flag.as_str() == "--timeout" => Some(Some(read_seconds(seconds)?)),
+        _ => None,
     }
 }
 

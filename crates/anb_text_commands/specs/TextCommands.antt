@@ -100,7 +100,8 @@ help_text =
     ++ codes "anb why <narration>\n"
     ++ codes "anb park <narration> <role> <values> <key> [place]\n"
     ++ codes "anb resume <narration> <role> <record> <key> [place]\n"
-    ++ codes "anb stage <narration> <folder>\n" ++ codes "anb chart <narration> [--role <name>]\n"
+    ++ codes "anb stage <narration> <folder> [--timeout <seconds>]\n"
+    ++ codes "anb chart <narration> [--role <name>]\n"
     ++ codes "anb check <narration>\n"
     ++ codes "anb trace <narration> <role> <values> <transcript>\n"
 

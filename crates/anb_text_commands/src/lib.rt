@@ -52,7 +52,7 @@ const HELP: &str = concat!(
     "anb why <narration>\n",
     "anb park <narration> <role> <values> <key> [place]\n",
     "anb resume <narration> <role> <record> <key> [place]\n",
-    "anb stage <narration> <folder>\n",
+    "anb stage <narration> <folder> [--timeout <seconds>]\n",
     "anb chart <narration> [--role <name>]\n",
     "anb check <narration>\n",
     "anb trace <narration> <role> <values> <transcript>\n",

@@ -1,6 +1,6 @@
 -- The words that are accepted, and what they ask for.
-use Rattle.std.specs.Prelude.{ℕ, Bool, true, false, not, ◌&&◌, ◌==◌, nat_le, List, [], ◌∷◌, codes, bytes_eq, Option, Some, None, if◌then◌else◌}
-use Rattle.std.specs.Option.{option_map, option_map_or}
+use Rattle.std.specs.Prelude.{ℕ, Bool, true, false, not, ◌&&◌, ◌==◌, nat_le, List, [], ◌∷◌, codes, bytes_eq, Option, Some, None, is_some, if◌then◌else◌}
+use Rattle.std.specs.Option.{option_map}
 use Rattle.anb_base.specs.declared.place.Place.{Place}
 use Rattle.anb_base.specs.declared.place.Place.TheVariants.{Stdio, Dial, Listen}
 use Rattle.anb_text.specs.Reading.{number_of}
@@ -34,8 +34,15 @@ is_operand [] = false
 is_operand (first ∷ rest) = not (first == 45)
 
 -- seconds are a number from 1 to 86,400, in decimal without a sign or leading zeros
+abbrev pub seconds_of : Option ℕ → Option ℕ
+seconds_of None = None
+seconds_of (Some n) = if nat_le 1 n && nat_le n 86400 then Some n else None
+
+abbrev pub seconds_in : List ℕ → Option ℕ
+seconds_in text = seconds_of (number_of text)
+
 abbrev pub are_seconds : List ℕ → Bool
-are_seconds text = option_map_or (λ n. nat_le 1 n && nat_le n 86400) (number_of text) false
+are_seconds text = is_some (seconds_in text)
 
 -- the place of a flag and where
 abbrev pub place_at : (flag at : List ℕ) → Option Place

@@ -5,5 +5,5 @@ mod words;
 
 pub use words::{
     BranchWords, CertifyWords, Command, EnactWords, Endpoint, ParkWords, PlayWords, RehearseWords,
-    ReplayWords, ResumeWords, RoleText, is_operand,
+    ReplayWords, ResumeWords, RoleText, is_operand, read_seconds,
 };

@@ -2,7 +2,7 @@
 ghost use Rattle.std.specs.Prelude.{◌≡◌, ◌<◌, ◌^◌, ℕ, decimal, is_some};
 ghost use Rattle.anb_text.specs.Reading.{number_of};
 ghost use Rattle.std.specs.Option.{option_map};
-ghost use Rattle.anb_words.specs.Words.{are_seconds, arm_of, drill, drill_of, is_operand};
+ghost use Rattle.anb_words.specs.Words.{are_seconds, arm_of, drill, drill_of, is_operand, seconds_in};
 
 use anb_base::{NoMemory, Place, Text};
 use itoa::Buffer;
@@ -509,8 +509,9 @@ impl<'w> Endpoint<'w> {
 }
 
 /// The seconds that a word spells.
-fn read_seconds(word: &Text) -> Option<u32>
-    ensures { is_some result ≡ are_seconds word.now }
+pub fn read_seconds(word: &Text) -> Option<u32>
+    ensures are { is_some result ≡ are_seconds word.now }
+    ensures value { result ≡ seconds_in word.now }
 {
     let seconds = read_number(word.as_str())?;
     if 1 <= seconds && seconds <= 86_400 {

@@ -34,7 +34,7 @@ returns-in-Some-clause-completes g c = rw (sym c.in-Some.ensures) c.stage-status
 pub returns-in-Some-clause-usage : goal.returns-in-Some-clause-usage
 returns-in-Some-clause-usage g c =
     rw (sym c.in-Some.ensures)
-    (usage_some (staged c.in-Some.words) (asked_of c.args.words.now) (c.in-Some.words.narration.now ∷ [])
+    (usage_some (staged c.in-Some.words) (asked_of c.args.words.now) c.in-Some.words.limit (c.in-Some.words.narration.now ∷ [])
     (g.F.Shelf.faults c.args.shelf.now) (g.F.Shelf.faults c.stage-status.new.shelf) (g.P.Spawner.child c.args.spawner.now) (g.P.Spawner.child c.stage-status.new.spawner)
     (g.W.Wire.state c.args.wire.now) (g.W.Wire.state c.stage-status.new.wire) c.stage-status.result c.stage-status.ensures.faults)
 

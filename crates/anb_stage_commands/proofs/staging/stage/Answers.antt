@@ -14,7 +14,7 @@ returns-in-Ok-clause-does g c =
 pub returns-in-Ok-clause-faults : goal.returns-in-Ok-clause-faults
 returns-in-Ok-clause-faults g c =
     stage_cause c.args.words.narration.now (g.F.Shelf.faults c.args.shelf.now) (g.F.Shelf.faults c.relayed_in_file.new.shelf) (g.P.Spawner.child c.args.spawner.now)
-    (g.P.Spawner.child c.relayed_in_file.new.spawner) (g.W.Wire.state c.args.wire.now) (g.W.Wire.state c.write_text.new.wire) c.write_text.result c.write_text.ensures.wire.cause
+    (g.P.Spawner.child c.relayed_in_file.new.spawner) (g.W.Wire.state c.args.wire.now) c.args.words.limit (g.W.Wire.state c.write_text.new.wire) c.write_text.result c.write_text.ensures.wire.cause
 
 pub returns-in-Ok-clause-completes : goal.returns-in-Ok-clause-completes
 returns-in-Ok-clause-completes g c = λ quiet calm.
