@@ -28,6 +28,9 @@ fn status(rt: HostRuntime, skipped: usize) -> Status {
     let mut shelf = RealShelf::new(rt);
     let mut spawner = RealSpawner::new(rt, child_program(rt));
     let mut wire = RealWire::new(rt);
+    if parks(&words) {
+        wire.end_at_silence();
+    }
     let status = run_all(
         rt.alloc(),
         &words,
@@ -42,6 +45,14 @@ fn status(rt: HostRuntime, skipped: usize) -> Status {
     err.finish();
     wire.finish();
     status
+}
+
+/// Whether a role that waits for a silent peer is to be parked.
+fn parks(words: &[Text]) -> bool {
+    match words {
+        [command, ..] => matches!(command.as_str(), "park" | "resume"),
+        [] => false,
+    }
 }
 
 /// The program that each child runs: the one that the environment names, else this one itself. A name

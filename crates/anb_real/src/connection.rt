@@ -70,6 +70,11 @@ impl Connection {
         Err(io::Error::from(ErrorKind::Interrupted))
     }
 
+    /// Whether a wait was over before the first byte of a frame came.
+    pub(crate) fn is_silent(&self) -> bool {
+        self.is_late && self.progress.is_at_border()
+    }
+
     pub(crate) fn write(&mut self, rt: &HostRuntime, piece: &[u8]) -> io::Result<usize>
         ensures { IfOk result (λ n. n ≤ length piece.now) }
     {

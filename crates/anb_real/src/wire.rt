@@ -20,6 +20,8 @@ pub struct RealWire {
     rt: HostRuntime,
     connection: Option<Connection>,
     wait: Option<Duration>,
+    /// Whether a peer that is silent for the limit, before a frame, has ended what it sends.
+    silence_ends: bool,
     read_faults: u64,
     write_faults: u64,
     reach_faults: u64,
@@ -45,10 +47,19 @@ impl RealWire {
             rt,
             connection: None,
             wait: None,
+            silence_ends: false,
             read_faults: 0,
             write_faults: 0,
             reach_faults: 0,
         }
+    }
+
+    /// From now on a peer that gives no first byte of a frame within the limit has ended what it sends,
+    /// and that is no fault.
+    pub fn end_at_silence(&mut self)
+        ensures { self.new ≡ self.old }
+    {
+        self.silence_ends = true;
     }
 
     /// Ends the wire. Of a connection the sending side is shut, and what the peer still sends is
@@ -74,7 +85,10 @@ impl Source for RealWire {
     fn read(&mut self, buf: &mut [u8]) -> Result<usize, Failed> {
         let got = match &mut self.connection {
             None => read_again(&mut self.rt.stdin(), buf),
-            Some(connection) => connection.read(&self.rt, buf),
+            Some(connection) => match connection.read(&self.rt, buf) {
+                Err(_) if self.silence_ends && connection.is_silent() => Ok(0),
+                got => got,
+            },
         };
         match got {
             Ok(n) => Ok(n),
