@@ -295,6 +295,37 @@ def listener_at(at):
     return made
 
 
+def parked_in_silence(program):
+    """park and resume with --timeout park a role whose peer is silent before a frame, and none within one"""
+    write_ping(program)
+    program.write("key", "a key of its own")
+    made, at = listener()
+
+    def dials(*words, says=b""):
+        run = program.start(*words, "--dial", at, "--timeout", "1")
+        peer = accept(made)
+        peer.sendall(says)
+        got, _ = read_all(peer)
+        peer.close()
+        ended = run.end()
+        want_below(f"seconds of {words[0]}", run.seconds, 1 + LATE)
+        return got, ended
+
+    parked = (29, b"", b"anb: parked at event 2\n")
+    got, ended = dials("park", "ping.anb", "A", "ping.values", "key")
+    want("park, a silent peer", ended, parked)
+    record = got[len(FRAME) + 4 :]
+    want("the message and the record's length", got[: len(FRAME) + 4], FRAME + len(record).to_bytes(4, "big"))
+    program.write("record", record)
+    want("resume, a silent peer", dials("resume", "ping.anb", "A", "record", "key"), (got[len(FRAME) :], parked))
+    want("resume, an answer", dials("resume", "ping.anb", "A", "record", "key", says=FRAME), (b"", (0, b"", b"")))
+    failed = (14, b"", b"anb: read failed\n")
+    words = ("ping.anb", "A", "ping.values")
+    want("park, silence within a frame", dials("park", *words, "key", says=FRAME[:2]), (FRAME, failed))
+    want("play, a silent peer", dials("play", *words), (FRAME, failed))
+    return "parked and resumed in silence; within a frame it is a fault"
+
+
 def slow_peers(program):
     """--timeout bounds a whole frame, from its first byte to its last, and a whole piece that is written"""
     write_ping(program)
@@ -589,6 +620,7 @@ QUICK = (
     small_frames_over_pipes,
     path_of_other_bytes,
     silent_peers,
+    parked_in_silence,
     slow_peers,
     names_of_hosts,
     free_ports,

@@ -10,7 +10,7 @@ ghost use Rattle.anb_check_commands.specs.CheckCommand.{IsVerdict};
 ghost use Rattle.anb_check_commands.specs.Telling.{IsLast, IsVerdictOnNarration, IsVerdictOnProtocol};
 
 use anb_base::{Bytes, NoMemory, Text};
-use anb_command::{NarrationNo, Status, codes_of, gathered, ill_formed};
+use anb_command::{NarrationNo, Status, codes_of, ill_formed};
 use anb_lack::lack_text;
 use anb_mistakes::{unread_text, unresolved_text};
 use anb_protocol::{Protocol, ResolveNo};
@@ -78,7 +78,12 @@ fn reason_of(alloc: Global, why: &ResolveNo) -> Result<Vec<u8>, NoMemory>
     ensures { IfOk result (λ v. v.items ≡ why_ill_formed why.now) }
 {
     let mut digits = Buffer::new();
-    gathered(alloc, ill_formed("", why, &mut digits))
+    let (first, second, third, fourth) = ill_formed(why, &mut digits);
+    let mut out = Vec::from_slice(alloc, first.as_bytes())?;
+    out.extend_from_slice(second.as_bytes())?;
+    out.extend_from_slice(third.as_bytes())?;
+    out.extend_from_slice(fourth.as_bytes())?;
+    Ok(out)
 }
 
 /// The verdict on a protocol: a report on its roles, or what one of them lacks that can't send.

@@ -11,7 +11,7 @@ mod reaching;
 mod text;
 
 pub use anb_status::{
-    BranchNo, CertifyNo, Due, Halt, NarrationNo, ParkNo, Report, Status, gathered, ill_formed, tell,
+    BranchNo, CertifyNo, Due, Halt, NarrationNo, ParkNo, Report, Status, ill_formed, tell,
 };
 pub use anb_words::{
     BranchWords, CertifyWords, Command, EnactWords, Endpoint, ParkWords, PlayWords, RehearseWords,

@@ -426,16 +426,16 @@ impl Spawner for MemSpawner {
     }
 
     fn wait_at_most(&mut self, seconds: u32)
-        ensures { self.new ≡ record self.old { limit = Some seconds } }
-        ensures same { (role : ℕ) → child_at self.new role ≡ child_at self.old role }
+        ensures limited { self.new ≡ record self.old { limit = Some seconds } }
+        ensures same { children_of self.new ≡ children_of self.old }
     {
         self.limit = Some(seconds);
     }
 
     fn was_silent(&self, role: u32) -> bool {
-        match self.children.get(role as usize) {
-            Some(child) => child.silent,
-            None => false,
+        if role as usize >= self.children.len() {
+            return false;
         }
+        self.children[role as usize].silent
     }
 }

@@ -89,7 +89,7 @@ pub trait Spawner {
     /// From now on a call for a child fails once the child was silent for so many seconds: it gave no
     /// byte that was waited for, took none, or didn't end.
     fn wait_at_most(&mut self, seconds: u32)
-        ensures { (role : ℕ) → child self.new role ≡ child self.old role };
+        ensures { child self.new ≡ child self.old };
 
     /// Whether the last call for a role's child that failed did so since the child was silent for too
     /// long.

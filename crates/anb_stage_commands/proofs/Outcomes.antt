@@ -17,6 +17,7 @@ use Rattle.anb_stage.specs.declared.refusal.RelayNo.{RelayNo}
 use Rattle.anb_stage.specs.declared.refusal.RelayNo.TheVariants as no
 use Rattle.anb_status.specs.declared.status.Status.{Status}
 use Rattle.anb_status.specs.declared.status.Status.TheVariants.{Done, Usage, FileFault, Unreached, ReadFault, WriteFault, ChildFault, ChildSilent, Unwritten, NoMemory}
+use Rattle.anb_status.specs.Statuses.{IsEarly}
 use Rattle.anb_command.specs.Causes.{HasWireCause, NoneRose}
 use Rattle.anb_command.specs.Fetches.{Files, IfTold}
 use Rattle.anb_command.specs.Roles.{SendableInFile}
@@ -80,6 +81,36 @@ before_of limit children p (no.Ended action) = inl (refl, λ e. cc)
 before_of limit children p (no.Cut action have need) = inl (refl, λ e. cc)
 before_of limit children p (no.Long action len) = inl (refl, λ e. cc)
 before_of limit children p no.NoMemory = inr refl
+
+pub before_status : (limit : Option ℕ) (children : ℕ → Child) (p : ProtocolValue) (r : RelayNo) (status : Status) → (status ≡ status_after limit children p r) ⊎ (status ≡ NoMemory) → IsBefore status
+before_status limit children p r status (inl is) = subst IsBefore (sym is) (before_of limit children p r)
+before_status limit children p r status (inr is) = subst IsBefore (sym is) (inr refl)
+
+pub cause_status : (p : ProtocolValue) (n : ℕ) (limit : Option ℕ) (old new : ℕ → Child) (words : List (List (List ℕ))) (r : RelayNo) (status : Status) → n ≤ 32
+    → IsRefused n old new words (ends_in p) r → (status ≡ status_after limit new p r) ⊎ (status ≡ NoMemory) → HasChildCause limit old new status
+cause_status p n limit old new words r status few refuses (inl is) = subst (HasChildCause limit old new) (sym is) (cause_of p n limit old new words r few refuses)
+cause_status p n limit old new words r status few refuses (inr is) = subst (HasChildCause limit old new) (sym is) tt
+
+-- the cause of a refusal before the relay is one of all
+pub cause_before : (s : Staged) (old new : ℕ → Child) (faults faults_now : List ℕ → ℕ) (status : Status) → HasChildCause s.limit old new status → HasCauseBefore s old new faults faults_now status
+cause_before s old new faults faults_now (ChildFault name) cause = cause
+cause_before s old new faults faults_now (ChildSilent name seconds) cause = cause
+cause_before s old new faults faults_now (FileFault file) never = absurd never
+cause_before s old new faults faults_now (Unwritten file) never = absurd never
+cause_before s old new faults faults_now _ cause = tt
+
+-- the cause of a refusal of the narration's file, before any child is started
+module _ (s : Staged) (children : ℕ → Child) (faults faults_now : List ℕ → ℕ) (Refused : Type 0) where
+  pub file_cause : (status : Status) → IsEarly status → IsFailure status (λ file. (file ≡ s.narration) × Rose (faults file) (faults_now file)) Refused
+      → HasCauseBefore s children children faults faults_now status
+  file_cause (FileFault file) early fails = fails
+  file_cause (ChildFault name) (inl early) fails = absurd early.1
+  file_cause (ChildFault name) (inr never) fails = absurd (cc)
+  file_cause (ChildSilent name seconds) (inl early) fails = absurd early.1
+  file_cause (ChildSilent name seconds) (inr never) fails = absurd (cc)
+  file_cause (Unwritten file) (inl early) fails = absurd (let never = early.0 in cc)
+  file_cause (Unwritten file) (inr never) fails = absurd (cc)
+  file_cause _ early fails = tt
 
 -- ---- a file
 

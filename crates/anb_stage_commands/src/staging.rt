@@ -103,14 +103,11 @@ fn relayed<P: Spawner>(
     ensures cause { IfErr result
         (HasChildCause words.entry.limit (P.child spawner.old) (P.child spawner.new)) }
 {
-    protocols_hold();
-    let _ = protocol.name();
+    has_few_roles(protocol);
     let Ok(all) = words_for(alloc, words, protocol.roles()) else {
         return Err(Status::NoMemory);
     };
-    if let Some(seconds) = words.limit {
-        spawner.wait_at_most(seconds);
-    }
+    limit_waits(spawner, words.limit);
     let sent = match relay(alloc, protocol, &all, spawner) {
         Ok(sent) => sent,
         Err(no) => return Err(refusal(alloc, protocol, words.limit, spawner, no)),
@@ -119,6 +116,23 @@ fn relayed<P: Spawner>(
         Ok(text) => Ok(text),
         Err(NoMemory) => Err(Status::NoMemory),
     }
+}
+
+/// Bounds how long a child may be silent, where there is a limit.
+fn limit_waits<P: Spawner>(spawner: &mut P, limit: Option<u32>)
+    ensures { P.child spawner.new ≡ P.child spawner.old }
+{
+    if let Some(seconds) = limit {
+        spawner.wait_at_most(seconds);
+    }
+}
+
+/// A law: a protocol has at most so many roles.
+fn has_few_roles(protocol: &Protocol)
+    ensures { length protocol.now.roles ≤ ROLES }
+{
+    protocols_hold();
+    let _ = protocol.name();
 }
 
 /// The status of a relay that was refused.

@@ -6,5 +6,5 @@ mod pieces;
 mod status;
 
 pub use line::tell;
-pub use pieces::{Pieces, gathered};
+pub use pieces::Pieces;
 pub use status::{BranchNo, CertifyNo, Due, Halt, NarrationNo, ParkNo, Report, Status, ill_formed};

@@ -1,9 +1,6 @@
 //! Texts in pieces, which lie elsewhere.
-ghost use Rattle.std.specs.Prelude.{◌≡◌, ◌++◌, IfOk};
+ghost use Rattle.std.specs.Prelude.{◌≡◌, ◌++◌};
 ghost use Rattle.anb_status.specs.Pieces.{said};
-
-use anb_base::NoMemory;
-use std::alloc::Global;
 
 /// A text in at most seven pieces; the last ones may be empty.
 pub type Pieces<'a> = (
@@ -58,19 +55,4 @@ pub(crate) fn seven<'a>(
     ensures { said result ≡ a.now ++ (b.now ++ (c.now ++ (d.now ++ (e.now ++ (f.now ++ g.now))))) }
 {
     (a, b, c, d, e, f, g)
-}
-
-/// What the pieces say, in one.
-pub fn gathered(alloc: Global, pieces: Pieces) -> Result<Vec<u8>, NoMemory>
-    ensures { IfOk result (λ v. v.items ≡ said pieces) }
-{
-    let (a, b, c, d, e, f, g) = pieces;
-    let mut out = Vec::from_slice(alloc, a.as_bytes())?;
-    out.extend_from_slice(b.as_bytes())?;
-    out.extend_from_slice(c.as_bytes())?;
-    out.extend_from_slice(d.as_bytes())?;
-    out.extend_from_slice(e.as_bytes())?;
-    out.extend_from_slice(f.as_bytes())?;
-    out.extend_from_slice(g.as_bytes())?;
-    Ok(out)
 }

@@ -1,6 +1,5 @@
 //! Statuses: why a command did its work or didn't, their numbers and their lines.
-ghost use Rattle.std.specs.Prelude.{◌≡◌, ◌++◌, codes, decimal};
-ghost use Rattle.anb_status.specs.Pieces.{said};
+ghost use Rattle.std.specs.Prelude.{◌≡◌, ◌++◌};
 ghost use Rattle.anb_status.specs.Statuses.{instruction_text, item_text, kind_text, uncertified_at, where_text, why_ill_formed, why_misshapen, why_unaccepted, why_unfit, why_unloaded, why_unread};
 
 use crate::pieces::{Pieces, five, four, one, seven, three, two};
@@ -213,17 +212,26 @@ impl Status {
             Status::Usage => one("the words fit no command"),
             Status::FileFault(name) => two("can't read ", name.as_str()),
             Status::FileLong(name) => two(name.as_str(), " is too long"),
-            Status::BadNarration(why) => why.pieces("narration: ", first),
+            Status::BadNarration(why) => {
+                let (a, b, c, d) = why.pieces(first);
+                five("narration: ", a, b, c, d)
+            }
             Status::NoRole(name) => two("no role ", name.as_str()),
             Status::CannotSend { action, role } => three(
                 role.as_str(),
                 " can't compose the message of action ",
                 first.format(*action),
             ),
-            Status::BadValues(why) => unfit("values: ", why, first),
+            Status::BadValues(why) => {
+                let (what, which) = unfit(why, first);
+                three("values: ", what, which)
+            }
             Status::NoSeed => one("no seed"),
             Status::Unreached(place) => two("can't reach ", where_text(place)),
-            Status::Stopped(halt) => stopped(*halt, first, second),
+            Status::Stopped(halt) => {
+                let (what, which) = instruction(halt.at, second);
+                four("stopped at event ", first.format(halt.event), what, which)
+            }
             Status::Waiting(event) => two("waiting at event ", first.format(*event)),
             Status::Truncated { have, need } => five(
                 "input ends after ",
@@ -235,7 +243,10 @@ impl Status {
             Status::TooLarge(len) => three("a frame of ", first.format(*len), " bytes"),
             Status::ReadFault => one("read failed"),
             Status::WriteFault => one("write failed"),
-            Status::BadRoleFile(why) => unloaded("role file: ", *why, first),
+            Status::BadRoleFile(why) => {
+                let (what, which, is) = unloaded(*why, first);
+                four("role file: ", what, which, is)
+            }
             Status::BadTranscript(line) => {
                 three("transcript line ", first.format(*line), " can't be read")
             }
@@ -311,65 +322,65 @@ impl Status {
 
 impl NarrationNo {
     ghost use Rattle.std.specs.Prelude.{◌≡◌, ◌++◌};
-    ghost use Rattle.anb_status.specs.Pieces.{said};
     ghost use Rattle.anb_status.specs.Statuses.{why_bad};
 
-    /// Why the file holds no narration, behind another text.
-    fn pieces<'a>(&'a self, front: &'a str, digits: &'a mut Buffer) -> Pieces<'a>
-        ensures { said result ≡ front.now ++ why_bad self.now }
+    /// Why the file holds no narration.
+    fn pieces<'a>(&'a self, digits: &'a mut Buffer) -> (&'a str, &'a str, &'a str, &'a str)
+        ensures { why_bad self.now ≡
+            result.0.now ++ (result.1.now ++ (result.2.now ++ result.3.now)) }
     {
         match self {
-            NarrationNo::Read(why) => unread(front, *why, digits),
-            NarrationNo::Resolve(why) => ill_formed(front, why, digits),
+            NarrationNo::Read(why) => {
+                let (what, at) = unread(*why, digits);
+                (what, at, "", "")
+            }
+            NarrationNo::Resolve(why) => ill_formed(why, digits),
         }
     }
 }
 
-/// Why a text is no narration, and where, behind another text.
-fn unread<'a>(front: &'a str, why: ReadNo, digits: &'a mut Buffer) -> Pieces<'a>
-    ensures { said result ≡ front.now ++ why_unread why }
+/// Why a text is no narration, and where.
+fn unread(why: ReadNo, digits: &mut Buffer) -> (&str, &str)
+    ensures { why_unread why ≡ result.0.now ++ result.1.now }
 {
     match why {
-        ReadNo::Token { at } => three(front, "no token at ", digits.format(at)),
-        ReadNo::Grammar { at } => three(front, "unexpected at ", digits.format(at)),
-        ReadNo::Deep { at } => three(front, "too deep at ", digits.format(at)),
-        ReadNo::NoMemory => two(front, "no memory"),
+        ReadNo::Token { at } => ("no token at ", digits.format(at)),
+        ReadNo::Grammar { at } => ("unexpected at ", digits.format(at)),
+        ReadNo::Deep { at } => ("too deep at ", digits.format(at)),
+        ReadNo::NoMemory => ("no memory", ""),
     }
 }
 
-/// Why a narration isn't well formed, behind another text.
+/// Why a narration isn't well formed, in pieces.
 pub fn ill_formed<'a>(
-    front: &'a str,
     why: &'a ResolveNo,
     digits: &'a mut Buffer,
-) -> Pieces<'a>
-    ensures { said result ≡ front.now ++ why_ill_formed why.now }
+) -> (&'a str, &'a str, &'a str, &'a str)
+    ensures { why_ill_formed why.now ≡
+        result.0.now ++ (result.1.now ++ (result.2.now ++ result.3.now)) }
 {
     match why {
-        ResolveNo::Limit(kind, count) => five(
-            front,
-            "too many ",
-            kind_text(*kind),
-            ": ",
-            digits.format(*count),
-        ),
-        ResolveNo::Twice(name) => three(front, name.as_str(), " twice"),
-        ResolveNo::Unknown(name) => three(front, name.as_str(), " unknown"),
-        ResolveNo::WrongSort(name) => three(front, name.as_str(), " has the wrong sort"),
-        ResolveNo::WrongCount(name) => three(front, name.as_str(), " has the wrong count"),
-        ResolveNo::FormatShape(name, why) => misshapen(front, name, *why, digits),
-        ResolveNo::Overlap(f, g) => five(front, f.as_str(), " and ", g.as_str(), " overlap"),
-        ResolveNo::SelfSend(n) => {
-            four(front, "action ", digits.format(*n), " goes to its sender")
+        ResolveNo::Limit(kind, count) => {
+            ("too many ", kind_text(*kind), ": ", digits.format(*count))
         }
+        ResolveNo::Twice(name) => (name.as_str(), " twice", "", ""),
+        ResolveNo::Unknown(name) => (name.as_str(), " unknown", "", ""),
+        ResolveNo::WrongSort(name) => (name.as_str(), " has the wrong sort", "", ""),
+        ResolveNo::WrongCount(name) => (name.as_str(), " has the wrong count", "", ""),
+        ResolveNo::FormatShape(name, why) => {
+            let (what, at) = misshapen(*why, digits);
+            (name.as_str(), what, at, "")
+        }
+        ResolveNo::Overlap(f, g) => (f.as_str(), " and ", g.as_str(), " overlap"),
+        ResolveNo::SelfSend(n) => ("action ", digits.format(*n), " goes to its sender", ""),
         ResolveNo::KnowledgeTwice(role, term) => {
-            five(front, role.as_str(), " knows ", term.as_str(), " twice")
+            (role.as_str(), " knows ", term.as_str(), " twice")
         }
         ResolveNo::Wide(what) => {
             let (kind, which) = item(what, digits);
-            four(front, kind, which, " is too wide")
+            (kind, which, " is too wide", "")
         }
-        ResolveNo::NoMemory => two(front, "no memory"),
+        ResolveNo::NoMemory => ("no memory", "", "", ""),
     }
 }
 
@@ -387,20 +398,13 @@ fn kind_text(kind: Kind) -> &'static str
     }
 }
 
-/// Why the pieces of the format of this name make none, behind another text.
-fn misshapen<'a>(
-    front: &'a str,
-    name: &'a Text,
-    why: FormatNo,
-    digits: &'a mut Buffer,
-) -> Pieces<'a>
-    ensures { said result ≡ front.now ++ (name.now ++ why_misshapen why) }
+/// Why a format's pieces make none.
+fn misshapen(why: FormatNo, digits: &mut Buffer) -> (&str, &str)
+    ensures { why_misshapen why ≡ result.0.now ++ result.1.now }
 {
     match why {
-        FormatNo::NoHead => three(front, name.as_str(), " has no head"),
-        FormatNo::RestNotLast(at) => {
-            four(front, name.as_str(), " has a rest at ", digits.format(at))
-        }
+        FormatNo::NoHead => (" has no head", ""),
+        FormatNo::RestNotLast(at) => (" has a rest at ", digits.format(at)),
     }
 }
 
@@ -414,46 +418,46 @@ fn item<'a>(what: &'a Item, digits: &'a mut Buffer) -> (&'a str, &'a str)
     }
 }
 
-/// Why a values file doesn't fit, behind another text.
-fn unfit<'a>(front: &'a str, why: &'a ValuesNo, digits: &'a mut Buffer) -> Pieces<'a>
-    ensures { said result ≡ front.now ++ why_unfit why.now }
+/// Why a values file doesn't fit.
+fn unfit<'a>(why: &'a ValuesNo, digits: &'a mut Buffer) -> (&'a str, &'a str)
+    ensures { why_unfit why.now ≡ result.0.now ++ result.1.now }
 {
     match why {
-        ValuesNo::Line(n) => three(front, "line ", digits.format(*n)),
-        ValuesNo::Extra(name) => three(front, name.as_str(), " isn't asked for"),
-        ValuesNo::Twice(name) => three(front, name.as_str(), " twice"),
-        ValuesNo::Long(name) => three(front, name.as_str(), " is too long"),
-        ValuesNo::Missing(name) => three(front, name.as_str(), " is missing"),
-        ValuesNo::NoMemory => two(front, "no memory"),
+        ValuesNo::Line(n) => ("line ", digits.format(*n)),
+        ValuesNo::Extra(name) => (name.as_str(), " isn't asked for"),
+        ValuesNo::Twice(name) => (name.as_str(), " twice"),
+        ValuesNo::Long(name) => (name.as_str(), " is too long"),
+        ValuesNo::Missing(name) => (name.as_str(), " is missing"),
+        ValuesNo::NoMemory => ("no memory", ""),
     }
 }
 
-/// Why a role file gives no code, behind another text.
-fn unloaded<'a>(front: &'a str, why: LoadNo, digits: &'a mut Buffer) -> Pieces<'a>
-    ensures { said result ≡ front.now ++ why_unloaded why }
+/// Why a role file gives no code.
+fn unloaded(why: LoadNo, digits: &mut Buffer) -> (&str, &str, &str)
+    ensures { why_unloaded why ≡ result.0.now ++ (result.1.now ++ result.2.now) }
 {
     match why {
-        LoadNo::Line(n) => three(front, "line ", digits.format(n)),
-        LoadNo::Code(why) => unaccepted(front, why, digits),
-        LoadNo::NoMemory => two(front, "no memory"),
+        LoadNo::Line(n) => ("line ", digits.format(n), ""),
+        LoadNo::Code(why) => unaccepted(why, digits),
+        LoadNo::NoMemory => ("no memory", "", ""),
     }
 }
 
-/// Why a code isn't accepted, behind another text.
-fn unaccepted<'a>(front: &'a str, why: CodeNo, digits: &'a mut Buffer) -> Pieces<'a>
-    ensures { said result ≡ front.now ++ why_unaccepted why }
+/// Why a code isn't accepted.
+fn unaccepted(why: CodeNo, digits: &mut Buffer) -> (&str, &str, &str)
+    ensures { why_unaccepted why ≡ result.0.now ++ (result.1.now ++ result.2.now) }
 {
     match why {
-        CodeNo::Many(f) => four(front, "format ", digits.format(f), " is too much"),
-        CodeNo::Twice(f) => four(front, "format ", digits.format(f), " has an earlier name"),
-        CodeNo::Shape(f, _) => four(front, "format ", digits.format(f), " has no shape"),
-        CodeNo::Late(at) => four(front, "instruction ", digits.format(at), ": late take"),
-        CodeNo::TakeTwice(at) => four(front, "instruction ", digits.format(at), ": take twice"),
-        CodeNo::BadFormat(at) => four(front, "instruction ", digits.format(at), ": bad format"),
-        CodeNo::Unwritten(at) => four(front, "instruction ", digits.format(at), ": unwritten"),
-        CodeNo::Order(at) => four(front, "instruction ", digits.format(at), ": out of order"),
-        CodeNo::Wide(at) => four(front, "instruction ", digits.format(at), ": too wide"),
-        CodeNo::NoMemory => two(front, "no memory"),
+        CodeNo::Many(f) => ("format ", digits.format(f), " is too much"),
+        CodeNo::Twice(f) => ("format ", digits.format(f), " has an earlier name"),
+        CodeNo::Shape(f, _) => ("format ", digits.format(f), " has no shape"),
+        CodeNo::Late(at) => ("instruction ", digits.format(at), ": late take"),
+        CodeNo::TakeTwice(at) => ("instruction ", digits.format(at), ": take twice"),
+        CodeNo::BadFormat(at) => ("instruction ", digits.format(at), ": bad format"),
+        CodeNo::Unwritten(at) => ("instruction ", digits.format(at), ": unwritten"),
+        CodeNo::Order(at) => ("instruction ", digits.format(at), ": out of order"),
+        CodeNo::Wide(at) => ("instruction ", digits.format(at), ": too wide"),
+        CodeNo::NoMemory => ("no memory", "", ""),
     }
 }
 
@@ -470,20 +474,14 @@ fn uncertified(why: CertifyNo) -> u32
     }
 }
 
-/// Where a run stopped, with its instruction where one is told.
-fn stopped<'a>(halt: Halt, event: &'a mut Buffer, at: &'a mut Buffer) -> Pieces<'a>
-    ensures { said result ≡ codes "stopped at event "
-        ++ (decimal halt.event ++ instruction_text halt.at) }
+/// At which instruction a run stopped, where that is told.
+fn instruction(at: u32, digits: &mut Buffer) -> (&str, &str)
+    ensures { instruction_text at ≡ result.0.now ++ result.1.now }
 {
-    if halt.at == 0 {
-        two("stopped at event ", event.format(halt.event))
+    if at == 0 {
+        ("", "")
     } else {
-        four(
-            "stopped at event ",
-            event.format(halt.event),
-            ", instruction ",
-            at.format(halt.at),
-        )
+        (", instruction ", digits.format(at))
     }
 }
 

@@ -1,9 +1,9 @@
-use Rattle.std.proofs.Common.{◌∙◌, ap, length, refl, inr}
+use Rattle.std.proofs.Common.{◌∙◌, ap, arith, length, refl, inr}
 use Rattle.anb_stage.specs.Words.{asked_lists}
 use Rattle.anb_stage_commands.specs.Asking.{staged}
 use Rattle.anb_stage_commands.specs.Reports.{report_text}
 use Rattle.anb_stage_commands.specs.Words.{words_for}
-use Rattle.anb_stage_commands.proofs.Outcomes.{count_words, refuses_as, relays_by}
+use Rattle.anb_stage_commands.proofs.Outcomes.{before_status, cause_status, count_words, refuses_as, relays_by}
 use Rattle.anb_stage_commands.proofs.staging.relayed.Goals as goal
 
 pub returns-in-Err-clause-failed : goal.returns-in-Err-clause-failed
@@ -12,7 +12,20 @@ returns-in-Err-clause-failed g c =
     let all = c.deref.result.now in
     let asked = ap asked_lists c.deref.ensures.value ∙ c.in-Ok.ensures ∙ ap (words_for s) c.roles.ensures in
     refuses_as s (g.P.Spawner.child c.args.spawner.now) (g.P.Spawner.child c.relay.new.spawner) c.args.protocol.now (length all) (asked_lists all)
-    (count_words s c.args.protocol.now all asked) asked c.in-Err.no c.refusal.result c.in-Err.ensures.refused c.refusal.ensures
+    (count_words s c.args.protocol.now all asked) asked c.in-Err.no c.refusal.result (rw c.limit_waits.ensures at c.in-Err.ensures.refused) c.refusal.ensures
+
+pub returns-in-Err-clause-before : goal.returns-in-Err-clause-before
+returns-in-Err-clause-before g c =
+    before_status c.args.words.limit (g.P.Spawner.child c.relay.new.spawner) c.args.protocol.now c.in-Err.no c.refusal.result c.refusal.ensures
+
+pub returns-in-Err-clause-cause : goal.returns-in-Err-clause-cause
+returns-in-Err-clause-cause g c =
+    let s = staged c.args.words in
+    let all = c.deref.result.now in
+    let asked = ap asked_lists c.deref.ensures.value ∙ c.in-Ok.ensures ∙ ap (words_for s) c.roles.ensures in
+    let count = count_words s c.args.protocol.now all asked in
+    cause_status c.args.protocol.now (length all) c.args.words.limit (g.P.Spawner.child c.args.spawner.now) (g.P.Spawner.child c.relay.new.spawner) (asked_lists all)
+    c.in-Err.no c.refusal.result (omega (arith, count, c.has_few_roles.ensures)) (rw c.limit_waits.ensures at c.in-Err.ensures.refused) c.refusal.ensures
 
 pub returns-in-Ok-report_text-clause-relayed : goal.returns-in-Ok-report_text-clause-relayed
 returns-in-Ok-report_text-clause-relayed g c =
@@ -20,8 +33,8 @@ returns-in-Ok-report_text-clause-relayed g c =
     let all = c.deref.result.now in
     let asked = ap asked_lists c.deref.ensures.value ∙ c.in-Ok.ensures ∙ ap (words_for s) c.roles.ensures in
     relays_by s (g.P.Spawner.child c.args.spawner.now) (g.P.Spawner.child c.relay.new.spawner) c.args.protocol.now (length all) (asked_lists all)
-    (count_words s c.args.protocol.now all asked) asked c.in-Ok-report_text.text.items c.in-Ok-relay.sent.items c.in-Ok-relay.ensures.relayed
-    (λ outputs tails cut. c.in-Ok-relay.ensures.report outputs tails cut) (c.in-Ok-report_text.ensures ∙ ap report_text c.deref-2.ensures.value)
+    (count_words s c.args.protocol.now all asked) asked c.in-Ok-report_text.text.items c.in-Ok-relay.sent.items (rw c.limit_waits.ensures at c.in-Ok-relay.ensures.relayed)
+    (rw c.limit_waits.ensures at c.in-Ok-relay.ensures.report) (c.in-Ok-report_text.ensures ∙ ap report_text c.deref-2.ensures.value)
 
 pub returns-clause-failed : goal.returns-clause-failed
 returns-clause-failed g c =
@@ -33,7 +46,7 @@ returns-clause-failed g c =
       (
         report_text c.in-Ok-relay.sent.items,
         relays_by s (g.P.Spawner.child c.args.spawner.now) (g.P.Spawner.child c.relay.new.spawner) c.args.protocol.now (length all) (asked_lists all)
-            (count_words s c.args.protocol.now all asked) asked (report_text c.in-Ok-relay.sent.items) c.in-Ok-relay.sent.items c.in-Ok-relay.ensures.relayed
-            (λ outputs tails cut. c.in-Ok-relay.ensures.report outputs tails cut) refl,
+            (count_words s c.args.protocol.now all asked) asked (report_text c.in-Ok-relay.sent.items) c.in-Ok-relay.sent.items (rw c.limit_waits.ensures at c.in-Ok-relay.ensures.relayed)
+            (rw c.limit_waits.ensures at c.in-Ok-relay.ensures.report) refl,
       ),
     )
