@@ -43,10 +43,10 @@ fn shelf(alloc: Global, narration: &str) -> Result<MemShelf, NoMemory> {
     MemShelf::new(alloc, files, Vec::new(alloc))
 }
 
-/// The words `stage n f`.
-fn words(alloc: Global) -> Result<Vec<Text>, NoMemory> {
+/// These words.
+fn words(alloc: Global, all: &[&str]) -> Result<Vec<Text>, NoMemory> {
     let mut words = Vec::new(alloc);
-    for word in ["stage", "n", "f"] {
+    for word in all {
         words.push(text(alloc, word)?)?;
     }
     Ok(words)
@@ -75,10 +75,22 @@ fn children(
 }
 
 /// Stages a narration.
-fn stage(alloc: Global, narration: &str, mut spawner: MemSpawner) -> Result<Staged, Fail>
+fn stage(alloc: Global, narration: &str, spawner: MemSpawner) -> Result<Staged, Fail>
     requires { (role : ℕ) → (child_at spawner role).phase ≡ 0 }
 {
-    let words = words(alloc)?;
+    stage_by(alloc, &["stage", "n", "f"], narration, spawner)
+}
+
+/// Stages a narration by these words.
+fn stage_by(
+    alloc: Global,
+    all: &[&str],
+    narration: &str,
+    mut spawner: MemSpawner,
+) -> Result<Staged, Fail>
+    requires { (role : ℕ) → (child_at spawner role).phase ≡ 0 }
+{
+    let words = words(alloc, all)?;
     let mut shelf = shelf(alloc, narration)?;
     let mut wire = wire(alloc)?;
     let mut err = self::wire(alloc)?;
@@ -184,6 +196,31 @@ fn each_call_may_fail(rt: HostRuntime) -> Result<(), Fail> {
     }
     let staged = ping(&rt, alloc, FRAME, 0, 13)?;
     assert_eq!(&rt; staged.number, 0);
+    Ok(())
+}
+
+/// What a stage of Ping by these words comes to whose fifth call fails since B is silent.
+fn silent(rt: &impl Abort, alloc: Global, all: &[&str]) -> Result<Staged, Fail> {
+    let mut spawner = children(rt, alloc, &[FRAME, FRAME], 0, 5)?;
+    spawner.fall_silent();
+    stage_by(alloc, all, PING, spawner)
+}
+
+#[test]
+fn a_child_may_be_silent(rt: HostRuntime) -> Result<(), Fail> {
+    let alloc = rt.alloc();
+    let staged = silent(&rt, alloc, &["stage", "n", "f", "--timeout", "7"])?;
+    assert_eq!(&rt; staged.number, 37);
+    assert_eq!(&rt;
+        staged.err.written(),
+        b"anb: child B was silent for 7 seconds\n".as_slice()
+    );
+    assert_eq!(&rt; staged.spawner.limit(), Some(7));
+    let staged = silent(&rt, alloc, &["stage", "n", "f"])?;
+    assert_eq!(&rt; staged.number, 31);
+    assert_eq!(&rt; staged.spawner.limit(), None);
+    let staged = silent(&rt, alloc, &["stage", "n", "f", "--timeout", "0"])?;
+    assert_eq!(&rt; staged.number, 1);
     Ok(())
 }
 

@@ -1,5 +1,5 @@
 -- Pieces that are written one after another, and the line that they make.
-use Rattle.std.proofs.Common.{◌≡◌, ℕ, ◌+◌, ◌<◌, ◌≤◌, List, [], ◌∷◌, ◌++◌, length, take, drop, get_or, suc, Option, Result, Ok, Err, OnOk, OnErr, codes, decimal, append-nil, refl, ap, sym, ◌∙◌, inl, inr, arith, append_assoc, length-append}
+use Rattle.std.proofs.Common.{◌≡◌, ℕ, ◌+◌, ◌<◌, ◌≤◌, List, [], ◌∷◌, ◌++◌, length, take, drop, get_or, suc, Option, Result, Ok, Err, OnOk, OnErr, codes, decimal, refl, ap, sym, ◌∙◌, inl, inr, arith, append_assoc, length-append}
 use Rattle.std.specs.Borrow.{Bor}
 use Rattle.std.proofs.Math.Seq.{take-append-add, drop-cons}
 use Rattle.std.proofs.lemmas.List.{take-append-le, take-append-drop}
@@ -11,7 +11,7 @@ use Rattle.anb_status.specs.Lines.{Tells}
 use Rattle.anb_status.specs.Pieces.{joined}
 use Rattle.anb_status.specs.Statuses.{line_of, text_of}
 use Rattle.anb_status.specs.declared.status.Status.{Status}
-use Rattle.anb_status.specs.declared.status.Status.TheVariants.{Done, Usage, CannotSend, ArmCannotSend, BadArm, ChildCut}
+use Rattle.anb_status.specs.declared.status.Status.TheVariants.{Done, Usage, CannotSend, Spent, ArmCannotSend, BadArm, ChildCut, ChildSilent}
 
 -- what was put, and then a prefix of what comes next, are a prefix of the whole
 pub prefix_within : (a b c : Option (List ℕ)) (front next rest whole : List ℕ) → whole ≡ front ++ (next ++ rest) → Put a b front → PutPrefix b c next → PutPrefix a c whole
@@ -47,14 +47,19 @@ line_is status a b c d e f g other text = sym (rw (line_of-other status other, t
 
 -- the text of a message that can't be composed
 pub cannot_send_text : (s : Status) (action : ℕ) (role name digits : List ℕ) → s ≡ CannotSend action role → name ≡ role → digits ≡ decimal action
-    → text_of s ≡ name ++ (codes " can't compose the message of action " ++ (digits ++ []))
-cannot_send_text s action role name digits is name_is digits_are = rw (is, name_is, digits_are, append-nil) refl
+    → text_of s ≡ name ++ (codes " can't compose the message of action " ++ digits)
+cannot_send_text s action role name digits is name_is digits_are = rw (is, name_is, digits_are) refl
 
 -- the same of one that can't be composed in an arm
 pub arm_cannot_send_text : (s : Status) (arm action : ℕ) (role name digits number : List ℕ) → s ≡ ArmCannotSend arm action role
     → name ≡ role → digits ≡ decimal action → number ≡ decimal arm
-    → text_of s ≡ name ++ (codes " can't compose the message of action " ++ (digits ++ (codes " in arm " ++ (number ++ []))))
-arm_cannot_send_text s arm action role name digits number is name_is digits_are number_is = rw (is, name_is, digits_are, number_is, append-nil) refl
+    → text_of s ≡ name ++ (codes " can't compose the message of action " ++ (digits ++ (codes " in arm " ++ number)))
+arm_cannot_send_text s arm action role name digits number is name_is digits_are number_is = rw (is, name_is, digits_are, number_is) refl
+
+-- the text of frames that were handled
+pub spent_text : (s : Status) (frames : ℕ) (digits : List ℕ) → s ≡ Spent frames → digits ≡ decimal frames
+    → text_of s ≡ digits ++ codes " frames handled"
+spent_text s frames digits is digits_are = rw (is, digits_are) refl
 
 -- the text of an arm that doesn't fit
 pub bad_arm_text : (s : Status) (arm : ℕ) (digits : List ℕ) → s ≡ BadArm arm → digits ≡ decimal arm
@@ -66,6 +71,11 @@ pub child_cut_text : (s : Status) (action have need : ℕ) (a h n : List ℕ) �
     → a ≡ decimal action → h ≡ decimal have → n ≡ decimal need
     → text_of s ≡ codes "message of action " ++ (a ++ (codes " ends after " ++ (h ++ (codes " of " ++ (n ++ codes " bytes")))))
 child_cut_text s action have need a h n is a_is h_is n_is = rw (is, a_is, h_is, n_is) refl
+
+-- the text of a child that was silent
+pub child_silent_text : (s : Status) (seconds : ℕ) (role name digits : List ℕ) → s ≡ ChildSilent role seconds → name ≡ role → digits ≡ decimal seconds
+    → text_of s ≡ codes "child " ++ (name ++ (codes " was silent for " ++ (digits ++ codes " seconds")))
+child_silent_text s seconds role name digits is name_is digits_are = rw (is, name_is, digits_are) refl
 
 pub on_err : {P : Type 0} (r : Result (Unit {0}) Failed) → P → OnErr r P
 on_err (Ok x) p = tt

@@ -299,7 +299,12 @@ impl Status {
                 " bytes",
             ),
             Status::ChildBad { role, status } => {
-                four("child ", role.as_str(), " ended with ", first.format(*status))
+                four(
+                    "child ",
+                    role.as_str(),
+                    " ended with ",
+                    first.format(*status),
+                )
             }
             Status::CasesNotOk { failed, cases } => four(
                 first.format(*failed),
