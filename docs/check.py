@@ -26,6 +26,7 @@ The edge to the machine: the rows of bench/edge.py that take little time.
 """
 
 import hashlib
+import hmac
 import os
 import pathlib
 import re
@@ -251,6 +252,31 @@ def check_schedules(program, story, folder, commands):
                 raise ValueError(f"rehearse by {path.name}: {report.splitlines()[-1]}")
 
 
+def without_seed(text):
+    """The lines of a values file but the comments and the seed."""
+    return [line for line in text.splitlines() if line and not line.startswith(("#", "@seed"))]
+
+
+def check_values(program, story, folder, commands):
+    """The roles' values files are those that `values` makes of all.values; each has a fixed seed of its own."""
+    path, whole = folder / f"{folder.name}.anb", folder / "all.values"
+    if "values" not in commands or not whole.exists():
+        return
+    made = narration.read_values(run(program, "values", path))
+    if set(made) != {*narration.read_values(whole.read_text()), "@seed"}:
+        raise ValueError("values writes other names than all.values has")
+    if any(value != name.encode() if story.sorts.get(name) == "Agent" else len(value) != 32 for name, value in made.items()):
+        raise ValueError("values writes another kind of value")
+    seed = narration.read_values(whole.read_text()).get("@seed")
+    for role in story.roles:
+        text = run(program, "values", path, role, whole)
+        if without_seed(text) != without_seed(values_file(folder, role).read_text()):
+            raise ValueError(f"{role}.values isn't what values writes")
+        own = seed and hmac.new(seed, role.encode(), hashlib.sha256).digest()
+        if narration.read_values(text).get("@seed") != own:
+            raise ValueError(f"values gives {role} another seed")
+
+
 def transcript(story, role, messages):
     """What a role sends and receives, a line each."""
     turns = [(sender == role, message) for (sender, receiver, _), message in zip(story.actions, messages)
@@ -332,6 +358,7 @@ def check_example(program, folder, commands, write):
         if not re.fullmatch(r"anb-role 2\n.*\nend\n", code, re.S):
             raise ValueError(f"no role file for {role}")
     check_schedules(program, story, folder, commands)
+    check_values(program, story, folder, commands)
     names = names_of(story, folder)
     carried = relay(program, story, lambda role: ["play", path, role, values_file(folder, role)])
     if enacted(program, story, folder, codes) != carried:

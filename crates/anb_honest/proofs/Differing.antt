@@ -16,7 +16,7 @@ use Rattle.anb_honest.specs.Joint.{known_atoms}
 use Rattle.anb_honest.specs.Laws.{KnownNamesDiffer}
 use Rattle.anb_honest.proofs.Existing.{distinct_apart}
 
-each_of_distinct : (P : ℕ → Type 0) (before xs : List ℕ) → AllByRecursion P xs → AllByRecursion P (each_after (first_new nat_eq) before xs)
+pub each_of_distinct : (P : ℕ → Type 0) (before xs : List ℕ) → AllByRecursion P xs → AllByRecursion P (each_after (first_new nat_eq) before xs)
 each_of_distinct P before [] all = tt
 each_of_distinct P before (x ∷ xs) all = by (list_any (λ y. nat_eq y x) before) (each_of_distinct P (before ++ x ∷ []) xs all.1) where
   rest : List ℕ

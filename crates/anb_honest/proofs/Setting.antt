@@ -173,3 +173,12 @@ initial_done c plans all formats suite f s p e =
     e ∙ ap (λ g. map (λ (plan : List PlanEvent). map (honest (byte_meaning g suite) (given c)) (known_in plan)) plans) f
     ∙ ap (λ g. map (λ (plan : List PlanEvent). map (honest (byte_meaning c.protocol.formats g) (given c)) (known_in plan)) plans) s
     ∙ ap (map (λ (plan : List PlanEvent). map (honest (byte_meaning c.protocol.formats c.protocol.suite) (given c)) (known_in plan))) p ∙ initial_all c
+
+-- what one role knows, by its plan
+pub known_done : (c : Cast) (role : ℕ) (plan : List PlanEvent) (formats : List FormatValue) (suite : Suite) → formats ≡ c.protocol.formats → suite ≡ c.protocol.suite → plan ≡ plan_of c.protocol role
+    → (values : List (List ℕ)) → values ≡ map (honest (byte_meaning formats suite) (given c)) (known_in plan) → values ≡ init_of c role
+known_done c role plan formats suite f s p values e =
+    e ∙ ap (λ g. map (honest (byte_meaning g suite) (given c)) (known_in plan)) f
+    ∙ ap (λ g. map (honest (byte_meaning c.protocol.formats g) (given c)) (known_in plan)) s
+    ∙ ap (λ (l : List PlanEvent). map (honest (byte_meaning c.protocol.formats c.protocol.suite) (given c)) (known_in l)) p
+    ∙ ap (map (honest (byte_meaning c.protocol.formats c.protocol.suite) (given c))) (known_of_plan c.protocol role)

@@ -65,7 +65,7 @@ pub(crate) fn initial_values(
 }
 
 /// The atoms in what roles know, in order.
-fn known_atoms(alloc: Global, plans: &[Plan]) -> Result<Vec<u32>, NoMemory>
+pub(crate) fn known_atoms(alloc: Global, plans: &[Plan]) -> Result<Vec<u32>, NoMemory>
     ensures { IfOk result (λ atoms.
         atoms.items ≡ atoms_in_each (flat_map known_in plans.now)) }
 {
@@ -99,7 +99,7 @@ fn put_atoms_of(atoms: &mut Vec<u32>, event: &Event) -> Result<(), NoMemory>
 }
 
 /// The honest bytes of what a role knows.
-fn values_of(
+pub(crate) fn values_of(
     alloc: Global,
     algebra: &ByteAlgebra<'_>,
     given: &Given<'_>,

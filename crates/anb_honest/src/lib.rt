@@ -6,6 +6,7 @@ mod beginning;
 mod ending;
 mod given;
 mod kind;
+mod knowing;
 mod laws;
 mod order;
 mod player;
@@ -15,6 +16,7 @@ mod stage;
 mod words;
 
 pub use anb_outcomes::{Messages, Report};
+pub use knowing::known_values;
 pub use laws::{
     complete_is_tested, fitting_codes_follow, honest_bytes_exist, known_names_differ,
     plays_are_honest, rehearsals_are_honest,

@@ -4,7 +4,7 @@ use Rattle.std.specs.Prelude.{ℕ, List, Option, Some, None}
 use Rattle.anb_base.specs.Wires.{WireState}
 use Rattle.anb_status.specs.declared.status.Status.{Status}
 use Rattle.anb_command.specs.Fetches.{Files}
-use Rattle.anb_words.specs.Words.{Asked, fmt, describe, play, enact, replay, host, rehearse, drill, help, branch, certify, why, park, resume, chart, role_chart, check, trace}
+use Rattle.anb_words.specs.Words.{Asked, fmt, describe, play, enact, replay, host, rehearse, drill, help, branch, certify, why, park, resume, chart, role_chart, check, trace, all_values, role_values}
 use Rattle.anb_branch_commands.specs.BranchCommand.{CompletesBranch, DoesBranch}
 use Rattle.anb_check_commands.specs.CheckCommand.{CompletesCheck, DoesCheck}
 use Rattle.anb_host_commands.specs.HostCommand.{CompletesHost, DoesHost}
@@ -19,6 +19,8 @@ use Rattle.anb_role_commands.specs.EnactCommand.{CompletesEnact, DoesEnact}
 use Rattle.anb_role_commands.specs.PlayCommand.{CompletesPlay, DoesPlay}
 use Rattle.anb_role_commands.specs.ReplayCommand.{CompletesReplay, DoesReplay}
 use Rattle.anb_trace_commands.specs.TraceCommand.{CompletesTrace, DoesTrace}
+use Rattle.anb_values_commands.specs.RoleValuesCommand.{CompletesRoleValues, DoesRoleValues}
+use Rattle.anb_values_commands.specs.ValuesCommand.{CompletesValues, DoesValues}
 use Rattle.anb_text_commands.specs.TextCommands.{
   CompletesDescribe,
   CompletesFmt,
@@ -60,6 +62,9 @@ Does (Some (resume narration role parked key place)) told seed old new status =
 Does (Some (chart narration)) told seed old new status = DoesChart narration told old new status
 Does (Some (role_chart narration role)) told seed old new status = DoesRoleChart narration role told old new status
 Does (Some (check narration)) told seed old new status = DoesCheck narration told old new status
+Does (Some (all_values narration)) told seed old new status = DoesValues narration told seed old new status
+Does (Some (role_values narration role values)) told seed old new status =
+    DoesRoleValues narration role values told old new status
 
 -- where nothing failed
 abbrev pub Completes : Option Asked → Option Files → Option (List ℕ) → (old new : WireState) → Status → Type 0
@@ -93,3 +98,6 @@ Completes (Some (resume narration role parked key place)) told seed old new stat
 Completes (Some (chart narration)) told seed old new status = CompletesChart narration told status
 Completes (Some (role_chart narration role)) told seed old new status = CompletesRoleChart narration role told status
 Completes (Some (check narration)) told seed old new status = CompletesCheck narration told status
+Completes (Some (all_values narration)) told seed old new status = CompletesValues narration told seed status
+Completes (Some (role_values narration role values)) told seed old new status =
+    CompletesRoleValues narration role values told status

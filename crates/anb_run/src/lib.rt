@@ -42,6 +42,7 @@ use anb_rehearse_commands::{drill, rehearse};
 use anb_role_commands::{enact, play, replay};
 use anb_text_commands::{describe, fmt, help};
 use anb_trace_commands::trace;
+use anb_values_commands::{role_values, values};
 use std::alloc::Global;
 
 /// Does what the words ask for. The words are those after the program's name. The files are fetched
@@ -117,6 +118,14 @@ pub fn run<F: Shelf, W: Wire, E: Sink>(
         }
         Some(Command::Trace(words)) => trace(alloc, shelf, wire, words, seed),
         Some(Command::Check { narration }) => check(alloc, shelf, wire, narration),
+        Some(Command::Values { narration }) => values(alloc, shelf, wire, narration, seed),
+        Some(
+            Command::RoleValues {
+                narration,
+                role,
+                values,
+            },
+        ) => role_values(alloc, shelf, wire, narration, role, values),
     };
     tell(err, &status);
     status

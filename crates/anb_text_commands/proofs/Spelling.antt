@@ -62,7 +62,7 @@ spelled_bytes : (n : List ℕ) → is_spelled n ≡ true → AllByRecursion (λ 
 spelled_bytes [] h = absurd (cc)
 spelled_bytes (b ∷ n) h = let k = and_parts (is_letter b) (list_all is_name_byte n) h in ((letter_byte b k.0, name_bytes n k.1), omega arith)
 
-name_is : (n : List ℕ) → IsName n → AllByRecursion (λ b. is_label_byte b ≡ true) n × (0 < length n)
+pub name_is : (n : List ℕ) → IsName n → AllByRecursion (λ b. is_label_byte b ≡ true) n × (0 < length n)
 unfolding is_name
 name_is n h = spelled_bytes n (and_parts (is_spelled n) (not (list_any (bytes_eq n) reserved_words)) h).0
 
@@ -165,7 +165,7 @@ module _ (p : ProtocolValue) (names : HasNames p) where
   label_texts [] all = tt
   label_texts (t ∷ ts) all = (tree_label (spelled p t) (spelled_tree t all.0), label_texts ts all.1)
 
-known_labels : (p : ProtocolValue) → IsProtocol p → (role : ℕ) → AllByRecursion IsLabel (known_texts p role)
+pub known_labels : (p : ProtocolValue) → IsProtocol p → (role : ℕ) → AllByRecursion IsLabel (known_texts p role)
 known_labels p is role =
     label_texts p (names_of p is) (known_by p role) (known_ours p role (each_in_parts (IsTermOf p) (known_terms p) (messages p.actions) (facts p is).terms).0)
 

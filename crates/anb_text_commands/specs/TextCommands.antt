@@ -104,6 +104,7 @@ help_text =
     ++ codes "anb chart <narration> [--role <name>]\n"
     ++ codes "anb check <narration>\n"
     ++ codes "anb trace <narration> <role> <values> <transcript>\n"
+    ++ codes "anb values <narration> [<role> <values>]\n"
 
 abbrev pub HelpText : Answer (List ℕ) → Type 0
 HelpText answer = answer ≡ given help_text

@@ -56,6 +56,7 @@ const HELP: &str = concat!(
     "anb chart <narration> [--role <name>]\n",
     "anb check <narration>\n",
     "anb trace <narration> <role> <values> <transcript>\n",
+    "anb values <narration> [<role> <values>]\n",
 );
 
 /// The canonical text of the narration in the file.

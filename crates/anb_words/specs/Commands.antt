@@ -6,7 +6,7 @@ use Rattle.anb_words.specs.declared.words.Command.{Command}
 use Rattle.anb_words.specs.declared.words.Command.TheVariants as command
 use Rattle.anb_words.specs.declared.words.Endpoint.{Endpoint}
 use Rattle.anb_words.specs.declared.words.Endpoint.TheVariants as endpoint
-use Rattle.anb_words.specs.Words.{Asked, fmt, describe, play, enact, replay, host, rehearse, drill, help, certify, why, park, resume, chart, role_chart, branch, check, trace}
+use Rattle.anb_words.specs.Words.{Asked, fmt, describe, play, enact, replay, host, rehearse, drill, help, certify, why, park, resume, chart, role_chart, branch, check, trace, all_values, role_values}
 
 abbrev pub place_by : Endpoint → Place
 place_by endpoint.Stdio = place.Stdio
@@ -38,3 +38,5 @@ asked_by (Some (command.Branch words)) =
 asked_by (Some (command.Check narration)) = Some (check narration.now)
 asked_by (Some (command.Trace words)) =
     Some (trace words.narration.now words.name.now words.values.now words.transcript.now)
+asked_by (Some (command.Values narration)) = Some (all_values narration.now)
+asked_by (Some (command.RoleValues narration role values)) = Some (role_values narration.now role.now values.now)

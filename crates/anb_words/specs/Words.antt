@@ -27,6 +27,8 @@ pub data Asked : Type 0 where
   branch : (narration role values : List ℕ) → (told : Option ℕ) → Place → Asked
   check : (narration : List ℕ) → Asked
   trace : (narration role values transcript : List ℕ) → Asked
+  all_values : (narration : List ℕ) → Asked
+  role_values : (narration role values : List ℕ) → Asked
 
 -- a name may be any word that isn't empty and doesn't begin with `-`
 abbrev pub is_operand : List ℕ → Bool
@@ -164,6 +166,13 @@ trace_in (narration ∷ role ∷ values ∷ transcript ∷ []) =
     then Some (trace narration role values transcript) else None
 trace_in words = None
 
+abbrev pub values_in : List (List ℕ) → Option Asked
+values_in (narration ∷ []) = if is_operand narration then Some (all_values narration) else None
+values_in (narration ∷ role ∷ values ∷ []) =
+    if is_operand narration && is_operand role && is_operand values
+    then Some (role_values narration role values) else None
+values_in words = None
+
 abbrev pub help_in : List (List ℕ) → Option Asked
 help_in [] = Some help
 help_in words = None
@@ -188,6 +197,7 @@ command_in command words =
     else if bytes_eq command (codes "branch") then branch_in words
     else if bytes_eq command (codes "check") then check_in words
     else if bytes_eq command (codes "trace") then trace_in words
+    else if bytes_eq command (codes "values") then values_in words
     else None
 
 abbrev pub asked_of : List (List ℕ) → Option Asked
@@ -215,6 +225,8 @@ files_of (Some (role_chart narration role)) = narration ∷ []
 files_of (Some (branch narration role values told place)) = narration ∷ values ∷ []
 files_of (Some (check narration)) = narration ∷ []
 files_of (Some (trace narration role values transcript)) = narration ∷ values ∷ transcript ∷ []
+files_of (Some (all_values narration)) = narration ∷ []
+files_of (Some (role_values narration role values)) = narration ∷ values ∷ []
 
 -- the place that is reached
 abbrev pub place_of : Option Asked → Option Place
@@ -237,6 +249,8 @@ place_of (Some (role_chart narration role)) = Some Stdio
 place_of (Some (branch narration role values told place)) = Some place
 place_of (Some (check narration)) = Some Stdio
 place_of (Some (trace narration role values transcript)) = Some Stdio
+place_of (Some (all_values narration)) = Some Stdio
+place_of (Some (role_values narration role values)) = Some Stdio
 
 -- whether the input is read
 abbrev pub is_reading : Option Asked → Bool

@@ -44,6 +44,14 @@ pub enum Command<'w> {
         narration: &'w Text,
     },
     Trace(ReplayWords<'w>),
+    Values {
+        narration: &'w Text,
+    },
+    RoleValues {
+        narration: &'w Text,
+        role: &'w Text,
+        values: &'w Text,
+    },
 }
 
 /// What is written of a role.
@@ -136,7 +144,7 @@ impl<'w> Command<'w> {
     ghost use Rattle.anb_words.specs.Commands.{asked_by};
     ghost use Rattle.anb_words.specs.Words.{asked_of, command_in, enact_in, fmt_in, help_in, host_in, play_in, describe_in, replay_in};
     ghost use Rattle.anb_words.specs.Words.{certify_in, chart_in, drill_in, park_in, rehearse_in, resume_in, why_in};
-    ghost use Rattle.anb_words.specs.Words.{branch_in, branch_on, check_in, trace_in};
+    ghost use Rattle.anb_words.specs.Words.{branch_in, branch_on, check_in, trace_in, values_in};
 
     /// Reads a whole word list.
     pub fn read(words: &'w [Text]) -> Option<Self>
@@ -170,6 +178,7 @@ impl<'w> Command<'w> {
             "branch" => Self::read_branch(words),
             "check" => Self::read_check(words),
             "trace" => Self::read_trace(words),
+            "values" => Self::read_values(words),
             _ => None,
         }
     }
@@ -441,6 +450,23 @@ impl<'w> Command<'w> {
             values,
             transcript,
         }))
+    }
+
+    fn read_values(words: &'w [Text]) -> Option<Self>
+        ensures { asked_by result ≡ values_in words.now }
+    {
+        match words {
+            [narration] if is_operand(narration) => Some(Command::Values { narration }),
+            [narration, role, values]
+                if is_operand(narration) && is_operand(role) && is_operand(values) => {
+                Some(Command::RoleValues {
+                    narration,
+                    role,
+                    values,
+                })
+            }
+            _ => None,
+        }
     }
 
     fn read_help(words: &'w [Text]) -> Option<Self>

@@ -5,7 +5,7 @@ use Rattle.anb_command.proofs.OverWire.{untouched}
 use Rattle.anb_command.proofs.Reported.{told_before, told_behind}
 use Rattle.anb_run.proofs.Idle.{fetches_none}
 use Rattle.anb_run.proofs.run.Goals as goal
-use Rattle.anb_run.proofs.run.Goals.{in-None, in-Some-Fmt, in-Some-Describe, in-Some-Play, in-Some-Enact, in-Some-Replay, in-Some-Host, in-Some-Rehearse, in-Some-Drill, in-Some-Help, in-Some-Branch, in-Some-Certify, in-Some-Why, in-Some-Park, in-Some-Resume, in-Some-Chart, in-Some-RoleChart, in-Some-Check, in-Some-Trace}
+use Rattle.anb_run.proofs.run.Goals.{in-None, in-Some-Fmt, in-Some-Describe, in-Some-Play, in-Some-Enact, in-Some-Replay, in-Some-Host, in-Some-Rehearse, in-Some-Drill, in-Some-Help, in-Some-Branch, in-Some-Certify, in-Some-Why, in-Some-Park, in-Some-Resume, in-Some-Chart, in-Some-RoleChart, in-Some-Check, in-Some-Trace, in-Some-Values, in-Some-RoleValues}
 
 pub returns-clause-faults : goal.returns-clause-faults
 returns-clause-faults g c = elim c.match-read.branch [
@@ -27,6 +27,8 @@ returns-clause-faults g c = elim c.match-read.branch [
   | in-Some-Chart w ↦ rw (sym c.read.ensures, w.in-Some-Chart.is, w.in-Some-Chart.field-0-is, w.shelf-is, w.wire-is, w.status-is) (w.chart-status.ensures.faults)
   | in-Some-RoleChart w ↦ rw (sym c.read.ensures, w.in-Some-RoleChart.is, w.in-Some-RoleChart.field-0-is, w.shelf-is, w.wire-is, w.status-is) (w.chart_for-status.ensures.faults)
   | in-Some-Check w ↦ rw (sym c.read.ensures, w.in-Some-Check.is, w.in-Some-Check.field-0-is, w.shelf-is, w.wire-is, w.status-is) (w.check-status.ensures.faults)
+  | in-Some-Values w ↦ rw (sym c.read.ensures, w.in-Some-Values.is, w.in-Some-Values.field-0-is, w.shelf-is, w.wire-is, w.status-is) (w.values-status.ensures.faults)
+  | in-Some-RoleValues w ↦ rw (sym c.read.ensures, w.in-Some-RoleValues.is, w.in-Some-RoleValues.field-0-is, w.shelf-is, w.wire-is, w.status-is) (w.role_values-status.ensures.faults)
   | in-Some-Trace w ↦ rw (sym c.read.ensures, w.in-Some-Trace.is, w.in-Some-Trace.field-0-is, w.shelf-is, w.wire-is, w.status-is) (w.trace-status.ensures.faults)
 ]
 
@@ -50,6 +52,8 @@ returns-clause-fetches g c = elim c.match-read.branch [
   | in-Some-Chart w ↦ rw (sym c.read.ensures, w.in-Some-Chart.is, w.in-Some-Chart.field-0-is, w.shelf-is) (w.chart-status.ensures.fetches)
   | in-Some-RoleChart w ↦ rw (sym c.read.ensures, w.in-Some-RoleChart.is, w.in-Some-RoleChart.field-0-is, w.shelf-is) (w.chart_for-status.ensures.fetches)
   | in-Some-Check w ↦ rw (sym c.read.ensures, w.in-Some-Check.is, w.in-Some-Check.field-0-is, w.shelf-is) (w.check-status.ensures.fetches)
+  | in-Some-Values w ↦ rw (sym c.read.ensures, w.in-Some-Values.is, w.in-Some-Values.field-0-is, w.shelf-is) (w.values-status.ensures.fetches)
+  | in-Some-RoleValues w ↦ rw (sym c.read.ensures, w.in-Some-RoleValues.is, w.in-Some-RoleValues.field-0-is, w.shelf-is) (w.role_values-status.ensures.fetches)
   | in-Some-Trace w ↦ rw (sym c.read.ensures, w.in-Some-Trace.is, w.in-Some-Trace.field-0-is, w.shelf-is) (w.trace-status.ensures.fetches)
 ]
 
@@ -73,6 +77,8 @@ returns-clause-touches g c = elim c.match-read.branch [
   | in-Some-Chart w ↦ rw (sym c.read.ensures, w.in-Some-Chart.is, w.in-Some-Chart.field-0-is, w.wire-is, w.status-is) (w.chart-status.ensures.touches)
   | in-Some-RoleChart w ↦ rw (sym c.read.ensures, w.in-Some-RoleChart.is, w.in-Some-RoleChart.field-0-is, w.wire-is, w.status-is) (w.chart_for-status.ensures.touches)
   | in-Some-Check w ↦ rw (sym c.read.ensures, w.in-Some-Check.is, w.in-Some-Check.field-0-is, w.wire-is, w.status-is) (w.check-status.ensures.touches)
+  | in-Some-Values w ↦ rw (sym c.read.ensures, w.in-Some-Values.is, w.in-Some-Values.field-0-is, w.wire-is, w.status-is) (w.values-status.ensures.touches)
+  | in-Some-RoleValues w ↦ rw (sym c.read.ensures, w.in-Some-RoleValues.is, w.in-Some-RoleValues.field-0-is, w.wire-is, w.status-is) (w.role_values-status.ensures.touches)
   | in-Some-Trace w ↦ rw (sym c.read.ensures, w.in-Some-Trace.is, w.in-Some-Trace.field-0-is, w.wire-is, w.status-is) (w.trace-status.ensures.touches)
 ]
 
@@ -120,4 +126,6 @@ returns-clause-completes g c = elim c.match-read.branch [
   | in-Some-RoleChart w ↦ rw (sym c.read.ensures, w.in-Some-RoleChart.is, w.in-Some-RoleChart.field-0-is, w.shelf-is, w.wire-is, w.status-is) (w.chart_for-status.ensures.completes)
   | in-Some-Trace w ↦ rw (sym c.read.ensures, w.in-Some-Trace.is, w.in-Some-Trace.field-0-is, w.shelf-is, w.wire-is, w.status-is) (w.trace-status.ensures.completes)
   | in-Some-Check w ↦ rw (sym c.read.ensures, w.in-Some-Check.is, w.in-Some-Check.field-0-is, w.shelf-is, w.wire-is, w.status-is) (w.check-status.ensures.completes)
+  | in-Some-Values w ↦ rw (sym c.read.ensures, w.in-Some-Values.is, w.in-Some-Values.field-0-is, w.shelf-is, w.wire-is, w.status-is) (w.values-status.ensures.completes)
+  | in-Some-RoleValues w ↦ rw (sym c.read.ensures, w.in-Some-RoleValues.is, w.in-Some-RoleValues.field-0-is, w.shelf-is, w.wire-is, w.status-is) (w.role_values-status.ensures.completes)
 ]

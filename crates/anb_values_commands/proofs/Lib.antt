@@ -1,0 +1,6 @@
+mod Telling
+mod Drawn
+mod Owned
+mod Labels
+mod Counting
+mod DrawnValues

@@ -1,0 +1,54 @@
+use Rattle.std.proofs.Common.{[], ◌∷◌, inl}
+use Rattle.anb_base.specs.declared.place.Place.TheVariants.{Stdio}
+use Rattle.anb_command.proofs.Causes.{early_cause, early_reaches, only_memory, wire_cause}
+use Rattle.anb_command.proofs.Failing.{IsFailure-map}
+use Rattle.anb_command.proofs.OverWire.{untouched}
+use Rattle.anb_values_commands.specs.ValuesCommand.{ValuesText}
+use Rattle.anb_values_commands.proofs.Drawn.{values_one, values_quiet}
+use Rattle.anb_values_commands.proofs.Telling.{completes_one, refuses_one, writes_one}
+use Rattle.anb_values_commands.proofs.drawing.values.Goals as goal
+
+pub returns-in-Ok-clause-does : goal.returns-in-Ok-clause-does
+returns-in-Ok-clause-does g c =
+    writes_one (λ files. ValuesText files c.args.narration.now c.args.host_seed) (g.F.Shelf.files c.args.shelf.now)
+    (values_one c.args.narration.now c.args.host_seed c.narrations_are_unique.ensures c.refusals_are_unique.ensures c.none_is_both.ensures) (values_quiet c.args.narration.now c.args.host_seed)
+    (g.W.Wire.state c.args.wire.now).written (g.W.Wire.state c.write_text.new.wire).written c.in-Ok.text c.write_text.result c.in-Ok.ensures.given (rw c.as_slice.ensures at c.write_text.ensures.writes)
+
+pub returns-in-Ok-clause-faults : goal.returns-in-Ok-clause-faults
+returns-in-Ok-clause-faults g c =
+    wire_cause (c.args.narration.now ∷ []) Stdio (g.F.Shelf.faults c.args.shelf.now) (g.F.Shelf.faults c.drawn_for_file.new.shelf) (g.W.Wire.state c.args.wire.now) (g.W.Wire.state c.write_text.new.wire) c.write_text.result c.write_text.ensures.wire.cause
+
+pub returns-in-Ok-clause-completes : goal.returns-in-Ok-clause-completes
+returns-in-Ok-clause-completes g c = λ none.
+    completes_one (λ files. ValuesText files c.args.narration.now c.args.host_seed) (g.F.Shelf.files c.args.shelf.now)
+    (g.W.Wire.state c.args.wire.now).written (g.W.Wire.state c.write_text.new.wire).written c.write_text.result (returns-in-Ok-clause-does g c)
+    (only_memory (c.args.narration.now ∷ []) Stdio (g.F.Shelf.faults c.args.shelf.now) (g.F.Shelf.faults c.drawn_for_file.new.shelf) (g.W.Wire.state c.args.wire.now) (g.W.Wire.state c.write_text.new.wire) none c.write_text.result (returns-in-Ok-clause-faults g c))
+
+pub returns-in-Ok-clause-reached : goal.returns-in-Ok-clause-reached
+returns-in-Ok-clause-reached g c = c.write_text.ensures.wire.reached
+
+pub returns-in-Ok-clause-touches : goal.returns-in-Ok-clause-touches
+returns-in-Ok-clause-touches g c = c.write_text.ensures.wire.touches
+
+pub returns-in-Err-clause-does : goal.returns-in-Err-clause-does
+returns-in-Err-clause-does g c =
+    refuses_one (λ files. ValuesText files c.args.narration.now c.args.host_seed) (g.F.Shelf.files c.args.shelf.now)
+    (values_one c.args.narration.now c.args.host_seed c.narrations_are_unique.ensures c.refusals_are_unique.ensures c.none_is_both.ensures) (values_quiet c.args.narration.now c.args.host_seed)
+    (g.W.Wire.state c.args.wire.now).written c.in-Err.status _ c.in-Err.ensures.refused
+
+pub returns-in-Err-clause-faults : goal.returns-in-Err-clause-faults
+returns-in-Err-clause-faults g c =
+    early_cause (c.args.narration.now ∷ []) Stdio (g.F.Shelf.faults c.args.shelf.now) (g.F.Shelf.faults c.drawn_for_file.new.shelf) (g.W.Wire.state c.args.wire.now) (g.W.Wire.state c.args.wire.now) c.in-Err.status _
+    c.in-Err.ensures.early (IsFailure-map c.in-Err.status _ _ _ _ (λ file at. (inl at.0, at.1)) (λ is. is) c.in-Err.ensures.refused)
+
+pub returns-in-Err-clause-completes : goal.returns-in-Err-clause-completes
+returns-in-Err-clause-completes g c = λ none.
+    completes_one (λ files. ValuesText files c.args.narration.now c.args.host_seed) (g.F.Shelf.files c.args.shelf.now)
+    (g.W.Wire.state c.args.wire.now).written (g.W.Wire.state c.args.wire.now).written c.in-Err.status (returns-in-Err-clause-does g c)
+    (only_memory (c.args.narration.now ∷ []) Stdio (g.F.Shelf.faults c.args.shelf.now) (g.F.Shelf.faults c.drawn_for_file.new.shelf) (g.W.Wire.state c.args.wire.now) (g.W.Wire.state c.args.wire.now) none c.in-Err.status (returns-in-Err-clause-faults g c))
+
+pub returns-in-Err-clause-reached : goal.returns-in-Err-clause-reached
+returns-in-Err-clause-reached g c = early_reaches Stdio c.in-Err.status (g.W.Wire.state c.args.wire.now).reached c.in-Err.ensures.early
+
+pub returns-in-Err-clause-touches : goal.returns-in-Err-clause-touches
+returns-in-Err-clause-touches g c = untouched _ _ _

@@ -1,0 +1,2 @@
+pub mod ValuesCommand
+pub mod RoleValuesCommand

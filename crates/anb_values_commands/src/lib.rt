@@ -1,0 +1,8 @@
+//! Commands that write values files: for a whole narration, and for one of its roles.
+#![tactic(auto)]
+
+mod drawing;
+mod owning;
+
+pub use drawing::values;
+pub use owning::role_values;

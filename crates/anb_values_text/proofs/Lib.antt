@@ -1,0 +1,4 @@
+pub mod LineOf
+pub mod Found
+pub mod Again
+pub mod Appending

@@ -1,0 +1,3 @@
+pub mod Texts
+-- for proofs alone
+pub mod Seeds
