@@ -9,7 +9,8 @@ use Rattle.anb_term.specs.FreeAlgebra.{terms}
 use Rattle.anb_plays.specs.Plans.{Event}
 use Rattle.anb_plays.specs.Honest.{honest_all}
 use Rattle.anb_accept.specs.Patterns.{put_in, KeepsNames, ArePatterns}
-use Rattle.anb_accept.specs.Parts.{count_in, count_in_all, count_in_each, operands, with_operands, part_at, with_part, set_if, IsFree, IsUncheckedAt}
+use Rattle.anb_pattern.specs.Variables.{count_in, count_in_all, count_in_each}
+use Rattle.anb_accept.specs.Parts.{operands, with_operands, part_at, with_part, set_if, IsFree, IsUncheckedAt}
 use Rattle.anb_accept.specs.Laws.{FreeIsUnchecked}
 use Rattle.anb_accept.proofs.Putting.{put_all, each_itself}
 

@@ -12,3 +12,5 @@ pub mod Finishing
 pub mod Whole
 pub mod OfPlans
 pub mod Freeing
+pub mod Renaming
+pub mod Unique

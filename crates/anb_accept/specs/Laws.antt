@@ -6,6 +6,7 @@ use Rattle.anb_term.specs.Value.{Meaning}
 use Rattle.anb_plays.specs.Plans.{Event, known, Sendable}
 use Rattle.anb_plays.specs.Plays.{Played, Play, done}
 use Rattle.anb_plays.specs.Honest.{honest, made, LabelsAreFormed}
+use Rattle.anb_accept.specs.Numbering.{AreNumbered}
 use Rattle.anb_accept.specs.Patterns.{IsInstance, ArePatterns}
 use Rattle.anb_accept.specs.Parts.{part_at, IsFree, IsUncheckedAt}
 
@@ -29,6 +30,11 @@ InstancesGoOn {A} m = (names : ℕ) (plan : List Event) (patterns : List Tree) (
 abbrev pub PatternsAreOne : Type 0
 PatternsAreOne = (has : Op → Bool) (names : ℕ) (plan : List Event) (one other : List Tree)
     → ArePatterns has names plan one → ArePatterns has names plan other → IsInstance names one other
+
+-- where their variables are numbered in order, there is one list of them
+abbrev pub PatternsAreUnique : Type 0
+PatternsAreUnique = (has : Op → Bool) (names : ℕ) (plan : List Event) (one other : List Tree)
+    → ArePatterns has names plan one → ArePatterns has names plan other → AreNumbered names one → AreNumbered names other → one ≡ other
 
 -- a part may be anything, whatever else comes, exactly where a variable stands that stands nowhere else
 abbrev pub FreeIsUnchecked : Type 0

@@ -1,24 +1,10 @@
 -- Parts of terms by their places, and the variables that stand once.
-use Rattle.std.specs.Prelude.{◌≡◌, ℕ, ◌+◌, ◌≤◌, ◌==◌, List, [], ◌∷◌, Bool, Option, Some, None, option_map, option_and_then, slice_get, slice_set, if◌then◌else◌}
+use Rattle.std.specs.Prelude.{◌≡◌, ℕ, ◌≤◌, List, [], ◌∷◌, Bool, Option, Some, None, option_map, option_and_then, slice_get, slice_set}
 use Rattle.anb_term.specs.declared.term.Op.{Op}
-use Rattle.anb_term.specs.Tree.{Tree, leaf, node, Trees, none, more, trees_of, list_of}
+use Rattle.anb_term.specs.Tree.{Tree, leaf, node, trees_of, list_of}
 use Rattle.anb_plays.specs.Plans.{Event}
+use Rattle.anb_pattern.specs.Variables.{count_in_each}
 use Rattle.anb_accept.specs.Taking.{Takes}
-
--- how often an atom stands in a term, in the place of a key or in another
-abbrev mutual
-  pub count_in : ℕ → Tree → ℕ
-  count_in a (leaf n) = if n == a then 1 else 0
-  count_in a (node o ts) = count_in_all a ts
-
-  pub count_in_all : ℕ → Trees → ℕ
-  count_in_all a none = 0
-  count_in_all a (more t ts) = count_in a t + count_in_all a ts
-
--- and in several
-abbrev pub count_in_each : ℕ → List Tree → ℕ
-count_in_each a [] = 0
-count_in_each a (t ∷ ts) = count_in a t + count_in_each a ts
 
 abbrev pub operands : Tree → List Tree
 operands (leaf n) = []

@@ -1,5 +1,5 @@
 //! Laws of patterns.
-ghost use Rattle.anb_accept.specs.Laws.{FreeIsUnchecked, InstancesGoOn, PatternsAreOne};
+ghost use Rattle.anb_accept.specs.Laws.{FreeIsUnchecked, InstancesGoOn, PatternsAreOne, PatternsAreUnique};
 
 use anb_plays::laws::honest_agree;
 use anb_term::Algebra;
@@ -17,6 +17,11 @@ pub fn instances_go_on<A: Algebra>(a: &A)
 /// Patterns are one up to the names of their variables.
 pub fn patterns_are_one()
     ensures { PatternsAreOne }
+{}
+
+/// Where their variables are numbered in order, a role has one list of patterns.
+pub fn patterns_are_unique()
+    ensures { PatternsAreUnique }
 {}
 
 /// A part of arrivals may be anything, whatever else comes, exactly where a variable stands that

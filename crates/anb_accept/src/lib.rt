@@ -15,8 +15,11 @@ mod classes;
 mod equation;
 mod frame;
 mod laws;
+mod numbering;
 mod patterns;
 mod reading;
+mod taken;
 
-pub use laws::{free_is_unchecked, instances_go_on, patterns_are_one};
+pub use laws::{free_is_unchecked, instances_go_on, patterns_are_one, patterns_are_unique};
 pub use patterns::patterns_of;
+pub use taken::taken_by;

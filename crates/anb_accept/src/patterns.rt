@@ -4,12 +4,11 @@ ghost use Rattle.std.specs.List.{range_with_len};
 ghost use Rattle.anb_term.specs.declared.term.Op.{Op};
 ghost use Rattle.anb_term.specs.Tree.{Tree, leaf, trees_of, nodes, AreFormed};
 ghost use Rattle.anb_term.specs.View.{tree_of};
-ghost use Rattle.anb_algebra.specs.ByteMeaning.{has_operator};
 ghost use Rattle.anb_intern.specs.declared.node.NodeId.{NodeId};
 ghost use Rattle.anb_plays.specs.Plans.{Event};
-ghost use Rattle.anb_protocol.specs.Plays.{events_of};
 ghost use Rattle.anb_accept.specs.Taking.{labels};
 ghost use Rattle.anb_accept.specs.Patterns.{ArePatterns};
+ghost use Rattle.anb_accept.specs.Roles.{ArePatternsOf};
 ghost use Rattle.anb_accept.specs.Equations.{AreNamed, heard_labels, heard_variables, is_heard, IsMostGeneral};
 ghost use Rattle.anb_accept.specs.Views.{equation_value};
 ghost use Rattle.anb_accept.specs.Classes.{AreClasses, IsShortened};
@@ -19,6 +18,7 @@ ghost use Rattle.anb_accept.specs.Solving.{AreAt, HasGrown, entry_variables, ter
 use crate::classes::{find, unify};
 use crate::equation::{Equation, equations, variable};
 use crate::frame::{Frame, frame_of};
+use crate::numbering::numbered;
 use crate::reading::pattern;
 use anb_base::NoMemory;
 use anb_basis::all_checks;
@@ -29,12 +29,12 @@ use anb_term::Term;
 use std::alloc::Global;
 
 /// The patterns of what a role hears, in order: terms over the names and over variables, which are
-/// atoms above the names. They have no more nodes than the narrated terms.
+/// atoms above the names, numbered in the order in which they first stand. They have no more nodes
+/// than the narrated terms.
 pub fn patterns_of(alloc: Global, protocol: &Protocol, role: u32) -> Result<Vec<Term>, NoMemory>
     requires { role < length protocol.now.roles }
     ensures { IfOk result (λ patterns.
-        ArePatterns (has_operator protocol.now.formats) (length protocol.now.atoms)
-        (events_of protocol.now role) (map tree_of patterns.items)) }
+        ArePatternsOf protocol.now role (map tree_of patterns.items)) }
 {
     protocols_hold();
     terms_of_plans();
@@ -46,7 +46,8 @@ pub fn patterns_of(alloc: Global, protocol: &Protocol, role: u32) -> Result<Vec<
         Err(_) => Err(NoMemory),
         Ok(plan) => {
             let frame = frame_of(alloc, &plan)?;
-            heard(alloc, names as u32, &frame)
+            let patterns = heard(alloc, names as u32, &frame)?;
+            numbered(alloc, names as u32, &patterns)
         }
     }
 }

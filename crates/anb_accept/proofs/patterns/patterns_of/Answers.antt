@@ -1,17 +1,23 @@
 -- The labels of the plan, and their patterns.
-use Rattle.std.proofs.Common.{◌≡◌, ◌<◌, length, map, true, sym, ap, ◌∙◌, subst}
+use Rattle.std.proofs.Common.{◌≡◌, ◌<◌, List, length, map, true, Result, Ok, Err, IfOk, sym, ap, ◌∙◌, subst}
 use Rattle.std.proofs.lemmas.List.{length-map}
-use Rattle.anb_lemmas.proofs.Results.{if_ok_map}
 use Rattle.anb_term.specs.Tree.{trees_of, nodes, AreFormed}
+use Rattle.anb_term.specs.declared.term.Term.{Term}
 use Rattle.anb_term.specs.View.{tree_of}
 use Rattle.anb_algebra.specs.ByteMeaning.{has_operator}
 use Rattle.anb_protocol.specs.Plays.{event_of, events_of}
 use Rattle.anb_accept.specs.Taking.{labels}
+use Rattle.anb_accept.specs.Numbering.{AreNumbered}
 use Rattle.anb_accept.specs.Patterns.{ArePatterns}
+use Rattle.anb_accept.specs.Roles.{ArePatternsOf}
 use Rattle.anb_accept.specs.Equations.{AreNamed, heard_labels}
 use Rattle.anb_accept.proofs.Filling.{labels_long}
 use Rattle.anb_accept.proofs.OfPlans.{labels_formed, labels_any, labels_named, labels_few}
 use Rattle.anb_accept.proofs.patterns.patterns_of.Goals as goal
+
+both_ok : {V E : Type 0} (r : Result V E) (P Q R : V → Type 0) → ((v : V) → P v → Q v → R v) → IfOk r P → IfOk r Q → IfOk r R
+both_ok (Ok v) P Q R f p q = f v p q
+both_ok (Err e) P Q R f p q = tt
 
 pub heard-requires : goal.heard-requires
 heard-requires c =
@@ -30,15 +36,20 @@ heard-requires c =
       long = ap length flags ∙ labels_long (events_of p role) ∙ sym (ap length same) ∙ length-map frame.terms.items tree_of;
     }
 
-pub returns-in_ok-frame-in-Ok : goal.returns-in_ok-frame-in-Ok
-returns-in_ok-frame-in-Ok c =
+pub returns-in_ok-patterns-in-Ok : goal.returns-in_ok-patterns-in-Ok
+returns-in_ok-patterns-in-Ok c =
     let p = c.args.protocol.now in
     let role = c.args.role in
     let frame = c.in_ok-frame-in-Ok.frame in
+    let has = has_operator p.formats in
+    let plan = events_of p role in
     let terms = c.terms_of_plans.ensures p role c.plan.ensures.protocol in
-    let same : map tree_of frame.terms.items ≡ labels (events_of p role) = c.in_ok-frame-in-Ok.ensures.terms ∙ ap (λ l. labels (map event_of l)) c.in-Ok.ensures.plan in
-    let flags : frame.heard.items ≡ heard_labels (events_of p role) = c.in_ok-frame-in-Ok.ensures.heard ∙ ap (λ l. heard_labels (map event_of l)) c.in-Ok.ensures.plan in
-    if_ok_map c.heard.result (λ patterns. ArePatterns (has_operator p.formats) (length c.declared-names.result.now) (events_of p role) (map tree_of patterns.items))
-    (λ patterns. ArePatterns (has_operator p.formats) (length p.atoms) (events_of p role) (map tree_of patterns.items))
-    (λ patterns h. subst (λ n. ArePatterns (has_operator p.formats) n (events_of p role) (map tree_of patterns.items)) (ap length c.declared-names.ensures) h)
-    (c.heard.ensures (has_operator p.formats) (events_of p role) (labels_formed p role terms) same flags)
+    let same : map tree_of frame.terms.items ≡ labels plan = c.in_ok-frame-in-Ok.ensures.terms ∙ ap (λ l. labels (map event_of l)) c.in-Ok.ensures.plan in
+    let flags : frame.heard.items ≡ heard_labels plan = c.in_ok-frame-in-Ok.ensures.heard ∙ ap (λ l. heard_labels (map event_of l)) c.in-Ok.ensures.plan in
+    let are = c.in_ok-patterns-in-Ok.ensures has plan (labels_formed p role terms) same flags in
+    let n = length c.declared-names.result.now in
+    let atoms : n ≡ length p.atoms = ap length c.declared-names.ensures in
+    let here = subst (λ (l : List Term). ArePatterns has n plan (map tree_of l)) (sym c.deref.ensures.value) are in
+    both_ok c.numbered.result (λ all. ArePatterns has n plan (map tree_of all.items)) (λ all. AreNumbered n (map tree_of all.items)) (λ all. ArePatternsOf p role (map tree_of all.items))
+    (λ all exact numbered. record { exact = subst (λ k. ArePatterns has k plan (map tree_of all.items)) atoms exact; numbered = subst (λ k. AreNumbered k (map tree_of all.items)) atoms numbered })
+    (c.numbered.ensures.same has plan here) c.numbered.ensures.numbered

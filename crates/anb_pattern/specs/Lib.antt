@@ -1,0 +1,4 @@
+pub mod Variables
+pub mod Taken
+-- for proofs alone
+pub mod Counts
