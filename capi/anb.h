@@ -117,7 +117,7 @@ int32_t anb_open(anb_session *session, const uint8_t *role_file, size_t role_fil
  *   ANB_DONE       the role is played; so say all calls from now on
  *   ANB_STOPPED    a check failed, after *event messages and arrivals, at instruction *instruction
  *                  of the role file; so say all calls from now on
- *   ANB_NO_MEMORY  close the session: this comes again
+ *   ANB_NO_MEMORY  the session failed, and this comes again: close it
  *   ANB_MISUSED    the session isn't open
  * Events and instructions count from 1. *written, *event and *instruction are left as they were
  * where they aren't named. */
@@ -129,7 +129,7 @@ int32_t anb_next(anb_session *session, uint8_t *out, size_t out_len, size_t *wri
  *   ANB_TOO_LARGE  it has more than ANB_ARRIVAL_MAX bytes; the session is as it was
  *   ANB_MISUSED    the session isn't open, or the role has something else to do first, or is over;
  *                  nothing is lost
- *   ANB_NO_MEMORY  close the session */
+ *   ANB_NO_MEMORY  it wasn't taken. The session is as it was, unless anb_next gives this too */
 int32_t anb_arrive(anb_session *session, const uint8_t *bytes, size_t bytes_len);
 
 /* Writes a record of a session that waits, sealed under a key of any length. It goes on from there

@@ -49,6 +49,7 @@ if [ -n "$prefix" ]; then
     install -Dm644 libanb.a -t "$prefix/lib"
     install -Dm755 libanb.so.0 -t "$prefix/lib"
     ln -sf libanb.so.0 "$prefix/lib/libanb.so"
+    install -Dm644 "$here/anb.3" -t "$prefix/share/man/man3"
     mkdir -p "$prefix/lib/pkgconfig"
     sed "s|@prefix@|$prefix|" "$here/anb.pc.in" > "$prefix/lib/pkgconfig/anb.pc"
     echo "installed under $prefix"

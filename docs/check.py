@@ -3,6 +3,7 @@
 
     python3 docs/check.py crates/anb/out/anb           compares; the status is 0 where all is as it stands
     python3 docs/check.py crates/anb/out/anb --write   writes what the program gives into the pages
+    python3 docs/check.py crates/anb/out/anb --no-library   where the C library isn't to be built
 
 Examples: `fmt` gives the narration's text, each role compiles, all roles play to their ends over pipes, the codes that
 `compile` wrote send the same under `enact`, and each message has the bytes that docs/narration.py computes apart. What
@@ -23,6 +24,9 @@ Words: what `help` lists is what REFERENCE and the manual page list, and the man
 names each command, and completions are tried in their shells (docs/check_completions.py).
 
 The edge to the machine: the rows of bench/edge.py that take little time.
+
+The C library: anb.h, its manual page, the Python module and the sources have the same calls and statuses; and
+docs/check_library.py builds the library and compares it with the program.
 """
 
 import hashlib
@@ -549,8 +553,47 @@ def check_edge(program):
     return max(len(failed), done.returncode)
 
 
+# The C library.
+
+
+def prototypes(text):
+    """The calls that a header or a synopsis declares."""
+    return re.findall(r"\w+ anb_\w+\([^)]*\);", " ".join(text.split()))
+
+
+def check_interface():
+    """What says the calls and statuses of the C library says the same."""
+    header, manual = (ROOT / "capi/anb.h").read_text(), (ROOT / "capi/anb.3").read_text()
+    synopsis = re.sub(r'^\.B "?|"$', "", manual.split(".SH DESCRIPTION")[0], flags=re.M)
+    told = set(re.findall(r"^\.B (anb_\w+)$", manual.split(".SH DESCRIPTION")[1].split(".SH")[0], re.M))
+    statuses = re.findall(r"^    ANB_(\w+) = (\d+)", header, re.M)
+    module = re.findall(r"^([A-Z_, ]+) = ([\d, ]+)$", (ROOT / "capi/anb.py").read_text(), re.M)
+    python = [pair for names, numbers in module for pair in zip(names.split(", "), numbers.split(", "))]
+    sources = (ROOT / "crates/anb_c/src/statuses.rt").read_text()
+    sides = {
+        "capi/anb.3: the synopsis": (prototypes(synopsis), prototypes(re.sub(r"/\*.*?\*/", "", header, flags=re.S))),
+        "capi/anb.3: the calls": (told, set(re.findall(r"\b(anb_\w+)\(", synopsis))),
+        "capi/anb.3: the statuses": (re.findall(r'^\.BR ANB_(\w+) " (\d+)"', manual, re.M), statuses),
+        "capi/anb.py: the statuses": ([pair for pair in statuses if pair in python], statuses),
+        "crates/anb_c/src/statuses.rt": (re.findall(r"^pub\(crate\) const (\w+): i32 = (\d+);", sources, re.M), statuses),
+    }
+    gaps = [name for name, (found, due) in sides.items() if found != due]
+    print(*(f"{name}: not those of capi/anb.h" for name in gaps), sep="\n", end="\n" * bool(gaps))
+    return len(gaps)
+
+
+def check_library(program):
+    """The C library, which is built first, against the program."""
+    words = [sys.executable, ROOT / "docs" / "check_library.py", program]
+    done = subprocess.run(words, stdin=subprocess.DEVNULL, stdout=subprocess.PIPE, stderr=subprocess.STDOUT, text=True)
+    if done.returncode:
+        print("docs/check_library.py:", *done.stdout.splitlines()[-10:], sep="\n  ")
+    return int(done.returncode != 0)
+
+
 def main():
-    words = [word for word in sys.argv[1:] if word != "--write"]
+    switches = {"--write", "--no-library"}
+    words = [word for word in sys.argv[1:] if word not in switches]
     if len(words) != 1:
         sys.exit(__doc__)
     program, write = pathlib.Path(words[0]).resolve(), "--write" in sys.argv
@@ -562,7 +605,11 @@ def main():
         if (ROOT / name).exists():
             found, wrong = check_page(name, program, write)
             commands, faults = commands + found, faults + wrong
-    faults += check_edge(program)
+    faults += check_edge(program) + check_interface()
+    if "--no-library" in sys.argv:
+        print("not checked: the C library against the program")
+    else:
+        faults += check_library(program)
     print(f"checked: {examples} examples, {commands} commands, {faults} faults")
     sys.exit(faults > 0)
 

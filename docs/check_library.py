@@ -1,16 +1,20 @@
 #!/usr/bin/env python3
 """Builds libanb, and checks it against a built program. Standard library alone.
 
-    python3 docs/check_library.py crates/anb/out/anb
+    python3 docs/check_library.py crates/anb/out/anb           of this checkout
+    python3 docs/check_library.py crates/anb/out/anb --fresh   of a fresh clone of what is committed
 
-- `capi/build.sh` builds and installs it into a folder of its own. Its names outside are those of anb.h, it needs nothing
-  but the C library, and anb.h is taken by a C and a C++ compiler with all warnings.
+- The line of README builds and installs it, but into a folder of its own. Its names outside are those of anb.h, it needs
+  nothing but the C library, anb.h is taken by a C and a C++ compiler with all warnings, and pkg-config finds it.
 - Each narration of examples/ through the library, by capi/anb.py: each role file is that of `anb compile`, each message
   has the bytes that `anb stage` relays, all roles end, and they end so too where each session is parked and resumed
   wherever it waits. Where a role without a seed of its own makes names, the bytes aren't compared.
 - What is refused has the status of the program, and what is misused loses nothing.
+- Each allocation of the library fails in turn, and the call tells it and leaves what anb.h says (capi/tests/fail.c).
 - The examples of capi/examples in C, Python, and Rust and Go where their compilers are there, each with `anb play` on the
-  other side of the wire, and with another key there. Where valgrind is installed, the C one runs under it.
+  other side of the wire, and with another key there.
+
+Where valgrind is installed, the C programs run under it.
 """
 
 import os
@@ -25,6 +29,10 @@ import tempfile
 ROOT = pathlib.Path(__file__).resolve().parent.parent
 EXAMPLES = ROOT / "examples"
 CAPI = ROOT / "capi"
+# The line of README that builds the library.
+BUILD = re.compile(r"`capi/build\.sh --prefix \S+`")
+WARNS = ["-Wall", "-Wextra", "-Wpedantic", "-Werror"]
+VALGRIND = ["valgrind", "-q", "--error-exitcode=77", "--leak-check=full", "--show-leak-kinds=all"]
 # What the archive may need of the C library.
 NEEDS = {"malloc", "realloc", "free", "memcpy", "memmove", "memset", "memcmp"}
 
@@ -37,6 +45,20 @@ def run(*words, status=0):
 
 
 # The library.
+
+
+def installed(fresh, folder):
+    """The folder under which the line of README installs the library, from this checkout or a fresh clone."""
+    prefix, source = folder / "prefix", ROOT
+    if fresh:
+        source = folder / "clone"
+        run("git", "clone", "-q", ROOT, source)
+    line = BUILD.search((source / "README.md").read_text())
+    if not line:
+        raise ValueError("README has no line that builds the library")
+    words = line[0].strip("`").split()[:-1]
+    subprocess.run([source / words[0], *words[1:], prefix], stdin=subprocess.DEVNULL, check=True)
+    return prefix
 
 
 def check_names(prefix):
@@ -55,8 +77,15 @@ def check_header(prefix, folder):
     for compiler, name in (("cc", "header.c"), ("c++", "header.cc")):
         if shutil.which(compiler):
             (folder / name).write_text("#include <anb.h>\nint main(void) { anb_session s = ANB_SESSION_INIT; anb_close(&s); return 0; }\n")
-            run(compiler, "-Wall", "-Wextra", "-Wpedantic", "-Werror", f"-I{prefix}/include", folder / name, prefix / "lib/libanb.a", "-o", folder / "header")
+            run(compiler, *WARNS, f"-I{prefix}/include", folder / name, prefix / "lib/libanb.a", "-o", folder / "header")
             run(folder / "header")
+    if not (prefix / "share/man/man3/anb.3").is_file():
+        raise ValueError("no manual page is installed")
+    if shutil.which("pkg-config"):
+        os.environ["PKG_CONFIG_PATH"] = str(prefix / "lib/pkgconfig")
+        flags = run("pkg-config", "--cflags", "--libs", "anb").decode().split()
+        run("cc", folder / "header.c", *flags, f"-Wl,-rpath,{prefix}/lib", "-o", folder / "header")
+        run(folder / "header")
 
 
 # Narrations.
@@ -168,6 +197,25 @@ def check_refusals(anb, program, folder):
         raise ValueError("a closed session isn't told")
 
 
+# Want of memory.
+
+
+def under_valgrind(words):
+    return [*VALGRIND, *words] if shutil.which("valgrind") else words
+
+
+def check_memory(anb, prefix, folder):
+    """How many allocations failed in turn."""
+    built, mutual = folder / "fail", EXAMPLES / "mutual"
+    run("cc", *WARNS, "-O2", f"-I{prefix}/include", CAPI / "tests/fail.c", prefix / "lib/libanb.a",
+        "-Wl,--wrap=malloc,--wrap=realloc", "-o", built)
+    words = [built, mutual / "mutual.anb", "A"]
+    for role in "AB":
+        (folder / f"{role}.role").write_bytes(anb.compile((mutual / "mutual.anb").read_bytes(), role))
+        words += [folder / f"{role}.role", mutual / f"{role}.values"]
+    return run(*under_valgrind(words)).decode().strip()
+
+
 # Examples over a wire.
 
 
@@ -197,10 +245,10 @@ def check_wire(program, example, folder):
 
 def examples_of(prefix, folder):
     built = folder / "play"
-    run("cc", "-Wall", "-Wextra", "-Werror", "-O2", f"-I{prefix}/include", CAPI / "examples/play.c", prefix / "lib/libanb.a", "-o", built)
+    run("cc", *WARNS, "-O2", f"-I{prefix}/include", CAPI / "examples/play.c", prefix / "lib/libanb.a", "-o", built)
     yield "C", [built]
     if shutil.which("valgrind"):
-        yield "C under valgrind", ["valgrind", "-q", "--error-exitcode=77", "--leak-check=full", "--show-leak-kinds=all", built]
+        yield "C, under valgrind,", [*VALGRIND, built]
     yield "Python", [sys.executable, CAPI / "examples/play.py"]
     if shutil.which("rustc"):
         run("rustc", "--edition", "2024", "-O", CAPI / "examples/play.rs", "-L", prefix / "lib", "-l", "static=anb", "-o", folder / "play_rs")
@@ -212,12 +260,11 @@ def examples_of(prefix, folder):
         yield "Go", [folder / "play_go"]
 
 
-def main(program):
+def main(program, fresh):
     program = pathlib.Path(program).resolve()
     with tempfile.TemporaryDirectory() as name:
         folder = pathlib.Path(name)
-        prefix = folder / "prefix"
-        run(CAPI / "build.sh", "--prefix", prefix)
+        prefix = installed(fresh, folder)
         check_names(prefix)
         check_header(prefix, folder)
         print("the library stands alone, and anb.h is taken")
@@ -234,15 +281,17 @@ def main(program):
         print(f"{counts[0]} narrations, {counts[1]} messages; the bytes of {counts[2]} are those of `stage`")
         check_refusals(anb, program, folder)
         print("refusals and misuse are told")
+        print(f"each allocation fails in turn: {check_memory(anb, prefix, folder)}{'' if shutil.which('valgrind') else ', without valgrind'}")
         for language, example in examples_of(prefix, folder):
             check_wire(program, example, folder)
             print(f"the example in {language} plays against the program")
 
 
 if __name__ == "__main__":
-    if len(sys.argv) != 2:
-        sys.exit("check_library.py <program>")
+    told = [word for word in sys.argv[1:] if word != "--fresh"]
+    if len(told) != 1:
+        sys.exit(__doc__)
     try:
-        main(sys.argv[1])
-    except ValueError as why:
+        main(told[0], "--fresh" in sys.argv)
+    except (ValueError, subprocess.SubprocessError) as why:
         sys.exit(f"check_library: {why}")

@@ -1,6 +1,6 @@
 pub mod Values
 mod Owning
-mod Taking
 mod Turning
 mod Begun
 mod Sending
+mod Reading

@@ -1,6 +1,9 @@
 -- A session beside its code is that session over the code.
 use Rattle.std.proofs.Common.{◌≡◌, Bool, true, false, refl, sym, ap, ◌∙◌, subst}
+use Rattle.std.specs.Prelude.{IfSome}
 use Rattle.anb_code.specs.CodeValue.{CodeValue}
+use Rattle.anb_machine.specs.Machines.{answer}
+use Rattle.anb_machine.specs.declared.turn.Turn.{Turn}
 use Rattle.anb_park.specs.Lives.{LiveValue}
 use Rattle.anb_park.specs.Resting.{IsRestOf, session_of}
 use Rattle.anb_park.specs.declared.rest.LiveRest.{LiveRest}
@@ -22,3 +25,9 @@ module _ (code : CodeValue) (rest : LiveRest) (old new : LiveValue) (over : old 
 
   pub still_is : (now : LiveRest) → session_of new.machine.code now ≡ new → session_of code now ≡ new
   still_is now is = ap (λ (c : CodeValue). session_of c now) (sym same) ∙ is
+
+-- a turn that comes again leaves the session, also beside its code
+pub still_again : (old over new now : LiveValue) (turn : Turn) → over ≡ old → now ≡ new → IfSome (answer over.machine) (λ (due : Turn). (turn ≡ due) × (new ≡ over)) → IfSome (answer old.machine) (λ (due : Turn). (turn ≡ due) × (now ≡ old))
+still_again old over new now turn same is again =
+    subst (λ (v : LiveValue). IfSome (answer old.machine) (λ (due : Turn). (turn ≡ due) × (v ≡ old))) (sym is)
+    (subst (λ (v : LiveValue). IfSome (answer v.machine) (λ (due : Turn). (turn ≡ due) × (new ≡ v))) same again)

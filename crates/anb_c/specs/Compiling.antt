@@ -10,13 +10,16 @@ use Rattle.anb_protocol.specs.Plays.{IsSendable}
 use Rattle.anb_protocol.specs.Protocols.{ProtocolValue, protocol_of, role_named}
 use Rattle.anb_protocol.specs.declared.refusals.ResolveNo.TheVariants as resolving
 use Rattle.anb_code.specs.CodeValue.{CodeValue}
-use Rattle.anb_code.specs.Verified.{IsVerifiedCode}
 use Rattle.anb_compile.specs.Fitting.{FitsRole}
 use Rattle.anb_compile.specs.Laws.{FittingCodesPlay}
 use Rattle.anb_compile.specs.Unsent.{IsFirstUnsentOfAll}
+use Rattle.anb_text.specs.Refusals.{IsRefusal as IsFault}
 use Rattle.anb_text.specs.RoleFiles.{role_text}
+use Rattle.anb_text.specs.declared.refusal.LoadNo.{LoadNo}
+use Rattle.anb_text.specs.declared.refusal.LoadNo.TheVariants as loading
 use Rattle.anb_c.specs.declared.compiling.CompileNo.{CompileNo}
 use Rattle.anb_c.specs.declared.compiling.CompileNo.TheVariants.{Long, Unread, IllFormed, NoRole, CannotSend, NoMemory}
+use Rattle.anb_c.specs.Opening.{Spells}
 
 -- the narration's text tells this protocol
 pub record Tells (narration : List ℕ) (p : ProtocolValue) : Type 0 where
@@ -40,9 +43,15 @@ RefusesSending p (CannotSend action) = (sender : ℕ) × IsFirstUnsentOfAll p se
 RefusesSending p NoMemory = Unit {0}
 RefusesSending p _ = ⊥
 
+-- The file spells this code, so whoever opens it has this one and no other. It has no fault
+pub record IsReadAs (file : List ℕ) (code : CodeValue) : Type 0 where
+  pub spelled : Spells file code
+  pub alone : (other : CodeValue) → Spells file other → other ≡ code
+  pub faultless : (why : LoadNo) → why ≢ loading.NoMemory → IsFault file why → ⊥
+
 module _ (narration role : List ℕ) where
   -- The role file of a code that fits the role of this name, in a protocol whose roles can all send what
-  -- they must. The run of a code that fits is the role's play.
+  -- they must. The run of a code that fits is the role's play. `anb_open` reads the file as that code.
   pub record Compiles (file : List ℕ) : Type 0 where
     pub p : ProtocolValue
     pub tells : Tells narration p
@@ -51,9 +60,9 @@ module _ (narration role : List ℕ) where
     pub sendable : IsSendable p
     pub code : CodeValue
     pub fits : FitsRole p number code
-    pub verified : IsVerifiedCode ARRIVAL WIDE code
     pub plays : FittingCodesPlay p
     pub is : file ≡ role_text code
+    pub read : IsReadAs file code
 
   -- why there is none: the first that holds
   abbrev pub RefusesCompiling : CompileNo → Type 0
@@ -81,7 +90,7 @@ status_of NoMemory = 99
 -- `anb_compile` writes the role file, or tells its length where there is no room, or why there is none
 abbrev pub IsCompiling : (narration role : List ℕ) → (status : ℤ) → (out out_now : List ℕ) → (written place : ℕ) → Type 0
 IsCompiling narration role status out out_now written place =
-    ((status ≡ pos 0) × Compiles narration role (take written out_now))
+    ((status ≡ pos 0) × (written ≤ length out_now) × Compiles narration role (take written out_now))
     ⊎ ((status ≡ pos 101) × (length out_now < written) × (out_now ≡ out)
     × (file : List ℕ) × Compiles narration role file × (written ≡ length file))
     ⊎ ((why : CompileNo) × (status ≡ pos (status_of why)) × RefusesCompiling narration role why

@@ -10,7 +10,7 @@ use Rattle.anb_park.specs.Records.{Parked}
 use Rattle.anb_c.specs.declared.session.Session.{Session}
 use Rattle.anb_c.specs.declared.telling.Stage.{Stage}
 use Rattle.anb_c.specs.declared.telling.Stage.TheVariants as stage
-use Rattle.anb_c.specs.Sessions.{IsAt, IsElsewhere, Ends, Waits}
+use Rattle.anb_c.specs.Sessions.{IsAt, IsElsewhere, IsFailed, Ends, Waits}
 
 abbrev pub LiveWaits : Option LiveValue → Type 0
 LiveWaits None = ⊥
@@ -30,10 +30,10 @@ GoesOn code p sent s (Message b) = (s.pending ≡ None) × IsAt code p (sent ++ 
 GoesOn code p sent s (Wants e) = IsAt code p sent (Some s) × Waits code p sent e × IsParkedIn code p s.live
 GoesOn code p sent s Done = IsAt code p sent (Some s) × Ends code p sent done
 GoesOn code p sent s (Stopped halt) = IsAt code p sent (Some s) × Ends code p sent (stopped halt.event halt.at)
-GoesOn code p sent s NoMemory = Unit {0}
+GoesOn code p sent s NoMemory = IsFailed (Some s)
 
 -- it waits, and can be parked; or the run goes on otherwise, and nothing was lost
 abbrev pub StandsSo : CodeValue → Parked → List (List ℕ) → Session → Stage → Type 0
 StandsSo code p sent s (stage.Waits e) = IsAt code p sent (Some s) × Waits code p sent e × IsParkedIn code p s.live
 StandsSo code p sent s stage.Elsewhere = IsElsewhere code p sent × IsAt code p sent (Some s)
-StandsSo code p sent s stage.NoMemory = Unit {0}
+StandsSo code p sent s stage.NoMemory = IsFailed (Some s)

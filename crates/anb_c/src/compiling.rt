@@ -4,7 +4,8 @@ ghost use Rattle.anb_base.specs.declared.TheConstants.{SMALL_FILE};
 ghost use Rattle.anb_compile.specs.Fitting.{FitsRole};
 ghost use Rattle.anb_compile.specs.Unsent.{IsFirstUnsentOfAll};
 ghost use Rattle.anb_protocol.specs.Plays.{IsSendable};
-ghost use Rattle.anb_c.specs.Compiling.{Compiles, IsCompiling, RefusesCompiling, RefusesReading, RefusesSending, Tells, place_of, status_of};
+ghost use Rattle.anb_text.specs.RoleFiles.{role_text};
+ghost use Rattle.anb_c.specs.Compiling.{Compiles, IsCompiling, IsReadAs, RefusesCompiling, RefusesReading, RefusesSending, Tells, place_of, status_of};
 
 use crate::statuses::{BAD_NARRATION, CANNOT_SEND, DONE, LONG, NO_MEMORY, NO_ROLE, SHORT};
 use crate::telling::copy_out;
@@ -15,7 +16,7 @@ use anb_protocol::{Protocol, ResolveNo};
 use anb_read::{ReadNo, read};
 use anb_resolve::{resolve, small_is_countable};
 use anb_syntax::Narration;
-use anb_text::print;
+use anb_text::{codes_are_not_refused, codes_are_unique, print};
 use std::alloc::Global;
 
 /// Why there is no role file: the first that holds.
@@ -104,11 +105,28 @@ pub(crate) fn role_file(alloc: Global, narration: &[u8], role: &[u8]) -> Result<
         Err(no) => return Err(no),
     };
     fitting_codes_play(&protocol);
-    let _verified = code.instrs();
-    match print(alloc, &code) {
+    match file_of(alloc, &protocol, number, &code) {
         Ok(file) => Ok(file),
         Err(NoMemory) => Err(CompileNo::NoMemory),
     }
+}
+
+/// The role file of a code that fits a role.
+fn file_of(
+    alloc: Global,
+    protocol: &Protocol,
+    role: u32,
+    code: &RoleCode,
+) -> Result<Bytes, NoMemory>
+    requires { FitsRole protocol.now role code.now }
+    ensures text { IfOk result (λ file. file ≡ role_text code.now) }
+    ensures read { IfOk result (λ file. IsReadAs file code.now) }
+{
+    let _lawful = protocol.name();
+    let _verified = code.instrs();
+    codes_are_unique();
+    codes_are_not_refused();
+    print(alloc, code)
 }
 
 /// The protocol that the text tells.

@@ -5,12 +5,14 @@
 //! it is given and gives; an opening reads and verifies the role file.
 #![tactic(auto)]
 
-ghost use Rattle.std.specs.Prelude.{◌≡◌, ℕ, List, pos, None};
+ghost use Rattle.std.specs.Prelude.{◌≡◌, ◌⊎◌, ◌<◌, ℕ, List, length, pos, None};
+ghost use Rattle.anb_base.specs.declared.TheConstants.{ARRIVAL};
 ghost use Rattle.anb_code.specs.CodeValue.{CodeValue};
 ghost use Rattle.anb_park.specs.Records.{Parked};
 ghost use Rattle.anb_c.specs.Compiling.{IsCompiling};
 ghost use Rattle.anb_c.specs.Opening.{IsOpening, Opens, RefusesOpening, RefusesResuming, Resumes};
-ghost use Rattle.anb_c.specs.Sessions.{IsArrival, IsAt, IsNext, IsParking};
+ghost use Rattle.anb_c.specs.Sessions.{IsArrival, IsAt, IsFailed, IsNext, IsParking};
+ghost use Rattle.anb_c.specs.Statuses.{IsCopied, text_of};
 
 mod compiling;
 mod held;
@@ -42,7 +44,9 @@ pub extern "C" fn anb_version() -> u32
 
 /// What a status says.
 #[unsafe(no_mangle)]
-pub extern "C" fn anb_status_text(status: i32, out: &mut [u8], written: &mut usize) -> i32 {
+pub extern "C" fn anb_status_text(status: i32, out: &mut [u8], written: &mut usize) -> i32
+    ensures { IsCopied (text_of status) result out.old out.new written.new }
+{
     if copy_out(text_of(status).as_bytes(), out, written) {
         DONE
     } else {
@@ -101,6 +105,8 @@ pub extern "C" fn anb_next(
         → IsAt code p sent handle.old.held.session
         → IsNext code p sent handle.new.held.session result
         out.old out.new written.new event.new instruction.new }
+    ensures failed { IsFailed handle.old.held.session
+        → (result ≡ pos 99) × IsFailed handle.new.held.session }
     ensures closed { handle.old.held.session ≡ None
         → (result ≡ pos 102) × (handle.new.held.session ≡ None) }
 {
@@ -118,6 +124,9 @@ pub extern "C" fn anb_arrive(alloc: Global, handle: &mut Handle, bytes: &[u8]) -
     ensures arrives { (code : CodeValue) (p : Parked) (sent : List (List ℕ))
         → IsAt code p sent handle.old.held.session
         → IsArrival code p sent handle.new.held.session result bytes.now }
+    ensures failed { IsFailed handle.old.held.session
+        → ((result ≡ pos 99) ⊎ ((result ≡ pos 13) × (ARRIVAL < length bytes.now)))
+        × IsFailed handle.new.held.session }
     ensures closed { handle.old.held.session ≡ None
         → (result ≡ pos 102) × (handle.new.held.session ≡ None) }
 {
@@ -142,6 +151,8 @@ pub extern "C" fn anb_park(
         → IsAt code p sent handle.old.held.session
         → IsParking code p sent handle.new.held.session result
         key.now out.old out.new written.new }
+    ensures failed { IsFailed handle.old.held.session
+        → (result ≡ pos 99) × IsFailed handle.new.held.session }
     ensures closed { handle.old.held.session ≡ None
         → (result ≡ pos 102) × (handle.new.held.session ≡ None) }
 {

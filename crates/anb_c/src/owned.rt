@@ -1,9 +1,9 @@
 //! A session under way that owns its code.
-ghost use Rattle.std.specs.Prelude.{◌≡◌, ◌≢◌, ◌≤◌, ℕ, List, [], ◌∷◌, length, All, IsTrue, IfOk, IfErr, OnOk};
+ghost use Rattle.std.specs.Prelude.{◌≡◌, ◌≢◌, ◌≤◌, ℕ, List, [], ◌∷◌, length, All, IsTrue, IfOk, IfErr, IfSome, OnOk, OnErr, Some};
 ghost use Rattle.anb_base.specs.declared.TheConstants.{ARRIVAL};
 ghost use Rattle.anb_code.specs.CodeValue.{CodeValue};
 ghost use Rattle.anb_code.specs.Taking.{take_texts};
-ghost use Rattle.anb_machine.specs.Machines.{waits, Turned};
+ghost use Rattle.anb_machine.specs.Machines.{answer, waits, Turned};
 ghost use Rattle.anb_park.specs.Records.{Parked, after, count_takes, record_of, Accepts, IsWaiting, Refuses};
 ghost use Rattle.anb_park.specs.Lives.{IsParked, Stands, started, sent_after};
 
@@ -61,6 +61,8 @@ impl Owned {
         ensures stands { (code : CodeValue) (p : Parked) (sent : List (List ℕ)) →
             result.0 ≢ Turn.NoMemory → Stands code p sent self
             → Stands code p (sent_after sent result.0) result.1 }
+        ensures again { IfSome (answer self.machine) (λ turn.
+            (result.0 ≡ turn) × (result.1 ≡ self)) }
     {
         let Owned { code, rest } = self;
         let mut live = rest.over(&code);
@@ -75,6 +77,7 @@ impl Owned {
         requires short { length bytes ≤ ARRIVAL }
         ensures stands { OnOk result.0 ((code : CodeValue) (p : Parked) (sent : List (List ℕ)) →
             Stands code p sent self → Stands code (after p (bytes ∷ [])) sent result.1) }
+        ensures failed { OnErr result.0 (answer result.1.machine ≡ Some Turn.NoMemory) }
     {
         let Owned { code, rest } = self;
         let mut live = rest.over(&code);

@@ -1,9 +1,9 @@
 //! A session, turn by turn, and the message that nobody took yet.
-ghost use Rattle.std.specs.Prelude.{◌≡◌, ◌≤◌, ℕ, List, ◌∷◌, [], length, IfOk, OnOk, Some, None};
+ghost use Rattle.std.specs.Prelude.{◌≡◌, ◌≤◌, ℕ, List, ◌∷◌, [], length, IfOk, OnOk, OnErr, Some, None};
 ghost use Rattle.anb_base.specs.declared.TheConstants.{ARRIVAL};
 ghost use Rattle.anb_code.specs.CodeValue.{CodeValue};
 ghost use Rattle.anb_park.specs.Records.{Parked, after, count_takes, record_of, Accepts, IsWaiting as IsWaitingRun};
-ghost use Rattle.anb_c.specs.Sessions.{IsAt};
+ghost use Rattle.anb_c.specs.Sessions.{IsAt, IsFailed};
 ghost use Rattle.anb_c.specs.Turning.{GoesOn, IsParkedIn, IsWaiting};
 
 use crate::owned::Owned;
@@ -24,6 +24,8 @@ pub(crate) fn next(alloc: Global, session: &mut Session) -> Turn
     ensures goes { (code : CodeValue) (p : Parked) (sent : List (List ℕ))
         → IsAt code p sent (Some session.old) → GoesOn code p sent session.new result }
     ensures waits { (event : ℕ) → result ≡ Turn.Wants event → IsWaiting session.new }
+    ensures failed { IsFailed (Some session.old)
+        → (result ≡ Turn.NoMemory) × IsFailed (Some session.new) }
 {
     match session.pending.take() {
         Some(message) => Turn::Message(message),
@@ -37,6 +39,8 @@ fn advance(alloc: Global, session: &mut Session) -> Turn
     ensures goes { (code : CodeValue) (p : Parked) (sent : List (List ℕ))
         → IsAt code p sent (Some session.old) → GoesOn code p sent session.new result }
     ensures waits { (event : ℕ) → result ≡ Turn.Wants event → IsWaiting session.new }
+    ensures failed { IsFailed (Some session.old)
+        → (result ≡ Turn.NoMemory) × IsFailed (Some session.new) }
 {
     let Some(live) = session.live.take() else {
         return Turn::NoMemory;
@@ -50,9 +54,10 @@ fn advance(alloc: Global, session: &mut Session) -> Turn
 pub(crate) fn give(session: &mut Session, bytes: Bytes) -> Result<(), NoMemory>
     requires waits { IsWaiting session.old }
     requires short { length bytes ≤ ARRIVAL }
-    ensures { OnOk result ((code : CodeValue) (p : Parked) (sent : List (List ℕ))
+    ensures given { OnOk result ((code : CodeValue) (p : Parked) (sent : List (List ℕ))
         → IsAt code p sent (Some session.old)
         → IsAt code (after p (bytes ∷ [])) sent (Some session.new)) }
+    ensures failed { OnErr result (IsFailed (Some session.new)) }
 {
     let Some(live) = session.live.take() else {
         unreachable!()

@@ -1,4 +1,6 @@
 //! The statuses of anb.h. Those below 100 are the program's.
+ghost use Rattle.std.specs.Prelude.{◌≡◌};
+ghost use Rattle.anb_c.specs.Statuses.{text_of};
 
 /// The version of the interface.
 pub(crate) const VERSION: u32 = 1;
@@ -36,7 +38,9 @@ pub(crate) const SHORT: i32 = 101;
 pub(crate) const MISUSED: i32 = 102;
 
 /// What a status says.
-pub(crate) fn text_of(status: i32) -> &'static str {
+pub(crate) fn text_of(status: i32) -> &'static str
+    ensures { result.now ≡ text_of status }
+{
     match status {
         DONE => "done",
         LONG => "a text is too long",

@@ -1,8 +1,9 @@
 //! What calls do with a session, told in statuses and in the caller's buffers.
-ghost use Rattle.std.specs.Prelude.{◌≡◌, ◌≤◌, ◌<◌, ℕ, List, length, take, true, false, Some};
+ghost use Rattle.std.specs.Prelude.{◌≡◌, ◌⊎◌, ◌≤◌, ◌<◌, ℕ, List, length, pos, take, true, false, Some};
+ghost use Rattle.anb_base.specs.declared.TheConstants.{ARRIVAL};
 ghost use Rattle.anb_code.specs.CodeValue.{CodeValue};
 ghost use Rattle.anb_park.specs.Records.{Parked};
-ghost use Rattle.anb_c.specs.Sessions.{IsArrival, IsAt, IsNext, IsParking};
+ghost use Rattle.anb_c.specs.Sessions.{IsArrival, IsAt, IsFailed, IsNext, IsParking};
 ghost use Rattle.anb_c.specs.Turning.{IsWaiting, StandsSo};
 
 use crate::session::{Session, give, next, record};
@@ -36,10 +37,12 @@ pub(crate) fn tell(
     event: &mut u32,
     instruction: &mut u32,
 ) -> i32
-    ensures { (code : CodeValue) (p : Parked) (sent : List (List ℕ))
+    ensures next { (code : CodeValue) (p : Parked) (sent : List (List ℕ))
         → IsAt code p sent (Some session.old)
         → IsNext code p sent (Some session.new) result
         out.old out.new written.new event.new instruction.new }
+    ensures failed { IsFailed (Some session.old)
+        → (result ≡ pos 99) × IsFailed (Some session.new) }
 {
     match next(alloc, session) {
         Turn::Message(message) => {
@@ -79,6 +82,8 @@ fn look_ahead(alloc: Global, session: &mut Session) -> Stage
     ensures stands { (code : CodeValue) (p : Parked) (sent : List (List ℕ))
         → IsAt code p sent (Some session.old) → StandsSo code p sent session.new result }
     ensures waits { (event : ℕ) → result ≡ Stage.Waits event → IsWaiting session.new }
+    ensures failed { IsFailed (Some session.old)
+        → (result ≡ Stage.NoMemory) × IsFailed (Some session.new) }
 {
     match next(alloc, session) {
         Turn::Message(message) => {
@@ -94,9 +99,12 @@ fn look_ahead(alloc: Global, session: &mut Session) -> Stage
 
 /// Hands in an arrival.
 pub(crate) fn hand_in(alloc: Global, session: &mut Session, bytes: &[u8]) -> i32
-    ensures { (code : CodeValue) (p : Parked) (sent : List (List ℕ))
+    ensures arrives { (code : CodeValue) (p : Parked) (sent : List (List ℕ))
         → IsAt code p sent (Some session.old)
         → IsArrival code p sent (Some session.new) result bytes.now }
+    ensures failed { IsFailed (Some session.old)
+        → ((result ≡ pos 99) ⊎ ((result ≡ pos 13) × (ARRIVAL < length bytes.now)))
+        × IsFailed (Some session.new) }
 {
     if bytes.len() > ARRIVAL as usize {
         return TOO_LARGE;
@@ -123,10 +131,12 @@ pub(crate) fn park_into(
     out: &mut [u8],
     written: &mut usize,
 ) -> i32
-    ensures { (code : CodeValue) (p : Parked) (sent : List (List ℕ))
+    ensures parks { (code : CodeValue) (p : Parked) (sent : List (List ℕ))
         → IsAt code p sent (Some session.old)
         → IsParking code p sent (Some session.new) result
         key.now out.old out.new written.new }
+    ensures failed { IsFailed (Some session.old)
+        → (result ≡ pos 99) × IsFailed (Some session.new) }
 {
     match look_ahead(alloc, session) {
         Stage::Waits(_) => {}

@@ -1,6 +1,6 @@
 use Rattle.std.proofs.Common.{Some, ap, ◌∙◌}
 use Rattle.anb_code.specs.Taking.{take_texts}
-use Rattle.anb_c.proofs.Taking.{next_take}
+use Rattle.anb_command.proofs.Taking.{next_take}
 use Rattle.anb_c.proofs.opening.copy_takes.Goals as goal
 
 pub loop-i-preserved : goal.loop-i-preserved

@@ -1,8 +1,8 @@
 use Rattle.std.proofs.Common.{◌≢◌, List, ℕ}
 use Rattle.std.specs.Prelude.{AllPairs}
 use Rattle.anb_code.specs.Taking.{take_texts}
-use Rattle.anb_c.proofs.Taking.{takes_differ}
-use Rattle.anb_c.proofs.Taking.{if_ok_items}
+use Rattle.anb_command.proofs.Preparing.{if_ok_items}
+use Rattle.anb_command.proofs.Taking.{takes_differ}
 use Rattle.anb_c.proofs.opening.texts_of_takes.Goals as goal
 
 pub returns-clause-differ : goal.returns-clause-differ

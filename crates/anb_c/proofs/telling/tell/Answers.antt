@@ -2,8 +2,8 @@ use Rattle.std.proofs.Common.{ap, inl, inr, length, refl, sym, ◌∙◌}
 use Rattle.anb_c.proofs.Turning.{again, sends_next}
 use Rattle.anb_c.proofs.telling.tell.Goals as goal
 
-pub returns-else-copy_out : goal.returns-else-copy_out
-returns-else-copy_out c = λ code p sent at.
+pub returns-else-copy_out-clause-next : goal.returns-else-copy_out-clause-next
+returns-else-copy_out-clause-next c = λ code p sent at.
     let b = c.in-Message.message in
     let now = c.next.new.session in
     let goes = c.in-Message.ensures.goes code p sent at in

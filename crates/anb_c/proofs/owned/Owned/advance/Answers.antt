@@ -1,7 +1,7 @@
-use Rattle.std.proofs.Common.{◌≡◌, ◌∙◌, sym, subst}
+use Rattle.std.proofs.Common.{◌∙◌, sym, subst}
 use Rattle.anb_machine.specs.Machines.{Turned}
 use Rattle.anb_park.specs.Lives.{LiveValue, Stands, sent_after}
-use Rattle.anb_c.proofs.Owning.{still_rest, still_is}
+use Rattle.anb_c.proofs.Owning.{still_again, still_rest, still_is}
 use Rattle.anb_c.proofs.owned.Owned.advance.Goals as goal
 
 pub invariant_of-result : goal.invariant_of-result
@@ -20,3 +20,8 @@ returns-clause-stands c = λ code p sent some s.
     let is = still_is c.self.inside.code c.self.inside.rest c.over-live.result c.advance-turn.new.self c.over-live.ensures.same c.advance-turn.ensures.code c.of-rest.result c.of-rest.ensures.same in
     subst (Stands code p (sent_after sent c.advance-turn.result)) (sym is)
     (c.advance-turn.ensures.stands code p sent some (subst (Stands code p sent) (sym (c.over-live.ensures.same ∙ c.self.view_is)) s))
+
+pub returns-clause-again : goal.returns-clause-again
+returns-clause-again c =
+    let is = still_is c.self.inside.code c.self.inside.rest c.over-live.result c.advance-turn.new.self c.over-live.ensures.same c.advance-turn.ensures.code c.of-rest.result c.of-rest.ensures.same in
+    still_again c.args.self c.over-live.result c.advance-turn.new.self _ c.advance-turn.result (c.over-live.ensures.same ∙ c.self.view_is) is c.advance-turn.ensures.again
