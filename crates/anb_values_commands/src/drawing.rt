@@ -8,6 +8,7 @@ ghost use Rattle.anb_protocol.specs.Protocols.{ProtocolValue};
 ghost use Rattle.anb_command.specs.Causes.{HasCause, NoneRose};
 ghost use Rattle.anb_command.specs.Fetches.{Fetches, IfTold};
 ghost use Rattle.anb_command.specs.Reaches.{Reaches};
+ghost use Rattle.anb_command.specs.Reported.{TellsFaults, TellsFileFaults};
 ghost use Rattle.anb_command.specs.Steps.{IsFailure, refused, given};
 ghost use Rattle.anb_command.specs.Touches.{Touches};
 ghost use Rattle.anb_status.specs.Statuses.{IsEarly, phase_of};
@@ -40,6 +41,8 @@ pub fn values<F: Shelf, W: Wire>(
         → CompletesValues narration.now (F.files shelf.old) host_seed result }
     ensures faults { HasCause (narration.now ∷ []) (Some place.Stdio)
         (F.faults shelf.old) (F.faults shelf.new) (W.state wire.old) (W.state wire.new) result }
+    ensures reported { TellsFaults (F.faults shelf.old) (F.faults shelf.new)
+        (W.state wire.old) (W.state wire.new) result }
     ensures fetches { Fetches (narration.now ∷ [])
         (F.files shelf.old) (F.files shelf.new) (F.faults shelf.old) (F.faults shelf.new) }
     ensures reached { Reaches (Some place.Stdio) (phase_of result)
@@ -71,6 +74,7 @@ fn drawn_for_file<F: Shelf>(
     ensures early { IfErr result IsEarly }
     ensures fetches { Fetches (narration.now ∷ [])
         (F.files shelf.old) (F.files shelf.new) (F.faults shelf.old) (F.faults shelf.new) }
+    ensures told { TellsFileFaults result (F.faults shelf.old) (F.faults shelf.new) }
 {
     let protocol = match protocol_in_file(alloc, shelf, narration) {
         Ok(protocol) => protocol,

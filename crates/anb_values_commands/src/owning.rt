@@ -10,6 +10,7 @@ ghost use Rattle.anb_protocol.specs.Texts.{known_names};
 ghost use Rattle.anb_command.specs.Fetches.{Fetches, IfTold, IsOneOf};
 ghost use Rattle.anb_command.specs.Files.{ValuesInFile};
 ghost use Rattle.anb_command.specs.Reaches.{Reaches};
+ghost use Rattle.anb_command.specs.Reported.{TellsFaults, TellsFileFaults};
 ghost use Rattle.anb_command.specs.Steps.{IsFailure, refused, given};
 ghost use Rattle.anb_command.specs.Touches.{Touches};
 ghost use Rattle.anb_status.specs.Statuses.{IsEarly, phase_of};
@@ -41,6 +42,8 @@ pub fn role_values<F: Shelf, W: Wire>(
         → CompletesRoleValues narration.now name.now values.now (F.files shelf.old) result }
     ensures faults { HasCause (narration.now ∷ values.now ∷ []) (Some place.Stdio)
         (F.faults shelf.old) (F.faults shelf.new) (W.state wire.old) (W.state wire.new) result }
+    ensures reported { TellsFaults (F.faults shelf.old) (F.faults shelf.new)
+        (W.state wire.old) (W.state wire.new) result }
     ensures fetches { Fetches (narration.now ∷ values.now ∷ [])
         (F.files shelf.old) (F.files shelf.new) (F.faults shelf.old) (F.faults shelf.new) }
     ensures reached { Reaches (Some place.Stdio) (phase_of result)
@@ -77,6 +80,7 @@ fn own_in_files<F: Shelf>(
     ensures early { IfErr result IsEarly }
     ensures fetches { Fetches (narration.now ∷ values.now ∷ [])
         (F.files shelf.old) (F.files shelf.new) (F.faults shelf.old) (F.faults shelf.new) }
+    ensures told { TellsFileFaults result (F.faults shelf.old) (F.faults shelf.new) }
 {
     let protocol = match protocol_in_file(alloc, shelf, narration) {
         Ok(protocol) => protocol,
@@ -109,6 +113,7 @@ fn values_for<F: Shelf>(
     ensures early { IfErr result IsEarly }
     ensures fetches { Fetches (values.now ∷ [])
         (F.files shelf.old) (F.files shelf.new) (F.faults shelf.old) (F.faults shelf.new) }
+    ensures told { TellsFileFaults result (F.faults shelf.old) (F.faults shelf.new) }
 {
     known_names_differ();
     let _ = protocol.name();

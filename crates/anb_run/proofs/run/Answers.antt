@@ -103,6 +103,8 @@ returns-clause-reported g c = elim c.match-read.branch [
   | in-Some-RoleChart w ↦ rw (w.shelf-is, w.wire-is, w.status-is) w.chart_for-status.ensures.reported
   | in-Some-Check w ↦ rw (w.shelf-is, w.wire-is, w.status-is) w.check-status.ensures.reported
   | in-Some-Trace w ↦ rw (w.shelf-is, w.wire-is, w.status-is) w.trace-status.ensures.reported
+  | in-Some-Values w ↦ rw (w.shelf-is, w.wire-is, w.status-is) w.values-status.ensures.reported
+  | in-Some-RoleValues w ↦ rw (w.shelf-is, w.wire-is, w.status-is) w.role_values-status.ensures.reported
 ]
 
 pub returns-clause-completes : goal.returns-clause-completes

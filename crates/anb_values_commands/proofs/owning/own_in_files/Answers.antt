@@ -1,4 +1,4 @@
-use Rattle.std.proofs.Common.{inl, inr}
+use Rattle.std.proofs.Common.{◌∙◌, inl, inr, refl}
 use Rattle.anb_lemmas.proofs.Results.{if_ok_map}
 use Rattle.anb_base.proofs.Moving.{Rose-later}
 use Rattle.anb_command.specs.Steps.{given, refused}
@@ -54,3 +54,15 @@ returns-clause-refused g c =
     (λ is. own_answers told c.args.narration.now c.args.name.now c.args.values.now c.in-Ok.protocol c.in-Ok.ensures.given role.role role.ensures.given
     c.in-Ok-values_for.fitted (refused s) (rw kept.same_files at c.in-Ok-values_for.ensures.given) is) fails)
     c.own_text.ensures.refused
+
+pub returns-in-Err-clause-told : goal.returns-in-Err-clause-told
+returns-in-Err-clause-told g c = c.in-Err.ensures.told
+
+pub returns-in-Err-role_named-clause-told : goal.returns-in-Err-role_named-clause-told
+returns-in-Err-role_named-clause-told g c = λ _. c.in-Ok.ensures.told refl
+
+pub returns-in-Err-values_for-clause-told : goal.returns-in-Err-values_for-clause-told
+returns-in-Err-values_for-clause-told g c = λ other. c.in-Err-values_for.ensures.told other ∙ c.in-Ok.ensures.told refl
+
+pub returns-clause-told : goal.returns-clause-told
+returns-clause-told g c = λ _. c.in-Ok-values_for.ensures.told refl ∙ c.in-Ok.ensures.told refl

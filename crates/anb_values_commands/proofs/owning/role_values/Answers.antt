@@ -1,8 +1,9 @@
-use Rattle.std.proofs.Common.{[], ◌∷◌}
+use Rattle.std.proofs.Common.{[], ◌∷◌, refl}
 use Rattle.anb_base.specs.declared.place.Place.TheVariants.{Stdio}
 use Rattle.anb_command.proofs.Causes.{early_cause, early_reaches, only_memory, wire_cause}
 use Rattle.anb_command.proofs.Failing.{IsFailure-map}
 use Rattle.anb_command.proofs.OverWire.{untouched}
+use Rattle.anb_command.proofs.Reported.{told_before, told_behind}
 use Rattle.anb_values_commands.specs.RoleValuesCommand.{RoleValuesText}
 use Rattle.anb_values_commands.proofs.Owned.{reads_failed, reads_written, role_values_one, role_values_quiet}
 use Rattle.anb_values_commands.proofs.Telling.{completes_one, refuses_one, writes_one}
@@ -67,3 +68,9 @@ returns-in-Err-clause-reached g c = early_reaches Stdio c.in-Err.status (g.W.Wir
 
 pub returns-in-Err-clause-touches : goal.returns-in-Err-clause-touches
 returns-in-Err-clause-touches g c = untouched _ _ _
+
+pub returns-in-Ok-clause-reported : goal.returns-in-Ok-clause-reported
+returns-in-Ok-clause-reported g c = told_behind _ _ _ _ _ (c.in-Ok.ensures.told refl) c.write_text.ensures.wire.told
+
+pub returns-in-Err-clause-reported : goal.returns-in-Err-clause-reported
+returns-in-Err-clause-reported g c = told_before _ _ _ _ c.in-Err.ensures.told
