@@ -10,6 +10,7 @@ _anb_kinds() {
         replay | trace) echo narration role values file ;;
         stage) echo narration folder ;;
         rehearse) echo narration values file ;;
+        values) echo narration role values ;;
         drill) echo number ;;
         enact) echo file values ;;
         certify) echo narration role file ;;
@@ -24,6 +25,7 @@ _anb_options() {
     case $command in
         branch) arm=--arm place='--dial --listen' ;;
         play | host | park | resume | enact) place='--dial --listen' ;;
+        stage) place=--timeout ;;
     esac
     [[ $1 == --arm ]] && shift 2 && arm=''
     case $# in
@@ -91,7 +93,7 @@ _anb() {
     done
     at=$((${#words[@]} - 1))
     if ((at == 1)); then
-        _anb_offer 'check chart explain fmt why play branch park resume host replay trace stage rehearse drill compile enact certify help'
+        _anb_offer 'check chart explain fmt why play values branch park resume host replay trace stage rehearse drill compile enact certify help'
         return
     fi
     read -ra kinds < <(_anb_kinds "${words[1]}")

@@ -7,7 +7,7 @@ function __anb_count
             echo 1
         case explain compile stage enact
             echo 2
-        case play branch host rehearse certify
+        case play branch host rehearse certify values
             echo 3
         case park resume replay trace
             echo 4
@@ -32,8 +32,8 @@ function __anb_option
     or return 1
     set -l rest
     test (count $words) -gt $before; and set rest $words[(math $before + 1)..]
-    if test "$argv[1]" = role -o "$argv[1]" = arm
-        test (count $rest) -eq 0 -o "$rest" = "--$argv[1]"
+    if test "$argv[1]" = role -o "$argv[1]" = arm -o "$argv[1]" = silence
+        test (count $rest) -eq 0 -o "$rest" = "--$argv[1]" -o "$argv[1]$rest" = silence--timeout
         return
     end
     if test (count $rest) -ge 2 -a "$rest[1]" = --arm
@@ -77,6 +77,7 @@ complete -c anb -n __fish_use_subcommand -a branch -d 'Play a role of a text wit
 complete -c anb -n __fish_use_subcommand -a park -d 'Play a role and park it'
 complete -c anb -n __fish_use_subcommand -a resume -d 'Go on from a parked session'
 complete -c anb -n __fish_use_subcommand -a host -d 'Serve many sessions of a role'
+complete -c anb -n __fish_use_subcommand -a values -d 'Write values files'
 complete -c anb -n __fish_use_subcommand -a replay -d 'Compare a transcript with a role'
 complete -c anb -n __fish_use_subcommand -a trace -d 'Tell step by step what a role does'
 complete -c anb -n __fish_use_subcommand -a stage -d 'Relay among children of all roles'
@@ -87,10 +88,10 @@ complete -c anb -n __fish_use_subcommand -a enact -d 'Run the code of a role fil
 complete -c anb -n __fish_use_subcommand -a certify -d 'Certify the code of a role file'
 complete -c anb -n __fish_use_subcommand -a help -d 'List the commands'
 
-set -l with_role explain compile play branch host park resume replay trace certify
+set -l with_role explain compile play values branch host park resume replay trace certify
 complete -c anb -n "__anb_at 1 check chart fmt why stage rehearse $with_role" -k -a '(__fish_complete_suffix .anb)'
 complete -c anb -n "__anb_at 2 $with_role" -a '(__anb_roles)' -d Role
-complete -c anb -n '__anb_at 3 play branch host park replay trace' -k -a '(__fish_complete_suffix .values)'
+complete -c anb -n '__anb_at 3 play values branch host park replay trace' -k -a '(__fish_complete_suffix .values)'
 complete -c anb -n '__anb_at 2 rehearse enact' -k -a '(__fish_complete_suffix .values)'
 complete -c anb -n '__anb_at 1 enact' -F
 complete -c anb -n '__anb_at 3 rehearse certify resume' -F
@@ -102,4 +103,5 @@ complete -c anb -n '__anb_option role chart' -x -l role -a '(__anb_roles)' -d 'T
 complete -c anb -n '__anb_option arm branch' -x -l arm -a '1 2 3 4 5 6 7 8' -d 'The arm that is taken'
 complete -c anb -n "__anb_option place $with_place" -x -l dial -d 'Connect to host:port'
 complete -c anb -n "__anb_option place $with_place" -x -l listen -d 'Wait for a connection at host:port'
+complete -c anb -n '__anb_option silence stage' -x -l timeout -d 'Seconds that a child may be silent'
 complete -c anb -n "__anb_option timeout $with_place" -x -l timeout -d 'Seconds to wait'

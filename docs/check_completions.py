@@ -61,6 +61,9 @@ TABLE = [
     ("anb chart m.anb --role", ROLES),
     ("anb chart m.anb --role A", ""),
     ("anb check m.anb", ""),
+    ("anb values m.anb", ROLES),
+    ("anb stage m.anb .", "--timeout"),
+    ("anb stage m.anb . --timeout 5", ""),
     ("anb replay m.anb A A.values a.transcript", ""),
 ]
 
