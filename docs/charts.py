@@ -1,8 +1,8 @@
 #!/usr/bin/env python3
 """Writes examples/README.md: python3 docs/charts.py crates/anb/out/anb. Standard library alone.
 
-An index in groups, and for each protocol its comment, its messages as a Mermaid chart, and what each role takes unchecked: what
-`anb check` writes of it is compared with what docs/narration.py finds in the code that `anb explain` shows.
+An index in groups, and for each protocol its comment, its messages as a Mermaid chart, and what each role takes: what
+`anb check` writes of it is compared with what docs/narration.py finds by the narration alone.
 """
 
 import pathlib
@@ -20,6 +20,10 @@ WORDS = set("""
     end box rect loop opt alt else par par_over and critical option break
     sequencediagram title acctitle accdescr link links properties details
 """.split())
+
+# What stands before the terms in lines of a report.
+UNCHECKED = "takes unchecked: "
+RESTING = "rests on arrivals alone: "
 
 # The groups, each with a sentence and its examples in the order to read them in.
 GROUPS = [
@@ -47,7 +51,7 @@ A folder has the narration, `ROLE.values` for each role, `all.values` with a val
 
 **Where to begin**: `ping` and `mutual` are the smallest. `nssk` and `nssk-amended` show what a server adds, and what an amendment changes for B. `wpa2` derives its keys, `skey` and `ratchet` carry something from one message to the next. Within a group the examples stand in an order to read them in.
 
-The index, and the lines under each chart, show what a role **takes unchecked**, as `anb check` says it: the received terms on which none of its checks depends, then or later, and which are no part of what is compared as a whole. A nonce of the partner is often among them, and rightly; a key or a ticket there deserves a thought. What came out of a seal is still from someone who had the seal's key. Nothing here is a claim that a protocol is secure, and some of these are known not to be.
+Under each chart stands which messages a role takes, as `anb check` says it: the pattern of each arrival that isn't fixed, with `?1`, `?2`, .. where any term may come, one wherever the same must come. What it **takes unchecked** are the terms whose variable stands once: whatever comes there, the role goes on. A nonce of the partner is often among them, and rightly; a key or a ticket there deserves a thought. What **rests on arrivals alone** is compared with other arrivals, or is a key or an operand of one; who can make the arrival that holds it isn't said. What came out of a seal is still from someone who had the seal's key, and so is what a mac is of. The index has both. Fewer unchecked parts are not more security: nothing here is a claim that a protocol is secure, and some of these are known not to be.
 
 `peer/` has a role in Python, and one with mistakes, and `offer/` a text with a choice; the [tutorial](../docs/TUTORIAL.md) uses them.
 """
@@ -80,24 +84,57 @@ def written(program, *words):
 
 
 def reported(program, path):
-    """What each role takes unchecked, as `anb check` writes it."""
-    taken, role = {}, None
+    """What `anb check` writes of what each role takes: for each event a pattern or nothing, and the lines at its end."""
+    patterns, lines, role = {}, {}, None
     for line in written(program, "check", path).splitlines():
         head = re.match(r"role (\S+): ", line)
-        role = head[1] if head else role
-        if line.startswith("  takes unchecked: "):
-            taken[role] = line.split(": ", 1)[1].split(", ")
-        elif line == "  takes nothing unchecked":
-            taken[role] = []
-    return taken
+        if head:
+            role = head[1]
+            patterns[role], lines[role] = [], []
+        elif re.match(r"  event [1-9]\d*, .* from \S+: ", line):
+            patterns[role].append(None)
+        elif line.startswith("    ") and "accepts " in line:
+            patterns[role][-1] = line.split("accepts ", 1)[1]
+        elif re.match(r"  (\?1 stands for|takes|rests) ", line):
+            lines[role].append(line.strip())
+    return patterns, lines
 
 
-def taken(program, path, role, report):
-    """What the role takes unchecked: the program's report says what is found apart from it."""
-    found = narration.unchecked(written(program, "explain", path, role))
-    if report[role] != found:
-        raise ValueError(f"{path}: `check` says that {role} takes {report[role]} unchecked, its code {found}")
-    return found
+def end_lines(meanings, once):
+    """The lines at a role's end: what its variables stand for, those that stand once, and the others."""
+    stand = ", ".join(f"?{i}{' stands' if i == 1 else ''} for {term}" for i, term in enumerate(meanings, 1))
+    unchecked = ", ".join(term for term, one in zip(meanings, once) if one)
+    resting = ", ".join(term for term, one in zip(meanings, once) if not one)
+    lines = [stand, UNCHECKED + unchecked if unchecked else "takes nothing unchecked", resting and RESTING + resting]
+    return [line for line in lines if line]
+
+
+def taken(story, path, role, report):
+    """What the role takes: the program's report says what is found apart from it."""
+    found, meanings, once = narration.taken(story, role)
+    lines = end_lines(meanings, once)
+    if (report[0][role], report[1][role]) != (found, lines):
+        raise ValueError(f"{path}: `check` says of {role} {report[0][role]}, {report[1][role]}, and not {found}, {lines}")
+    return found, lines
+
+
+def quoted(line):
+    """A line with its terms and variables in the signs of code."""
+    words, colon, terms = line.partition(": ")
+    if colon:
+        return f"{words}: {', '.join(f'`{term}`' for term in terms.split(', '))}"
+    return re.sub(r"(\?\d+)( stands)? for ([^ ,]+(?:,[^ ,]+)*)", r"`\1`\2 for `\3`", line)
+
+
+def sentences(story, path, role, report):
+    """What the role takes, as items of a list: what it takes unchecked, its patterns, what their variables stand for."""
+    found, lines = taken(story, path, role, report)
+    stand = [line for line in lines if line.startswith("?")]
+    yield f"- {role} {'; '.join(quoted(line) for line in lines if line not in stand)}."
+    heard = [number for number, (_, receiver, _) in enumerate(story.actions, 1) if receiver == role]
+    shown = ", ".join(f"`{pattern}` as message {number}" for number, pattern in zip(heard, found) if pattern)
+    if shown:
+        yield f"  It accepts {shown}: {quoted(stand[0])}."
 
 
 def section(program, folder):
@@ -110,8 +147,7 @@ def section(program, folder):
     lines += ["", f"```mermaid\n{chart(story)}```", ""]
     report = reported(program, path)
     for role in story.roles:
-        terms = ", ".join(f"`{term}`" for term in taken(program, path, role, report))
-        lines.append(f"- {role} takes {f'unchecked: {terms}' if terms else 'nothing unchecked'}.")
+        lines += sentences(story, path, role, report)
     return "\n".join(lines)
 
 
@@ -119,13 +155,20 @@ def folders():
     return sorted(d for d in EXAMPLES.iterdir() if (d / f"{d.name}.anb").is_file())
 
 
-def row(program, folder):
-    """An example in the index: what it is, its messages, and what each role takes unchecked."""
+def row(folder):
+    """An example in the index: what it is, its messages, and for each role what is taken unchecked or rests on arrivals."""
     path = folder / f"{folder.name}.anb"
     text = path.read_text()
-    story, report = narration.Narration(text), reported(program, path)
-    unchecked = [f"{role}: {', '.join(f'`{term}`' for term in report[role]) or 'nothing'}" for role in story.roles]
-    return f"| [{folder.name}](#{folder.name}) | {comment_of(text)[0]} | {len(story.actions)} | {'; '.join(unchecked)} |"
+    story = narration.Narration(text)
+    found = [(role, end_lines(*narration.taken(story, role)[1:])) for role in story.roles]
+    cells = [comment_of(text)[0], len(story.actions), *(listed(found, words) for words in (UNCHECKED, RESTING))]
+    return f"| [{folder.name}](#{folder.name}) | {' | '.join(map(str, cells))} |"
+
+
+def listed(found, words):
+    """For each role with such a line, the terms in it."""
+    rows = [(role, line.removeprefix(words)) for role, lines in found for line in lines if line.startswith(words)]
+    return "; ".join(f"{role}: {', '.join(f'`{term}`' for term in terms.split(', '))}" for role, terms in rows) or "nothing"
 
 
 def grouped():
@@ -140,8 +183,8 @@ def page(program):
     parts = [OPENING.format(count=len(folders())).rstrip()]
     for title, says, members in grouped():
         head = f"**[{title}](#{title.lower().replace(' ', '-')})**: {says}"
-        table = ["| example | what it is | messages | each role takes unchecked |", "|---|---|---|---|"]
-        parts.append("\n".join([head, "", *table, *(row(program, folder) for folder in members)]))
+        table = ["| example | what it is | messages | taken unchecked | rests on arrivals alone |", "|---|---|---|---|---|"]
+        parts.append("\n".join([head, "", *table, *(row(folder) for folder in members)]))
     for title, _, members in grouped():
         parts += [f"## {title}", *(section(program, folder) for folder in members)]
     return "\n\n".join(parts) + "\n"

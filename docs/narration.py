@@ -177,32 +177,94 @@ def read_values(text):
     return found
 
 
-def unchecked(explanation):
-    """The received terms that a role takes unchecked, by the code that `anb explain` shows, made apart from `anb check`: each
-    that came, is opened by nothing, and isn't looked at as a whole: as a key, in a comparison, in what is built for
-    these, or as a part of such a one, of what the role knew or of what is opened twice."""
-    sources, leads, opened, whole = [], {}, [], set()
-    for line in explanation.split("\ncode\n")[1].splitlines():
-        line, _, shown = line.partition(" # ")
-        left, _, right = line.rpartition(" = ")
-        word, *operands = right.split()
-        operands = operands[1:] if word in ("parse", "build") else operands
-        if word in ("parse", "unseal", "unwrap"):
-            *keys, of = operands
-            opened.append((of, left.split()))
-            whole.update(keys)
-        elif word == "equal":
-            whole.update(operands)
-        elif word in ("hash", "mac", "seal", "wrap", "build"):
-            leads[left] = operands
-        if word in ("recv", "parse", "unseal", "unwrap"):
-            sources += zip(left.split(), shown.split())
-    came, taken_apart = {register for register, _ in sources}, [of for of, _ in opened]
-    whole.update(of for of in taken_apart if of not in came or taken_apart.count(of) > 1)
-    for register in sorted(leads, key=lambda r: -int(r[1:])):
-        if register in whole:
-            whole.update(leads[register])
-    for of, parts in opened:
-        if of in whole:
-            whole.update(parts)
-    return [term for register, term in sources if register not in whole.union(taken_apart)]
+class Variable:
+    """A part of an arrival that isn't determined yet, or the term that it was found to be."""
+
+    def __init__(self):
+        self.term = None
+
+
+def found(term):
+    """A term with what its variables were found to be."""
+    while isinstance(term, Variable) and term.term is not None:
+        term = term.term
+    return (term[0], *map(found, term[1:])) if isinstance(term, tuple) else term
+
+
+def unify(one, other):
+    """Finds out what variables are where two terms are one. There is always an answer: the narrated terms."""
+    one, other = found(one), found(other)
+    if isinstance(one, Variable):
+        if one is not other:
+            one.term = other
+    elif isinstance(other, Variable):
+        other.term = one
+    elif isinstance(one, tuple):
+        for a, b in zip(one[1:], other[1:]):
+            unify(a, b)
+
+
+KEYS = {"h": None, "mac": None, "scrypt": 1, "wrap": 2}
+
+
+def patterns(story, role):
+    """The messages that a role hears, with a variable in place of each part that isn't determined: made apart from
+    `anb`, of the narration alone. What the role has are pairs of a narrated term and what is known of it. All that can
+    be opened is opened, and each is compared with all that can be made in its place."""
+    heard = [message for _, receiver, message in story.actions if receiver == role]
+    arrivals = [Variable() for _ in heard]
+    own = [*story.knows.get(role, []), *story.fresh_names(role)]
+    has, opened = [*zip(own, own), *zip(heard, arrivals)], set()
+
+    def composed(term):
+        for narrated, known in has:
+            if narrated == term:
+                return known
+        parts = [composed(part) for part in term[1:]] if isinstance(term, tuple) else [None]
+        return None if None in parts else (term[0], *parts)
+
+    more = True
+    while more:
+        more = False
+        for at, (narrated, known) in enumerate(has):
+            count = KEYS.get(narrated[0], 0) if isinstance(narrated, tuple) else None
+            keys = [] if count is None else [composed(key) for key in narrated[1 : 1 + count]]
+            if count is not None and at not in opened and None not in keys:
+                parts = [Variable() for _ in narrated[1 + count :]]
+                unify(known, (narrated[0], *keys, *parts))
+                has += zip(narrated[1 + count :], parts)
+                opened.add(at)
+                more = True
+    for narrated, known in has:
+        for other, same in has:
+            if narrated == other:
+                unify(known, same)
+        parts = [composed(part) for part in narrated[1:]] if isinstance(narrated, tuple) else [None]
+        if None not in parts:
+            unify(known, (narrated[0], *parts))
+    return heard, [found(arrival) for arrival in arrivals]
+
+
+def places(pattern, narrated):
+    """The variables of a pattern from left to right, each with what is narrated in its place."""
+    if isinstance(pattern, Variable):
+        return [(pattern, narrated)]
+    if isinstance(pattern, str):
+        return []
+    return [place for a, b in zip(pattern[1:], narrated[1:]) for place in places(a, b)]
+
+
+def taken(story, role):
+    """What a role takes: its patterns as texts, what `?1`, `?2`, .. stand for, and which of these stand once."""
+    heard, arrivals = patterns(story, role)
+    stand = [place for pattern, narrated in zip(arrivals, heard) for place in places(pattern, narrated)]
+    variables = list(dict.fromkeys(variable for variable, _ in stand))
+    meanings = [next(text_of(term) for variable, term in stand if variable is v) for v in variables]
+    once = [sum(variable is v for variable, _ in stand) == 1 for v in variables]
+
+    def text(pattern):
+        if isinstance(pattern, Variable):
+            return f"?{variables.index(pattern) + 1}"
+        return pattern if isinstance(pattern, str) else f"{pattern[0]}({','.join(map(text, pattern[1:]))})"
+
+    return [None if text(p) == text_of(m) else text(p) for p, m in zip(arrivals, heard)], meanings, once

@@ -11,6 +11,8 @@ use Rattle.anb_command.specs.Steps.{Answer, refused, given, AnswersWith, InTurn}
 use Rattle.anb_command.specs.Writing.{CompletesText, IsWriting, IsWritingOne}
 use Rattle.anb_code.specs.CodeValue.{CodeValue}
 use Rattle.anb_compile.specs.Fitting.{FitsRole}
+use Rattle.anb_pattern.specs.Taken.{TakenValue}
+use Rattle.anb_accept.specs.Roles.{IsTakenBy}
 use Rattle.anb_report.specs.RoleCharts.{role_chart}
 
 -- `chart` writes the chart of the protocol in the file, whether or not its roles can send
@@ -30,11 +32,14 @@ module _ (narration : List ℕ) (told : Option Files) where
 
 -- ---- the chart for a role
 
--- the chart with the role's notes, by a code that fits the role
+-- the chart with the role's notes, by a code that fits the role, and by the patterns whose instances are exactly what
+-- it takes
 pub record IsRoleChart (part : Part) (text : List ℕ) : Type 0 where
   pub code : CodeValue
   pub fits : FitsRole part.protocol part.role code
-  pub is : text ≡ role_chart part.protocol part.role code
+  pub taken : TakenValue
+  pub takes : IsTakenBy part.protocol part.role taken
+  pub is : text ≡ role_chart part.protocol part.role code taken
 
 abbrev pub RoleChartOf : Part → Answer (List ℕ) → Type 0
 RoleChartOf part (refused status) = ⊥

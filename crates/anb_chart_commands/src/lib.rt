@@ -1,9 +1,10 @@
 //! Commands that show a protocol to a person, and read nothing from the wire.
 #![tactic(auto)]
 
-ghost use Rattle.std.specs.Prelude.{◌≡◌, [], ◌∷◌, Some, false, IfErr, IfOk};
+ghost use Rattle.std.specs.Prelude.{◌≡◌, ◌<◌, [], ◌∷◌, length, Some, false, IfErr, IfOk};
 ghost use Rattle.anb_base.specs.declared.place.Place.TheVariants as place;
 ghost use Rattle.anb_chart.specs.Charts.{chart};
+ghost use Rattle.anb_compile.specs.Fitting.{FitsRole};
 ghost use Rattle.anb_command.specs.Causes.{HasCause, NoneRose};
 ghost use Rattle.anb_base.specs.Moves.{Rose};
 ghost use Rattle.anb_command.specs.Fetches.{Fetches, IfTold};
@@ -14,11 +15,13 @@ ghost use Rattle.anb_status.specs.Statuses.{IsEarly, phase_of};
 ghost use Rattle.anb_command.specs.Steps.{IsFailure, given, refused};
 ghost use Rattle.anb_command.specs.Touches.{Touches};
 ghost use Rattle.anb_command.specs.Writing.{IsWritingOne};
-ghost use Rattle.anb_chart_commands.specs.ReportCommands.{ChartOf, CompletesChart, CompletesRoleChart, DoesChart, DoesRoleChart, RoleChartText};
+ghost use Rattle.anb_chart_commands.specs.ReportCommands.{ChartOf, CompletesChart, CompletesRoleChart, DoesChart, DoesRoleChart, IsRoleChart, RoleChartText};
 ghost use Rattle.anb_text.specs.Writing.{IsWritten};
 
+use anb_accept::taken_by;
 use anb_base::{Bytes, Failed, NoMemory, Place, Shelf, Text, Wire};
 use anb_chart::write_chart;
+use anb_code::RoleCode;
 use anb_command::{Status, playable_in_file, protocol_in_file, reach_streams, write_text};
 use anb_protocol::Protocol;
 use anb_read::{narrations_are_unique, none_is_both, refusals_are_unique};
@@ -138,8 +141,24 @@ fn role_charted<F: Shelf>(
         Ok(playable) => playable,
         Err(status) => return Err(status),
     };
-    match role_chart(alloc, &playable.protocol, playable.role, &playable.code) {
+    match chart_of_role(alloc, &playable.protocol, playable.role, &playable.code) {
         Ok(text) => Ok(text),
         Err(NoMemory) => Err(Status::NoMemory),
     }
+}
+
+/// The chart for a role, by a code of it and by what it takes.
+fn chart_of_role(
+    alloc: Global,
+    protocol: &Protocol,
+    role: u32,
+    code: &RoleCode,
+) -> Result<Bytes, NoMemory>
+    requires role { role < length protocol.now.roles }
+    requires fits { FitsRole protocol.now role code.now }
+    ensures { IfOk result (λ text. IsRoleChart
+        (record { protocol = protocol.now; role = role }) text) }
+{
+    let taken = taken_by(alloc, protocol, role)?;
+    role_chart(alloc, protocol, role, code, &taken)
 }

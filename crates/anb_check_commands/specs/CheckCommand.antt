@@ -1,5 +1,5 @@
 -- What `check` does: it says where and why a narration's text is refused, or reports on its roles.
-use Rattle.std.specs.Prelude.{◌≡◌, ◌⊎◌, ℕ, true, false, List, [], take, Option}
+use Rattle.std.specs.Prelude.{◌≡◌, ◌⊎◌, ℕ, true, false, List, [], length, take, Option, Some, slice_get}
 use Rattle.anb_base.specs.Moves.{Put}
 use Rattle.anb_base.specs.Wires.{WireState}
 use Rattle.anb_syntax.specs.Grammar.{Narration}
@@ -7,6 +7,8 @@ use Rattle.anb_syntax.specs.Text.{Text}
 use Rattle.anb_protocol.specs.Protocols.{ProtocolValue, protocol_of}
 use Rattle.anb_code.specs.CodeValue.{CodeValue}
 use Rattle.anb_compile.specs.Fitting.{FitRoles}
+use Rattle.anb_pattern.specs.Taken.{TakenValue}
+use Rattle.anb_accept.specs.Roles.{IsTakenBy}
 use Rattle.anb_lack.specs.Lacking.{IsLackText}
 use Rattle.anb_mistakes.specs.Unread.{IsUnreadText}
 use Rattle.anb_mistakes.specs.Unresolved.{IsUnresolvedText}
@@ -34,11 +36,18 @@ SaidOf name x (BadNarration (Resolve why)) said =
 SaidOf name x (CannotSend action role) said = (n : Narration) × Text n x × IsLackText (protocol_of n) said
 SaidOf name x status said = ⊥
 
--- the report on all roles, by a code for each that fits it
+-- what is said of each role in order, by the patterns whose instances are exactly what it takes
+pub record AreTaken (p : ProtocolValue) (taken : List TakenValue) : Type 0 where
+  pub count : length taken ≡ length p.roles
+  pub each : (role : ℕ) (t : TakenValue) → slice_get taken role ≡ Some t → IsTakenBy p role t
+
+-- the report on all roles, by a code for each that fits it, and by what each takes
 pub record IsReport (p : ProtocolValue) (said : List ℕ) : Type 0 where
   pub codes : List CodeValue
   pub fit : FitRoles p codes
-  pub is : said ≡ report p codes
+  pub taken : List TakenValue
+  pub takes : AreTaken p taken
+  pub is : said ≡ report p codes taken
 
 -- the status of a text, and what is said of it
 abbrev pub IsVerdict : (name x : List ℕ) → Status → List ℕ → Type 0

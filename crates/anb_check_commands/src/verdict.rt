@@ -6,14 +6,18 @@ ghost use Rattle.anb_syntax.specs.Text.{Text as IsTextOf};
 ghost use Rattle.anb_syntax.specs.Views.{narration_of};
 ghost use Rattle.anb_command.specs.declared.limits.TheConstants.{NARRATION_LIMIT};
 ghost use Rattle.anb_status.specs.Statuses.{why_ill_formed};
-ghost use Rattle.anb_check_commands.specs.CheckCommand.{IsVerdict};
+ghost use Rattle.anb_compile.specs.Fitting.{FitRoles};
+ghost use Rattle.anb_check_commands.specs.CheckCommand.{AreTaken, IsReport, IsVerdict};
 ghost use Rattle.anb_check_commands.specs.Telling.{IsLast, IsVerdictOnNarration, IsVerdictOnProtocol};
 
+use anb_accept::taken_by;
 use anb_base::{Bytes, NoMemory, Text};
+use anb_code::RoleCode;
 use anb_command::{NarrationNo, Status, codes_of, ill_formed};
 use anb_lack::lack_text;
 use anb_mistakes::{unread_text, unresolved_text};
-use anb_protocol::{Protocol, ResolveNo};
+use anb_pattern::Taken;
+use anb_protocol::{Protocol, ResolveNo, protocols_hold};
 use anb_read::{ReadNo, read};
 use anb_report::report;
 use anb_resolve::{resolve, small_is_countable};
@@ -93,7 +97,7 @@ fn verdict_on_protocol(alloc: Global, protocol: &Protocol) -> Result<Verdict, No
 {
     match codes_of(alloc, protocol) {
         Ok(codes) => Ok(Verdict {
-            said: report(alloc, protocol, &codes)?,
+            said: report_on(alloc, protocol, &codes)?,
             status: Status::Done,
         }),
         Err(Status::CannotSend { action, role }) => match lack_text(alloc, protocol)? {
@@ -105,4 +109,27 @@ fn verdict_on_protocol(alloc: Global, protocol: &Protocol) -> Result<Verdict, No
         },
         Err(_) => Err(NoMemory),
     }
+}
+
+/// The report on a protocol, by codes of its roles and by what these take.
+fn report_on(alloc: Global, protocol: &Protocol, codes: &[RoleCode]) -> Result<Bytes, NoMemory>
+    requires { FitRoles protocol.now codes.now }
+    ensures { IfOk result (λ said. IsReport protocol.now said) }
+{
+    let taken = taken_by_all(alloc, protocol)?;
+    report(alloc, protocol, codes, &taken)
+}
+
+/// What each role takes.
+fn taken_by_all(alloc: Global, protocol: &Protocol) -> Result<Vec<Taken>, NoMemory>
+    ensures { IfOk result (λ taken. AreTaken protocol.now taken.items) }
+{
+    protocols_hold();
+    let _ = protocol.name();
+    let mut out = Vec::new(alloc);
+    for role in 0..protocol.roles().len() {
+        let taken = taken_by(alloc, protocol, role as u32)?;
+        out.push(taken)?;
+    }
+    Ok(out)
 }

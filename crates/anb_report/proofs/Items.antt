@@ -1,5 +1,5 @@
 -- One item more of a list, and the terms of registers.
-use Rattle.std.proofs.Common.{◌≡◌, ℕ, zero, suc, ◌+◌, ◌-◌, ◌≤◌, ◌<◌, List, [], ◌∷◌, ◌++◌, length, map, drop, take, get_or, Bool, true, false, Some, IsTrue, refl, sym, ap, ◌∙◌, arith}
+use Rattle.std.proofs.Common.{◌≡◌, ℕ, zero, suc, ◌+◌, ◌-◌, ◌≤◌, ◌<◌, List, [], ◌∷◌, ◌++◌, length, map, drop, take, get_or, Bool, true, false, Some, refl, sym, ap, ◌∙◌, arith}
 use Rattle.std.specs.Prelude.{slice_get, ◌||◌, if◌then◌else◌}
 use Rattle.std.specs.List.{list_any, range_with_len}
 use Rattle.std.proofs.lemmas.List.Sums.{sum_by-cons}
@@ -14,10 +14,8 @@ use Rattle.anb_lemmas.proofs.Lists.{drop_at_got}
 use Rattle.anb_report.specs.Noting.{notes_at, notes_first, notes_from, up_to_message}
 use Rattle.anb_report.specs.Looking.{is_message, written_by}
 use Rattle.anb_term.specs.declared.term.Term.{Term}
-use Rattle.anb_term.specs.Tree.{Tree, tree_eqb}
-use Rattle.anb_term.specs.TreeSame.{tree_same, tree_itself}
+use Rattle.anb_term.specs.Tree.{Tree}
 use Rattle.anb_term.specs.View.{tree_of}
-use Rattle.anb_term.proofs.Lists.{one_term}
 
 -- numbers from one on up to another
 pub first_of : (a b : ℕ) → a < b → range_with_len a (b - a) ≡ a ∷ range_with_len (a + 1) (b - (a + 1))
@@ -53,15 +51,6 @@ pub turn_fewer : (formats : List FormatValue) (instrs : List Instr) → count_re
 turn_fewer formats instrs = let e = ap (count_registers formats) (turn_taken instrs) in omega (arith, e, fewer_taken formats (length (up_to_message instrs)) instrs)
 
 -- ---- the terms of registers
-
--- a test that tells whether two terms are one
-pub told : (b : Bool) (x y : Term) → (IsTrue b → x ≡ y) → (x ≡ y → IsTrue b) → b ≡ tree_eqb (tree_of x) (tree_of y)
-told true x y same is = sym (ap (λ z. tree_eqb (tree_of x) (tree_of z)) (sym (same refl)) ∙ tree_itself (tree_of x))
-told false x y same is = differ (tree_eqb (tree_of x) (tree_of y)) refl
-  where
-    differ : (c : Bool) → tree_eqb (tree_of x) (tree_of y) ≡ c → false ≡ tree_eqb (tree_of x) (tree_of y)
-    differ true e = let no : IsTrue false = is (one_term x y (tree_same (tree_of x) (tree_of y) e)) in cc
-    differ false e = sym e
 
 pub mapped_length : (terms : List Term) → length (map tree_of terms) ≡ length terms
 mapped_length [] = refl

@@ -1,10 +1,9 @@
 -- Lines, part by part, and the lines of one action more.
 use Rattle.std.proofs.Common.{◌≡◌, ℕ, ◌+◌, ◌<◌, List, [], ◌∷◌, ◌++◌, length, map, drop, get_or, Bool, true, false, Some, cond, refl, sym, ap, ◌∙◌, arith, append_assoc, length-append}
-use Rattle.std.specs.Prelude.{codes, count_by, decimal, slice_get}
+use Rattle.std.specs.Prelude.{codes, count_by, decimal, slice_get, unwrap_or}
 use Rattle.std.proofs.lemmas.List.Sums.{sum_by-append, sum_by-cons}
 use Rattle.std.proofs.lemmas.Option.{get_or_from_slice_get}
 use Rattle.anb_lemmas.proofs.Lists.{drop_got, drop_at_got}
-use Rattle.anb_term.specs.Tree.{Tree}
 use Rattle.anb_code.specs.CodeValue.{CodeValue}
 use Rattle.anb_protocol.specs.declared.parts.Action.{Action}
 use Rattle.anb_protocol.specs.Choices.{each_after}
@@ -15,10 +14,10 @@ use Rattle.anb_protocol.specs.Views.{action_value}
 use Rattle.anb_chart.specs.Charts as chart
 use Rattle.anb_explain.specs.Explained.{line}
 use Rattle.anb_explain.proofs.Lines.{counted_one}
-use Rattle.anb_report.specs.Noting.{register_texts}
+use Rattle.anb_pattern.specs.Taken.{TakenValue}
 use Rattle.anb_report.specs.Remarks.{is_repeated, repeated, unused}
 use Rattle.anb_report.specs.RoleCharts.{noted_lines, noted_text}
-use Rattle.anb_report.specs.Reporting.{action_lines, action_text, is_own, notes_line, role_after, role_report, start_lines, unchecked_line}
+use Rattle.anb_report.specs.Reporting.{action_lines, action_text, is_own, notes_line, role_after, role_report, start_lines, taken_at}
 
 pub event_put : (old event action peer text new : List ℕ)
     → (((((((((old ++ codes "  event ") ++ event) ++ codes ", action ") ++ action) ++ codes ", ") ++ peer) ++ codes ": ") ++ text) ++ new) ++ 10 ∷ []
@@ -28,13 +27,6 @@ event_put old event action peer text new = simp append_assoc
 pub start_some : (notes : List (List ℕ)) → 0 < length notes → start_lines notes ≡ codes "  event 0, at the beginning\n" ++ notes_line notes
 start_some [] some = absurd (omega (arith, some))
 start_some (note ∷ notes) some = refl
-
-pub unchecked_some : (p : ProtocolValue) (terms : List Tree) (old : List ℕ) (rs : List ℕ) → 0 < length rs
-    → ((old ++ codes "  takes unchecked: ") ++ register_texts p terms rs) ++ 10 ∷ [] ≡ old ++ unchecked_line p terms rs
-unchecked_some p terms old [] some = absurd (omega (arith, some))
-unchecked_some p terms old (r ∷ rs) some =
-    ap (λ l. l ++ 10 ∷ []) (append_assoc old (codes "  takes unchecked: ") (register_texts p terms (r ∷ rs)))
-    ∙ append_assoc old (codes "  takes unchecked: " ++ register_texts p terms (r ∷ rs)) (10 ∷ [])
 
 pub note_put : (old from note : List ℕ) → ((((old ++ codes "    Note over ") ++ from) ++ codes ": ") ++ note) ++ 10 ∷ [] ≡ old ++ chart.line (codes "Note over " ++ (from ++ (codes ": " ++ note)))
 note_put old from note = simp append_assoc
@@ -102,11 +94,13 @@ one_longer before a i many = omega (arith, length-append before (a ∷ []), many
 
 -- ---- one role more
 
-pub role_first : (p : ProtocolValue) (codes_of : List CodeValue) (i : ℕ) (x : CodeValue) (before : List CodeValue) → slice_get codes_of i ≡ Some x → length before ≡ i
-    → each_after (role_after p) before (drop i codes_of) ≡ role_report p i x ++ each_after (role_after p) (before ++ x ∷ []) (drop (i + 1) codes_of)
-role_first p codes_of i x before here many =
-    ap (each_after (role_after p) before) (drop_at_got codes_of i x here)
-    ∙ ap (λ n. role_report p n x ++ each_after (role_after p) (before ++ x ∷ []) (drop (i + 1) codes_of)) many
+pub role_first : (p : ProtocolValue) (taken : List TakenValue) (codes_of : List CodeValue) (i : ℕ) (x : CodeValue) (t : TakenValue) (before : List CodeValue) → slice_get codes_of i ≡ Some x → slice_get taken i ≡ Some t → length before ≡ i
+    → each_after (role_after p taken) before (drop i codes_of) ≡ role_report p i x t ++ each_after (role_after p taken) (before ++ x ∷ []) (drop (i + 1) codes_of)
+role_first p taken codes_of i x t before here there many =
+    let rest = each_after (role_after p taken) (before ++ x ∷ []) (drop (i + 1) codes_of) in
+    ap (each_after (role_after p taken) before) (drop_at_got codes_of i x here)
+    ∙ ap (λ n. role_report p n x (taken_at taken n) ++ rest) many
+    ∙ ap (λ o. role_report p i x (unwrap_or o (record { notes = []; lines = [] })) ++ rest) there
 
 pub code_longer : (before : List CodeValue) (x : CodeValue) (i : ℕ) → length before ≡ i → length (before ++ x ∷ []) ≡ i + 1
 code_longer before x i many = omega (arith, length-append before (x ∷ []), many)

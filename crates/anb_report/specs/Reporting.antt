@@ -9,9 +9,9 @@ use Rattle.anb_protocol.specs.Protocols.{ActionValue, ProtocolValue, role_name}
 use Rattle.anb_protocol.specs.Texts.{atom_name, term_text}
 use Rattle.anb_code.specs.CodeValue.{CodeValue}
 use Rattle.anb_explain.specs.Explained.{line, register_terms}
-use Rattle.anb_report.specs.Looking.{unchecked}
+use Rattle.anb_pattern.specs.Taken.{TakenValue}
 use Rattle.anb_report.specs.Remarks.{remarks}
-use Rattle.anb_report.specs.Noting.{notes_of, register_texts}
+use Rattle.anb_report.specs.Noting.{notes_of}
 
 -- a role sends or receives an action's message
 abbrev pub is_own : ℕ → ActionValue → Bool
@@ -52,14 +52,15 @@ abbrev pub start_lines : List (List ℕ) → List ℕ
 start_lines [] = []
 start_lines (note ∷ notes) = line (codes "  event 0, at the beginning") ++ notes_line (note ∷ notes)
 
-abbrev pub unchecked_line : ProtocolValue → List Tree → List ℕ → List ℕ
-unchecked_line p terms [] = line (codes "  takes nothing unchecked")
-unchecked_line p terms (r ∷ rs) = line (codes "  takes unchecked: " ++ register_texts p terms (r ∷ rs))
-
 -- ---- a role
 
 abbrev pub notes_at_event : List (List (List ℕ)) → ℕ → List (List ℕ)
 notes_at_event notes event = option_map_or (λ (n : List (List ℕ)). n) (slice_get notes event) []
+
+-- the notes of events from this one on, and behind them further ones of each
+abbrev pub joined : ℕ → (notes further : List (List (List ℕ))) → List (List (List ℕ))
+joined event [] further = []
+joined event (n ∷ notes) further = (n ++ notes_at_event further event) ∷ joined (event + 1) notes further
 
 module _ (p : ProtocolValue) (role : ℕ) (notes : List (List (List ℕ))) where
   -- events are numbered from 1, as actions are
@@ -75,12 +76,11 @@ module _ (p : ProtocolValue) (role : ℕ) (notes : List (List (List ℕ))) where
   abbrev pub events_text : List ℕ
   events_text = each_after action_text [] p.actions
 
--- where the registers have these terms
-abbrev pub role_text : ProtocolValue → ℕ → CodeValue → List Tree → List ℕ
-role_text p role code terms =
-    let notes = notes_of p code terms in
-    head_line p role ++ (start_lines (notes_at_event notes 0)
-    ++ (events_text p role notes ++ unchecked_line p terms (unchecked code.formats code.instrs)))
+-- where the registers have these terms, and this is what the role takes
+abbrev pub role_text : ProtocolValue → ℕ → CodeValue → List Tree → TakenValue → List ℕ
+role_text p role code terms taken =
+    let notes = joined 0 (notes_of p code terms) taken.notes in
+    head_line p role ++ (start_lines (notes_at_event notes 0) ++ (events_text p role notes ++ taken.lines))
 
 -- ---- all roles
 
@@ -88,12 +88,15 @@ role_text p role code terms =
 abbrev pub terms_in : ProtocolValue → ℕ → CodeValue → List Tree
 terms_in p role code = unwrap_or (register_terms p role code) []
 
-abbrev pub role_report : ProtocolValue → ℕ → CodeValue → List ℕ
-role_report p role code = role_text p role code (terms_in p role code)
+abbrev pub role_report : ProtocolValue → ℕ → CodeValue → TakenValue → List ℕ
+role_report p role code taken = role_text p role code (terms_in p role code) taken
 
--- the codes are those of the roles in order; below stands what is noted of the protocol
-abbrev pub role_after : ProtocolValue → List CodeValue → CodeValue → List ℕ
-role_after p before code = role_report p (length before) code
+abbrev pub taken_at : List TakenValue → ℕ → TakenValue
+taken_at taken role = unwrap_or (slice_get taken role) (record { notes = []; lines = [] })
 
-abbrev pub report : ProtocolValue → List CodeValue → List ℕ
-report p codes = each_after (role_after p) [] codes ++ remarks p
+-- the codes are those of the roles in order, and so is what they take; below stands what is noted of the protocol
+abbrev pub role_after : ProtocolValue → List TakenValue → List CodeValue → CodeValue → List ℕ
+role_after p taken before code = role_report p (length before) code (taken_at taken (length before))
+
+abbrev pub report : ProtocolValue → List CodeValue → List TakenValue → List ℕ
+report p codes taken = each_after (role_after p taken) [] codes ++ remarks p

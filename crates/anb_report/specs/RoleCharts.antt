@@ -5,8 +5,9 @@ use Rattle.anb_protocol.specs.Choices.{each_after}
 use Rattle.anb_protocol.specs.Protocols.{ActionValue, ProtocolValue}
 use Rattle.anb_code.specs.CodeValue.{CodeValue}
 use Rattle.anb_chart.specs.Charts.{arrow_line, line, participant, participant_line}
+use Rattle.anb_pattern.specs.Taken.{TakenValue}
 use Rattle.anb_report.specs.Noting.{notes_of}
-use Rattle.anb_report.specs.Reporting.{is_own, notes_at_event, terms_in}
+use Rattle.anb_report.specs.Reporting.{is_own, joined, notes_at_event, terms_in}
 
 -- a note over a role
 abbrev pub note_over : ProtocolValue → ℕ → List ℕ → List ℕ
@@ -28,6 +29,6 @@ module _ (p : ProtocolValue) (role : ℕ) (notes : List (List (List ℕ))) where
   noted_chart =
       codes "sequenceDiagram\n" ++ (flat_map participant_line p.roles ++ (event_notes 0 ++ each_after noted_text [] p.actions))
 
--- by a code of the role
-abbrev pub role_chart : ProtocolValue → ℕ → CodeValue → List ℕ
-role_chart p role code = noted_chart p role (notes_of p code (terms_in p role code))
+-- by a code of the role, and by what it takes
+abbrev pub role_chart : ProtocolValue → ℕ → CodeValue → TakenValue → List ℕ
+role_chart p role code taken = noted_chart p role (joined 0 (notes_of p code (terms_in p role code)) taken.notes)

@@ -10,29 +10,33 @@ ghost use Rattle.anb_protocol.specs.Texts.{IsTermOf};
 ghost use Rattle.anb_protocol.specs.Views.{action_value};
 ghost use Rattle.anb_report.specs.RoleCharts.{event_notes, note_over, noted_lines, noted_text, role_chart};
 
-use crate::notes::{Notes, notes_of};
-use crate::reporting::{is_own, notes_at};
+use crate::notes::notes_of;
+use crate::reporting::{is_own, joined, notes_at};
 use anb_base::{Bytes, NoMemory, Text};
 use anb_chart::{participant_text, put_arrow, put_participant};
 use anb_code::RoleCode;
 use anb_explain::explanation_of;
+use anb_pattern::{Notes, Taken};
 use anb_protocol::{Action, Protocol, protocols_hold};
 use std::alloc::Global;
 
-/// The chart of a protocol, with the notes of a role by a code for it.
+/// The chart of a protocol, with the notes of a role by a code for it and by what it takes.
 pub fn role_chart(
     alloc: Global,
     protocol: &Protocol,
     role: u32,
     code: &RoleCode,
+    taken: &Taken,
 ) -> Result<Bytes, NoMemory>
     requires role { role < length protocol.now.roles }
     requires fits { FitsRole protocol.now role code.now }
-    ensures { IfOk result (λ text. text ≡ role_chart protocol.now role code.now) }
+    ensures { IfOk result (λ text. text
+        ≡ role_chart protocol.now role code.now taken.now) }
 {
     protocols_hold();
     let explanation = explanation_of(alloc, protocol, role, code)?;
-    let notes = notes_of(alloc, protocol, code, explanation.terms())?;
+    let own = notes_of(alloc, protocol, code, explanation.terms())?;
+    let notes = joined(alloc, &own, taken.notes())?;
     let mut out = Vec::from_slice(alloc, b"sequenceDiagram\n")?;
     put_participants(alloc, &mut out, protocol.roles())?;
     put_event_notes(&mut out, protocol, role, &notes, 0)?;

@@ -19,6 +19,6 @@ mod seen;
 
 pub use charting::role_chart;
 pub use laws::{plays_stay_free, unchecked_is_free};
-pub use notes::{Notes, notes_of};
+pub use notes::notes_of;
 pub use reporting::report;
 pub use seen::unchecked;

@@ -16,41 +16,10 @@ use anb_base::{Bytes, NoMemory};
 use anb_code::{Instr, RoleCode};
 use anb_explain::count_written;
 use anb_format::Format;
+use anb_pattern::Notes;
 use anb_protocol::Protocol;
 use anb_term::Term;
 use std::alloc::Global;
-use std::marker::Model;
-
-/// What is noted of one event, in order.
-#[derive(Drop)]
-pub struct Notes {
-    items: Vec<Bytes>,
-}
-
-impl Model for Notes {
-    ghost use Rattle.std.specs.Prelude.{ℕ, List};
-
-    ghost Value = { List (List ℕ) };
-
-    ghost view = { λ notes. notes.items.items };
-}
-
-impl Notes {
-    ghost use Rattle.std.specs.Prelude.{◌≡◌};
-
-    /// These notes, which keep their memory.
-    fn new(items: Vec<Bytes>) -> Notes
-        ensures { result ≡ items.items }
-    {
-        Notes { items }
-    }
-
-    pub fn as_slice(&self) -> &[Bytes]
-        ensures { result.now ≡ self.now }
-    {
-        self.items.as_slice()
-    }
-}
 
 /// The notes of each event of a code, from event 0 on.
 pub fn notes_of(

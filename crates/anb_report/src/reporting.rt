@@ -1,6 +1,5 @@
 //! The report of all roles.
 ghost use Rattle.std.specs.Prelude.{◌≡◌, ◌<◌, ◌++◌, [], map, length, count_by, decimal, IfOk, OnOk};
-ghost use Rattle.std.specs.List.{AllByRecursion};
 ghost use Rattle.anb_term.specs.View.{tree_of};
 ghost use Rattle.anb_compile.specs.Fitting.{FitsRole, FitRoles};
 ghost use Rattle.anb_protocol.specs.Laws.{HoldsOf};
@@ -9,27 +8,31 @@ ghost use Rattle.anb_protocol.specs.Texts.{IsTermOf};
 ghost use Rattle.anb_protocol.specs.Views.{action_value};
 ghost use Rattle.anb_protocol.specs.Choices.{each_after};
 ghost use Rattle.anb_protocol.specs.Protocols.{role_name};
-ghost use Rattle.anb_report.specs.Reporting.{action_lines, counted, event_line, events_text, head_line, is_own, new_for, notes_at_event, notes_line, peer, report, role_after, role_report, start_lines, unchecked_line, with_new};
+ghost use Rattle.anb_report.specs.Reporting.{action_lines, counted, event_line, events_text, head_line, is_own, joined, new_for, notes_at_event, notes_line, peer, report, role_after, role_report, start_lines, with_new};
 
-use crate::lists::put_terms;
-use crate::notes::{Notes, notes_of};
+use crate::notes::notes_of;
 use crate::remarks::put_remarks;
-use crate::seen::unchecked;
 use anb_base::{Bytes, NoMemory, Text};
 use anb_code::RoleCode;
 use anb_explain::explanation_of;
+use anb_pattern::{Notes, Taken};
 use anb_protocol::{Action, Names, Protocol, protocols_hold};
-use anb_term::Term;
 use itoa::Buffer;
 use std::alloc::Global;
 
-/// The report on all roles of a protocol, by a code for each.
-pub fn report(alloc: Global, protocol: &Protocol, codes: &[RoleCode]) -> Result<Bytes, NoMemory>
-    requires { FitRoles protocol.now codes.now }
-    ensures { IfOk result (λ text. text ≡ report protocol.now codes.now) }
+/// The report on all roles of a protocol, by a code for each and by what each takes.
+pub fn report(
+    alloc: Global,
+    protocol: &Protocol,
+    codes: &[RoleCode],
+    taken: &[Taken],
+) -> Result<Bytes, NoMemory>
+    requires fit { FitRoles protocol.now codes.now }
+    requires taken { length taken.now ≡ length protocol.now.roles }
+    ensures { IfOk result (λ text. text ≡ report protocol.now codes.now taken.now) }
 {
     let mut out = Vec::new(alloc);
-    put_roles(alloc, &mut out, protocol, codes)?;
+    put_roles(alloc, &mut out, protocol, codes, taken)?;
     put_remarks(alloc, &mut out, protocol)?;
     Ok(Bytes::new(out))
 }
@@ -40,16 +43,18 @@ fn put_roles(
     out: &mut Vec<u8>,
     protocol: &Protocol,
     codes: &[RoleCode],
+    taken: &[Taken],
 ) -> Result<(), NoMemory>
-    requires { FitRoles protocol.now codes.now }
+    requires fit { FitRoles protocol.now codes.now }
+    requires taken { length taken.now ≡ length protocol.now.roles }
     ensures { OnOk result (out.new.items
-        ≡ out.old.items ++ each_after (role_after protocol.now) [] codes.now) }
+        ≡ out.old.items ++ each_after (role_after protocol.now taken.now) [] codes.now) }
 {
     protocols_hold();
     let _actions = protocol.messages();
     let made = protocol.made(alloc)?;
     for (role, code) in codes.iter().enumerate() {
-        put_role(alloc, out, protocol, role as u32, &made, code)?;
+        put_role(alloc, out, protocol, role as u32, &made, code, &taken[role])?;
     }
     Ok(())
 }
@@ -62,18 +67,18 @@ fn put_role(
     role: u32,
     made: &[Names],
     code: &RoleCode,
+    taken: &Taken,
 ) -> Result<(), NoMemory>
     requires role { role < length protocol.now.roles }
     requires fits { FitsRole protocol.now role code.now }
     requires made { made.now ≡ names_made protocol.now }
     ensures { OnOk result (out.new.items ≡ out.old.items
-        ++ role_report protocol.now role code.now) }
+        ++ role_report protocol.now role code.now taken.now) }
 {
     protocols_hold();
     let explanation = explanation_of(alloc, protocol, role, code)?;
-    let terms = explanation.terms();
-    let notes = notes_of(alloc, protocol, code, terms)?;
-    let taken = unchecked(alloc, code)?;
+    let own = notes_of(alloc, protocol, code, explanation.terms())?;
+    let notes = joined(alloc, &own, taken.notes())?;
     put_head(out, protocol, role)?;
     put_start(out, notes_at(&notes, 0))?;
     put_events(
@@ -85,7 +90,43 @@ fn put_role(
         made,
         &notes,
     )?;
-    put_unchecked(alloc, out, protocol, terms, &taken)
+    out.extend_from_slice(taken.lines())?;
+    Ok(())
+}
+
+/// The notes of each event, and behind them further ones of it.
+pub(crate) fn joined(
+    alloc: Global,
+    notes: &[Notes],
+    further: &[Notes],
+) -> Result<Vec<Notes>, NoMemory>
+    ensures { IfOk result (λ all. all.items ≡ joined 0 notes.now further.now) }
+{
+    let mut out = Vec::new(alloc);
+    for (event, own) in notes.iter().enumerate() {
+        let both = both(alloc, own.as_slice(), notes_at(further, event))?;
+        out.push(both)?;
+    }
+    Ok(out)
+}
+
+fn both(alloc: Global, one: &[Bytes], other: &[Bytes]) -> Result<Notes, NoMemory>
+    ensures { IfOk result (λ notes. notes ≡ one.now ++ other.now) }
+{
+    let mut items = Vec::new(alloc);
+    put_copies(alloc, &mut items, one)?;
+    put_copies(alloc, &mut items, other)?;
+    Ok(Notes::new(items))
+}
+
+fn put_copies(alloc: Global, out: &mut Vec<Bytes>, notes: &[Bytes]) -> Result<(), NoMemory>
+    ensures { OnOk result (out.new.items ≡ out.old.items ++ notes.now) }
+{
+    for note in notes {
+        let copy = Vec::from_slice(alloc, note.as_slice())?;
+        out.push(Bytes::new(copy))?;
+    }
+    Ok(())
 }
 
 /// The notes of an event.
@@ -328,27 +369,5 @@ fn put_new(out: &mut Vec<u8>, names: &[Text]) -> Result<(), NoMemory>
         out.extend_from_slice(b", ")?;
         out.extend_from_slice(name.as_str().as_bytes())?;
     }
-    Ok(())
-}
-
-/// Appends the line of what is taken unchecked.
-fn put_unchecked(
-    alloc: Global,
-    out: &mut Vec<u8>,
-    protocol: &Protocol,
-    terms: &[Term],
-    registers: &[u32],
-) -> Result<(), NoMemory>
-    requires { AllByRecursion (IsTermOf protocol.now) (map tree_of terms.now) }
-    ensures { OnOk result (out.new.items ≡ out.old.items
-        ++ unchecked_line protocol.now (map tree_of terms.now) registers.now) }
-{
-    if registers.is_empty() {
-        out.extend_from_slice(b"  takes nothing unchecked\n")?;
-        return Ok(());
-    }
-    out.extend_from_slice(b"  takes unchecked: ")?;
-    put_terms(alloc, out, protocol, terms, registers)?;
-    out.push(b'\n')?;
     Ok(())
 }

@@ -1,4 +1,4 @@
-use Rattle.anb_report.proofs.Items.{told}
+use Rattle.anb_pattern.proofs.Same.{told}
 use Rattle.anb_report.proofs.lists.is_same.Goals as goal
 
 pub returns : goal.returns

@@ -8,14 +8,14 @@ use Rattle.anb_report.proofs.reporting.put_roles.Goals as goal
 pub overflow_cast-role : goal.overflow_cast-role
 overflow_cast-role c =
     let few : length c.args.protocol.now.roles ≤ 32 = (c.protocols_hold.ensures c.args.protocol.now c.messages-actions.ensures.protocol).roles in
-    omega (arith, few, c.requires.count)
+    omega (arith, few, c.requires.fit.count)
 
 pub put_role-requires-clause-role : goal.put_role-requires-clause-role
-put_role-requires-clause-role c = omega (arith, c.requires.count)
+put_role-requires-clause-role c = omega (arith, c.requires.fit.count)
 
 pub put_role-requires-clause-fits : goal.put_role-requires-clause-fits
 put_role-requires-clause-fits c =
-    c.requires.each c.loop-role.role c.index-codes-role.result (slice_get-at c.args.codes.now c.loop-role.role c.index-codes-role.result (omega arith) c.index-codes-role.is)
+    c.requires.fit.each c.loop-role.role c.index-codes-role.result (slice_get-at c.args.codes.now c.loop-role.role c.index-codes-role.result (omega arith) c.index-codes-role.is)
 
 pub loop-role-preserved : goal.loop-role-preserved
 loop-role-preserved c =
@@ -26,9 +26,12 @@ loop-role-preserved c =
     let v = c.loop-role.invariant in
     let here = slice_get-at codes i x (omega arith) c.index-codes-role.is in
     let out = c.loop-role.out.items in
-    let later = each_after (role_after p) (v.before ++ x ∷ []) (drop (i + 1) codes) in
+    let taken = c.args.taken.now in
+    let t = c.index-taken-role.result in
+    let there = slice_get-at taken i t (omega (arith, c.requires.fit.count, c.requires.taken)) c.index-taken-role.is in
+    let later = each_after (role_after p taken) (v.before ++ x ∷ []) (drop (i + 1) codes) in
     record {
       before = v.before ++ x ∷ [];
       many = code_longer v.before x i v.many;
-      due = ap (λ l. l ++ later) c.in_ok-put_role.ensures ∙ append_assoc out (role_report p i x) later ∙ ap (λ l. out ++ l) (sym (role_first p codes i x v.before here v.many)) ∙ v.due;
+      due = ap (λ l. l ++ later) c.in_ok-put_role.ensures ∙ append_assoc out (role_report p i x t) later ∙ ap (λ l. out ++ l) (sym (role_first p taken codes i x t v.before here there v.many)) ∙ v.due;
     }

@@ -8,5 +8,5 @@ abbrev pub invariant-loop-role : goal.invariant-loop-role
 invariant-loop-role l = record {
   before : List CodeValue;
   many : length before ≡ l.role;
-  due : l.out.items ++ each_after (role_after l.protocol) before (drop l.role l.codes) ≡ l.initial.out.items ++ each_after (role_after l.protocol) [] l.codes;
+  due : l.out.items ++ each_after (role_after l.protocol l.taken) before (drop l.role l.codes) ≡ l.initial.out.items ++ each_after (role_after l.protocol l.taken) [] l.codes;
 }
