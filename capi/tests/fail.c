@@ -1,7 +1,9 @@
-/* Plays both roles of a protocol, again and again, with each allocation of the library failing once:
+/* Plays both roles of a protocol, again and again, with each allocation of the library failing in turn:
  *     fail <narration> <name> <role> <values> <role> <values>
- * Each failure is told as ANB_NO_MEMORY by the call in which it comes. What the call leaves is as anb.h says, and with
- * memory again the roles go on to their ends, but for a session that failed. Link with --wrap=malloc and --wrap=realloc. */
+ * First it fails alone: a list that doesn't get the room to grow asks for less, so the call may still do what it is for.
+ * Then all that come behind it in the call fail too, and the call tells it as ANB_NO_MEMORY. What the call leaves is as
+ * anb.h says, and with memory again the roles go on to their ends, but for a session that failed.
+ * Link with --wrap=malloc and --wrap=realloc. */
 #include <anb.h>
 #include <stdio.h>
 #include <stdlib.h>
@@ -12,8 +14,9 @@ typedef struct { uint8_t bytes[1 << 16]; size_t len; } text;
 static const uint8_t key[] = "a key", seed[ANB_SEED_LEN] = { 1 };
 static text out, record;
 static uint32_t event, instruction;
-static long left = -1; /* how many allocations succeed before the one that fails; or none does */
-static bool failed, fails;
+static long left = -1;      /* how many allocations succeed before the one that fails; or none does */
+static bool alone;          /* it fails alone */
+static bool fails, failed;  /* one failed in this call, in this run */
 
 void *__real_malloc(size_t size);
 void *__real_realloc(void *at, size_t size);
@@ -21,7 +24,8 @@ void *__wrap_malloc(size_t size);
 void *__wrap_realloc(void *at, size_t size);
 
 static bool fails_now(void) {
-    if (left < 0 || left-- > 0) return false;
+    if (left != 0) return left -= left > 0, false;
+    if (alone) left = -1;
     return failed = fails = true;
 }
 
@@ -43,9 +47,11 @@ static void owe(const char *call, int32_t status, int32_t due) {
     exit(1);
 }
 
-/* The status of a call, which tells whether an allocation failed in it. */
+/* The status of a call, which tells whether allocations failed in it. There is memory again. */
 static int32_t told(const char *call, int32_t status) {
-    if (fails != (status == ANB_NO_MEMORY)) owe(call, status, fails ? ANB_NO_MEMORY : ANB_DONE);
+    if (fails && !alone) owe(call, status, ANB_NO_MEMORY);
+    if (!fails && status == ANB_NO_MEMORY) owe(call, status, ANB_DONE);
+    if (fails) left = -1;
     fails = false;
     return status;
 }
@@ -125,6 +131,16 @@ static void compiles(const text *narration, const char *name) {
         owe("anb_compile", anb_compile(narration->bytes, narration->len, role, len, out.bytes, sizeof out.bytes, &out.len, &where), ANB_DONE);
 }
 
+static void play(const text roles[2], const text values[2]) {
+    anb_session s[2] = { ANB_SESSION_INIT, ANB_SESSION_INIT };
+    open_it(&s[0], &roles[0], &values[0]);
+    open_it(&s[1], &roles[1], &values[1]);
+    int32_t status = carried(s, roles);
+    if (!failed) owe("the run", status, ANB_DONE);
+    anb_close(&s[0]);
+    anb_close(&s[1]);
+}
+
 int main(int argc, char **argv) {
     if (argc != 7) return 2;
     static text narration, roles[2], values[2];
@@ -133,23 +149,20 @@ int main(int argc, char **argv) {
         roles[i] = file(argv[3 + 2 * i]);
         values[i] = file(argv[4 + 2 * i]);
     }
-    long compiling = 0, playing = 0;
-    do {
-        failed = false;
-        left = compiling++;
-        compiles(&narration, argv[2]);
-    } while (failed);
-    do {
-        failed = false;
-        left = playing++;
-        anb_session s[2] = { ANB_SESSION_INIT, ANB_SESSION_INIT };
-        open_it(&s[0], &roles[0], &values[0]);
-        open_it(&s[1], &roles[1], &values[1]);
-        int32_t status = carried(s, roles);
-        if (!failed) owe("the run", status, ANB_DONE);
-        anb_close(&s[0]);
-        anb_close(&s[1]);
-    } while (failed);
-    printf("%ld of compiling, %ld of playing\n", compiling - 1, playing - 1);
+    for (int i = 0; i < 2; i++) {
+        alone = i == 0;
+        long compiling = -1, playing = -1;
+        do {
+            failed = false;
+            left = ++compiling;
+            compiles(&narration, argv[2]);
+        } while (failed);
+        do {
+            failed = false;
+            left = ++playing;
+            play(roles, values);
+        } while (failed);
+        printf("%s%ld of compiling and %ld of playing %s", i ? ", " : "", compiling, playing, alone ? "alone" : "with all behind them\n");
+    }
     return 0;
 }
