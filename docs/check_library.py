@@ -229,7 +229,10 @@ def check_wire(program, example, folder):
     """Each role by the example, with `anb play` as the other; and with another key there."""
     mutual = EXAMPLES / "mutual"
     other = folder / "other.values"
-    other.write_text(re.sub(r"^K=.*$", "K=x" + "11" * 32, (mutual / "B.values").read_text(), flags=re.M))
+    text, changed = re.subn(r"^K = .*$", f"K = x{'11' * 16}", (mutual / "B.values").read_text(), flags=re.M)
+    if changed != 1:
+        raise ValueError("the values of B have no line for K")
+    other.write_text(text)
     for ours, theirs, listens, values, status in (
             ("A", "B", False, mutual / "B.values", 0), ("B", "A", True, mutual / "A.values", 0), ("A", "B", False, other, 10)):
         port = free_port()
