@@ -570,6 +570,7 @@ def commands(program):
         ["check", "ping.anb"],
         ["trace", *role, "transcript"],
         ["stage", "ping.anb", "."],
+        ["values", "ping.anb"],
         ["help"],
     ]
 
