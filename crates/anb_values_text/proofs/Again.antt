@@ -140,6 +140,10 @@ written_is_read ls vs seed are differ count values is =
     let fine : lines_faults asked [] es ≡ [] =
     fine_lines asked [] es (each_fine asked ls vs (seed_entries seed) known values (seed_fine ls seed is)) (none_before (labels es)) (all_apart ls vs seed are apart) in
     let last : seed ≡ value_of es seed_label =
-    seed_value seed ∙ sym (found_behind ls vs (seed_entries seed) seed_label (each_by IsLabel (λ m. m ≢ seed_label) no_label ls are)) in
-    (es, are_said ls vs (seed_text seed) (seed_entries seed) are values (seed_said seed is),
-    ap (λ fs. fs ++ missing ls es) fine ∙ none_missing es ls vs found, found, last)
+    seed_value seed ∙ sym (found_behind ls vs (seed_entries seed) seed_label (each_by IsLabel (λ m. m ≢ seed_label) no_label ls are)) in (
+      es,
+      are_said ls vs (seed_text seed) (seed_entries seed) are values (seed_said seed is),
+      ap (λ fs. fs ++ missing ls es) fine ∙ none_missing es ls vs found,
+      found,
+      last,
+    )

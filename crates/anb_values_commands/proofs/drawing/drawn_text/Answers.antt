@@ -38,6 +38,6 @@ pub values_text-requires-clause-short : goal.values_text-requires-clause-short
 values_text-requires-clause-short c =
     let p = c.args.protocol.now in
     let values = c.deref-3.ensures.value ∙ c.in_ok-values.ensures p (c.in_ok-agents.ensures ∙ ap (flat_map agent_names) c.declared.ensures)
-        ∙ ap (values_from p c.args.seed.now 0) (c.deref.ensures.value ∙ c.in_ok-names.ensures) in
+    ∙ ap (values_from p c.args.seed.now 0) (c.deref.ensures.value ∙ c.in_ok-names.ensures) in
     subst (All (λ (v : List ℕ). length v ≤ ARRIVAL)) (sym values)
     (values_short p c.args.seed.now (λ j. length-stream_bytes _ 0 (8 * j) 8) (known_names p) (names_short p c.name.ensures.protocol))

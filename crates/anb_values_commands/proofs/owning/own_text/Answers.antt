@@ -43,7 +43,7 @@ values_text-requires-clause-short c =
     let known = known_by p c.args.role in
     let k = cast p [] c.args.fitted.now.values [] in
     let count = ap length (c.deref-2.ensures.value ∙ rw c.as_slice.ensures at (c.in-Ok-known_values.ensures [] [])) ∙ length-map known (given_bytes k)
-        ∙ sym (ap length (c.deref.ensures.value ∙ c.in-Ok.ensures) ∙ length-map known (term_text p)) in
+    ∙ sym (ap length (c.deref.ensures.value ∙ c.in-Ok.ensures) ∙ length-map known (term_text p)) in
     subst (All (λ (v : List ℕ). length v ≤ ARRIVAL)) (c.deref-2.ensures.value ∙ sym c.deref-4.ensures.value)
     (none_is_long c.deref.result.now c.deref-2.result.now count (sym c.first_long.ensures ∙ ap option_copied c.in_default.is))
 
