@@ -13,11 +13,13 @@ use Rattle.anb_machine.specs.ByteRuns.{run_bytes}
 use Rattle.anb_machine.specs.Machines.{MachineValue, gives}
 use Rattle.anb_session.specs.declared.PlayEnd.{PlayEnd}
 use Rattle.anb_choice.specs.Lawful.{BranchedValue, is_free}
+use Rattle.anb_session.specs.Turns.{Closes}
+use Rattle.anb_session.proofs.Turning.{closes_behind}
 use Rattle.anb_branch.specs.Taken.{place_begun, stem_receives, run_at, run_taken}
-use Rattle.anb_branch.specs.Stems.{said, StandsBehind, AgreeUpTo, behind, Closes, Chooses, EndsBefore, RunsTo, WaitsAt}
+use Rattle.anb_branch.specs.Stems.{said, StandsBehind, AgreeUpTo, behind, Chooses, EndsBefore, RunsTo, WaitsAt}
 use Rattle.anb_branch.specs.Choices.{goes_behind}
 use Rattle.anb_branch.proofs.Behind.{behind_taken, over_now}
-use Rattle.anb_branch.proofs.Turns.{closes_as, closes_behind}
+use Rattle.anb_branch.proofs.Turns.{closes_as}
 
 pub slice_get_seam : {X : Type 0} (xs ys : List X) (x : X) (n : ℕ) → length xs ≡ n → slice_get (xs ++ (x ∷ ys)) n ≡ Some x
 slice_get_seam [] ys x zero e = refl

@@ -1,18 +1,18 @@
 -- A run without the instructions of its stops, over a wire.
-use Rattle.std.proofs.Common.{◌≡◌, ℕ, List, [], ◌∷◌, ◌++◌, length, replicate, Option, Some, None, IfSome, refl, ap, ◌∙◌, subst}
-use Rattle.anb_base.specs.Moves.{Put}
+use Rattle.std.proofs.Common.{◌≡◌, ℕ, List, Option, refl, ap, ◌∙◌}
 use Rattle.anb_base.specs.Wires.{WireState}
-use Rattle.anb_frame.specs.Frames.{frame}
 use Rattle.anb_frame.specs.Cuts.{Tail, Short, Long}
 use Rattle.anb_frame.specs.Cuts.{End as Whole}
 use Rattle.anb_plays.specs.Plays.{End, stopped, waiting, done, Run}
 use Rattle.anb_plays.specs.Runs.{no_place, without_place}
 use Rattle.anb_session.specs.declared.PlayEnd.{PlayEnd}
 use Rattle.anb_session.specs.declared.PlayEnd.TheVariants.{Done, Stopped, Waiting, Truncated, TooLarge, ReadFault, WriteFault, NoMemory}
-use Rattle.anb_session.specs.Sessions.{Runs, Concludes, Reads, end_at, due, due_at, IsPrompt}
-use Rattle.anb_session.specs.Turns.{Ends}
+use Rattle.anb_session.specs.Sessions.{Runs, Concludes, Reads, end_at, IsPrompt}
+use Rattle.anb_session.specs.Faults.{TellsEnd}
+use Rattle.anb_session.specs.Turns.{Ends, Closes}
+use Rattle.anb_session.proofs.Faults.{answered_as}
 use Rattle.anb_session.proofs.Prompt.{prompt_placeless}
-use Rattle.anb_branch.specs.Stems.{Closes, no_halt}
+use Rattle.anb_branch.specs.Stems.{no_halt}
 
 abbrev placeless : Run → Run
 placeless R more = without_place (R more)
@@ -58,22 +58,18 @@ closes_placeless R s t end ends_so prompt = record {
   prompt = prompt_placeless R s t prompt;
 }
 
-pub read_fault_placeless : (end : PlayEnd) → no_halt end ≡ ReadFault → end ≡ ReadFault
-read_fault_placeless ReadFault is = refl
-read_fault_placeless Done is = cc
-read_fault_placeless (Stopped halt) is = cc
-read_fault_placeless (Waiting e) is = cc
-read_fault_placeless (Truncated have need) is = cc
-read_fault_placeless (TooLarge len) is = cc
-read_fault_placeless WriteFault is = cc
-read_fault_placeless NoMemory is = cc
-
-pub write_fault_placeless : (end : PlayEnd) → no_halt end ≡ WriteFault → end ≡ WriteFault
-write_fault_placeless WriteFault is = refl
-write_fault_placeless Done is = cc
-write_fault_placeless (Stopped halt) is = cc
-write_fault_placeless (Waiting e) is = cc
-write_fault_placeless (Truncated have need) is = cc
-write_fault_placeless (TooLarge len) is = cc
-write_fault_placeless ReadFault is = cc
-write_fault_placeless NoMemory is = cc
+-- the stop without its instruction is no fault either
+pub tells_placeless : (s t : WireState) (end : PlayEnd) → TellsEnd s t end → TellsEnd s t (no_halt end)
+tells_placeless s t (Stopped halt) h = record {
+  reading = answered_as (λ is. cc) (λ is. cc) h.reading;
+  writing = answered_as (λ is. cc) (λ is. cc) h.writing;
+  reached = h.reached;
+  reach_faults = h.reach_faults;
+}
+tells_placeless s t Done h = h
+tells_placeless s t (Waiting e) h = h
+tells_placeless s t (Truncated have need) h = h
+tells_placeless s t (TooLarge len) h = h
+tells_placeless s t ReadFault h = h
+tells_placeless s t WriteFault h = h
+tells_placeless s t NoMemory h = h

@@ -4,9 +4,10 @@ use Rattle.anb_plays.specs.Plays.{Run}
 use Rattle.anb_base.specs.Wires.{WireState}
 use Rattle.anb_machine.specs.Machines.{MachineValue, gives}
 use Rattle.anb_session.specs.declared.PlayEnd.{PlayEnd}
-use Rattle.anb_branch.specs.Stems.{AreBytes, AreShort, StandsBehind, AgreeUpTo, behind, Passes, GoesOn, Arrives, IsOver, Chooses, EndsBefore}
+use Rattle.anb_session.specs.Turns.{Passes}
+use Rattle.anb_session.proofs.Turning.{passes_nowhere, passes_joined, closes_behind}
+use Rattle.anb_branch.specs.Stems.{AreBytes, AreShort, StandsBehind, AgreeUpTo, behind, GoesOn, Arrives, IsOver, Chooses, EndsBefore}
 use Rattle.anb_branch.proofs.Behind.{stands_same, behind_waiting}
-use Rattle.anb_branch.proofs.Turns.{passes_nowhere, passes_joined, closes_behind}
 
 -- the turns so far, from the machine `first` to `now`
 pub record Along (n : ℕ) (first now : MachineValue) (past : List (List ℕ)) (s t : WireState) : Type 0 where

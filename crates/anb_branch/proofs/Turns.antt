@@ -1,47 +1,24 @@
 -- What a turn before the choice comes to, from what its calls did.
-use Rattle.std.proofs.Common.{◌≡◌, ◌≤◌, ◌<◌, ℕ, List, [], ◌∷◌, ◌++◌, length, Option, refl, sym, ap, ◌∙◌, subst}
+use Rattle.std.proofs.Common.{◌≡◌, ◌≤◌, ◌<◌, ℕ, List, [], ◌∷◌, ◌++◌, length, Option, sym, ap, ◌∙◌, subst}
 use Rattle.anb_base.specs.Moves.{Put}
 use Rattle.anb_base.specs.Bytes.{IsBytes}
 use Rattle.anb_base.specs.Wires.{WireState}
 use Rattle.anb_base.specs.declared.TheConstants.{ARRIVAL}
-use Rattle.anb_base.proofs.Moving.{put_nothing}
 use Rattle.anb_frame.specs.Frames.{frame}
 use Rattle.anb_frame.specs.Cuts.{Tail}
-use Rattle.anb_plays.specs.Plays.{Played, End, stopped, waiting, done, ends, says, Run}
+use Rattle.anb_plays.specs.Plays.{Played, End, stopped, waiting, ends, says, Run}
 use Rattle.anb_plays.specs.Runs.{no_place}
 use Rattle.anb_machine.specs.Machines.{MachineValue, gives, left}
 use Rattle.anb_machine.specs.declared.turn.Halt.{Halt}
 use Rattle.anb_session.specs.declared.PlayEnd.{PlayEnd}
 use Rattle.anb_session.specs.declared.PlayEnd.TheVariants.{Done, Stopped, Waiting, Truncated, TooLarge, ReadFault, WriteFault, NoMemory}
 use Rattle.anb_session.specs.Sessions.{Runs}
-use Rattle.anb_session.specs.Turns.{Ends, EndsSending, EndsWaiting, Receives, WaitsPromptly, ReceivesPromptly, SendsPromptly, TookNothing}
-use Rattle.anb_session.proofs.Continued.{saying, receiving, going_nowhere, continued, ending, is_done, is_stopped}
-use Rattle.anb_session.proofs.Prompt.{prompt_nothing, prompt_still, nowhere_promptly, joined_promptly, prompt_as}
-use Rattle.anb_branch.specs.Stems.{AreBytes, AreShort, StandsBehind, behind, Passes, Closes, Hears, GoesOn, IsOver}
+use Rattle.anb_session.specs.Turns.{EndsSending, EndsWaiting, WaitsPromptly, SendsPromptly, TookNothing, Passes, Closes, Hears}
+use Rattle.anb_session.proofs.Continued.{is_stopped}
+use Rattle.anb_session.proofs.Prompt.{prompt_nothing, prompt_still, prompt_as}
+use Rattle.anb_session.proofs.Turning.{passes_saying, closes_wanting}
+use Rattle.anb_branch.specs.Stems.{AreBytes, AreShort, StandsBehind, behind, GoesOn, IsOver}
 use Rattle.anb_branch.proofs.Behind.{stands_saying, stands_hearing, behind_saying, behind_waiting, behind_over, behind_hearing}
-
--- ---- what a wire tells, in one value
-
-pub by_told : (P : (left now written written_now : Option (List ℕ)) → Type 0) (s s' t t' : WireState) → s ≡ s' → t ≡ t'
-    → P s'.left t'.left s'.written t'.written → P s.left t.left s.written t.written
-by_told P s s' t t' a b h = rw (a, b) h
-
--- ---- one turn after another
-
-pub passes_nowhere : (R : Run) (s : WireState) → Passes R R s s
-passes_nowhere R s = record { continues = going_nowhere R s.left s.written; promptly = nowhere_promptly R s }
-
-pub passes_joined : (R R' R'' : Run) (s t u : WireState) → Passes R R' s t → Passes R' R'' t u → Passes R R'' s u
-passes_joined R R' R'' s t u one two = record {
-  continues = continued R R' R'' s.left t.left u.left s.written t.written u.written one.continues two.continues;
-  promptly = joined_promptly R R' R'' s t u one.promptly two.promptly;
-}
-
-pub closes_behind : (R R' : Run) (s t u : WireState) (end : PlayEnd) → Passes R R' s t → Closes R' t u end → Closes R s u end
-closes_behind R R' s t u end one last = record {
-  ends = ending R R' s.left t.left s.written t.written u.left u.written end one.continues last.ends;
-  prompt = one.promptly.each u last.prompt;
-}
 
 -- ---- the turns before the choice
 
@@ -59,10 +36,7 @@ module _ (n : ℕ) (old new : MachineValue) (past : List (List ℕ)) (s t : Wire
         let R2 = behind R past (length (sent ++ b ∷ [])) in (
           sent ++ b ∷ [],
           stands_saying G past sent b old new st says_so,
-          record {
-            continues = rw same (saying R1 R2 b s.left s.written t.written next put);
-            promptly = prompt R1 R2 next;
-          },
+          passes_saying R1 R2 b s t next same put prompt,
         );
   }
 
@@ -114,9 +88,6 @@ module _ (n : ℕ) (old new : MachineValue) (past : List (List ℕ)) (s t : Wire
   }
 
 -- nothing was written or taken
-pub closes_done : (R : Run) (s : WireState) → ((more : List (List ℕ)) → R more ≡ ends done more) → Closes R s s Done
-closes_done R s is = record { ends = is_done R s.left s.written is; prompt = prompt_still R s }
-
 pub closes_stopped : (R : Run) (s : WireState) (event : ℕ) (halt : Halt) → halt.event ≡ event → halt.at ≡ 0 → ((more : List (List ℕ)) → R more ≡ ends (stopped event 0) more) → Closes R s s (Stopped halt)
 closes_stopped R s event halt e a is =
     let P : Halt → Type 0 = λ h. Closes R s s (Stopped h) in
@@ -124,29 +95,8 @@ closes_stopped R s event halt e a is =
     ap (λ (n : ℕ). record { event = n; at = halt.at }) e ∙ ap (λ (n : ℕ). record { event = event; at = n }) a in
     subst P (sym same) (record { ends = is_stopped R s.left s.written event 0 is; prompt = prompt_still R s })
 
--- no memory was left
-pub ends_wanting : (R : Run) (left now written : Option (List ℕ)) → Ends R left now written written NoMemory
-ends_wanting R left now written arrivals tail cut = (0, put_nothing written)
-
-pub closes_wanting : (R : Run) (s : WireState) → Closes R s s NoMemory
-closes_wanting R s = record { ends = ends_wanting R s.left s.left s.written; prompt = prompt_still R s }
-
 pub over_wanting : (n : ℕ) (old new : MachineValue) (past past' : List (List ℕ)) (s : WireState) → IsOver n old new past past' s s NoMemory
 over_wanting n old new past past' s = record { each = λ R G sent agree st. closes_wanting (behind R past (length sent)) s }
-
--- and none for an arrival that was taken
-pub wanting_room : (event : ℕ) (b : List ℕ) (s t : WireState) → t.written ≡ s.written → ReceivesPromptly event b s t
-    → EndsWaiting event s.left t.left s.written t.written NoMemory × WaitsPromptly event s t
-wanting_room event b s t same prompt = (
-  λ R waits arrivals tail cut. (0, subst (λ o. Put s.written o []) (sym same) (put_nothing s.written)),
-  λ R waits. let R' : Run = λ more. R (b ∷ more) in (prompt R R' waits (λ more. refl)).each t (prompt_still R' t),
-)
-
-pub hears_so : (event : ℕ) (b : List ℕ) (s t : WireState) → t.written ≡ s.written → Receives b s.left t.left → ReceivesPromptly event b s t → Hears event b s t
-hears_so event b s t same receives prompt R R' waits comes = record {
-  continues = rw same (receiving R R' b s.left t.left s.written comes receives);
-  promptly = prompt R R' waits comes;
-}
 
 -- ---- the arrivals that were kept
 

@@ -10,8 +10,8 @@ use Rattle.anb_plays.specs.Statements.{Grows}
 use Rattle.anb_machine.specs.Machines.{MachineValue, gives, left, waits}
 use Rattle.anb_session.specs.declared.PlayEnd.{PlayEnd}
 use Rattle.anb_session.specs.declared.PlayEnd.TheVariants.{Stopped}
-use Rattle.anb_session.specs.Sessions.{IsPrompt}
-use Rattle.anb_session.specs.Turns.{Ends, Continues, GoesOnPromptly}
+use Rattle.anb_session.specs.Faults.{IsQuiet, TellsEnd}
+use Rattle.anb_session.specs.Turns.{Passes, Closes, Hears}
 use Rattle.anb_branch.specs.declared.stem.Step.{Step}
 use Rattle.anb_branch.specs.declared.stem.Step.TheVariants.{On, Arrived, Over}
 
@@ -44,21 +44,6 @@ AgreeUpTo n R G =
 abbrev pub behind : Run → List (List ℕ) → ℕ → Run
 behind R past k more = record (R (past ++ more)) { sent = drop k (R (past ++ more)).sent }
 
--- what comes of R' from here on comes of R from there on, in time
-pub record Passes (R R' : Run) (s t : WireState) : Type 0 where
-  pub continues : Continues R R' s.left t.left s.written t.written
-  pub promptly : GoesOnPromptly R R' s t
-
--- R came to this end, in time
-pub record Closes (R : Run) (s t : WireState) (end : PlayEnd) : Type 0 where
-  pub ends : Ends R s.left t.left s.written t.written end
-  pub prompt : IsPrompt R s t
-
--- R waits for its next arrival at this event, and this one comes
-abbrev pub Hears : ℕ → List ℕ → (s t : WireState) → Type 0
-Hears event b s t = (R R' : Run) → R [] ≡ ends (waiting event) []
-    → ((more : List (List ℕ)) → R (b ∷ more) ≡ R' more) → Passes R R' s t
-
 -- a turn before the choice: of the run G by a machine, over few arrivals
 module _ (n : ℕ) (old new : MachineValue) (past past' : List (List ℕ)) (s t : WireState) where
   pub record GoesOn : Type 0 where
@@ -89,6 +74,11 @@ module _ (n : ℕ) (old new : MachineValue) (past past' : List (List ℕ)) (s t 
   Steps On = GoesOn
   Steps (Arrived b) = Arrives b
   Steps (Over end) = IsOver end
+
+-- how the wire's faults stand to a step
+abbrev pub TellsStep : (s t : WireState) → Step → Type 0
+TellsStep s t (Over end) = TellsEnd s t end
+TellsStep s t step = IsQuiet s t
 
 -- all turns up to the choice
 module _ (n : ℕ) (old new : MachineValue) (s t : WireState) where

@@ -3,19 +3,20 @@ ghost use Rattle.std.specs.Prelude.{◌≡◌, ◌≤◌, ◌<◌, ℕ, List, le
 ghost use Rattle.std.specs.List.{AllByRecursion};
 ghost use Rattle.anb_index.specs.Places.{among};
 ghost use Rattle.anb_base.specs.Bytes.{IsBytes};
-ghost use Rattle.anb_base.specs.Moves.{Rose};
 ghost use Rattle.anb_base.specs.declared.TheConstants.{ARRIVAL};
 ghost use Rattle.anb_frame.specs.Cuts.{Tail, CutLeft};
 ghost use Rattle.anb_plays.specs.Runs.{without_place};
 ghost use Rattle.anb_code.specs.Taking.{take_texts};
 ghost use Rattle.anb_machine.specs.ByteRuns.{run_bytes};
 ghost use Rattle.anb_compile.specs.Laws.{FittingCodesPlay};
+ghost use Rattle.anb_session.specs.Faults.{TellsEnd};
 ghost use Rattle.anb_session.specs.Sessions.{Runs, IsPrompt};
+ghost use Rattle.anb_session.specs.Turns.{Closes};
 ghost use Rattle.anb_choice.specs.Lawful.{IsLawful, roles_in};
 ghost use Rattle.anb_choice.specs.Views.{branched_of};
 ghost use Rattle.anb_branch.specs.Arms.{FitArms};
 ghost use Rattle.anb_branch.specs.Taken.{IsTold, PlaysTaken, TakeAll, run_taken};
-ghost use Rattle.anb_branch.specs.Stems.{AreShort, Closes, WaitsAt};
+ghost use Rattle.anb_branch.specs.Stems.{AreShort, WaitsAt};
 ghost use Rattle.anb_branch.specs.Choices.{Decides, goes_behind};
 
 use crate::signs::{Sign, is_free_somewhere, place_begun, signs_of};
@@ -61,22 +62,7 @@ pub fn branch_play<W: Wire>(
         (W.state wire.old) (W.state wire.new) }
     ensures plays { PlaysTaken (branched_of b.now) role.now told init.now seed.now
         (run_taken (branched_of b.now) role.now told init.now seed.now codes.now) }
-
-    // A fault is answered where its count rose, and nowhere else.
-    ensures read_fault { result ≡ PlayEnd.ReadFault
-        → Rose (W.Source.faults wire.old) (W.Source.faults wire.new) }
-    ensures write_fault { result ≡ PlayEnd.WriteFault
-        → Rose (W.Sink.faults wire.old) (W.Sink.faults wire.new) }
-    ensures read_told { W.Source.faults wire.old < W.Source.faults wire.new
-        → result ≡ PlayEnd.ReadFault }
-    ensures write_told { W.Sink.faults wire.old < W.Sink.faults wire.new
-        → result ≡ PlayEnd.WriteFault }
-    ensures reading_never_falls { W.Source.faults wire.old ≤ W.Source.faults wire.new }
-    ensures writing_never_falls { W.Sink.faults wire.old ≤ W.Sink.faults wire.new }
-
-    // No place is reached.
-    ensures reached { W.reached wire.new ≡ W.reached wire.old }
-    ensures reach_faults { W.reach_faults wire.new ≡ W.reach_faults wire.old }
+    ensures faults { TellsEnd (W.state wire.old) (W.state wire.new) result }
 {
     are_bytes_all(init);
     all_play(&b.arms);
@@ -107,18 +93,7 @@ fn play_untold<W: Wire>(
     ensures closes { Closes
         (run_taken (branched_of b.now) role.now None init.now seed.now codes.now)
         (W.state wire.old) (W.state wire.new) result }
-    ensures read_fault { result ≡ PlayEnd.ReadFault
-        → Rose (W.Source.faults wire.old) (W.Source.faults wire.new) }
-    ensures write_fault { result ≡ PlayEnd.WriteFault
-        → Rose (W.Sink.faults wire.old) (W.Sink.faults wire.new) }
-    ensures read_told { W.Source.faults wire.old < W.Source.faults wire.new
-        → result ≡ PlayEnd.ReadFault }
-    ensures write_told { W.Sink.faults wire.old < W.Sink.faults wire.new
-        → result ≡ PlayEnd.WriteFault }
-    ensures reading_never_falls { W.Source.faults wire.old ≤ W.Source.faults wire.new }
-    ensures writing_never_falls { W.Sink.faults wire.old ≤ W.Sink.faults wire.new }
-    ensures reached { W.reached wire.new ≡ W.reached wire.old }
-    ensures reach_faults { W.reach_faults wire.new ≡ W.reach_faults wire.old }
+    ensures faults { TellsEnd (W.state wire.old) (W.state wire.new) result }
 {
     let Ok(signs) = signs_of(alloc, b, role) else {
         return PlayEnd::NoMemory;
@@ -152,18 +127,7 @@ fn play_seeing<W: Wire>(
         → Decides (branched_of b.now) role init.now seed.now codes.now signs.now
         → Closes (run_taken (branched_of b.now) role None init.now seed.now codes.now)
         (W.state wire.old) (W.state wire.new) result }
-    ensures read_fault { result ≡ PlayEnd.ReadFault
-        → Rose (W.Source.faults wire.old) (W.Source.faults wire.new) }
-    ensures write_fault { result ≡ PlayEnd.WriteFault
-        → Rose (W.Sink.faults wire.old) (W.Sink.faults wire.new) }
-    ensures read_told { W.Source.faults wire.old < W.Source.faults wire.new
-        → result ≡ PlayEnd.ReadFault }
-    ensures write_told { W.Sink.faults wire.old < W.Sink.faults wire.new
-        → result ≡ PlayEnd.WriteFault }
-    ensures reading_never_falls { W.Source.faults wire.old ≤ W.Source.faults wire.new }
-    ensures writing_never_falls { W.Sink.faults wire.old ≤ W.Sink.faults wire.new }
-    ensures reached { W.reached wire.new ≡ W.reached wire.old }
-    ensures reach_faults { W.reach_faults wire.new ≡ W.reach_faults wire.old }
+    ensures faults { TellsEnd (W.state wire.old) (W.state wire.new) result }
 {
     let Ok(mut machine) = Machine::start(alloc, &codes[0], init, seed, 0) else {
         return PlayEnd::NoMemory;
@@ -198,18 +162,7 @@ fn play_again<W: Wire>(
     requires fits { length choice.arrival ≤ ARRIVAL }
     ensures closes { Closes (goes_behind (run_bytes code.now init.now seed.now 0) choice.past.items
         choice.arrival) (W.state wire.old) (W.state wire.new) result }
-    ensures read_fault { result ≡ PlayEnd.ReadFault
-        → Rose (W.Source.faults wire.old) (W.Source.faults wire.new) }
-    ensures write_fault { result ≡ PlayEnd.WriteFault
-        → Rose (W.Sink.faults wire.old) (W.Sink.faults wire.new) }
-    ensures read_told { W.Source.faults wire.old < W.Source.faults wire.new
-        → result ≡ PlayEnd.ReadFault }
-    ensures write_told { W.Sink.faults wire.old < W.Sink.faults wire.new
-        → result ≡ PlayEnd.WriteFault }
-    ensures reading_never_falls { W.Source.faults wire.old ≤ W.Source.faults wire.new }
-    ensures writing_never_falls { W.Sink.faults wire.old ≤ W.Sink.faults wire.new }
-    ensures reached { W.reached wire.new ≡ W.reached wire.old }
-    ensures reach_faults { W.reach_faults wire.new ≡ W.reach_faults wire.old }
+    ensures faults { TellsEnd (W.state wire.old) (W.state wire.new) result }
 {
     let Choice { past, arrival } = choice;
     let Ok(mut machine) = Machine::start(alloc, code, init, seed, 0) else {
@@ -233,18 +186,7 @@ fn play_code<W: Wire>(
     requires short { All (λ value. length value ≤ ARRIVAL) init.now }
     ensures closes { Closes (λ more. without_place (run_bytes code.now init.now seed.now 0 more))
         (W.state wire.old) (W.state wire.new) result }
-    ensures read_fault { result ≡ PlayEnd.ReadFault
-        → Rose (W.Source.faults wire.old) (W.Source.faults wire.new) }
-    ensures write_fault { result ≡ PlayEnd.WriteFault
-        → Rose (W.Sink.faults wire.old) (W.Sink.faults wire.new) }
-    ensures read_told { W.Source.faults wire.old < W.Source.faults wire.new
-        → result ≡ PlayEnd.ReadFault }
-    ensures write_told { W.Sink.faults wire.old < W.Sink.faults wire.new
-        → result ≡ PlayEnd.WriteFault }
-    ensures reading_never_falls { W.Source.faults wire.old ≤ W.Source.faults wire.new }
-    ensures writing_never_falls { W.Sink.faults wire.old ≤ W.Sink.faults wire.new }
-    ensures reached { W.reached wire.new ≡ W.reached wire.old }
-    ensures reach_faults { W.reach_faults wire.new ≡ W.reach_faults wire.old }
+    ensures faults { TellsEnd (W.state wire.old) (W.state wire.new) result }
 {
     match Machine::start(alloc, code, init, seed, 0) {
         Ok(mut machine) => play_whole(alloc, &mut machine, wire),

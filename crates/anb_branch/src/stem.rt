@@ -4,12 +4,12 @@
 //! arrival is kept, from which the machine of another arm goes on.
 ghost use Rattle.std.specs.Prelude.{◌≡◌, ◌≤◌, ◌<◌, ℕ, List, [], ◌∷◌, ◌++◌, length, IsTrue, IfOk, IfErr, OnOk};
 ghost use Rattle.anb_base.specs.Bytes.{IsBytes};
-ghost use Rattle.anb_base.specs.Moves.{Rose};
 ghost use Rattle.anb_base.specs.declared.TheConstants.{ARRIVAL};
 ghost use Rattle.anb_plays.specs.Runs.{without_place};
 ghost use Rattle.anb_machine.specs.Machines.{gives, left, waits};
-ghost use Rattle.anb_branch.specs.Stems.{AreBytes, AreShort, Steps, Chooses, EndsBefore, WaitsAt, RunsTo, Closes, no_halt};
-ghost use Rattle.anb_branch.specs.declared.stem.Step.TheVariants as step;
+ghost use Rattle.anb_session.specs.Faults.{IsQuiet, TellsEnd};
+ghost use Rattle.anb_session.specs.Turns.{Closes};
+ghost use Rattle.anb_branch.specs.Stems.{AreBytes, AreShort, Steps, TellsStep, Chooses, EndsBefore, WaitsAt, RunsTo, no_halt};
 
 use anb_base::{ARRIVAL, Bytes, NoMemory, Wire};
 use anb_machine::{Halt, Machine, Turn};
@@ -45,18 +45,8 @@ pub(crate) fn play_to_choice<W: Wire>(
         choice.past.items choice.arrival) }
     ensures ends { IfErr result (λ end.
         EndsBefore receives machine.old machine.new (W.state wire.old) (W.state wire.new) end) }
-    ensures read_fault { result ≡ Err PlayEnd.ReadFault
-        → Rose (W.Source.faults wire.old) (W.Source.faults wire.new) }
-    ensures write_fault { result ≡ Err PlayEnd.WriteFault
-        → Rose (W.Sink.faults wire.old) (W.Sink.faults wire.new) }
-    ensures read_told { W.Source.faults wire.old < W.Source.faults wire.new
-        → result ≡ Err PlayEnd.ReadFault }
-    ensures write_told { W.Sink.faults wire.old < W.Sink.faults wire.new
-        → result ≡ Err PlayEnd.WriteFault }
-    ensures reading_never_falls { W.Source.faults wire.old ≤ W.Source.faults wire.new }
-    ensures writing_never_falls { W.Sink.faults wire.old ≤ W.Sink.faults wire.new }
-    ensures reached { W.reached wire.new ≡ W.reached wire.old }
-    ensures reach_faults { W.reach_faults wire.new ≡ W.reach_faults wire.old }
+    ensures quiet { OnOk result (IsQuiet (W.state wire.old) (W.state wire.new)) }
+    ensures faults { IfErr result (TellsEnd (W.state wire.old) (W.state wire.new)) }
 {
     let Ok(mut buffer) = vec![in alloc; 0u8; ARRIVAL as usize] else {
         return Err(PlayEnd::NoMemory);
@@ -86,18 +76,7 @@ fn play_turn<W: Wire>(
     requires short { AreShort past.old.items }
     ensures steps { Steps receives machine.old machine.new past.old.items past.new.items
         (W.state wire.old) (W.state wire.new) result }
-    ensures read_fault { result ≡ step.Over PlayEnd.ReadFault
-        → Rose (W.Source.faults wire.old) (W.Source.faults wire.new) }
-    ensures write_fault { result ≡ step.Over PlayEnd.WriteFault
-        → Rose (W.Sink.faults wire.old) (W.Sink.faults wire.new) }
-    ensures read_told { W.Source.faults wire.old < W.Source.faults wire.new
-        → result ≡ step.Over PlayEnd.ReadFault }
-    ensures write_told { W.Sink.faults wire.old < W.Sink.faults wire.new
-        → result ≡ step.Over PlayEnd.WriteFault }
-    ensures reading_never_falls { W.Source.faults wire.old ≤ W.Source.faults wire.new }
-    ensures writing_never_falls { W.Sink.faults wire.old ≤ W.Sink.faults wire.new }
-    ensures reached { W.reached wire.new ≡ W.reached wire.old }
-    ensures reach_faults { W.reach_faults wire.new ≡ W.reach_faults wire.old }
+    ensures faults { TellsStep (W.state wire.old) (W.state wire.new) result }
 {
     match machine.advance(alloc) {
         Turn::Message(message) => match send(alloc, wire, message.as_slice()) {
@@ -198,18 +177,7 @@ pub(crate) fn play_on<W: Wire>(
     requires fits { length arrival ≤ ARRIVAL }
     ensures closes { Closes (λ more. without_place (gives machine.old (arrival ∷ more)))
         (W.state wire.old) (W.state wire.new) result }
-    ensures read_fault { result ≡ PlayEnd.ReadFault
-        → Rose (W.Source.faults wire.old) (W.Source.faults wire.new) }
-    ensures write_fault { result ≡ PlayEnd.WriteFault
-        → Rose (W.Sink.faults wire.old) (W.Sink.faults wire.new) }
-    ensures read_told { W.Source.faults wire.old < W.Source.faults wire.new
-        → result ≡ PlayEnd.ReadFault }
-    ensures write_told { W.Sink.faults wire.old < W.Sink.faults wire.new
-        → result ≡ PlayEnd.WriteFault }
-    ensures reading_never_falls { W.Source.faults wire.old ≤ W.Source.faults wire.new }
-    ensures writing_never_falls { W.Sink.faults wire.old ≤ W.Sink.faults wire.new }
-    ensures reached { W.reached wire.new ≡ W.reached wire.old }
-    ensures reach_faults { W.reach_faults wire.new ≡ W.reach_faults wire.old }
+    ensures faults { TellsEnd (W.state wire.old) (W.state wire.new) result }
 {
     machine.arrive(arrival);
     play_whole(alloc, machine, wire)
@@ -219,18 +187,7 @@ pub(crate) fn play_on<W: Wire>(
 pub(crate) fn play_whole<W: Wire>(alloc: Global, machine: &mut Machine<'_>, wire: &mut W) -> PlayEnd
     ensures closes { Closes (λ more. without_place (gives machine.old more))
         (W.state wire.old) (W.state wire.new) result }
-    ensures read_fault { result ≡ PlayEnd.ReadFault
-        → Rose (W.Source.faults wire.old) (W.Source.faults wire.new) }
-    ensures write_fault { result ≡ PlayEnd.WriteFault
-        → Rose (W.Sink.faults wire.old) (W.Sink.faults wire.new) }
-    ensures read_told { W.Source.faults wire.old < W.Source.faults wire.new
-        → result ≡ PlayEnd.ReadFault }
-    ensures write_told { W.Sink.faults wire.old < W.Sink.faults wire.new
-        → result ≡ PlayEnd.WriteFault }
-    ensures reading_never_falls { W.Source.faults wire.old ≤ W.Source.faults wire.new }
-    ensures writing_never_falls { W.Sink.faults wire.old ≤ W.Sink.faults wire.new }
-    ensures reached { W.reached wire.new ≡ W.reached wire.old }
-    ensures reach_faults { W.reach_faults wire.new ≡ W.reach_faults wire.old }
+    ensures faults { TellsEnd (W.state wire.old) (W.state wire.new) result }
 {
     no_halt(play(alloc, machine, wire))
 }

@@ -1,26 +1,19 @@
 -- What a session under way stands for, from call to call.
-use Rattle.std.proofs.Common.{◌≡◌, ◌≢◌, ◌⊎◌, inl, inr, ◌<◌, ◌≤◌, ◌^◌, ℕ, List, [], ◌∷◌, ◌++◌, length, take, drop, All, Bool, true, false, Option, refl, sym, ap, ◌∙◌, subst, append_assoc}
+use Rattle.std.proofs.Common.{◌≡◌, ◌≢◌, ◌⊎◌, inl, inr, ◌<◌, ◌≤◌, ◌^◌, ℕ, List, [], ◌∷◌, ◌++◌, length, take, drop, All, Bool, true, false, refl, sym, ap, ◌∙◌, subst, append_assoc, Result, Ok, Err, OnOk}
 use Rattle.std.proofs.lemmas.List.{append-nil, take-append-drop, length-take-le}
 use Rattle.std.proofs.lemmas.List.Elements.{All-nil, All-take, All-drop}
 use Rattle.std.proofs.lemmas.Grind.{flat_map-append}
 use Rattle.anb_base.specs.declared.content.Suite.TheVariants.{One}
-use Rattle.anb_base.specs.Moves.{Put}
 use Rattle.anb_base.specs.declared.TheConstants.{ARRIVAL}
-use Rattle.anb_base.proofs.Moving.{put_nothing}
 use Rattle.anb_seal.specs.Primitives.{sealed}
 use Rattle.anb_frame.specs.Frames.{length_bytes, frame, frames}
-use Rattle.anb_frame.specs.Cuts.{Tail, CutLeft}
-use Rattle.anb_plays.specs.Plays.{Played, waiting, done, ends, SendsFirst}
+use Rattle.anb_plays.specs.Plays.{Played, waiting, ends, SendsFirst}
 use Rattle.anb_plays.proofs.Grows.{sends_saying, sends_on}
 use Rattle.anb_code.specs.CodeValue.{CodeValue}
 use Rattle.anb_machine.specs.ByteRuns.{run_bytes}
 use Rattle.anb_machine.specs.Machines.{MachineValue, gives, waits, turn_of, Turned}
 use Rattle.anb_machine.specs.declared.turn.Turn.{Turn}
 use Rattle.anb_machine.specs.declared.turn.Turn.TheVariants as turn
-use Rattle.anb_session.specs.declared.PlayEnd.{PlayEnd}
-use Rattle.anb_session.specs.declared.PlayEnd.TheVariants.{Done, Stopped, Waiting, Truncated, TooLarge, ReadFault, WriteFault, NoMemory}
-use Rattle.anb_session.specs.Sessions.{end_at}
-use Rattle.anb_session.specs.Turns.{Ends, EndsWaiting, Receives}
 use Rattle.anb_park.specs.declared.body.Head.{Head}
 use Rattle.anb_park.specs.Records.{Parked, marker, body_of, after, count_takes, HasSizes, play_of, IsWaiting, RefusesBody, AcceptsBody, Accepts}
 use Rattle.anb_park.specs.declared.resuming.ParkNo.{ParkNo}
@@ -28,7 +21,7 @@ use Rattle.anb_park.specs.declared.resuming.ParkNo.TheVariants as cause
 use Rattle.anb_park.specs.declared.live.Live.TheInside.{Inside}
 use Rattle.anb_park.specs.Inside.{live_of}
 use Rattle.anb_park.specs.Lives.{LiveValue, Stands, IsParked, started, sent_after}
-use Rattle.anb_park.specs.Going.{AreFrames, HasHead, RunsTo, RunsElsewhere, GoesOnFrom, StandsOn, StandsStill}
+use Rattle.anb_park.specs.Going.{AreFrames, HasHead, RunsTo, RunsElsewhere, GoesOnFrom, StandsOn, after_nothing, after_both}
 use Rattle.anb_park.proofs.Framed.{all_more, not_so}
 use Rattle.anb_park.proofs.Following.{follows_ended}
 
@@ -38,12 +31,6 @@ pub body_more : (p : Parked) (more : List (List ℕ)) → body_of p ++ frames mo
 body_more p more =
     append_assoc (marker ++ p.id ++ p.seed ++ length_bytes p.session ++ frames p.init) (frames p.arrivals) (frames more)
     ∙ ap (λ t. marker ++ p.id ++ p.seed ++ length_bytes p.session ++ frames p.init ++ t) (sym (flat_map-append frame p.arrivals more))
-
-pub after_nothing : (p : Parked) → after p [] ≡ p
-after_nothing p = ap (λ (l : List (List ℕ)). record p { arrivals = l }) (append-nil p.arrivals)
-
-pub after_both : (p : Parked) (xs ys : List (List ℕ)) → after (after p xs) ys ≡ after p (xs ++ ys)
-after_both p xs ys = ap (λ (l : List (List ℕ)). record p { arrivals = l }) (append_assoc p.arrivals xs ys)
 
 -- ---- what contracts see of a session
 
@@ -168,70 +155,14 @@ refused_from code id m p first x why e s own a same by = elim by [
   | inr r ↦ subst (RefusesBody (count_takes code) (IsWaiting code) id m) (sym r.0) (p, e, s, own, elsewhere_from code p first first same (r.1 p.arrivals a))
 ]
 
--- ---- over a wire
+-- ---- what it is after some arrivals
 
-pub on_nowhere : (live : LiveValue) (left : Option (List ℕ)) → StandsOn live live left left
-on_nowhere live left = record {
-  each = λ code p sent arrivals tail s cut. ([], arrivals, sent, refl, cut, subst (λ (q : Parked). Stands code q sent live) (sym (after_nothing p)) s);
+pub on_turning : (old new : LiveValue) (t : Turn) → ((code : CodeValue) (p : Parked) (sent : List (List ℕ)) → Stands code p sent old → Stands code p (sent_after sent t) new) → StandsOn old [] new
+on_turning old new t stands = record {
+  each = λ code p sent s. (sent_after sent t, subst (λ (q : Parked). Stands code q (sent_after sent t) new) (sym (after_nothing p)) (stands code p sent s));
 }
 
-pub on_saying : (old new : LiveValue) (left : Option (List ℕ)) (b : List ℕ) → ((code : CodeValue) (p : Parked) (sent : List (List ℕ)) → Stands code p sent old → Stands code p (sent ++ b ∷ []) new) → StandsOn old new left left
-on_saying old new left b stands = record {
-  each = λ code p sent arrivals tail s cut.
-      ([], arrivals, sent ++ b ∷ [], refl, cut, subst (λ (q : Parked). Stands code q (sent ++ b ∷ []) new) (sym (after_nothing p)) (stands code p sent s));
-}
-
-pub on_receiving : (old mid new : LiveValue) (left now : Option (List ℕ)) (b : List ℕ) → Receives b left now → ((code : CodeValue) (p : Parked) (sent : List (List ℕ)) → Stands code p sent old → Stands code p sent mid)
-    → ((code : CodeValue) (p : Parked) (sent : List (List ℕ)) → Stands code p sent mid → Stands code (after p (b ∷ [])) sent new) → StandsOn old new left now
-on_receiving old mid new left now b receives stays goes = record {
-  each = λ code p sent arrivals tail s cut.
-      let f = receives.first arrivals tail cut in (b ∷ [], f.0, sent, f.1, f.2, goes code p sent (stays code p sent s));
-}
-
-pub on_joined : (old mid new : LiveValue) (left between now : Option (List ℕ)) → StandsOn old mid left between → StandsOn mid new between now → StandsOn old new left now
-on_joined old mid new left between now first second = record {
-  each = λ code p sent arrivals tail s cut.
-      let f = first.each code p sent arrivals tail s cut in
-      let g = second.each code (after p f.0) f.2 f.1 tail f.5 f.4 in (
-        f.0 ++ g.0,
-        g.1,
-        g.2,
-        f.3 ∙ ap (λ l. f.0 ++ l) g.3 ∙ sym (append_assoc f.0 g.0 g.1),
-        g.4,
-        subst (λ (q : Parked). Stands code q g.2 new) (after_both p f.0 g.0) g.5,
-      );
-}
-
--- a run that waits with nothing before, and is done after any arrival
-abbrev by_arrivals : ℕ → List (List ℕ) → Played (List ℕ)
-by_arrivals event [] = ends (waiting event) []
-by_arrivals event (b ∷ bs) = ends done (b ∷ bs)
-
-not_done : (e : ℕ) → Waiting e ≡ Done → ⊥
-not_done e is = cc
-
-pub still_waiting : (old new : LiveValue) (event : ℕ) (left now written written_now : Option (List ℕ)) (end : PlayEnd) → EndsWaiting event left now written written_now end
-    → ((code : CodeValue) (p : Parked) (sent : List (List ℕ)) → Stands code p sent old → Stands code p sent new) → gives new.machine [] ≡ ends (waiting event) [] → waits new.machine ≡ true → StandsStill old new left end
-still_waiting old new event left now written written_now (Waiting e) waiting_so stays waits_now waits_too = λ code p sent arrivals tail s cut. by code p sent arrivals tail s (waiting_so (by_arrivals event) refl arrivals tail cut).0 where
-  by : (code : CodeValue) (p : Parked) (sent arrivals : List (List ℕ)) (tail : Tail) → Stands code p sent old → Waiting e ≡ end_at (by_arrivals event arrivals).end tail → (arrivals ≡ []) × IsParked code p new
-  by code p sent [] tail s is = (refl, parked_here code p sent new event (stays code p sent s) waits_now waits_too)
-  by code p sent (b ∷ bs) tail s is = absurd (not_done e is)
-still_waiting old new event left now written written_now Done w stays a b = tt
-still_waiting old new event left now written written_now (Stopped halt) w stays a b = tt
-still_waiting old new event left now written written_now (Truncated have need) w stays a b = tt
-still_waiting old new event left now written written_now (TooLarge len) w stays a b = tt
-still_waiting old new event left now written written_now ReadFault w stays a b = tt
-still_waiting old new event left now written written_now WriteFault w stays a b = tt
-still_waiting old new event left now written written_now NoMemory w stays a b = tt
-
--- there was no room for an arrival that was taken
-pub no_room : (R : List (List ℕ) → Played (List ℕ)) (left now written written_now : Option (List ℕ)) → written_now ≡ written → Ends R left now written written_now NoMemory
-no_room R left now written written_now same = λ arrivals tail cut. (0, subst (λ o. Put written o []) (sym same) (put_nothing written))
-
-pub parked_at_last : (old mid new : LiveValue) (left now : Option (List ℕ)) (end : PlayEnd) (e : ℕ) → StandsOn old mid left now → StandsStill mid new now end → end ≡ Waiting e
-    → (code : CodeValue) (p : Parked) (sent arrivals : List (List ℕ)) (tail : Tail) → Stands code p sent old → CutLeft ARRIVAL left arrivals tail → IsParked code (after p arrivals) new
-parked_at_last old mid new left now end e on still is code p sent arrivals tail s cut =
-    let w = on.each code p sent arrivals tail s cut in
-    let here : StandsStill mid new now (Waiting e) = subst (StandsStill mid new now) is still in
-    let h = here code (after p w.0) w.2 w.1 tail w.5 w.4 in
-    subst (λ l. IsParked code (after p l) new) (sym (w.3 ∙ ap (λ l. w.0 ++ l) h.0 ∙ append-nil w.0)) h.1
+pub on_receiving : {E : Type 0} (old new : LiveValue) (b : List ℕ) (r : Result (Unit {0}) E) → OnOk r ((code : CodeValue) (p : Parked) (sent : List (List ℕ)) → Stands code p sent old → Stands code (after p (b ∷ [])) sent new)
+    → OnOk r (StandsOn old (b ∷ []) new)
+on_receiving old new b (Ok x) stands = record { each = λ code p sent s. (sent, stands code p sent s) }
+on_receiving old new b (Err x) stands = tt

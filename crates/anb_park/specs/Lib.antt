@@ -1,6 +1,6 @@
 pub mod Lives
 pub mod Records
 pub mod Resting
--- for proofs alone
 pub mod Going
+-- for proofs alone
 pub mod Inside

@@ -1,5 +1,7 @@
 -- What a session under way stands for.
-use Rattle.std.specs.Prelude.{◌≡◌, ℕ, List, [], ◌∷◌, ◌++◌, true}
+use Rattle.std.specs.Prelude.{◌≡◌, ℕ, List, [], ◌∷◌, ◌++◌, true, Option}
+use Rattle.anb_base.specs.declared.TheConstants.{ARRIVAL}
+use Rattle.anb_frame.specs.Cuts.{Tail, CutLeft}
 use Rattle.anb_plays.specs.Plays.{SendsFirst}
 use Rattle.anb_code.specs.CodeValue.{CodeValue}
 use Rattle.anb_machine.specs.Machines.{MachineValue, gives, waits, turn_of}
@@ -27,6 +29,14 @@ pub record IsParked (code : CodeValue) (p : Parked) (live : LiveValue) : Type 0 
   pub waiting : IsWaiting code p
   pub waits : waits live.machine ≡ true
   pub next : (e : ℕ) × (turn_of (gives live.machine []) ≡ Wants e)
+
+-- the session can be parked once some more arrived: all that was left, where that is told
+pub record WaitsAgain (code : CodeValue) (p : Parked) (left : Option (List ℕ)) (live : LiveValue)
+    : Type 0 where
+  pub more : List (List ℕ)
+  pub parked : IsParked code (after p more) live
+  pub all : (arrivals : List (List ℕ)) (tail : Tail) → CutLeft ARRIVAL left arrivals tail
+      → arrivals ≡ more
 
 -- a session before its first arrival
 abbrev pub started :

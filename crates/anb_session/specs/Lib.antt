@@ -1,2 +1,3 @@
 pub mod Sessions
+pub mod Faults
 pub mod Turns

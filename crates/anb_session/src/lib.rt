@@ -1,20 +1,24 @@
-//! A code's run over a wire: its messages go out in frames, and its arrivals are the frames that
+//! What is played over a wire: its messages go out in frames, and its arrivals are the frames that
 //! come in.
 #![tactic(auto)]
 
-ghost use Rattle.std.specs.Prelude.{◌≡◌, ◌≢◌, ◌≤◌, ◌<◌, ℕ, List, length, true, Some, IfOk, OnOk, IfErr, IfSome, IfNone};
-ghost use Rattle.anb_base.specs.Moves.{Rose, Put};
+ghost use Rattle.std.specs.Prelude.{◌≡◌, ◌≢◌, ◌≤◌, ◌<◌, ℕ, List, length, true, IfOk, OnOk, IfErr, IfSome, IfNone};
+ghost use Rattle.anb_base.specs.Moves.{Put};
 ghost use Rattle.anb_base.specs.declared.TheConstants.{ARRIVAL, WIDE};
 ghost use Rattle.anb_frame.specs.Frames.{frame};
 ghost use Rattle.anb_frame.specs.Cuts.{Tail, CutLeft};
 ghost use Rattle.anb_machine.specs.Machines.{gives, left as left_in, waits};
+ghost use Rattle.anb_session.specs.Faults.{IsQuiet, TellsEnd};
 ghost use Rattle.anb_session.specs.Sessions.{Runs, IsPrompt, waits_at};
-ghost use Rattle.anb_session.specs.Turns.{Ends, EndsSending, EndsWaiting, Receives, Continues};
-ghost use Rattle.anb_session.specs.Turns.{WaitsPromptly, GoesOnPromptly, ReceivesPromptly, SendsPromptly, TookNothing};
+ghost use Rattle.anb_session.specs.Turns.{EndsSending, EndsWaiting, Receives, Passes, Closes, AwaitsNow, WentOn, HeardAll};
+ghost use Rattle.anb_session.specs.Turns.{WaitsPromptly, ReceivesPromptly, SendsPromptly, TookNothing};
 
-use anb_base::{ARRIVAL, Bytes, Wire, write_whole};
+mod playable;
+
+use anb_base::{ARRIVAL, Bytes, NoMemory, Wire, write_whole};
 use anb_frame::{FrameNo, Taken, framed, take};
 use anb_machine::{Halt, Machine, Turn};
+pub use playable::Playable;
 use std::alloc::Global;
 
 /// How a session ended.
@@ -48,74 +52,63 @@ pub fn play<W: Wire>(alloc: Global, machine: &mut Machine<'_>, wire: &mut W) -> 
         (W.written wire.old) (W.written wire.new) result }
     ensures prompt { IsPrompt (gives machine.old) (W.state wire.old) (W.state wire.new) }
     ensures waits { waits_at result ≡ true → waits machine.new ≡ true }
+    ensures faults { TellsEnd (W.state wire.old) (W.state wire.new) result }
+{
+    play_all(alloc, machine, wire)
+}
 
-    // A fault is answered where its count rose, and nowhere else.
-    ensures read_fault { result ≡ PlayEnd.ReadFault
-        → Rose (W.Source.faults wire.old) (W.Source.faults wire.new) }
-    ensures write_fault { result ≡ PlayEnd.WriteFault
-        → Rose (W.Sink.faults wire.old) (W.Sink.faults wire.new) }
-    ensures read_told { W.Source.faults wire.old < W.Source.faults wire.new
-        → result ≡ PlayEnd.ReadFault }
-    ensures write_told { W.Sink.faults wire.old < W.Sink.faults wire.new
-        → result ≡ PlayEnd.WriteFault }
-    ensures reading_never_falls { W.Source.faults wire.old ≤ W.Source.faults wire.new }
-    ensures writing_never_falls { W.Sink.faults wire.old ≤ W.Sink.faults wire.new }
-
-    // No place is reached.
-    ensures reached { W.reached wire.new ≡ W.reached wire.old }
-    ensures reach_faults { W.reach_faults wire.new ≡ W.reach_faults wire.old }
+/// Runs whatever can be played over a wire, as `play` runs a machine.
+pub fn play_all<P: Playable, W: Wire>(alloc: Global, played: &mut P, wire: &mut W) -> PlayEnd
+    ensures runs { (arrivals : List (List ℕ)) (tail : Tail)
+        → CutLeft ARRIVAL (W.left wire.old) arrivals tail
+        → Runs (gives (P.machine played.old)) arrivals tail (W.left wire.old) (W.left wire.new)
+        (W.written wire.old) (W.written wire.new) result }
+    ensures prompt { IsPrompt (gives (P.machine played.old))
+        (W.state wire.old) (W.state wire.new) }
+    ensures awaits { waits_at result ≡ true → AwaitsNow (P.machine played.new) }
+    ensures heard { HeardAll P.Follows played.old played.new (W.state wire.old) result }
+    ensures faults { TellsEnd (W.state wire.old) (W.state wire.new) result }
 {
     let Ok(mut buffer) = vec![in alloc; 0u8; ARRIVAL as usize] else {
         return PlayEnd::NoMemory;
     };
     loop {
-        if let Some(end) = turn(alloc, machine, wire, &mut buffer) {
+        if let Some(end) = turn(alloc, played, wire, &mut buffer) {
             return end;
         }
     }
 }
 
-/// Plays one turn of a machine, and tells the end that it makes.
-fn turn<W: Wire>(
+/// Plays one turn, and tells the end that it makes.
+fn turn<P: Playable, W: Wire>(
     alloc: Global,
-    machine: &mut Machine<'_>,
+    played: &mut P,
     wire: &mut W,
     buffer: &mut [u8],
 ) -> Option<PlayEnd>
     requires { length buffer.old ≡ ARRIVAL }
-    ensures continues { IfNone result
-        (Continues (gives machine.old) (gives machine.new) (W.left wire.old) (W.left wire.new)
-        (W.written wire.old) (W.written wire.new)) }
-    ensures further { IfNone result (left_in machine.new < left_in machine.old) }
-    ensures ends { IfSome result (λ end.
-        Ends (gives machine.old) (W.left wire.old) (W.left wire.new)
-        (W.written wire.old) (W.written wire.new) end) }
-    ensures goes_on { IfNone result
-        (GoesOnPromptly (gives machine.old) (gives machine.new)
+    ensures passes { IfNone result
+        (Passes (gives (P.machine played.old)) (gives (P.machine played.new))
         (W.state wire.old) (W.state wire.new)) }
-    ensures prompt { IfSome result (λ _.
-        IsPrompt (gives machine.old) (W.state wire.old) (W.state wire.new)) }
-    ensures waits { IfSome result (λ end. waits_at end ≡ true → waits machine.new ≡ true) }
-    ensures read_fault { IfSome result (λ end. end ≡ PlayEnd.ReadFault
-        → Rose (W.Source.faults wire.old) (W.Source.faults wire.new)) }
-    ensures write_fault { IfSome result (λ end. end ≡ PlayEnd.WriteFault
-        → Rose (W.Sink.faults wire.old) (W.Sink.faults wire.new)) }
-    ensures read_told { W.Source.faults wire.old < W.Source.faults wire.new
-        → result ≡ Some PlayEnd.ReadFault }
-    ensures write_told { W.Sink.faults wire.old < W.Sink.faults wire.new
-        → result ≡ Some PlayEnd.WriteFault }
-    ensures reading_never_falls { W.Source.faults wire.old ≤ W.Source.faults wire.new }
-    ensures writing_never_falls { W.Sink.faults wire.old ≤ W.Sink.faults wire.new }
-    ensures reached { W.reached wire.new ≡ W.reached wire.old }
-    ensures reach_faults { W.reach_faults wire.new ≡ W.reach_faults wire.old }
+    ensures further { IfNone result
+        (left_in (P.machine played.new) < left_in (P.machine played.old)) }
+    ensures went_on { IfNone result
+        (WentOn P.Follows played.old played.new (W.state wire.old) (W.state wire.new)) }
+    ensures quiet { IfNone result (IsQuiet (W.state wire.old) (W.state wire.new)) }
+    ensures closes { IfSome result
+        (Closes (gives (P.machine played.old)) (W.state wire.old) (W.state wire.new)) }
+    ensures awaits { IfSome result (λ end. waits_at end ≡ true → AwaitsNow (P.machine played.new)) }
+    ensures heard { IfSome result
+        (HeardAll P.Follows played.old played.new (W.state wire.old)) }
+    ensures faults { IfSome result (TellsEnd (W.state wire.old) (W.state wire.new)) }
 {
-    match machine.advance(alloc) {
+    match played.advance(alloc) {
         Turn::Message(message) => send(alloc, wire, message.as_slice()).err(),
         Turn::Wants(event) => match receive(alloc, wire, buffer, event) {
-            Ok(arrival) => {
-                machine.arrive(arrival);
-                None
-            }
+            Ok(arrival) => match played.arrive(arrival) {
+                Ok(()) => None,
+                Err(NoMemory) => Some(PlayEnd::NoMemory),
+            },
             Err(end) => Some(end),
         },
         Turn::Done => Some(PlayEnd::Done),
@@ -135,15 +128,8 @@ pub fn send<W: Wire>(alloc: Global, wire: &mut W, message: &[u8]) -> Result<(), 
         (SendsPromptly message.now (W.state wire.old) (W.state wire.new)) }
     ensures took_nothing { TookNothing (W.state wire.old) (W.state wire.new) }
     ensures waits { IfErr result (λ end. waits_at end ≢ true) }
-    ensures write_fault { result ≡ Err PlayEnd.WriteFault
-        → Rose (W.Sink.faults wire.old) (W.Sink.faults wire.new) }
-    ensures told { W.Sink.faults wire.old < W.Sink.faults wire.new
-        → result ≡ Err PlayEnd.WriteFault }
-    ensures never_falls { W.Sink.faults wire.old ≤ W.Sink.faults wire.new }
-    ensures left { W.left wire.new ≡ W.left wire.old }
-    ensures read_faults { W.Source.faults wire.new ≡ W.Source.faults wire.old }
-    ensures reached { W.reached wire.new ≡ W.reached wire.old }
-    ensures reach_faults { W.reach_faults wire.new ≡ W.reach_faults wire.old }
+    ensures quiet { OnOk result (IsQuiet (W.state wire.old) (W.state wire.new)) }
+    ensures faults { IfErr result (TellsEnd (W.state wire.old) (W.state wire.new)) }
 {
     let Ok(frame) = framed(alloc, message) else {
         return Err(PlayEnd::NoMemory);
@@ -172,16 +158,10 @@ pub fn receive<W: Wire>(
         ReceivesPromptly event arrival (W.state wire.old) (W.state wire.new)) }
     ensures prompt { IfErr result (λ _.
         WaitsPromptly event (W.state wire.old) (W.state wire.new)) }
-    ensures no_write_fault { result ≢ Err PlayEnd.WriteFault }
-    ensures read_fault { result ≡ Err PlayEnd.ReadFault
-        → Rose (W.Source.faults wire.old) (W.Source.faults wire.new) }
-    ensures told { W.Source.faults wire.old < W.Source.faults wire.new
-        → result ≡ Err PlayEnd.ReadFault }
-    ensures never_falls { W.Source.faults wire.old ≤ W.Source.faults wire.new }
     ensures written { W.written wire.new ≡ W.written wire.old }
-    ensures write_faults { W.Sink.faults wire.new ≡ W.Sink.faults wire.old }
-    ensures reached { W.reached wire.new ≡ W.reached wire.old }
-    ensures reach_faults { W.reach_faults wire.new ≡ W.reach_faults wire.old }
+    ensures no_write_fault { result ≢ Err PlayEnd.WriteFault }
+    ensures quiet { OnOk result (IsQuiet (W.state wire.old) (W.state wire.new)) }
+    ensures faults { IfErr result (TellsEnd (W.state wire.old) (W.state wire.new)) }
 {
     match take(wire, buffer) {
         Ok(Taken::Frame(n)) => match Vec::from_slice(alloc, &buffer[..n as usize]) {

@@ -10,11 +10,11 @@ use Rattle.anb_machine.specs.ByteRuns.{run_bytes}
 use Rattle.anb_protocol.specs.Protocols.{ProtocolValue, role_number}
 use Rattle.anb_compile.specs.Fitting.{FitsRole}
 use Rattle.anb_compile.specs.Laws.{FittingCodesPlay}
-use Rattle.anb_session.specs.Turns.{Ends}
+use Rattle.anb_session.specs.Turns.{Ends, Closes}
 use Rattle.anb_choice.specs.Views.{branched_of}
+use Rattle.anb_session.proofs.Turning.{by_told}
 use Rattle.anb_branch.specs.Taken.{IsTold, run_taken}
-use Rattle.anb_branch.specs.Stems.{Closes}
-use Rattle.anb_branch.proofs.Turns.{by_told, closes_as}
+use Rattle.anb_branch.proofs.Turns.{closes_as}
 use Rattle.anb_branch.proofs.Deciding.{plays_taken, run_told}
 use Rattle.anb_branch.proofs.playing.branch_play.Goals as goal
 

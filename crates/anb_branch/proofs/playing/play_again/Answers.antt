@@ -1,7 +1,8 @@
 use Rattle.anb_machine.specs.ByteRuns.{run_bytes}
 use Rattle.anb_machine.specs.Machines.{gives}
+use Rattle.anb_session.proofs.Faults.{wants_memory}
+use Rattle.anb_session.proofs.Turning.{closes_wanting}
 use Rattle.anb_branch.specs.Choices.{goes_behind}
-use Rattle.anb_branch.proofs.Turns.{closes_wanting}
 use Rattle.anb_branch.proofs.Choosing.{waits_so, closes_again}
 use Rattle.anb_branch.proofs.playing.play_again.Goals as goal
 
@@ -18,3 +19,9 @@ returns-in-Err-clause-closes g c = closes_wanting (goes_behind (run_bytes c.args
 
 pub returns-in_default-clause-closes : goal.returns-in_default-clause-closes
 returns-in_default-clause-closes g c = closes_wanting (goes_behind (run_bytes c.args.code.now c.args.init.now c.args.seed.now 0) c.args.choice.past.items c.args.choice.arrival) (g.W.Wire.state c.args.wire.now)
+
+pub returns-in_default-clause-faults : goal.returns-in_default-clause-faults
+returns-in_default-clause-faults g c = wants_memory (g.W.Wire.state c.args.wire.now)
+
+pub returns-in-Err-clause-faults : goal.returns-in-Err-clause-faults
+returns-in-Err-clause-faults g c = wants_memory (g.W.Wire.state c.args.wire.now)

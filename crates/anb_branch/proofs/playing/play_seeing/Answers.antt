@@ -3,11 +3,12 @@ use Rattle.anb_lemmas.proofs.Lists.{item_at}
 use Rattle.anb_code.specs.CodeValue.{CodeValue}
 use Rattle.anb_code.specs.Taking.{take_texts}
 use Rattle.anb_choice.specs.Views.{branched_of}
+use Rattle.anb_session.proofs.Faults.{ends_later, wants_memory}
+use Rattle.anb_session.proofs.Turning.{closes_wanting}
 use Rattle.anb_branch.specs.declared.signs.Sign.{Sign}
 use Rattle.anb_branch.specs.Taken.{begins_arm, place_begun, run_taken}
 use Rattle.anb_branch.proofs.Members.{chosen_within}
 use Rattle.anb_branch.proofs.Seeing.{receives_so}
-use Rattle.anb_branch.proofs.Turns.{closes_wanting}
 use Rattle.anb_branch.proofs.Choosing.{ends_there, goes_on_here, waits_there, goes_on_there}
 use Rattle.anb_branch.proofs.playing.play_seeing.Goals as goal
 
@@ -106,3 +107,16 @@ returns-in-Err-clause-closes g c = λ role d.
     let at_first = item_at codes 0 first (omega (arith, c.requires.some, c.requires.codes)) c.index-codes-0.is in
     ends_there b role c.args.init.now c.args.seed.now codes d.free _ first c.in-Ok.machine c.play_to_choice.new.machine (g.W.Wire.state c.args.wire.now) (g.W.Wire.state c.play_to_choice.new.wire) c.in-Err.end
     (receives_so b role c.args.signs.now no_sign d.signs_are c.requires.some) (d.each 0 first at_first) c.in-Ok.ensures.run c.in-Err.ensures.ends
+
+pub returns-in_default-clause-faults : goal.returns-in_default-clause-faults
+returns-in_default-clause-faults g c = wants_memory (g.W.Wire.state c.args.wire.now)
+
+pub returns-then-place-eq0-clause-faults : goal.returns-then-place-eq0-clause-faults
+returns-then-place-eq0-clause-faults g c =
+    ends_later (g.W.Wire.state c.args.wire.now) (g.W.Wire.state c.play_to_choice.new.wire) (g.W.Wire.state c.play_on.new.wire) c.play_on.result
+    c.in-Ok-play_to_choice.ensures.quiet c.play_on.ensures.faults
+
+pub returns-else-place-eq0-clause-faults : goal.returns-else-place-eq0-clause-faults
+returns-else-place-eq0-clause-faults g c =
+    ends_later (g.W.Wire.state c.args.wire.now) (g.W.Wire.state c.play_to_choice.new.wire) (g.W.Wire.state c.play_again.new.wire) c.play_again.result
+    c.in-Ok-play_to_choice.ensures.quiet c.play_again.ensures.faults

@@ -8,12 +8,14 @@ use Rattle.anb_machine.specs.ByteRuns.{run_bytes}
 use Rattle.anb_protocol.specs.Protocols.{ProtocolValue, role_number}
 use Rattle.anb_compile.specs.Fitting.{FitsRole}
 use Rattle.anb_choice.specs.Views.{branched_of}
+use Rattle.anb_session.proofs.Faults.{wants_memory}
+use Rattle.anb_session.proofs.Turning.{closes_wanting}
 use Rattle.anb_branch.specs.declared.signs.Sign.{Sign}
 use Rattle.anb_branch.specs.Taken.{run_taken}
 use Rattle.anb_branch.specs.Signs.{AreSigns, IsSign}
 use Rattle.anb_branch.proofs.Refusals.{have_role}
 use Rattle.anb_branch.proofs.Seeing.{any_free}
-use Rattle.anb_branch.proofs.Turns.{closes_as, closes_wanting}
+use Rattle.anb_branch.proofs.Turns.{closes_as}
 use Rattle.anb_branch.proofs.Deciding.{agree_each, run_untold}
 use Rattle.anb_branch.proofs.playing.play_untold.Goals as goal
 
@@ -75,3 +77,6 @@ returns-clause-closes g c =
     closes_as (λ (more : List (List ℕ)). without_place (run_bytes code init seed 0 more)) (run_taken b role None init seed codes) (g.W.Wire.state c.args.wire.now) (g.W.Wire.state c.play_code.new.wire) c.play_code.result
     (run_untold b role init seed codes code free at)
     c.play_code.ensures.closes
+
+pub returns-in_default-clause-faults : goal.returns-in_default-clause-faults
+returns-in_default-clause-faults g c = wants_memory (g.W.Wire.state c.args.wire.now)

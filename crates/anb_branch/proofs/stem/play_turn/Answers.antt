@@ -6,8 +6,10 @@ use Rattle.anb_plays.specs.Plays.{says, stopped, done}
 use Rattle.anb_machine.specs.Machines.{gives}
 use Rattle.anb_session.specs.declared.PlayEnd.TheVariants.{NoMemory}
 use Rattle.anb_session.specs.Turns.{EndsSending, EndsWaiting, Receives}
+use Rattle.anb_session.proofs.Faults.{quiet_still, ends_quietly, wants_memory}
+use Rattle.anb_session.proofs.Turning.{by_told, closes_done, wanting_room, hears_so}
 use Rattle.anb_branch.specs.Stems.{AreBytes, AreShort}
-use Rattle.anb_branch.proofs.Turns.{by_told, goes_saying, over_sending, over_waiting, over_ended, goes_hearing, closes_done, closes_stopped, over_wanting, wanting_room, hears_so, bytes_more, short_more}
+use Rattle.anb_branch.proofs.Turns.{goes_saying, over_sending, over_waiting, over_ended, goes_hearing, closes_stopped, over_wanting, bytes_more, short_more}
 use Rattle.anb_branch.proofs.stem.play_turn.Goals as goal
 
 pub returns-in-Ok-clause-steps : goal.returns-in-Ok-clause-steps
@@ -101,3 +103,17 @@ returns-in-Stopped-clause-steps g c =
 
 pub returns-clause-steps : goal.returns-clause-steps
 returns-clause-steps g c = over_wanting c.args.receives c.args.machine.now c.advance.new.self c.args.past.now.items c.args.past.now.items (g.W.Wire.state c.args.wire.now)
+
+-- ---- faults
+
+pub returns-in-Ok-receive-clause-faults : goal.returns-in-Ok-receive-clause-faults
+returns-in-Ok-receive-clause-faults g c = ends_quietly (g.W.Wire.state c.args.wire.now) (g.W.Wire.state c.receive.new.wire) NoMemory c.in-Ok-receive.ensures.quiet (λ is. cc) (λ is. cc)
+
+pub returns-in-Done-clause-faults : goal.returns-in-Done-clause-faults
+returns-in-Done-clause-faults g c = let s = g.W.Wire.state c.args.wire.now in ends_quietly s s _ (quiet_still s) (λ is. cc) (λ is. cc)
+
+pub returns-in-Stopped-clause-faults : goal.returns-in-Stopped-clause-faults
+returns-in-Stopped-clause-faults g c = let s = g.W.Wire.state c.args.wire.now in ends_quietly s s _ (quiet_still s) (λ is. cc) (λ is. cc)
+
+pub returns-clause-faults : goal.returns-clause-faults
+returns-clause-faults g c = wants_memory (g.W.Wire.state c.args.wire.now)
