@@ -4,12 +4,11 @@ use Rattle.std.specs.Prelude.{slice_get}
 use Rattle.std.specs.List.{AllByRecursion}
 use Rattle.std.proofs.lemmas.List.{append-nil}
 use Rattle.anb_lemmas.proofs.Lists.{drop_at_got}
-use Rattle.anb_term.specs.Tree.{Tree, leaf, node, Trees, none, more, trees_of}
+use Rattle.anb_term.specs.Tree.{Tree, trees_of}
 use Rattle.anb_term.specs.View.{tree_of}
 use Rattle.anb_term.proofs.Lists.{slice_get-there}
 use Rattle.anb_plays.specs.Plans.{Event, know, fresh, send, recv, known}
-use Rattle.anb_plays.specs.Honest.{heard, honest_all}
-use Rattle.anb_term.specs.FreeAlgebra.{terms}
+use Rattle.anb_plays.specs.Honest.{heard}
 use Rattle.anb_close.specs.declared.entry.Entry.{Entry}
 use Rattle.anb_close.specs.declared.entry.Origin.{Origin}
 use Rattle.anb_close.specs.declared.entry.Origin.TheVariants.{Label, Part}
@@ -17,8 +16,10 @@ use Rattle.anb_close.specs.Entries.{terms_of, labels_of, is_label, OriginFits, F
 use Rattle.anb_close.proofs.Growing.{labels_append}
 use Rattle.anb_basis.specs.Checks.{trues}
 use Rattle.anb_accept.specs.Taking.{later, later_with, labels, labels_with}
-use Rattle.anb_accept.specs.Patterns.{put_in, KeepsNames}
-use Rattle.anb_accept.specs.Equations.{EquationValue, is_own, is_heard, own_at, heard_at, own_equations, heard_variables, later_heard, heard_labels, Solves, IsNamed, AreNamed}
+use Rattle.anb_unify.specs.Substitutions.{KeepsNames, AreNamed}
+use Rattle.anb_accept.specs.Equations.{is_own, is_heard, own_at, heard_at, own_equations, heard_variables, later_heard, heard_labels}
+use Rattle.anb_unify.specs.Equations.{EquationValue, Solves}
+use Rattle.anb_unify.proofs.Putting.{named_stays}
 
 -- labels with arrivals in the places of those that are heard
 abbrev pub filled : List Tree → List Bool → List Tree → List Tree
@@ -85,7 +86,7 @@ abbrev own_list : List Bool → ℕ → List (Option Tree) → List EquationValu
 own_list hs k [] = []
 own_list hs k (None ∷ ls) = own_list hs (k + 1) ls
 own_list [] k (Some t ∷ ls) = []
-own_list (false ∷ hs) k (Some t ∷ ls) = record { entry = k; term = t } ∷ own_list hs (k + 1) ls
+own_list (false ∷ hs) k (Some t ∷ ls) = record { variable = k; term = t } ∷ own_list hs (k + 1) ls
 own_list (true ∷ hs) k (Some t ∷ ls) = own_list hs (k + 1) ls
 
 abbrev heard_list : ℕ → List Bool → ℕ → List (Option Tree) → List ℕ
@@ -133,9 +134,9 @@ module _ (names : ℕ) (H : List Bool) where
     heard : heard_variables names H k es ≡ heard_list names (drop n H) k (labelled es)
 
   flag_own : (b : Bool) (hs : List Bool) (k : ℕ) (t : Tree) (qs : List EquationValue) (ls : List (Option Tree)) → qs ≡ own_list hs (k + 1) ls
-      → cond (not b) (record { entry = k; term = t } ∷ []) [] ++ qs ≡ own_list (b ∷ hs) k (Some t ∷ ls)
+      → cond (not b) (record { variable = k; term = t } ∷ []) [] ++ qs ≡ own_list (b ∷ hs) k (Some t ∷ ls)
   flag_own true hs k t qs ls e = e
-  flag_own false hs k t qs ls e = ap (λ l. record { entry = k; term = t } ∷ l) e
+  flag_own false hs k t qs ls e = ap (λ l. record { variable = k; term = t } ∷ l) e
 
   flag_heard : (b : Bool) (hs : List Bool) (k : ℕ) (t : Tree) (qs : List ℕ) (ls : List (Option Tree)) → qs ≡ heard_list names hs (k + 1) ls
       → cond b ((names + k) ∷ []) [] ++ qs ≡ heard_list names (b ∷ hs) k (Some t ∷ ls)
@@ -150,8 +151,8 @@ module _ (names : ℕ) (H : List Bool) where
       let split = drop_at_got H n b.0 b.1 in
       let at : slice_get H m ≡ Some b.0 = ap (slice_get H) m_is ∙ b.1 in
       record {
-        own = ap (λ o. cond (is_own H o) (record { entry = k; term = tree_of e.term } ∷ []) [] ++ own_equations H (k + 1) es) is
-            ∙ ap (λ f. cond (own_at f) (record { entry = k; term = tree_of e.term } ∷ []) [] ++ own_equations H (k + 1) es) at
+        own = ap (λ o. cond (is_own H o) (record { variable = k; term = tree_of e.term } ∷ []) [] ++ own_equations H (k + 1) es) is
+            ∙ ap (λ f. cond (own_at f) (record { variable = k; term = tree_of e.term } ∷ []) [] ++ own_equations H (k + 1) es) at
             ∙ flag_own b.0 (drop (n + 1) H) k (tree_of e.term) (own_equations H (k + 1) es) (labelled es) rest.own
             ∙ ap (λ l. own_list l k (Some (tree_of e.term) ∷ labelled es)) (sym split)
             ∙ ap (λ o. own_list (drop n H) k (labelled_by o (tree_of e.term) ∷ labelled es)) (sym is);
@@ -162,7 +163,7 @@ module _ (names : ℕ) (H : List Bool) where
             ∙ ap (λ o. heard_list names (drop n H) k (labelled_by o (tree_of e.term) ∷ labelled es)) (sym is);
       }
   step (Part o j ks i) n k e es is fits long rest = record {
-    own = ap (λ x. cond (is_own H x) (record { entry = k; term = tree_of e.term } ∷ []) [] ++ own_equations H (k + 1) es) is ∙ rest.own ∙ ap (λ x. own_list (drop n H) k (labelled_by x (tree_of e.term) ∷ labelled es)) (sym is);
+    own = ap (λ x. cond (is_own H x) (record { variable = k; term = tree_of e.term } ∷ []) [] ++ own_equations H (k + 1) es) is ∙ rest.own ∙ ap (λ x. own_list (drop n H) k (labelled_by x (tree_of e.term) ∷ labelled es)) (sym is);
     heard = ap (λ x. cond (is_heard H x) ((names + k) ∷ []) [] ++ heard_variables names H (k + 1) es) is ∙ rest.heard ∙ ap (λ x. heard_list names (drop n H) k (labelled_by x (tree_of e.term) ∷ labelled es)) (sym is);
   }
 
@@ -183,15 +184,6 @@ module _ (names : ℕ) (H : List Bool) where
       (same (before ++ e ∷ []) es (cond (is_label e.origin) (n + 1) n) (k + 1) f.1 count (long_step (is_label e.origin) n (tree_of e.term) (labels_of es) (length H) long))
 
 -- ---- on these lists
-
-mutual
-  pub named_stays : (names : ℕ) (put : ℕ → Tree) → KeepsNames names put → (t : Tree) → IsNamed names t → put_in put t ≡ t
-  named_stays names put keeps (leaf n) h = keeps n h
-  named_stays names put keeps (node o ts) h = ap (node o) (all_named_stay names put keeps ts h)
-
-  all_named_stay : (names : ℕ) (put : ℕ → Tree) → KeepsNames names put → (ts : Trees) → AreNamed names ts → trees_of (honest_all terms put ts) ≡ ts
-  all_named_stay names put keeps none h = refl
-  all_named_stay names put keeps (more t ts) h = ap (λ u. more u (trees_of (honest_all terms put ts))) (named_stays names put keeps t h.0) ∙ ap (more t) (all_named_stay names put keeps ts h.1)
 
 module _ (names : ℕ) (put : ℕ → Tree) (keeps : KeepsNames names put) where
   -- where the values of labels' variables are the labels' values, what isn't heard is solved, and what is heard is what came

@@ -8,11 +8,12 @@ use Rattle.anb_term.specs.TreeSame.{list_of-trees_of}
 use Rattle.anb_term.specs.FreeAlgebra.{terms}
 use Rattle.anb_plays.specs.Plans.{Event}
 use Rattle.anb_plays.specs.Honest.{honest_all}
-use Rattle.anb_accept.specs.Patterns.{put_in, KeepsNames, ArePatterns}
+use Rattle.anb_accept.specs.Patterns.{ArePatterns}
+use Rattle.anb_unify.specs.Substitutions.{put_in, KeepsNames}
 use Rattle.anb_pattern.specs.Variables.{count_in, count_in_all, count_in_each}
 use Rattle.anb_accept.specs.Parts.{operands, with_operands, part_at, with_part, set_if, IsFree, IsUncheckedAt}
 use Rattle.anb_accept.specs.Laws.{FreeIsUnchecked}
-use Rattle.anb_accept.proofs.Putting.{put_all, each_itself}
+use Rattle.anb_unify.proofs.Putting.{put_all, each_itself}
 
 -- ---- counting
 

@@ -16,20 +16,20 @@ use Rattle.anb_plays.specs.Honest.{honest, heard, made, LabelsAreFormed}
 use Rattle.anb_plays.specs.Statements.{HonestAgree}
 use Rattle.anb_accept.specs.Taking.{later, later_with, labels, labels_with}
 use Rattle.anb_accept.specs.Laws.{InstancesGoOn}
-use Rattle.anb_accept.proofs.Putting.{each_itself}
+use Rattle.anb_unify.proofs.Putting.{each_itself}
 
-formed_both : (has : Op → Bool) (xs ys : List Tree) → AreFormed has (trees_of xs) → AreFormed has (trees_of ys) → AreFormed has (trees_of (xs ++ ys))
+pub formed_both : (has : Op → Bool) (xs ys : List Tree) → AreFormed has (trees_of xs) → AreFormed has (trees_of ys) → AreFormed has (trees_of (xs ++ ys))
 formed_both has [] ys f g = g
 formed_both has (x ∷ xs) ys f g = (f.0, formed_both has xs ys f.1 g)
 
-known_formed : (has : Op → Bool) (plan : List Event) → LabelsAreFormed has plan → AreFormed has (trees_of (known plan))
+pub known_formed : (has : Op → Bool) (plan : List Event) → LabelsAreFormed has plan → AreFormed has (trees_of (known plan))
 known_formed has [] f = tt
 known_formed has (know t ∷ es) f = (f.0, known_formed has es f.1)
 known_formed has (fresh t ∷ es) f = known_formed has es f.1
 known_formed has (send t ∷ es) f = known_formed has es f
 known_formed has (recv t ∷ es) f = known_formed has es f.1
 
-later_formed : (has : Op → Bool) (plan : List Event) (ps : List Tree) → LabelsAreFormed has plan → AreFormed has (trees_of ps) → AreFormed has (trees_of (later_with plan ps))
+pub later_formed : (has : Op → Bool) (plan : List Event) (ps : List Tree) → LabelsAreFormed has plan → AreFormed has (trees_of ps) → AreFormed has (trees_of (later_with plan ps))
 later_formed has [] ps f g = tt
 later_formed has (know t ∷ es) ps f g = later_formed has es ps f.1 g
 later_formed has (fresh t ∷ es) ps f g = (f.0, later_formed has es ps f.1 g)
@@ -42,7 +42,7 @@ module _ {A : Type 0} (m : Meaning A) (agrees : HonestAgree m) (gives : GivesOne
   of t = honest m atoms t
 
   -- values of what agrees in terms agree
-  through_terms : (frame ps : List Tree) → AreFormed m.has (trees_of ps) → Agree (terms_over m.has) frame ps → Agree m frame (map of ps)
+  pub through_terms : (frame ps : List Tree) → AreFormed m.has (trees_of ps) → Agree (terms_over m.has) frame ps → Agree m frame (map of ps)
   through_terms frame ps formed agree =
       let own = (agrees atoms ps good formed).2 in
       record {
@@ -50,14 +50,14 @@ module _ {A : Type 0} (m : Meaning A) (agrees : HonestAgree m) (gives : GivesOne
         one = λ r s t er es. let h = agree.one r s t er es in (of h.0, own r h.0 h.1, own s h.0 h.2);
       }
 
-  Draws : ℕ → List Tree → Type 0
+  pub Draws : ℕ → List Tree → Type 0
   Draws i ts = (k : ℕ) (t : Tree) → slice_get ts k ≡ Some t → draw (i + k) ≡ of t
 
-  draws_on : (i : ℕ) (t : Tree) (ts : List Tree) → Draws i (t ∷ ts) → Draws (i + 1) ts
+  pub draws_on : (i : ℕ) (t : Tree) (ts : List Tree) → Draws i (t ∷ ts) → Draws (i + 1) ts
   unfolding Draws
   draws_on i t ts h k u e = let n : i + suc k ≡ i + 1 + k = omega arith in subst (λ j. draw j ≡ of u) n (h (suc k) u e)
 
-  draws_now : (i : ℕ) (t : Tree) (ts : List Tree) → Draws i (t ∷ ts) → draw i ≡ of t
+  pub draws_now : (i : ℕ) (t : Tree) (ts : List Tree) → Draws i (t ∷ ts) → draw i ≡ of t
   unfolding Draws
   draws_now i t ts h = let n : i + 0 ≡ i = omega arith in subst (λ j. draw j ≡ of t) n (h 0 t refl)
 

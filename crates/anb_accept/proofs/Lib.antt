@@ -1,14 +1,7 @@
-pub mod Putting
 pub mod GoingOn
 pub mod Filling
 pub mod Solving
-pub mod Linking
-pub mod Unifying
-pub mod Settling
 pub mod Steps
-pub mod Sides
-pub mod Readings
-pub mod Finishing
 pub mod Whole
 pub mod OfPlans
 pub mod Freeing

@@ -1,5 +1,5 @@
 -- The labels of a role's plan are terms of the protocol, and few.
-use Rattle.std.proofs.Common.{◌≡◌, ℕ, ◌+◌, ◌<◌, List, [], ◌∷◌, ◌++◌, length, map, true, refl, arith}
+use Rattle.std.proofs.Common.{◌≡◌, ℕ, zero, suc, ◌+◌, ◌<◌, ◌≤◌, List, [], ◌∷◌, ◌++◌, length, map, take, true, refl, arith}
 use Rattle.std.specs.List.{AllByRecursion}
 use Rattle.anb_term.specs.Tree.{Tree, leaf, node, Trees, none, more, trees_of, nodes, IsFormed, AreFormed}
 use Rattle.anb_algebra.specs.ByteMeaning.{has_operator}
@@ -8,12 +8,12 @@ use Rattle.anb_close.proofs.Growing.{nodes_append}
 use Rattle.anb_protocol.specs.Protocols.{ProtocolValue}
 use Rattle.anb_protocol.specs.Texts.{IsTermOf, AreTermsOf}
 use Rattle.anb_protocol.specs.Plans.{PlanEvent, to_know, to_make, to_send, to_receive, term_in, plan_of}
-use Rattle.anb_protocol.specs.Plays.{event_of, events_of}
+use Rattle.anb_protocol.specs.Plays.{event_of}
 use Rattle.anb_protocol.specs.Laws.{HoldsOf}
 use Rattle.anb_compile.specs.Unsent.{labels_of}
 use Rattle.anb_compile.proofs.Protocols.{plan_is}
 use Rattle.anb_accept.specs.Taking.{later, labels}
-use Rattle.anb_accept.specs.Equations.{IsNamed, AreNamed}
+use Rattle.anb_unify.specs.Substitutions.{IsNamed, AreNamed}
 
 module _ (p : ProtocolValue) where
   mutual
@@ -61,18 +61,18 @@ module _ (p : ProtocolValue) where
   of_both [] ys h g = g
   of_both (x ∷ xs) ys h g = (h.0, of_both xs ys h.1 g)
 
-  module _ (role : ℕ) (terms : AllByRecursion (λ e. IsTermOf p (term_in e)) (plan_of p role)) where
-    all_terms : AreTermsOf p (trees_of (labels (events_of p role)))
-    all_terms = of_both (known (events_of p role)) (later (events_of p role)) (of_known (plan_of p role) terms) (of_later (plan_of p role) terms)
+  module _ (es : List PlanEvent) (terms : AllByRecursion (λ e. IsTermOf p (term_in e)) es) where
+    all_terms : AreTermsOf p (trees_of (labels (map event_of es)))
+    all_terms = of_both (known (map event_of es)) (later (map event_of es)) (of_known es terms) (of_later es terms)
 
-    pub labels_formed : AreFormed (has_operator p.formats) (trees_of (labels (events_of p role)))
-    labels_formed = terms_formed (trees_of (labels (events_of p role))) all_terms
+    pub labels_formed : AreFormed (has_operator p.formats) (trees_of (labels (map event_of es)))
+    labels_formed = terms_formed (trees_of (labels (map event_of es))) all_terms
 
-    pub labels_any : AreFormed (λ o. true) (trees_of (labels (events_of p role)))
-    labels_any = terms_any (trees_of (labels (events_of p role))) all_terms
+    pub labels_any : AreFormed (λ o. true) (trees_of (labels (map event_of es)))
+    labels_any = terms_any (trees_of (labels (map event_of es))) all_terms
 
-    pub labels_named : AreNamed (length p.atoms) (trees_of (labels (events_of p role)))
-    labels_named = terms_named (trees_of (labels (events_of p role))) all_terms
+    pub labels_named : AreNamed (length p.atoms) (trees_of (labels (map event_of es)))
+    labels_named = terms_named (trees_of (labels (map event_of es))) all_terms
 
   nodes_split : (es : List PlanEvent) → nodes (known (map event_of es)) + nodes (later (map event_of es)) ≡ nodes (labels_of es)
   nodes_split [] = refl
@@ -81,7 +81,17 @@ module _ (p : ProtocolValue) where
   nodes_split (to_send i t ∷ es) = nodes_split es
   nodes_split (to_receive i t ∷ es) = omega (arith, nodes_split es)
 
-  pub labels_few : (role : ℕ) → HoldsOf p → nodes (labels (events_of p role)) < 4294967295
-  labels_few role holds =
+  -- the first events have no more nodes than all
+  first_fewer : (k : ℕ) (es : List PlanEvent) → nodes (labels_of (take k es)) ≤ nodes (labels_of es)
+  first_fewer zero es = omega arith
+  first_fewer (suc k) [] = omega arith
+  first_fewer (suc k) (to_know t ∷ es) = omega (arith, first_fewer k es)
+  first_fewer (suc k) (to_make t ∷ es) = omega (arith, first_fewer k es)
+  first_fewer (suc k) (to_send i t ∷ es) = first_fewer k es
+  first_fewer (suc k) (to_receive i t ∷ es) = omega (arith, first_fewer k es)
+
+  pub labels_few : (role k : ℕ) → HoldsOf p → nodes (labels (map event_of (take k (plan_of p role)))) < 4294967295
+  labels_few role k holds =
+      let es = take k (plan_of p role) in
       let few = (plan_is p role holds).few in
-      omega (arith, nodes_append (known (events_of p role)) (later (events_of p role)), nodes_split (plan_of p role), few)
+      omega (arith, nodes_append (known (map event_of es)) (later (map event_of es)), nodes_split es, first_fewer k (plan_of p role), few)

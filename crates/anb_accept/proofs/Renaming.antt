@@ -1,7 +1,6 @@
 -- Variables that get numbers in the order in which they first stand.
 use Rattle.std.proofs.Common.{◌≡◌, ℕ, zero, suc, ◌+◌, ◌-◌, ◌<◌, ◌≤◌, List, [], ◌∷◌, ◌++◌, length, map, get_or, Bool, true, false, cond, Some, refl, sym, ap, ◌∙◌, subst, arith, inl, inr, ◌⊎◌, ⊎_elim, append_assoc, length-append}
 use Rattle.std.specs.Prelude.{slice_get}
-use Rattle.std.specs.List.{flat_map}
 use Rattle.std.proofs.lemmas.List.{append-nil}
 use Rattle.std.proofs.lemmas.Option.{get_or_from_slice_get}
 use Rattle.anb_lemmas.proofs.Lists.{get_last, got_within}
@@ -15,11 +14,11 @@ use Rattle.anb_plays.specs.Honest.{honest_all}
 use Rattle.anb_plays.specs.Plans.{Event}
 use Rattle.anb_protocol.specs.Texts.{atoms_in, atoms_in_all, atoms_in_each}
 use Rattle.anb_accept.specs.Numbering.{AreInOrder, AreNumbered}
-use Rattle.anb_accept.specs.Patterns.{put_in, KeepsNames, IsInstance, ArePatterns}
+use Rattle.anb_accept.specs.Patterns.{IsInstance, ArePatterns}
+use Rattle.anb_unify.specs.Substitutions.{put_in, KeepsNames}
 use Rattle.anb_accept.specs.Renaming.{IsRenamed, AreRenamed, GotNumbers, AllGotNumbers}
-use Rattle.anb_accept.specs.Solving.{HasGrown}
-use Rattle.anb_accept.proofs.Putting.{map_put_twice, each_formed_before}
-use Rattle.anb_accept.proofs.Steps.{grown_none, grown_on}
+use Rattle.anb_unify.proofs.Putting.{map_put_twice, each_formed_before}
+use Rattle.anb_unify.proofs.Steps.{grown_none, grown_on}
 
 -- ---- in order
 

@@ -40,9 +40,11 @@ use Rattle.anb_basis.specs.declared.check.Check.TheVariants.{Open, Equal}
 use Rattle.anb_basis.specs.Checks.{entry_recipe, demand_of, demands_of, IsComparedWith, Fits, AreAll, AllFit, trues}
 use Rattle.anb_basis.proofs.Exact.{enough, in_terms}
 use Rattle.anb_plays.specs.Honest.{honest_all}
-use Rattle.anb_accept.specs.Patterns.{put_in, KeepsNames}
-use Rattle.anb_accept.specs.Equations.{EquationValue, over_entries, entries_from, equation_of, own_equations, equations_of, heard_variables, Solves, IsSolution, AreNamed}
-use Rattle.anb_accept.proofs.Putting.{put_twice, put_each, put_node, map_put_twice}
+use Rattle.anb_unify.specs.Substitutions.{put_in, KeepsNames, AreNamed}
+use Rattle.anb_accept.specs.Equations.{over_entries, entries_from, equation_of, own_equations, equations_of, heard_variables}
+use Rattle.anb_unify.specs.Equations.{EquationValue, Solves, IsSolution}
+use Rattle.anb_unify.proofs.Putting.{put_twice, put_each, put_node, map_put_twice}
+use Rattle.anb_unify.proofs.Steps.{ranged, ranged_gets, ranged_long}
 use Rattle.anb_accept.proofs.Filling.{filled, label_values, label_value, label_values_long, values_held, own_solved}
 
 pub both_hold : {A : Type 0} (P : A → Type 0) (xs ys : List A) → AllByRecursion P xs → AllByRecursion P ys → AllByRecursion P (xs ++ ys)
@@ -53,28 +55,9 @@ pub either_holds : {A : Type 0} (P : A → Type 0) (xs ys : List A) → AllByRec
 either_holds P [] ys h = (tt, h)
 either_holds P (x ∷ xs) ys h = let r = either_holds P xs ys h.1 in ((h.0, r.0), r.1)
 
-ranged : (g : ℕ → Tree) (a n : ℕ) (xs : List Tree) → length xs ≡ n → ((j : ℕ) (x : Tree) → slice_get xs j ≡ Some x → g (a + j) ≡ x) → map g (range_with_len a n) ≡ xs
-ranged g a zero [] e h = refl
-ranged g a zero (x ∷ xs) e h = absurd (omega arith)
-ranged g a (suc n) [] e h = absurd (omega arith)
-ranged g a (suc n) (x ∷ xs) e h =
-    let z : a + 0 ≡ a = omega arith in
-    let first : g a ≡ x = ap g (sym z) ∙ h 0 x refl in
-    let rest = ranged g (a + 1) n xs (omega arith) (λ j y at. let s : a + suc j ≡ a + 1 + j = omega arith in ap g (sym s) ∙ h (suc j) y at) in
-    cc
-
 map_twice : (f : Tree → Tree) (g : ℕ → Tree) (ns : List ℕ) → map f (map g ns) ≡ map (λ n. f (g n)) ns
 map_twice f g [] = refl
 map_twice f g (n ∷ ns) = ap (λ l. f (g n) ∷ l) (map_twice f g ns)
-
-ranged_gets : (g : ℕ → Tree) (a n j : ℕ) → j < n → slice_get (map g (range_with_len a n)) j ≡ Some (g (a + j))
-ranged_gets g a zero j h = absurd (omega arith)
-ranged_gets g a (suc n) zero h = let z : a ≡ a + 0 = omega arith in ap (λ x. Some (g x)) z
-ranged_gets g a (suc n) (suc j) h = let z : a + 1 + j ≡ a + suc j = omega arith in ranged_gets g (a + 1) n j (omega arith) ∙ ap (λ x. Some (g x)) z
-
-ranged_long : (g : ℕ → Tree) (a n : ℕ) → length (map g (range_with_len a n)) ≡ n
-ranged_long g a zero = refl
-ranged_long g a (suc n) = ap suc (ranged_long g (a + 1) n)
 
 module _ (has : Op → Bool) (names : ℕ) where
   abbrev m : Meaning Tree

@@ -1,17 +1,15 @@
 -- Patterns whose variables are numbered in order are one.
-use Rattle.std.proofs.Common.{◌≡◌, ℕ, zero, suc, ◌+◌, ◌<◌, List, [], ◌∷◌, ◌++◌, map, Bool, refl, sym, ap, ◌∙◌, subst, arith, inl, inr, ◌⊎◌}
+use Rattle.std.proofs.Common.{◌≡◌, ℕ, zero, suc, ◌+◌, ◌<◌, List, [], ◌∷◌, ◌++◌, map, refl, sym, ap, ◌∙◌, subst, arith, inl, inr, ◌⊎◌}
 use Rattle.std.specs.List.{AllByRecursion}
 use Rattle.anb_lemmas.proofs.Each.{each_in_parts}
-use Rattle.anb_term.specs.declared.term.Op.{Op}
 use Rattle.anb_term.specs.Tree.{Tree, leaf, node, Trees, none, more, trees_of}
 use Rattle.anb_term.specs.FreeAlgebra.{terms}
 use Rattle.anb_plays.specs.Honest.{honest_all}
-use Rattle.anb_plays.specs.Plans.{Event}
 use Rattle.anb_protocol.specs.Texts.{atoms_in, atoms_in_all, atoms_in_each}
 use Rattle.anb_accept.specs.Laws.{PatternsAreUnique}
-use Rattle.anb_accept.specs.Numbering.{AreInOrder, AreNumbered}
-use Rattle.anb_accept.specs.Patterns.{put_in, KeepsNames, ArePatterns}
-use Rattle.anb_accept.proofs.Putting.{each_itself}
+use Rattle.anb_accept.specs.Numbering.{AreInOrder}
+use Rattle.anb_unify.specs.Substitutions.{put_in}
+use Rattle.anb_unify.proofs.Putting.{each_itself}
 
 leaf_number : (n m : ℕ) → leaf n ≡ leaf m → n ≡ m
 leaf_number n m e = cc

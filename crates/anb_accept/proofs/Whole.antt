@@ -1,7 +1,6 @@
 -- The patterns of a plan, put together.
 use Rattle.std.proofs.Common.{◌≡◌, ℕ, suc, ◌+◌, ◌<◌, ◌≤◌, List, [], ◌∷◌, ◌++◌, length, map, Bool, true, false, cond, Some, refl, sym, ap, ◌∙◌, subst, arith, inl, inr}
 use Rattle.std.specs.Prelude.{slice_get}
-use Rattle.std.specs.List.{AllByRecursion}
 use Rattle.std.proofs.lemmas.List.{length-map}
 use Rattle.anb_lemmas.proofs.Lists.{got_within}
 use Rattle.anb_term.specs.declared.term.Op.{Op}
@@ -9,7 +8,6 @@ use Rattle.anb_term.specs.Tree.{Tree, trees_of, AreFormed}
 use Rattle.anb_term.specs.View.{tree_of}
 use Rattle.anb_term.specs.FreeAlgebra.{terms_over}
 use Rattle.anb_term.specs.Agree.{Agree}
-use Rattle.anb_term.proofs.Lists.{slice_get-map}
 use Rattle.anb_plays.specs.Plans.{Event, know, fresh, send, recv, known}
 use Rattle.anb_plays.specs.Honest.{heard}
 use Rattle.anb_close.specs.declared.entry.Entry.{Entry}
@@ -19,10 +17,12 @@ use Rattle.anb_basis.specs.declared.check.Check.{Check}
 use Rattle.anb_basis.specs.declared.check.Check.TheVariants.{Open, Equal}
 use Rattle.anb_basis.specs.Checks.{AreAll, AllFit, Fits, trues}
 use Rattle.anb_accept.specs.Taking.{later, later_with, labels, labels_with, Takes}
-use Rattle.anb_accept.specs.Patterns.{put_in, KeepsNames, ArePatterns}
-use Rattle.anb_accept.specs.Equations.{EquationValue, IsSolution, IsMostGeneral, Solves, equation_of, own_equations, equations_of, heard_variables, heard_labels, is_own, AreNamed}
-use Rattle.anb_accept.specs.Solving.{HasNarrated, AreOfEntries}
-use Rattle.anb_accept.proofs.Putting.{put_twice, each_formed_before}
+use Rattle.anb_accept.specs.Patterns.{ArePatterns}
+use Rattle.anb_unify.specs.Substitutions.{put_in, AreNamed}
+use Rattle.anb_accept.specs.Equations.{equation_of, own_equations, equations_of, heard_variables, heard_entries, heard_labels, is_own, is_heard}
+use Rattle.anb_unify.specs.Equations.{EquationValue, IsSolution, IsMostGeneral, Solves, HasSolution, AreOfVariables, AreVariables, atoms_of}
+use Rattle.anb_unify.proofs.Putting.{each_formed_before}
+use Rattle.anb_unify.proofs.Solutions.{after_keeps, after_solves, map_after}
 use Rattle.anb_accept.proofs.Filling.{filled, labels_filled, labels_trues, labels_long, own_filled, heard_many}
 use Rattle.anb_accept.proofs.Solving.{worths, worths_entry, worths_solve, solution_agrees, either_holds, both_hold, gives}
 
@@ -47,21 +47,9 @@ last_formed has (x ∷ xs) ys f = last_formed has xs ys f.1
 agree_itself : (has : Op → Bool) (frame : List Tree) → Agree (terms_over has) frame frame
 agree_itself has frame = record { long = refl; one = λ r s t a b. (t, a, b) }
 
--- a solution of a solution
-module _ (names : ℕ) (p q : ℕ → Tree) (keeps : KeepsNames names p) where
-  after : ℕ → Tree
-  after n = put_in p (q n)
-
-  after_keeps : KeepsNames names q → KeepsNames names (λ n. put_in p (q n))
-  after_keeps k n l = ap (put_in p) (k n l) ∙ keeps n l
-
-  after_solves : (qs : List EquationValue) → AllByRecursion (Solves names q) qs → AllByRecursion (Solves names (λ n. put_in p (q n))) qs
-  after_solves [] s = tt
-  after_solves (x ∷ qs) s = (ap (put_in p) s.0 ∙ put_twice p q x.term, after_solves qs s.1)
-
-map_after : (p q : ℕ → Tree) (ns : List ℕ) → map (put_in p) (map q ns) ≡ map (λ n. put_in p (q n)) ns
-map_after p q [] = refl
-map_after p q (n ∷ ns) = ap (λ l. put_in p (q n) ∷ l) (map_after p q ns)
+-- what is narrated is taken
+pub takes_itself : (has : Op → Bool) (plan : List Event) → Takes has plan (heard plan)
+takes_itself has plan = record { count = refl; agree = subst (Agree (terms_over has) (labels plan)) (sym (ap (λ l. known plan ++ l) (narrated_with plan))) (agree_itself has (labels plan)) }
 
 module _ (has : Op → Bool) (names : ℕ) (plan : List Event) (es : List Entry) (cs : List Check) (known_es : IsKnown es) (all : AreAll es cs) (fits : AllFit es cs) (are : labels_of es ≡ labels plan)
     (formed : AreFormed has (trees_of (labels plan))) (named : AreNamed names (trees_of (labels plan))) where
@@ -100,8 +88,7 @@ module _ (has : Op → Bool) (names : ℕ) (plan : List Event) (es : List Entry)
   pub patterns_are : (patterns : List Tree) → IsMostGeneral names (equations_of names (heard_labels plan) es cs) (heard_variables names (heard_labels plan) 0 es) patterns → ArePatterns has names plan patterns
   patterns_are patterns general =
       let vars = heard_variables names (heard_labels plan) 0 es in
-      let narrated : Takes has plan (heard plan) = record { count = refl; agree = subst (Agree (terms_over has) (labels plan)) (sym (ap (λ l. known plan ++ l) (narrated_with plan))) (agree_itself has (labels plan)) } in
-      let h = taken_solution (heard plan) narrated in
+      let h = taken_solution (heard plan) (takes_itself has plan) in
       record {
         formed = each_formed_before has h.0 patterns (subst (λ l. AreFormed has (trees_of l)) (sym h.2 ∙ general.general h.0 h.1) (heard_formed has plan (last_formed has (known plan) (later plan) formed)));
         instances = λ xs takes. (let s = taken_solution xs takes in record { put = s.0; keeps = s.1.keeps; is = sym s.2 ∙ general.general s.0 s.1 });
@@ -137,7 +124,7 @@ heard_trues (t ∷ ts) (true ∷ hs) e = ap suc (heard_trues ts hs (omega arith)
 heard_trues (t ∷ ts) (false ∷ hs) e = heard_trues ts hs (omega arith)
 
 module _ (names : ℕ) (H : List Bool) (es : List Entry) (cs : List Check) (known_es : IsKnown es) (fits : AllFit es cs) (formed : AreFormed (λ o. true) (trees_of (labels_of es))) (named : AreNamed names (trees_of (labels_of es))) (long : length H ≡ length (labels_of es)) where
-  pub has_narrated : HasNarrated names es (equations_of names H es cs)
+  pub has_narrated : HasSolution names (terms_of es) (equations_of names H es cs)
   has_narrated =
       let frame = labels_of es in
       let agree = agree_itself (λ o. true) frame in
@@ -145,18 +132,18 @@ module _ (names : ℕ) (H : List Bool) (es : List Entry) (cs : List Check) (know
       record {
         put = worths (λ o. true) names es cs known_es formed frame agree fits;
         solution = s.0;
-        each = λ k e at. worths_entry (λ o. true) names es cs known_es formed frame agree fits k (tree_of e.term) (gives (λ o. true) names es cs known_es formed k (tree_of e.term) (slice_get-map (λ (y : Entry). tree_of y.term) es k e at));
+        each = λ k t at. worths_entry (λ o. true) names es cs known_es formed frame agree fits k t (gives (λ o. true) names es cs known_es formed k t at);
       }
 
-  own_within : (k n : ℕ) (xs : List Entry) → k + length xs ≤ n → AreOfEntries n (own_equations H k xs)
+  own_within : (k n : ℕ) (xs : List Entry) → k + length xs ≤ n → AreOfVariables n (own_equations H k xs)
   own_within k n [] l = tt
-  own_within k n (e ∷ xs) l = both_hold (λ (q : EquationValue). q.entry < n) (cond (is_own H e.origin) (record { entry = k; term = tree_of e.term } ∷ []) []) (own_equations H (k + 1) xs) (one (is_own H e.origin) (omega arith)) (own_within (k + 1) n xs (omega arith))
+  own_within k n (e ∷ xs) l = both_hold (λ (q : EquationValue). q.variable < n) (cond (is_own H e.origin) (record { variable = k; term = tree_of e.term } ∷ []) []) (own_equations H (k + 1) xs) (one (is_own H e.origin) (omega arith)) (own_within (k + 1) n xs (omega arith))
     where
-      one : (b : Bool) → k < n → AreOfEntries n (cond b (record { entry = k; term = tree_of e.term } ∷ []) [])
+      one : (b : Bool) → k < n → AreOfVariables n (cond b (record { variable = k; term = tree_of e.term } ∷ []) [])
       one true h = (h, tt)
       one false h = tt
 
-  check_within : (c : Check) → Fits es c → (equation_of names c).entry < length es
+  check_within : (c : Check) → Fits es c → (equation_of names c).variable < length es
   check_within (Open x) (e, at, is) =
       let p = known_es.parted x.first e x.op 0 x.keys x.of at is in
       let q = p.opened in
@@ -164,9 +151,27 @@ module _ (names : ℕ) (H : List Bool) (es : List Entry) (cs : List Check) (know
   check_within (Equal i w) (inl (t, row, at, made)) = omega (arith, got_within (terms_of es) i t at, length-map es (λ (y : Entry). tree_of y.term))
   check_within (Equal i w) (inr (o, us, ms, row, u, made, is)) = omega (arith, got_within (rows es) i _ row, rows_length es)
 
-  checks_within : (ds : List Check) → ((k : ℕ) (c : Check) → slice_get ds k ≡ Some c → Fits es c) → AreOfEntries (length es) (map (equation_of names) ds)
+  checks_within : (ds : List Check) → ((k : ℕ) (c : Check) → slice_get ds k ≡ Some c → Fits es c) → AreOfVariables (length es) (map (equation_of names) ds)
   checks_within [] f = tt
   checks_within (d ∷ ds) f = (check_within d (f 0 d refl), checks_within ds (λ k. f (suc k)))
 
-  pub of_entries : AreOfEntries (length es) (equations_of names H es cs)
-  of_entries = both_hold (λ (q : EquationValue). q.entry < length es) (own_equations H 0 es) (map (equation_of names) cs) (own_within 0 (length es) es (omega arith)) (checks_within cs fits)
+  pub of_entries : AreOfVariables (length es) (equations_of names H es cs)
+  of_entries = both_hold (λ (q : EquationValue). q.variable < length es) (own_equations H 0 es) (map (equation_of names) cs) (own_within 0 (length es) es (omega arith)) (checks_within cs fits)
+
+-- ---- the entries of labels that are heard
+
+pub heard_atoms : (names : ℕ) (H : List Bool) (k : ℕ) (es : List Entry) → atoms_of names (heard_entries H k es) ≡ heard_variables names H k es
+heard_atoms names H k [] = refl
+heard_atoms names H k (e ∷ es) = either (is_heard H e.origin) (heard_atoms names H (k + 1) es)
+  where
+    either : (b : Bool) → atoms_of names (heard_entries H (k + 1) es) ≡ heard_variables names H (k + 1) es → atoms_of names (cond b (k ∷ []) [] ++ heard_entries H (k + 1) es) ≡ cond b ((names + k) ∷ []) [] ++ heard_variables names H (k + 1) es
+    either true r = ap (λ l. (names + k) ∷ l) r
+    either false r = r
+
+pub heard_within : (H : List Bool) (k n : ℕ) (es : List Entry) → k + length es ≤ n → AreVariables n (heard_entries H k es)
+heard_within H k n [] l = tt
+heard_within H k n (e ∷ es) l = either (is_heard H e.origin) (omega arith) (heard_within H (k + 1) n es (omega arith))
+  where
+    either : (b : Bool) → k < n → AreVariables n (heard_entries H (k + 1) es) → AreVariables n (cond b (k ∷ []) [] ++ heard_entries H (k + 1) es)
+    either true h r = (h, r)
+    either false h r = r

@@ -1,8 +1,8 @@
--- Equations between terms whose atoms are the names and, above them, a variable for each entry.
-use Rattle.std.specs.Prelude.{◌≡◌, ℕ, ◌+◌, ◌-◌, ◌<◌, List, [], ◌∷◌, ◌++◌, map, Bool, true, false, not, Option, Some, None, slice_get, if◌then◌else◌}
-use Rattle.std.specs.List.{AllByRecursion, range_with_len}
+-- A role's checks as equations between terms, whose atoms are the names and, above them, a variable for each entry.
+use Rattle.std.specs.Prelude.{ℕ, ◌+◌, ◌-◌, List, [], ◌∷◌, ◌++◌, map, Bool, true, false, not, Option, Some, None, slice_get, if◌then◌else◌}
+use Rattle.std.specs.List.{range_with_len}
 use Rattle.anb_term.specs.Operator.{arity, keys}
-use Rattle.anb_term.specs.Tree.{Tree, leaf, node, Trees, none, more, trees_of}
+use Rattle.anb_term.specs.Tree.{Tree, leaf, node, trees_of}
 use Rattle.anb_term.specs.View.{tree_of}
 use Rattle.anb_close.specs.MadeView.{made_tree}
 use Rattle.anb_close.specs.declared.entry.Entry.{Entry}
@@ -11,12 +11,8 @@ use Rattle.anb_close.specs.declared.entry.Origin.TheVariants.{Label, Part}
 use Rattle.anb_basis.specs.declared.check.Check.{Check}
 use Rattle.anb_basis.specs.declared.check.Check.TheVariants.{Open, Equal}
 use Rattle.anb_plays.specs.Plans.{Event, know, fresh, send, recv, known}
-use Rattle.anb_accept.specs.Patterns.{put_in, KeepsNames}
-
--- that the variable of an entry is a term
-pub record EquationValue : Type 0 where
-  pub entry : ℕ
-  pub term : Tree
+use Rattle.anb_unify.specs.Substitutions.{put_in}
+use Rattle.anb_unify.specs.Equations.{EquationValue}
 
 -- whether a label is heard; one that isn't there isn't
 abbrev pub heard_at : Option Bool → Bool
@@ -48,19 +44,24 @@ module _ (names : ℕ) where
   entries_from first count = map (λ j. leaf (names + (first + j))) (range_with_len 0 count)
 
   abbrev pub equation_of : Check → EquationValue
-  equation_of (Open x) = record { entry = x.of; term = node x.op (trees_of (map over_entries x.keys ++ entries_from x.first (arity x.op - keys x.op))) }
-  equation_of (Equal i w) = record { entry = i; term = over_entries (made_tree w) }
+  equation_of (Open x) = record { variable = x.of; term = node x.op (trees_of (map over_entries x.keys ++ entries_from x.first (arity x.op - keys x.op))) }
+  equation_of (Equal i w) = record { variable = i; term = over_entries (made_tree w) }
 
 -- the labels that aren't heard are their own terms; the entries stand from number k on
 abbrev pub own_equations : List Bool → ℕ → List Entry → List EquationValue
 own_equations heard k [] = []
 own_equations heard k (e ∷ es) =
-    (if is_own heard e.origin then record { entry = k; term = tree_of e.term } ∷ [] else []) ++ own_equations heard (k + 1) es
+    (if is_own heard e.origin then record { variable = k; term = tree_of e.term } ∷ [] else []) ++ own_equations heard (k + 1) es
 
 abbrev pub equations_of : ℕ → List Bool → List Entry → List Check → List EquationValue
 equations_of names heard es cs = own_equations heard 0 es ++ map (equation_of names) cs
 
--- the variables of the labels that are heard, in order
+-- the entries of the labels that are heard, in order
+abbrev pub heard_entries : List Bool → ℕ → List Entry → List ℕ
+heard_entries heard k [] = []
+heard_entries heard k (e ∷ es) = (if is_heard heard e.origin then k ∷ [] else []) ++ heard_entries heard (k + 1) es
+
+-- and their variables
 abbrev pub heard_variables : ℕ → List Bool → ℕ → List Entry → List ℕ
 heard_variables names heard k [] = []
 heard_variables names heard k (e ∷ es) = (if is_heard heard e.origin then (names + k) ∷ [] else []) ++ heard_variables names heard (k + 1) es
@@ -75,28 +76,3 @@ later_heard (recv t ∷ es) = true ∷ later_heard es
 
 abbrev pub heard_labels : List Event → List Bool
 heard_labels plan = map (λ t. false) (known plan) ++ later_heard plan
-
-abbrev mutual
-  -- its atoms are names
-  pub IsNamed : ℕ → Tree → Type 0
-  IsNamed names (leaf n) = n < names
-  IsNamed names (node o ts) = AreNamed names ts
-
-  pub AreNamed : ℕ → Trees → Type 0
-  AreNamed names none = Unit {0}
-  AreNamed names (more t ts) = IsNamed names t × AreNamed names ts
-
--- these terms in the places of the variables solve an equation
-abbrev pub Solves : ℕ → (ℕ → Tree) → EquationValue → Type 0
-Solves names put q = put (names + q.entry) ≡ put_in put q.term
-
-pub record IsSolution (names : ℕ) (equations : List EquationValue) (put : ℕ → Tree) : Type 0 where
-  pub keeps : KeepsNames names put
-  pub solves : AllByRecursion (Solves names put) equations
-
--- the most general solution, at these variables
-pub record IsMostGeneral (names : ℕ) (equations : List EquationValue) (variables : List ℕ) (patterns : List Tree) : Type 0 where
-  pub put : ℕ → Tree
-  pub solution : IsSolution names equations put
-  pub is : patterns ≡ map put variables
-  pub general : (other : ℕ → Tree) → IsSolution names equations other → map other variables ≡ map (put_in other) patterns

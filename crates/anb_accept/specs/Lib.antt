@@ -4,10 +4,7 @@ pub mod Numbering
 pub mod Parts
 pub mod Roles
 pub mod Laws
+pub mod Events
 -- for proofs alone
 pub mod Equations
-pub mod Views
-pub mod Classes
-pub mod Reading
-pub mod Solving
 pub mod Renaming

@@ -1,18 +1,10 @@
 -- Patterns: terms over the names and over variables, which are atoms above the names.
-use Rattle.std.specs.Prelude.{◌≡◌, ℕ, ◌<◌, List, map, Bool}
+use Rattle.std.specs.Prelude.{◌≡◌, ℕ, List, map, Bool}
 use Rattle.anb_term.specs.declared.term.Op.{Op}
-use Rattle.anb_term.specs.Tree.{Tree, leaf, trees_of, AreFormed}
-use Rattle.anb_term.specs.FreeAlgebra.{terms}
+use Rattle.anb_term.specs.Tree.{Tree, trees_of, AreFormed}
 use Rattle.anb_plays.specs.Plans.{Event}
-use Rattle.anb_plays.specs.Honest.{honest}
+use Rattle.anb_unify.specs.Substitutions.{put_in, KeepsNames}
 use Rattle.anb_accept.specs.Taking.{Takes}
-
--- a term with terms put in the places of its atoms
-abbrev pub put_in : (ℕ → Tree) → Tree → Tree
-put_in put t = honest terms put t
-
-abbrev pub KeepsNames : ℕ → (ℕ → Tree) → Type 0
-KeepsNames names put = (n : ℕ) → n < names → put n ≡ leaf n
 
 -- terms are put in the places of the variables
 pub record IsInstance (names : ℕ) (patterns : List Tree) (arrivals : List Tree) : Type 0 where

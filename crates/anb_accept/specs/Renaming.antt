@@ -3,7 +3,7 @@ use Rattle.std.specs.Prelude.{◌≡◌, ℕ, ◌+◌, ◌<◌, ◌≤◌, List,
 use Rattle.anb_term.specs.Tree.{Tree, leaf, node, Trees, none, more}
 use Rattle.anb_protocol.specs.Texts.{atoms_in, atoms_in_all}
 use Rattle.anb_accept.specs.Numbering.{AreInOrder}
-use Rattle.anb_accept.specs.Solving.{HasGrown}
+use Rattle.anb_unify.specs.Growing.{HasGrown}
 
 module _ (names : ℕ) (pool : List Tree) where
   -- a name, or the number of a variable in a pool

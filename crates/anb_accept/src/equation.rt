@@ -5,30 +5,14 @@ ghost use Rattle.anb_term.specs.View.{tree_of};
 ghost use Rattle.anb_term.specs.Operator.{arity, keys};
 ghost use Rattle.anb_close.specs.MadeView.{made_tree};
 ghost use Rattle.anb_accept.specs.Equations.{is_own, over_entries, entries_from, equation_of, own_equations, equations_of};
-ghost use Rattle.anb_accept.specs.Views.{equation_value};
+ghost use Rattle.anb_unify.specs.Views.{equation_value};
 
 use anb_base::NoMemory;
 use anb_basis::Check;
 use anb_close::{Entry, Made, Opening, Origin};
 use anb_term::{Op, Term, Terms};
+use anb_unify::{Equation, variable};
 use std::alloc::Global;
-
-/// That an entry is a term over the names and over entries, each of which stands as a variable.
-#[derive(Drop)]
-pub(crate) struct Equation {
-    pub(crate) entry: u32,
-    pub(crate) term: Term,
-}
-
-/// The variable of an entry, where there is a number for it.
-pub(crate) fn variable(names: u32, entry: u32) -> Result<u32, NoMemory>
-    ensures { IfOk result (λ v. v ≡ names + entry) }
-{
-    if entry > u32::MAX - names {
-        return Err(NoMemory);
-    }
-    Ok(names + entry)
-}
 
 /// The equations that a solution solves: the labels that aren't heard are their own terms, and the
 /// checks hold.
@@ -94,7 +78,7 @@ fn put_if_own(
         return Ok(());
     }
     let term = entry.term.copy(alloc)?;
-    out.push(Equation { entry: at, term })?;
+    out.push(Equation { variable: at, term })?;
     Ok(())
 }
 
@@ -123,13 +107,13 @@ fn equation_of(alloc: Global, names: u32, check: &Check) -> Result<Equation, NoM
         Check::Open(opening) => {
             let term = opened(alloc, names, opening)?;
             Ok(Equation {
-                entry: opening.of,
+                variable: opening.of,
                 term,
             })
         }
         Check::Equal(i, made) => {
             let term = composed(alloc, names, made)?;
-            Ok(Equation { entry: *i, term })
+            Ok(Equation { variable: *i, term })
         }
     }
 }

@@ -1,14 +1,13 @@
 //! The labels of a plan.
 ghost use Rattle.std.specs.Prelude.{◌≡◌, ◌++◌, ◌∷◌, [], map, false, IfOk, OnOk};
 ghost use Rattle.anb_term.specs.View.{tree_of};
-ghost use Rattle.anb_protocol.specs.Plays.{event_of};
 ghost use Rattle.anb_plays.specs.Plans.{known};
 ghost use Rattle.anb_accept.specs.Taking.{later, labels};
 ghost use Rattle.anb_accept.specs.Equations.{later_heard, heard_labels};
-ghost use Rattle.anb_accept.specs.Views.{event_value};
+ghost use Rattle.anb_accept.specs.Events.{event_value};
 
 use anb_base::NoMemory;
-use anb_protocol::{Event, Plan};
+use anb_protocol::Event;
 use anb_term::Term;
 use std::alloc::Global;
 
@@ -19,17 +18,17 @@ pub(crate) struct Frame {
     pub(crate) heard: Vec<bool>,
 }
 
-/// The labels of a plan: what is known, and then what is made and what is heard.
-pub(crate) fn frame_of(alloc: Global, plan: &Plan) -> Result<Frame, NoMemory>
+/// The labels of events: what is known, and then what is made and what is heard.
+pub(crate) fn frame_of(alloc: Global, events: &[Event]) -> Result<Frame, NoMemory>
     ensures terms { IfOk result (λ frame.
-        map tree_of frame.terms.items ≡ labels (map event_of plan.now)) }
+        map tree_of frame.terms.items ≡ labels (map event_value events.now)) }
     ensures heard { IfOk result (λ frame.
-        frame.heard.items ≡ heard_labels (map event_of plan.now)) }
+        frame.heard.items ≡ heard_labels (map event_value events.now)) }
 {
     let mut terms = Vec::new(alloc);
     let mut heard = Vec::new(alloc);
-    put_known(alloc, &mut terms, &mut heard, plan.events())?;
-    put_later(alloc, &mut terms, &mut heard, plan.events())?;
+    put_known(alloc, &mut terms, &mut heard, events)?;
+    put_later(alloc, &mut terms, &mut heard, events)?;
     Ok(Frame { terms, heard })
 }
 

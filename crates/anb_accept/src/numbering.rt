@@ -8,10 +8,10 @@ ghost use Rattle.anb_accept.specs.Numbering.{AreNumbered};
 ghost use Rattle.anb_accept.specs.Patterns.{ArePatterns};
 ghost use Rattle.anb_accept.specs.Renaming.{AllGotNumbers, GotNumbers};
 
-use crate::equation::variable;
 use anb_base::NoMemory;
 use anb_intern::{Node, Pool};
 use anb_term::{Term, Terms};
+use anb_unify::variable;
 use std::alloc::Global;
 
 /// The same patterns, with their variables numbered in the order in which they first stand.

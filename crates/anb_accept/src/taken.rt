@@ -2,7 +2,7 @@
 ghost use Rattle.std.specs.Prelude.{◌<◌, length, IfOk};
 ghost use Rattle.anb_accept.specs.Roles.{IsTakenBy};
 
-use crate::patterns::patterns_of;
+use crate::roles::patterns_of;
 use anb_base::NoMemory;
 use anb_pattern::{Taken, taken_of};
 use anb_protocol::Protocol;

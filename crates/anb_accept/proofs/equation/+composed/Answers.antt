@@ -4,10 +4,11 @@ use Rattle.anb_term.specs.Tree.{leaf, node, tree_size, trees_size, trees_of}
 use Rattle.anb_term.specs.View.{tree_of}
 use Rattle.anb_term.proofs.Lists.{map-append}
 use Rattle.anb_lemmas.proofs.Lists.{item_at}
-use Rattle.anb_accept.proofs.Putting.{put_node}
+use Rattle.anb_unify.proofs.Putting.{put_node}
 use Rattle.anb_close.specs.MadeView.{made_tree}
 use Rattle.anb_accept.specs.Equations.{over_entries}
-use Rattle.anb_accept.proofs.Steps.{mapped_next, map_map, one_made, taken_all}
+use Rattle.anb_accept.proofs.Steps.{one_made}
+use Rattle.anb_unify.proofs.Steps.{mapped_next, map_map, taken_all}
 use Rattle.anb_accept.proofs.equation.+composed.Goals as goal
 
 pub composed-composed_all-requires : goal.composed-composed_all-requires

@@ -2,8 +2,8 @@
 use Rattle.std.proofs.Common.{[], ◌∷◌, map, ap, ◌∙◌, arith}
 use Rattle.anb_term.proofs.Lists.{map-append}
 use Rattle.anb_accept.specs.Equations.{equation_of}
-use Rattle.anb_accept.specs.Views.{equation_value}
-use Rattle.anb_accept.proofs.Steps.{mapped_next}
+use Rattle.anb_unify.specs.Views.{equation_value}
+use Rattle.anb_unify.proofs.Steps.{mapped_next}
 use Rattle.anb_accept.proofs.equation.put_checks.Goals as goal
 
 pub loop-check-preserved : goal.loop-check-preserved

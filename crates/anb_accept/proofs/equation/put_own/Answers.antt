@@ -1,8 +1,9 @@
 -- One more entry.
 use Rattle.std.proofs.Common.{[], ◌∷◌, map, take, arith, length-take-le}
 use Rattle.anb_accept.specs.Equations.{own_equations}
-use Rattle.anb_accept.specs.Views.{equation_value}
-use Rattle.anb_accept.proofs.Steps.{flat_next, own_snoc}
+use Rattle.anb_unify.specs.Views.{equation_value}
+use Rattle.anb_accept.proofs.Steps.{own_snoc}
+use Rattle.anb_unify.proofs.Steps.{flat_next}
 use Rattle.anb_accept.proofs.equation.put_own.Goals as goal
 
 pub loop-i-preserved : goal.loop-i-preserved

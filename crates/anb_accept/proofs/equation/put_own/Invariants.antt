@@ -1,6 +1,6 @@
 use Rattle.std.proofs.Common.{◌≡◌, ◌++◌, map, take}
 use Rattle.anb_accept.specs.Equations.{own_equations}
-use Rattle.anb_accept.specs.Views.{equation_value}
+use Rattle.anb_unify.specs.Views.{equation_value}
 use Rattle.anb_accept.proofs.equation.put_own.Given as goal
 
 abbrev pub invariant-loop-i : goal.invariant-loop-i

@@ -2,8 +2,9 @@
 use Rattle.std.proofs.Common.{[], ◌∷◌, map, take, false, arith}
 use Rattle.anb_term.specs.View.{tree_of}
 use Rattle.anb_plays.specs.Plans.{known}
-use Rattle.anb_accept.specs.Views.{event_value}
-use Rattle.anb_accept.proofs.Steps.{flat_next, known_snoc, flags_snoc, mapped_snoc}
+use Rattle.anb_accept.specs.Events.{event_value}
+use Rattle.anb_accept.proofs.Steps.{known_snoc, flags_snoc, mapped_snoc}
+use Rattle.anb_unify.proofs.Steps.{flat_next}
 use Rattle.anb_accept.proofs.frame.put_known.Goals as goal
 
 pub loop-event-preserved : goal.loop-event-preserved

@@ -1,7 +1,7 @@
 use Rattle.std.proofs.Common.{◌≡◌, ◌++◌, map, take, false}
 use Rattle.anb_term.specs.View.{tree_of}
 use Rattle.anb_plays.specs.Plans.{known}
-use Rattle.anb_accept.specs.Views.{event_value}
+use Rattle.anb_accept.specs.Events.{event_value}
 use Rattle.anb_accept.proofs.frame.put_known.Given as goal
 
 abbrev pub invariant-loop-event : goal.invariant-loop-event

@@ -3,8 +3,9 @@ use Rattle.std.proofs.Common.{[], ◌∷◌, map, take, arith}
 use Rattle.anb_term.specs.View.{tree_of}
 use Rattle.anb_accept.specs.Taking.{later}
 use Rattle.anb_accept.specs.Equations.{later_heard}
-use Rattle.anb_accept.specs.Views.{event_value}
-use Rattle.anb_accept.proofs.Steps.{flat_next, later_snoc, later_heard_snoc, mapped_snoc}
+use Rattle.anb_accept.specs.Events.{event_value}
+use Rattle.anb_accept.proofs.Steps.{later_snoc, later_heard_snoc, mapped_snoc}
+use Rattle.anb_unify.proofs.Steps.{flat_next}
 use Rattle.anb_accept.proofs.frame.put_later.Goals as goal
 
 pub loop-event-preserved : goal.loop-event-preserved

@@ -2,7 +2,7 @@ use Rattle.std.proofs.Common.{◌≡◌, ◌++◌, map, take}
 use Rattle.anb_term.specs.View.{tree_of}
 use Rattle.anb_accept.specs.Taking.{later}
 use Rattle.anb_accept.specs.Equations.{later_heard}
-use Rattle.anb_accept.specs.Views.{event_value}
+use Rattle.anb_accept.specs.Events.{event_value}
 use Rattle.anb_accept.proofs.frame.put_later.Given as goal
 
 abbrev pub invariant-loop-event : goal.invariant-loop-event

@@ -1,6 +1,6 @@
 -- Patterns are instances of themselves, so each is taken, and so an instance of the other.
 use Rattle.std.proofs.Common.{refl, sym}
-use Rattle.anb_accept.proofs.Putting.{each_itself}
+use Rattle.anb_unify.proofs.Putting.{each_itself}
 use Rattle.anb_accept.specs.Laws.{PatternsAreOne}
 use Rattle.anb_term.specs.Tree.{leaf}
 use Rattle.anb_accept.proofs.laws.patterns_are_one.Goals as goal

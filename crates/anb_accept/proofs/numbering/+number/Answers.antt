@@ -1,5 +1,5 @@
 -- One term more gets its numbers.
-use Rattle.std.proofs.Common.{◌≡◌, ◌+◌, ◌<◌, [], ◌∷◌, List, length, map, take, sym, ap, ◌∙◌, subst, arith}
+use Rattle.std.proofs.Common.{◌<◌, [], ◌∷◌, List, length, map, take, sym, ap, ◌∙◌, subst, arith}
 use Rattle.anb_lemmas.proofs.Lists.{item_at, take_got}
 use Rattle.anb_term.specs.declared.term.Term.{Term}
 use Rattle.anb_term.specs.Tree.{Tree, node, trees_of}
@@ -7,7 +7,7 @@ use Rattle.anb_term.specs.View.{tree_of}
 use Rattle.anb_term.proofs.Lists.{one_size, map-append}
 use Rattle.anb_accept.specs.Renaming.{GotNumbers, AllGotNumbers}
 use Rattle.anb_accept.proofs.Renaming.{none_numbered, one_numbered, node_numbered}
-use Rattle.anb_accept.proofs.Steps.{taken_all}
+use Rattle.anb_unify.proofs.Steps.{taken_all}
 use Rattle.anb_accept.proofs.numbering.+number.Goals as goal
 
 pub number_all-number-requires : goal.number_all-number-requires

@@ -1,5 +1,5 @@
 -- An atom's number.
-use Rattle.std.proofs.Common.{◌≡◌, ◌+◌, ◌≤◌, sym, subst, arith}
+use Rattle.std.proofs.Common.{sym, subst, arith}
 use Rattle.anb_term.specs.Tree.{leaf}
 use Rattle.anb_accept.specs.Renaming.{GotNumbers}
 use Rattle.anb_accept.proofs.Renaming.{atom_numbered}

@@ -1,5 +1,5 @@
 -- The same patterns by other names of their variables.
-use Rattle.std.proofs.Common.{◌≡◌, List, [], map, sym, subst}
+use Rattle.std.proofs.Common.{List, map, subst}
 use Rattle.anb_term.specs.Tree.{Tree, trees_of}
 use Rattle.anb_term.specs.View.{tree_of}
 use Rattle.anb_accept.specs.Renaming.{AllGotNumbers}

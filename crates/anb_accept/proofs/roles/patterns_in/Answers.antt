@@ -1,0 +1,67 @@
+-- The labels of the events, and their patterns.
+use Rattle.std.proofs.Common.{◌≡◌, ◌<◌, List, length, map, true, Result, Ok, Err, IfOk, sym, ap, ◌∙◌, subst}
+use Rattle.std.specs.List.{AllByRecursion}
+use Rattle.std.proofs.lemmas.List.{length-map}
+use Rattle.anb_term.specs.Tree.{trees_of, nodes, AreFormed}
+use Rattle.anb_term.specs.declared.term.Term.{Term}
+use Rattle.anb_term.specs.View.{tree_of}
+use Rattle.anb_term.proofs.Lists.{all_take}
+use Rattle.anb_algebra.specs.ByteMeaning.{has_operator}
+use Rattle.anb_protocol.specs.Plans.{PlanEvent, plan_of, term_in}
+use Rattle.anb_protocol.specs.Plays.{event_of}
+use Rattle.anb_protocol.specs.Texts.{IsTermOf}
+use Rattle.anb_protocol.specs.Views.{plan_event}
+use Rattle.anb_accept.specs.Taking.{labels}
+use Rattle.anb_accept.specs.Numbering.{AreNumbered}
+use Rattle.anb_accept.specs.Patterns.{ArePatterns}
+use Rattle.anb_accept.specs.Roles.{ArePatternsIn}
+use Rattle.anb_accept.specs.Equations.{heard_labels}
+use Rattle.anb_unify.specs.Substitutions.{AreNamed}
+use Rattle.anb_accept.specs.Events.{event_value}
+use Rattle.anb_accept.proofs.Filling.{labels_long}
+use Rattle.anb_accept.proofs.OfPlans.{labels_formed, labels_any, labels_named, labels_few}
+use Rattle.anb_unify.proofs.Steps.{map_map}
+use Rattle.anb_accept.proofs.roles.patterns_in.Goals as goal
+
+both_ok : {V E : Type 0} (r : Result V E) (P Q R : V → Type 0) → ((v : V) → P v → Q v → R v) → IfOk r P → IfOk r Q → IfOk r R
+both_ok (Ok v) P Q R f p q = f v p q
+both_ok (Err e) P Q R f p q = tt
+
+pub heard-requires : goal.heard-requires
+heard-requires c =
+    let p = c.args.protocol.now in
+    let first = c.requires in
+    let es = map plan_event c.args.events.now in
+    let frame = c.in_ok-frame.frame in
+    let of_plan = c.terms_of_plans.ensures p first.role c.name.ensures.protocol in
+    let terms = subst (λ (l : List PlanEvent). AllByRecursion (λ e. IsTermOf p (term_in e)) l) (sym first.is) (all_take (λ e. IsTermOf p (term_in e)) first.many (plan_of p first.role) of_plan) in
+    let holds = c.protocols_hold.ensures p c.name.ensures.protocol in
+    let plan : map event_value c.args.events.now ≡ map event_of es = sym (map_map event_of plan_event c.args.events.now) in
+    let same : map tree_of frame.terms.items ≡ labels (map event_of es) = c.in_ok-frame.ensures.terms ∙ ap labels plan in
+    let flags : frame.heard.items ≡ heard_labels (map event_of es) = c.in_ok-frame.ensures.heard ∙ ap heard_labels plan in
+    let names : length p.atoms ≡ length c.declared-names.result.now = sym (ap length c.declared-names.ensures) in
+    let few = subst (λ (l : List PlanEvent). nodes (labels (map event_of l)) < 4294967295) (sym first.is) (labels_few p first.role first.many holds) in
+    record {
+      formed = subst (λ l. AreFormed (λ o. true) (trees_of l)) (sym same) (labels_any p es terms);
+      few = subst (λ l. nodes l < 4294967295) (sym same) few;
+      named = subst (λ l. AreNamed (length c.declared-names.result.now) (trees_of l)) (sym same) (subst (λ n. AreNamed n (trees_of (labels (map event_of es)))) names (labels_named p es terms));
+      long = ap length flags ∙ labels_long (map event_of es) ∙ sym (ap length same) ∙ length-map frame.terms.items tree_of;
+    }
+
+pub returns : goal.returns
+returns c =
+    let p = c.args.protocol.now in
+    let first = c.requires in
+    let es = map plan_event c.args.events.now in
+    let has = has_operator p.formats in
+    let plan = map event_value c.args.events.now in
+    let of_plan = c.terms_of_plans.ensures p first.role c.name.ensures.protocol in
+    let terms = subst (λ (l : List PlanEvent). AllByRecursion (λ e. IsTermOf p (term_in e)) l) (sym first.is) (all_take (λ e. IsTermOf p (term_in e)) first.many (plan_of p first.role) of_plan) in
+    let formed = subst (λ l. AreFormed has (trees_of (labels l))) (map_map event_of plan_event c.args.events.now) (labels_formed p es terms) in
+    let are = c.in_ok-patterns.ensures has plan formed c.in_ok-frame.ensures.terms c.in_ok-frame.ensures.heard in
+    let n = length c.declared-names.result.now in
+    let atoms : n ≡ length p.atoms = ap length c.declared-names.ensures in
+    let here = subst (λ (l : List Term). ArePatterns has n plan (map tree_of l)) (sym c.deref.ensures.value) are in
+    both_ok c.numbered.result (λ all. ArePatterns has n plan (map tree_of all.items)) (λ all. AreNumbered n (map tree_of all.items)) (λ all. ArePatternsIn p plan (map tree_of all.items))
+    (λ all exact numbered. record { exact = subst (λ k. ArePatterns has k plan (map tree_of all.items)) atoms exact; numbered = subst (λ k. AreNumbered k (map tree_of all.items)) atoms numbered })
+    (c.numbered.ensures.same has plan here) c.numbered.ensures.numbered

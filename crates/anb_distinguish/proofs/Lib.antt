@@ -1,0 +1,9 @@
+pub mod Registers
+pub mod GoingOn
+pub mod Ending
+pub mod Solved
+pub mod Dropped
+pub mod Sides
+pub mod Comparing
+pub mod Making
+pub mod Telling

@@ -1,0 +1,4 @@
+pub mod Equations
+pub mod Finding
+pub mod Apart
+pub mod Laws

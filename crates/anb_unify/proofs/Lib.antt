@@ -1,0 +1,9 @@
+pub mod Putting
+pub mod Solutions
+pub mod Linking
+pub mod Unifying
+pub mod Settling
+pub mod Steps
+pub mod Sides
+pub mod Readings
+pub mod Finishing
