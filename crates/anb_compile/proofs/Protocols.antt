@@ -14,23 +14,22 @@ use Rattle.anb_plays.specs.Plans.{known, CanSend, Sendable}
 use Rattle.anb_protocol.specs.Choices.{each_after}
 use Rattle.anb_protocol.specs.Names.{distinct, first_new}
 use Rattle.anb_protocol.specs.Protocols.{ActionValue, ProtocolValue}
-use Rattle.anb_protocol.specs.Texts.{atoms_in, atoms_in_all, known_by, known_terms, known_texts}
+use Rattle.anb_protocol.specs.Texts.{atoms_in, atoms_in_all, known_by, known_terms}
 use Rattle.anb_protocol.specs.Plans.{PlanEvent, to_know, to_make, to_send, to_receive, plan_of, messages, is_made, made, own_events, events_at, term_in}
 use Rattle.anb_protocol.specs.Plays.{event_of, events_of}
 use Rattle.anb_protocol.specs.Laws.{HoldsOf}
-use Rattle.anb_code.specs.declared.instr.Instr.{Instr}
 use Rattle.anb_compile.specs.declared.refusal.CompileNo.{CompileNo}
 use Rattle.anb_compile.specs.declared.refusal.CompileNo.TheVariants.{CannotSend, NoMemory}
 use Rattle.anb_compile.specs.Unsent.{labels_of, IsUnsent, IsFirstUnsent, RefusesRole}
 use Rattle.anb_compile.specs.Writing.{Context}
 use Rattle.anb_compile.specs.Verifying.{IsNarrow}
-use Rattle.anb_compile.specs.Emitting.{known_in, KnowsLead, IsPlan, CanSendAll, Emits, IsBlocked, RefusesPlan}
+use Rattle.anb_compile.specs.Emitting.{known_in, KnowsLead, IsPlan, CanSendAll, IsBlocked, RefusesPlan}
 use Rattle.anb_compile.proofs.Doing.{many_nodes}
 use Rattle.anb_compile.proofs.Events.{labels_append, known_append, known_events, leads_behind}
 
 -- ---- what an action adds to a plan
 
-own_cases : (P : List PlanEvent → Type 0) (role number : ℕ) (names : List ℕ) (a : ActionValue) → P (map (λ x. to_make (leaf x)) names ++ to_send number a.message ∷ []) → P (to_receive number a.message ∷ []) → P []
+pub own_cases : (P : List PlanEvent → Type 0) (role number : ℕ) (names : List ℕ) (a : ActionValue) → P (map (λ x. to_make (leaf x)) names ++ to_send number a.message ∷ []) → P (to_receive number a.message ∷ []) → P []
     → P (own_events role number names a)
 own_cases P role number names a x y z = go (a.from == role) (a.to == role) x y z
   where
@@ -60,7 +59,7 @@ all_known P [] role all = tt
 all_known P (ts ∷ knows) zero all = each_in_front P ts (flat_map (λ (us : List Tree). us) knows) all
 all_known P (ts ∷ knows) (suc role) all = all_known P knows role (all_back P ts (flat_map (λ (us : List Tree). us) knows) all)
 
-nodes_known : (knows : List (List Tree)) (role : ℕ) → nodes (option_map_or (λ (ts : List Tree). ts) (slice_get knows role) []) ≤ nodes (flat_map (λ (ts : List Tree). ts) knows)
+pub nodes_known : (knows : List (List Tree)) (role : ℕ) → nodes (option_map_or (λ (ts : List Tree). ts) (slice_get knows role) []) ≤ nodes (flat_map (λ (ts : List Tree). ts) knows)
 nodes_known [] role = omega arith
 nodes_known (ts ∷ knows) zero = omega (arith, nodes_append ts (flat_map (λ (us : List Tree). us) knows))
 nodes_known (ts ∷ knows) (suc role) = omega (arith, nodes_known knows role, nodes_append ts (flat_map (λ (us : List Tree). us) knows))
@@ -200,12 +199,6 @@ plan_is p role holds =
         ap length (knows_labels ks),
       );
     }
-
-pub known_count : (p : ProtocolValue) (role : ℕ) → length (known_texts p role) ≡ length (known_in (plan_of p role))
-unfolding plan_of
-known_count p role =
-    let ks = known_by p role in
-    length-map ks _ ∙ sym (ap length (known_append (map to_know ks) (each_after (events_at p role) [] p.actions) ∙ ap (λ l. known_in (map to_know ks) ++ l) (each_known p role [] p.actions) ∙ append-nil (known_in (map to_know ks)) ∙ knows_known ks))
 
 -- ---- what must be sent can be sent
 
@@ -354,12 +347,3 @@ unfolding plan_of
 known_of_plan p role =
     let ks = known_by p role in
     known_append (map to_know ks) (each_after (events_at p role) [] p.actions) ∙ ap (λ l. known_in (map to_know ks) ++ l) (each_known p role [] p.actions) ∙ append-nil (known_in (map to_know ks)) ∙ knows_known ks
-
--- what is emitted for a plan that is a role's is emitted for the role
-pub emitted : (p : ProtocolValue) (role : ℕ) → HoldsOf p → (plan : List PlanEvent) (code : List Instr) → plan ≡ plan_of p role → ((c : Context) → IsPlan c plan → Emits c plan code)
-    → Emits (record { formats = p.formats; suite = p.suite; plan = events_of p role }) (plan_of p role) code
-emitted p role holds plan code is emits =
-    let k : Context = record { formats = p.formats; suite = p.suite; plan = events_of p role } in
-    let P : List PlanEvent → Type 0 = λ l. IsPlan k l in
-    let Q : List PlanEvent → Type 0 = λ l. Emits k l code in
-    subst Q is (emits k (subst P (sym is) (plan_is p role holds)))

@@ -22,6 +22,7 @@ use Rattle.anb_code.specs.declared.instr.Instr.TheVariants.{Take}
 use Rattle.anb_code.specs.Meaning.{act_of}
 use Rattle.anb_code.specs.Registers.{register_widths}
 use Rattle.anb_code.specs.Verified.{EachAfter, IsInstrAfter, count_registers}
+use Rattle.anb_protocol.specs.Protocols.{ProtocolValue}
 use Rattle.anb_protocol.specs.Plans.{PlanEvent, to_know, to_make, to_send, to_receive, term_in}
 use Rattle.anb_protocol.specs.Plays.{event_of}
 use Rattle.anb_compile.specs.declared.refusal.CompileNo.{CompileNo}
@@ -67,6 +68,10 @@ pub record IsPlan (c : Context) (plan : List PlanEvent) : Type 0 where
   pub narrow : AllByRecursion (λ e. IsNarrow c.formats (term_in e)) plan
   pub few : nodes (labels_of plan) ≤ 65536
   pub short : length plan ≤ 65792
+
+-- the formats and the suite of a protocol, for a plan that need be none of its roles'
+abbrev pub context_of : ProtocolValue → List PlanEvent → Context
+context_of p plan = record { formats = p.formats; suite = p.suite; plan = map event_of plan }
 
 -- each message among these events has a recipe over what is there before it
 abbrev pub CanSendAll : Context → List PlanEvent → Type 0

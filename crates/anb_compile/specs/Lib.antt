@@ -4,11 +4,11 @@ pub mod Counted
 pub mod Registers
 pub mod Laws
 pub mod Emitting
+pub mod RoleCodes
 -- for proofs alone
 pub mod Sharing
 pub mod Writing
 pub mod Verifying
 pub mod Once
 pub mod Valued
-pub mod RoleCodes
 pub mod Refusing

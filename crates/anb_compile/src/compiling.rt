@@ -9,7 +9,9 @@ ghost use Rattle.anb_protocol.specs.Plays.{events_of, IsSendable};
 ghost use Rattle.anb_compile.specs.Fitting.{FitsRole, FitRoles};
 ghost use Rattle.anb_compile.specs.Unsent.{SendsAll, AllSendAll, RefusesRole, RefusesRoles, labels_of};
 ghost use Rattle.anb_compile.specs.Counted.{count_demands, count_builds, count_subterms};
-ghost use Rattle.anb_compile.specs.Emitting.{IsAdmitted};
+ghost use Rattle.anb_code.specs.Taking.{take_texts};
+ghost use Rattle.anb_protocol.specs.Texts.{known_by, known_texts};
+ghost use Rattle.anb_compile.specs.Emitting.{Emits, IsAdmitted, IsPlan, RefusesPlan, context_of, known_in};
 ghost use Rattle.anb_compile.specs.Refusing.{IsSooner};
 ghost use Rattle.anb_compile.specs.RoleCodes.{role_code};
 
@@ -18,7 +20,7 @@ use crate::emission::emit;
 use anb_base::NoMemory;
 use anb_code::{Instr, RoleCode};
 use anb_format::Format;
-use anb_protocol::{Protocol, known_texts_differ, protocols_hold};
+use anb_protocol::{Plan, Protocol, known_texts_differ, protocols_hold};
 use std::alloc::Global;
 
 /// The code of a role.
@@ -33,10 +35,35 @@ pub fn compile(alloc: Global, p: &Protocol, role: u32) -> Result<RoleCode, Compi
     ensures once { IfOk result (λ code. count_builds code ≤ count_subterms (plan_of p.now role)) }
 {
     protocols_hold();
-    known_texts_differ();
     let plan = p.plan(alloc, role)?;
+    let code = match compile_plan(alloc, p, role, &plan) {
+        Ok(code) => code,
+        Err(no) => return Err(no),
+    };
+    Ok(code)
+}
+
+/// The code of a plan over what a role knows. The plan need not be the role's own: it may be that of
+/// somebody else who knows the same.
+pub fn compile_plan(
+    alloc: Global,
+    p: &Protocol,
+    role: u32,
+    plan: &Plan,
+) -> Result<RoleCode, CompileNo>
+    requires role { role < length p.now.roles }
+    requires plan { IsPlan (context_of p.now plan.now) plan.now }
+    requires known { known_in plan.now ≡ known_by p.now role }
+    ensures names { IfOk result (λ code. code ≡ role_code p.now role code.instrs) }
+    ensures texts { IfOk result (λ code. take_texts code.instrs ≡ known_texts p.now role) }
+    ensures emits { IfOk result (λ code. Emits (context_of p.now plan.now) plan.now code.instrs) }
+    ensures refused { IfErr result (RefusesPlan plan.now role) }
+{
+    protocols_hold();
+    known_texts_differ();
+    let _ = p.name();
     let texts = p.known(alloc, role)?;
-    let instrs = match emit(alloc, role, texts, &plan) {
+    let instrs = match emit(alloc, role, texts, plan) {
         Ok(instrs) => instrs,
         Err(no) => return Err(no),
     };

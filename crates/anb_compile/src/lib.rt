@@ -13,7 +13,7 @@ mod refusal;
 mod terms;
 mod writer;
 
-pub use compiling::{compile, compile_all};
+pub use compiling::{compile, compile_all, compile_plan};
 pub use laws::fitting_codes_play;
 pub use refusal::CompileNo;
 pub use terms::terms_of;

@@ -1,5 +1,5 @@
 //! What somebody who sees a role can say of it, in every lawful algebra.
-ghost use Rattle.anb_judge.specs.Laws.{ConversationsAreObserved, ObservedAreConversations};
+ghost use Rattle.anb_judge.specs.Laws.{ConversationsAreObserved, JudgesOne, ObservedAreConversations};
 
 use anb_term::Algebra;
 use anb_term::laws::{new_atom_agrees, recipes_have_one_value};
@@ -18,3 +18,8 @@ pub fn observed_are_conversations<A: Algebra>(a: &A)
 {
     recipes_have_one_value(a);
 }
+
+/// Of each transcript one thing comes at most.
+pub fn one_judgement()
+    ensures { JudgesOne }
+{}

@@ -7,6 +7,9 @@
 //! exactly where some draws make the conversation the role's play.
 #![tactic(auto)]
 
+mod judging;
 mod laws;
+mod watching;
 
-pub use laws::{conversations_are_observed, observed_are_conversations};
+pub use judging::judge;
+pub use laws::{conversations_are_observed, observed_are_conversations, one_judgement};
