@@ -1,4 +1,4 @@
--- For proofs alone: how often variables stand in patterns, as it is counted.
+-- How often atoms stand in patterns, as it is counted.
 use Rattle.std.specs.Prelude.{◌≡◌, ℕ, zero, suc, ◌+◌, ◌<◌, List, length, Bool, Some, slice_get, if◌then◌else◌}
 use Rattle.anb_term.specs.Tree.{Tree}
 use Rattle.anb_pattern.specs.Variables.{stands_once, stands_again}

@@ -1,4 +1,3 @@
 pub mod Variables
 pub mod Taken
--- for proofs alone
 pub mod Counts

@@ -97,6 +97,10 @@ pub record TakenValue : Type 0 where
   pub notes : List (List (List ℕ))
   pub lines : List ℕ
 
+-- with further lines at the role's end
+abbrev pub with_lines : TakenValue → List ℕ → TakenValue
+with_lines taken further = record taken { lines = taken.lines ++ further }
+
 abbrev pub taken_of : ProtocolValue → ℕ → List Tree → TakenValue
 taken_of p role patterns = record { notes = [] ∷ accepted p role patterns p.actions; lines = end_lines p role patterns }
 

@@ -9,8 +9,8 @@ use anb_base::NoMemory;
 use anb_term::Term;
 use std::alloc::Global;
 
-/// For each of so many variables, how often it stands in patterns, up to twice.
-pub(crate) fn counts_of(
+/// For each of so many atoms above the first ones, how often it stands in patterns, up to twice.
+pub fn counts_of(
     alloc: Global,
     names: usize,
     many: usize,

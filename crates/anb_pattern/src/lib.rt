@@ -11,5 +11,6 @@ mod places;
 mod taken;
 mod texts;
 
+pub use counts::counts_of;
 pub use notes::Notes;
 pub use taken::{Taken, taken_of};

@@ -34,7 +34,8 @@ impl Model for Taken {
 }
 
 impl Taken {
-    ghost use Rattle.std.specs.Prelude.{◌≡◌};
+    ghost use Rattle.std.specs.Prelude.{◌≡◌, ◌++◌, IfOk};
+    ghost use Rattle.anb_pattern.specs.Taken.{with_lines};
 
     /// For each event, where the role takes more than the narrated message, its pattern.
     pub fn notes(&self) -> &[Notes]
@@ -48,6 +49,15 @@ impl Taken {
         ensures { result.now ≡ self.now.lines }
     {
         self.lines.as_slice()
+    }
+
+    /// The same, with further lines at the role's end.
+    pub fn with_lines(self, further: &[u8]) -> Result<Taken, NoMemory>
+        ensures { IfOk result (λ taken. taken ≡ with_lines self further.now) }
+    {
+        let Taken { notes, mut lines } = self;
+        lines.extend_from_slice(further)?;
+        Ok(Taken { notes, lines })
     }
 }
 

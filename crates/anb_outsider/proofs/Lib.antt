@@ -1,0 +1,6 @@
+mod Others
+mod Ends
+mod Firsts
+mod Drawn
+mod Stops
+mod GoingOn

@@ -1,0 +1,5 @@
+pub mod Recordings
+pub mod Texts
+pub mod Laws
+-- for proofs alone
+pub mod Searching
