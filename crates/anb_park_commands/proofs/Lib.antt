@@ -3,10 +3,12 @@ pub mod Bounds
 pub mod Chains
 pub mod Completing
 pub mod Ending
+pub mod Handing
 pub mod Reached
 pub mod Ready
 pub mod Records
 pub mod Roles
+pub mod Small
 pub mod Splits
 pub mod Tasks
 pub mod Walking

@@ -11,8 +11,8 @@ use Rattle.anb_base.proofs.Moving.{Rose-later, put_nothing}
 use Rattle.anb_code.specs.CodeValue.{CodeValue}
 use Rattle.anb_frame.specs.Cuts.{Tail, CutLeft}
 use Rattle.anb_frame.specs.Frames.{frames}
-use Rattle.anb_park.specs.Lives.{LiveValue, Stands}
-use Rattle.anb_park.specs.Records.{Parked}
+use Rattle.anb_park.specs.Lives.{IsParked, LiveValue, Stands, WaitsAgain}
+use Rattle.anb_park.specs.Records.{Parked, after}
 use Rattle.anb_plays.specs.Runs.{without_place}
 use Rattle.anb_plays.specs.Plays.{Run}
 use Rattle.anb_session.specs.Sessions.{IsPrompt, Runs, due_at}
@@ -23,6 +23,7 @@ use Rattle.anb_status.specs.declared.status.Status.TheVariants as ended
 use Rattle.anb_command.specs.Causes.{HasWireCause}
 use Rattle.anb_command.specs.OverWire.{HasReached, OnlyWrites, StaysReached}
 use Rattle.anb_status.specs.Statuses.{after_reach, phase_of}
+use Rattle.anb_park_commands.specs.declared.ended.RecordWay.{RecordWay}
 use Rattle.anb_park_commands.specs.Going.{IsKept, ParksOn, ParksTo, Writes, begun, ended_so, plays_on}
 use Rattle.anb_park_commands.proofs.Written.{kept_to, parks_to}
 
@@ -86,33 +87,37 @@ prompt_writing R S T U writes p = record {
   awaits = p.awaits;
 }
 
-module _ (R : Run) (saved : List (List ℕ) → List ℕ) (S T : WireState) where
+module _ (way : RecordWay) (R : Run) (saved : List (List ℕ) → List ℕ) (S T : WireState) where
   abbrev pub RunsSo : PlayEnd → Type 0
   RunsSo end = (arrivals : List (List ℕ)) (tail : Tail) → CutLeft ARRIVAL S.left arrivals tail → Runs R arrivals tail S.left T.left S.written T.written end
 
-  pub parks_ended : (end : PlayEnd) → ((e : ℕ) → end ≡ ends.Waiting e → ⊥) → RunsSo end → ParksOn (λ heard. without_place (R heard)) saved S T (ended_so end)
-  parks_ended end other runs arrivals tail cut = parks_to R saved arrivals tail S.left T.left S.written T.written end other (runs arrivals tail cut)
+  pub parks_ended : (end : PlayEnd) → ((e : ℕ) → end ≡ ends.Waiting e → ⊥) → RunsSo end → ParksOn way (λ heard. without_place (R heard)) saved S T (ended_so end)
+  parks_ended end other runs arrivals tail cut = parks_to way R saved arrivals tail S.left T.left S.written T.written end other (runs arrivals tail cut)
 
   pub parks_waiting : (event : ℕ) (U : WireState) → OnlyWrites T U → RunsSo (ends.Waiting event) → (s : Status)
-      → ((arrivals : List (List ℕ)) (tail : Tail) → CutLeft ARRIVAL S.left arrivals tail → Writes (saved arrivals) event T U s)
-      → ParksOn (λ heard. without_place (R heard)) saved S U s
+      → ((arrivals : List (List ℕ)) (tail : Tail) → CutLeft ARRIVAL S.left arrivals tail → Writes way (saved arrivals) event T U s)
+      → ParksOn way (λ heard. without_place (R heard)) saved S U s
   parks_waiting event U writes runs s wrote arrivals tail cut =
       let (is, put, reads) = runs arrivals tail cut in
       let left : U.left ≡ T.left = ap (λ (w : WireState). w.left) writes.same in
-      subst (λ (l : Option (List ℕ)). ParksTo (λ heard. without_place (R heard)) saved arrivals tail S.left l S.written U.written s) (sym left)
-      (kept_to R saved arrivals event S.left T.left S T U put tail is reads s (wrote arrivals tail cut))
+      subst (λ (l : Option (List ℕ)). ParksTo way (λ heard. without_place (R heard)) saved arrivals tail S.left l S.written U.written s) (sym left)
+      (kept_to way R saved arrivals event S.left T.left S T U put tail is reads s (wrote arrivals tail cut))
+
+-- it waits again with all that was left, where that is told
+pub parked_after : (code : CodeValue) (s : Parked) (left : Option (List ℕ)) (live : LiveValue) → WaitsAgain code s left live → (arrivals : List (List ℕ)) (tail : Tail) → CutLeft ARRIVAL left arrivals tail → IsParked code (after s arrivals) live
+parked_after code s left live again arrivals tail cut = subst (λ (l : List (List ℕ)). IsParked code (after s l) live) (sym (again.all arrivals tail cut)) again.parked
 
 -- ---- behind the reach of a place
 
-pub parks_after : (R : Run) (saved : List (List ℕ) → List ℕ) (place : Place) (S T U : WireState) → HasReached place S T → (s : Status) → ParksOn R saved T U s → ParksOn R saved S U s
-parks_after R saved place S T U reached s parks arrivals tail cut =
+pub parks_after : (way : RecordWay) (R : Run) (saved : List (List ℕ) → List ℕ) (place : Place) (S T U : WireState) → HasReached place S T → (s : Status) → ParksOn way R saved T U s → ParksOn way R saved S U s
+parks_after way R saved place S T U reached s parks arrivals tail cut =
     let left : T.left ≡ S.left = ap (λ (w : WireState). w.left) reached.same in
     let written : T.written ≡ S.written = ap (λ (w : WireState). w.written) reached.same in
-    subst (λ (v : Option (List ℕ)). ParksTo R saved arrivals tail S.left U.left v U.written s) written
-    (subst (λ (l : Option (List ℕ)). ParksTo R saved arrivals tail l U.left T.written U.written s) left (parks arrivals tail (subst (λ (l : Option (List ℕ)). CutLeft ARRIVAL l arrivals tail) (sym left) cut)))
+    subst (λ (v : Option (List ℕ)). ParksTo way R saved arrivals tail S.left U.left v U.written s) written
+    (subst (λ (l : Option (List ℕ)). ParksTo way R saved arrivals tail l U.left T.written U.written s) left (parks arrivals tail (subst (λ (l : Option (List ℕ)). CutLeft ARRIVAL l arrivals tail) (sym left) cut)))
 
-pub parks_nowhere : (R : Run) (saved : List (List ℕ) → List ℕ) (S : WireState) → ParksOn R saved S S ended.NoMemory
-parks_nowhere R saved S arrivals tail cut = (0, put_nothing S.written)
+pub parks_nowhere : (way : RecordWay) (R : Run) (saved : List (List ℕ) → List ℕ) (S : WireState) → ParksOn way R saved S S ended.NoMemory
+parks_nowhere way R saved S arrivals tail cut = (0, put_nothing S.written)
 
 pub kept_after : (code : CodeValue) (s : Parked) (place : Place) (S T : WireState) → HasReached place S T → (status : Status) → IsKept code s T.left status → IsKept code s S.left status
 kept_after code s place S T reached status kept = subst (λ (l : Option (List ℕ)). IsKept code s l status) (ap (λ (w : WireState). w.left) reached.same) kept
@@ -123,8 +128,8 @@ module _ (code : CodeValue) (id seed : List ℕ) (initial : List (List ℕ)) (li
   pub same_run : plays_on live ≡ play_by code initial seed
   same_run = fun_ext (λ more. ap without_place (sym (stands.comes more)))
 
-  pub parks_begun : (saved : List (List ℕ) → List ℕ) (S T : WireState) (s : Status) → ParksOn (plays_on live) saved S T s → ParksOn (play_by code initial seed) saved S T s
-  parks_begun saved S T s parks = subst (λ (R : Run). ParksOn R saved S T s) same_run parks
+  pub parks_begun : (way : RecordWay) (saved : List (List ℕ) → List ℕ) (S T : WireState) (s : Status) → ParksOn way (plays_on live) saved S T s → ParksOn way (play_by code initial seed) saved S T s
+  parks_begun way saved S T s parks = subst (λ (R : Run). ParksOn way R saved S T s) same_run parks
 
   pub prompt_begun : (S T : WireState) → IsPrompt (plays_on live) S T → IsPrompt (play_by code initial seed) S T
   prompt_begun S T prompt = subst (λ (R : Run). IsPrompt R S T) same_run prompt

@@ -1,5 +1,5 @@
 -- A role's code, and its sessions as plays tell them.
-use Rattle.std.proofs.Common.{◌≡◌, ◌↔◌, ℕ, List, [], ◌∷◌, ◌++◌, length, refl, ap, sym, ◌∙◌, subst}
+use Rattle.std.proofs.Common.{◌≡◌, ◌↔◌, ℕ, List, [], ◌∷◌, ◌++◌, length, refl, ap, sym, ◌∙◌, subst, arith}
 use Rattle.std.proofs.lemmas.List.{length-map}
 use Rattle.std.specs.List.{AllByRecursion}
 use Rattle.anb_base.specs.Bytes.{IsBytes, IsBytes-pass, is_bytes-IsBytes}
@@ -13,6 +13,7 @@ use Rattle.anb_park.specs.Records.{IsWaiting, Parked, after, body_of, count_take
 use Rattle.anb_plays.specs.Plays.{Played}
 use Rattle.anb_plays.specs.Runs.{no_place, without_place}
 use Rattle.anb_plays.proofs.Runs.{waiting_placeless}
+use Rattle.anb_protocol.specs.Laws.{HoldsOf}
 use Rattle.anb_protocol.specs.Protocols.{ProtocolValue}
 use Rattle.anb_protocol.specs.Texts.{known_by, term_text}
 use Rattle.anb_seal.specs.Laws.{GivesBytes, UnsealsExactly}
@@ -20,9 +21,16 @@ use Rattle.anb_seal.specs.Primitives.{sealed}
 use Rattle.anb_command.proofs.Cutting.{bytes_in_frames}
 use Rattle.anb_park_commands.specs.Going.{HaveBytes, RunsRole}
 use Rattle.anb_park_commands.specs.Sessions.{IsPlayOf, WaitsIn}
+use Rattle.anb_park_commands.proofs.Bounds.{few_known}
+use Rattle.anb_park_commands.proofs.Small.{few_arrivals}
 
-pub runs_role : (p : ProtocolValue) (role : ℕ) (code : CodeValue) → FittingCodesPlay p → FitsRole p role code → RunsRole p role code
-runs_role p role code law fits = record { takes = ap length fits.texts; plays = plays } where
+pub runs_role : (p : ProtocolValue) (role : ℕ) (code : CodeValue) → HoldsOf p → FittingCodesPlay p → FitsRole p role code → RunsRole p role code
+runs_role p role code holds law fits = record {
+  takes = ap length fits.texts;
+  known = omega (arith, ap length fits.texts, few_known p role holds);
+  few = few_arrivals p role code holds fits;
+  plays = plays;
+} where
   plays : (s : Parked) → length s.init ≡ count_takes code → HaveBytes s → (play : Played (List ℕ)) → IsPlayOf p role s play ↔ (play ≡ without_place (play_of code s))
   plays s each bytes play =
       let count : length s.init ≡ length (known_by p role) = each ∙ ap length fits.texts ∙ length-map (known_by p role) (term_text p) in

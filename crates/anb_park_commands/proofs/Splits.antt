@@ -48,38 +48,40 @@ use Rattle.anb_role_commands.specs.PlayCommand.{PlayOf}
 use Rattle.anb_role_commands.proofs.Tasks.{job_one, job_quiet}
 use Rattle.anb_park_commands.specs.Identities.{IdentityIs, identity}
 use Rattle.anb_park_commands.specs.ParkCommand.{NewSessionIs}
+use Rattle.anb_park_commands.specs.declared.ended.RecordWay.{RecordWay}
+use Rattle.anb_park_commands.specs.declared.ended.RecordWay.TheVariants.{ByWire, ToFile}
 use Rattle.anb_park_commands.specs.Parking.{IsPlayed, due, record_after, status_at}
 use Rattle.anb_park_commands.specs.Records.{RecordIs}
 use Rattle.anb_park_commands.specs.ResumeCommand.{ResumedIs}
 use Rattle.anb_park_commands.specs.Sessions.{Begins, GoesOn, RoleSession, count_known}
 use Rattle.anb_park_commands.specs.Splits.{EndsAs, Finds, GoesOnAsPlayed, IsParked, IsSplitAsWhole, Parks, Plays, Resumes, Resuming, WereParked}
+use Rattle.anb_park_commands.proofs.Ending.{parked_waits}
 use Rattle.anb_park_commands.proofs.Bounds.{few_known, few_receives, length_frames, sum_short}
+use Rattle.anb_park_commands.proofs.Small.{body_size}
 use Rattle.anb_park_commands.specs.Keys.{KeyIs, KeyOf}
 use Rattle.anb_park_commands.proofs.Tasks.{key_one, resumed_one}
 use Rattle.anb_park_commands.proofs.Walking.{Uses, count_receives, play_on, play_uses}
 
 -- ---- ends and what is left
 
-parked_waits : (x : plays.End) (tail : Tail) (event : ℕ) → status.Parked event ≡ status_at x tail → (x ≡ plays.waiting event) × (tail ≡ End)
-parked_waits plays.done tail event is = absurd (cc)
-parked_waits (plays.stopped e at) tail event is = absurd (cc)
-parked_waits (plays.waiting e) End event is = let same : event ≡ e = cc in (ap plays.waiting (sym same), refl)
-parked_waits (plays.waiting e) (Short have need) event is = absurd (cc)
-parked_waits (plays.waiting e) (Long len) event is = absurd (cc)
-
 abbrev made : List (List ℕ) → plays.End → List (List ℕ) → Played (List ℕ)
 made sent x left = record { sent = sent; end = x; left = left }
 
-ends_as : (x : plays.End) (tail : Tail) (sent left : List (List ℕ)) (kept : List ℕ) → EndsAs (playing.status_at x tail) (frames sent) (status_at x tail) (frames (due (made sent x left) tail kept))
-ends_as plays.done tail sent left kept = (refl, ap frames (append-nil sent))
-ends_as (plays.stopped e at) tail sent left kept = (refl, ap frames (append-nil sent))
-ends_as (plays.waiting e) End sent left kept = (refl, (kept, flat_map-append frame sent (kept ∷ []) ∙ ap (λ b. frames sent ++ b) (append-nil (frame kept))))
-ends_as (plays.waiting e) (Short have need) sent left kept = (refl, ap frames (append-nil sent))
-ends_as (plays.waiting e) (Long len) sent left kept = (refl, ap frames (append-nil sent))
+ends_as : (way : RecordWay) (x : plays.End) (tail : Tail) (sent left : List (List ℕ)) (kept : List ℕ) → EndsAs way (playing.status_at x tail) (frames sent) (status_at x tail) (frames (due way (made sent x left) tail kept))
+ends_as ByWire plays.done tail sent left kept = (refl, ap frames (append-nil sent))
+ends_as ByWire (plays.stopped e at) tail sent left kept = (refl, ap frames (append-nil sent))
+ends_as ByWire (plays.waiting e) End sent left kept = (refl, (kept, flat_map-append frame sent (kept ∷ []) ∙ ap (λ b. frames sent ++ b) (append-nil (frame kept))))
+ends_as ByWire (plays.waiting e) (Short have need) sent left kept = (refl, ap frames (append-nil sent))
+ends_as ByWire (plays.waiting e) (Long len) sent left kept = (refl, ap frames (append-nil sent))
+ends_as ToFile plays.done tail sent left kept = (refl, refl)
+ends_as ToFile (plays.stopped e at) tail sent left kept = (refl, refl)
+ends_as ToFile (plays.waiting e) End sent left kept = (refl, (kept, sym (append-nil (frames sent))))
+ends_as ToFile (plays.waiting e) (Short have need) sent left kept = (refl, refl)
+ends_as ToFile (plays.waiting e) (Long len) sent left kept = (refl, refl)
 
-ends_early : (s : Status) (out : List ℕ) → phase_of s ≡ before_reach → out ≡ [] → EndsAs s [] s out
-ends_early (status.Waiting e) out early is = absurd (cc)
-ends_early _ out early is = (refl, is)
+ends_early : (way : RecordWay) (s : Status) (out : List ℕ) → phase_of s ≡ before_reach → out ≡ [] → EndsAs way s [] s out
+ends_early way (status.Waiting e) out early is = absurd (cc)
+ends_early way _ out early is = (refl, is)
 
 joined : (xs ys : List (List ℕ)) → frames (xs ++ ys) ≡ frames xs ++ frames ys
 joined xs ys = flat_map-append frame xs ys
@@ -210,24 +212,9 @@ initial_total text names fitted differ (entries, said, none, values, seed) =
 identity_size : (files : Files) (narration name id : List ℕ) → IdentityIs files narration name (given id) → length id ≡ 32
 identity_size files narration name id (n, in_file, is) = ap length (same_given id (identity n name) is) ∙ length-sha256 (canon n ++ name)
 
-body_size : (id seed : List ℕ) (session : ℕ) (initial heard : List ℕ) → length id ≡ 32 → length seed ≡ 32
-    → length (marker ++ id ++ seed ++ length_bytes session ++ initial ++ heard) ≡ 71 + (length initial + length heard)
-body_size id seed session initial heard id_is seed_is =
-    omega (
-      arith,
-      length-append (marker ++ id ++ seed ++ length_bytes session ++ initial) heard,
-      length-append (marker ++ id ++ seed ++ length_bytes session) initial,
-      length-append (marker ++ id ++ seed) (length_bytes session),
-      length-append (marker ++ id) seed,
-      length-append marker id,
-      length-length_bytes session,
-      id_is,
-      seed_is,
-    )
-
 -- ---- where a session stands
 
-module _ (narrations : NarrationsAreUnique) (refusals : RefusalsAreUnique) (none : NoneIsBoth) (one_fit : FitIsUnique) (longer : SealsLonger) (hold : ProtocolsHold) (differ : KnownTextsDiffer)
+module _ (way : RecordWay) (narrations : NarrationsAreUnique) (refusals : RefusalsAreUnique) (none : NoneIsBoth) (one_fit : FitIsUnique) (longer : SealsLonger) (hold : ProtocolsHold) (differ : KnownTextsDiffer)
     (narration name values key : List ℕ) (host_seed : Option (List ℕ)) (files : Files) (handed : IfSome host_seed (λ s. length s ≡ 32)) where
   abbrev session_after : Job → (id : List ℕ) → List (List ℕ) → Parked
   session_after job id arrivals = after (started id job.initial job.seed 0) arrivals
@@ -337,7 +324,7 @@ module _ (narrations : NarrationsAreUnique) (refusals : RefusalsAreUnique) (none
         let was : goes.earlier ≡ st.play = play_one st.job st.arrivals goes.earlier st.play goes.was st.it_plays in
         subst (λ (e : Played (List ℕ)). PlayOf st.job (st.arrivals ++ more) (record q { sent = e.sent ++ q.sent })) was goes.plays
 
-    further : (r : Resuming) (sent held : List ℕ) → Finds narration name values key host_seed files r kept → IsParked GoesOn (ResumedIs narration name r.saved key r.files) r.input sent held
+    further : (r : Resuming) (sent held : List ℕ) → Finds narration name values key host_seed files r kept → IsParked way GoesOn (ResumedIs narration name r.saved key r.files) r.input sent held
         → Stand (heard ++ r.input) (written ++ sent) held
     further r sent held finds parked =
         let same = same_session r finds parked.session parked.asks in
@@ -362,13 +349,13 @@ module _ (narrations : NarrationsAreUnique) (refusals : RefusalsAreUnique) (none
         }
 
     goes_on : (each_cut : HasCut ARRIVAL) (cuts : HasOneCut ARRIVAL) (r : Resuming) → Finds narration name values key host_seed files r kept → IsBytes r.input
-        → GoesOnAsPlayed narration name values key host_seed files heard written r.input (Resumes narration name values key host_seed files r)
+        → GoesOnAsPlayed narration name values key host_seed files way heard written r.input (Resumes narration name values key host_seed files way r)
     goes_on each_cut cuts r finds bytes = record { is = is; only = only } where
       whole_cut : (bs : List (List ℕ)) (tail : Tail) → Cut ARRIVAL r.input bs tail → Cut ARRIVAL (heard ++ r.input) (st.arrivals ++ bs) tail
       whole_cut bs tail cut = cut_behind (heard ++ r.input) r.input st.arrivals bs tail st.cut.2 (ap (λ h. h ++ r.input) heard_is) cut
 
-      is : (s : Status) (out rest : List ℕ) → Resumes narration name values key host_seed files r s out rest
-          → (as_played : Status) × (sent : List ℕ) × EndsAs as_played sent s out × Plays narration name values key host_seed files (heard ++ r.input) as_played (written ++ sent) rest
+      is : (s : Status) (out rest : List ℕ) → Resumes narration name values key host_seed files way r s out rest
+          → (as_played : Status) × (sent : List ℕ) × EndsAs way as_played sent s out × Plays narration name values key host_seed files (heard ++ r.input) as_played (written ++ sent) rest
       is s out rest (bs, tail, cut, inl refusal) = never_refused r finds s refusal.refuses
       is s out rest (bs, tail, cut, inr (asked, asks, it)) =
           let same = same_session r finds asked asks in
@@ -376,8 +363,8 @@ module _ (narrations : NarrationsAreUnique) (refusals : RefusalsAreUnique) (none
           let goes : GoesOn session bs q = subst (λ (a : RoleSession). GoesOn a bs q) same it.plays in (
             playing.status_at q.end tail,
             frames q.sent,
-            subst (λ (o : List ℕ). EndsAs (playing.status_at q.end tail) (frames q.sent) s o) (sym it.writes)
-                (subst (λ (t : Status). EndsAs (playing.status_at q.end tail) (frames q.sent) t (frames (due q tail (record_after asked bs)))) (sym it.status_is) (ends_as q.end tail q.sent q.left (record_after asked bs))),
+            subst (λ (o : List ℕ). EndsAs way (playing.status_at q.end tail) (frames q.sent) s o) (sym it.writes)
+                (subst (λ (t : Status). EndsAs way (playing.status_at q.end tail) (frames q.sent) t (frames (due way q tail (record_after asked bs)))) (sym it.status_is) (ends_as way q.end tail q.sent q.left (record_after asked bs))),
             (
               st.arrivals ++ bs,
               tail,
@@ -398,7 +385,7 @@ module _ (narrations : NarrationsAreUnique) (refusals : RefusalsAreUnique) (none
 
       only_cut : (bs : List (List ℕ)) (tail : Tail) → Cut ARRIVAL r.input bs tail → (as_played : Status) (all rest : List ℕ)
           → (job : Job) → JobIs files narration name values host_seed (given job) → playing.IsPlayed PlayOf job (heard ++ r.input) (st.arrivals ++ bs) tail as_played all rest
-          → (s : Status) × (sent : List ℕ) × (out : List ℕ) × (all ≡ written ++ sent) × EndsAs as_played sent s out × Resumes narration name values key host_seed files r s out rest
+          → (s : Status) × (sent : List ℕ) × (out : List ℕ) × (all ≡ written ++ sent) × EndsAs way as_played sent s out × Resumes narration name values key host_seed files way r s out rest
       only_cut bs tail cut as_played all rest job asks it =
           let same : job ≡ st.job = same_given job st.job (job_one narrations refusals none one_fit files narration name values host_seed (given job) (given st.job) asks st.asks) in
           let w = it.play in
@@ -413,9 +400,9 @@ module _ (narrations : NarrationsAreUnique) (refusals : RefusalsAreUnique) (none
           let kept_now = record_after session bs in (
             status_at w.end tail,
             frames went.later,
-            frames (due q tail kept_now),
+            frames (due way q tail kept_now),
             it.writes ∙ ap frames went.sent ∙ joined st.play.sent went.later ∙ ap (λ v. v ++ frames went.later) (sym st.written_is),
-            subst (λ (t : Status). EndsAs t (frames went.later) (status_at w.end tail) (frames (due q tail kept_now))) (sym it.status_is) (ends_as w.end tail went.later w.left kept_now),
+            subst (λ (t : Status). EndsAs way t (frames went.later) (status_at w.end tail) (frames (due way q tail kept_now))) (sym it.status_is) (ends_as way w.end tail went.later w.left kept_now),
             (
               bs,
               tail,
@@ -429,7 +416,7 @@ module _ (narrations : NarrationsAreUnique) (refusals : RefusalsAreUnique) (none
           )
 
       only : (as_played : Status) (all rest : List ℕ) → Plays narration name values key host_seed files (heard ++ r.input) as_played all rest
-          → (s : Status) × (sent : List ℕ) × (out : List ℕ) × (all ≡ written ++ sent) × EndsAs as_played sent s out × Resumes narration name values key host_seed files r s out rest
+          → (s : Status) × (sent : List ℕ) × (out : List ℕ) × (all ≡ written ++ sent) × EndsAs way as_played sent s out × Resumes narration name values key host_seed files way r s out rest
       only as_played all rest (arrivals, tail, cut, inl refusal) =
           not_both as_played st.job (job_one narrations refusals none one_fit files narration name values host_seed (refused as_played) (given st.job) refusal.refuses st.asks)
       only as_played all rest (arrivals, tail, cut, inr (job, asks, it)) =
@@ -449,7 +436,7 @@ module _ (narrations : NarrationsAreUnique) (refusals : RefusalsAreUnique) (none
   session_is s (inr (job, asks, inr (secret, key_is, inl (t, first, never)))) = not_both t s (sym never)
   session_is s (inr (job, asks, inr (secret, key_is, inr (id, id_is, is)))) = (job, secret, id, asks, key_is, id_is, same_given s _ is)
 
-  begun : (input written kept : List ℕ) → IsParked Begins (NewSessionIs narration name values key host_seed files) input written kept → Stand input written kept
+  begun : (input written kept : List ℕ) → IsParked way Begins (NewSessionIs narration name values key host_seed files) input written kept → Stand input written kept
   begun input written kept parked =
       let (job, secret, id, asks, key_is, id_is, same) = session_is parked.session parked.asks in
       let ends = parked_waits parked.is.play.end parked.tail parked.event parked.is.status_is in
@@ -470,7 +457,7 @@ module _ (narrations : NarrationsAreUnique) (refusals : RefusalsAreUnique) (none
         kept_is = parked.kept_is ∙ ap (λ (s : RoleSession). record_after s parked.arrivals) same;
       }
 
-  begins : (secret input : List ℕ) → KeyIs files key (given secret) → GoesOnAsPlayed narration name values key host_seed files [] [] input (Parks narration name values key host_seed files input)
+  begins : (secret input : List ℕ) → KeyIs files key (given secret) → GoesOnAsPlayed narration name values key host_seed files way [] [] input (Parks narration name values key host_seed files way input)
   begins secret input key_is = record { is = is; only = only } where
     early : (s : Status) → JobIs files narration name values host_seed (refused s) → phase_of s ≡ before_reach
     early s refuses = ((job_quiet files narration name values host_seed).each s refuses).1
@@ -481,30 +468,30 @@ module _ (narrations : NarrationsAreUnique) (refusals : RefusalsAreUnique) (none
     job_refused s (inr (job, asks, inr (other, also, inl (t, (n, in_file, never), is)))) = not_both t (identity n name) never
     job_refused s (inr (job, asks, inr (other, also, inr (id, id_is, never)))) = not_both s _ never
 
-    is : (s : Status) (out rest : List ℕ) → Parks narration name values key host_seed files input s out rest
-        → (as_played : Status) × (sent : List ℕ) × EndsAs as_played sent s out × Plays narration name values key host_seed files input as_played sent rest
+    is : (s : Status) (out rest : List ℕ) → Parks narration name values key host_seed files way input s out rest
+        → (as_played : Status) × (sent : List ℕ) × EndsAs way as_played sent s out × Plays narration name values key host_seed files input as_played sent rest
     is s out rest (bs, tail, cut, inl refusal) =
         let refuses = job_refused s refusal.refuses in
-        (s, [], ends_early s out (early s refuses) refusal.writes, (bs, tail, cut, inl (record { refuses = refuses; writes = refl; leaves = refusal.leaves })))
+        (s, [], ends_early way s out (early s refuses) refusal.writes, (bs, tail, cut, inl (record { refuses = refuses; writes = refl; leaves = refusal.leaves })))
     is s out rest (bs, tail, cut, inr (asked, asks, it)) =
         let (job, other, id, job_asks, also, id_is, same) = session_is asked asks in
         let q = it.play in
         let plays_it : PlayOf job bs q = subst (λ (a : RoleSession). Begins a bs q) same it.plays in (
           playing.status_at q.end tail,
           frames q.sent,
-          subst (λ (o : List ℕ). EndsAs (playing.status_at q.end tail) (frames q.sent) s o) (sym it.writes)
-              (subst (λ (t : Status). EndsAs (playing.status_at q.end tail) (frames q.sent) t (frames (due q tail (record_after asked bs)))) (sym it.status_is) (ends_as q.end tail q.sent q.left (record_after asked bs))),
+          subst (λ (o : List ℕ). EndsAs way (playing.status_at q.end tail) (frames q.sent) s o) (sym it.writes)
+              (subst (λ (t : Status). EndsAs way (playing.status_at q.end tail) (frames q.sent) t (frames (due way q tail (record_after asked bs)))) (sym it.status_is) (ends_as way q.end tail q.sent q.left (record_after asked bs))),
           (bs, tail, cut, inr (job, job_asks, record { play = q; plays = plays_it; status_is = refl; writes = refl; leaves = it.leaves })),
         )
 
     only : (as_played : Status) (all rest : List ℕ) → Plays narration name values key host_seed files input as_played all rest
-        → (s : Status) × (sent : List ℕ) × (out : List ℕ) × (all ≡ sent) × EndsAs as_played sent s out × Parks narration name values key host_seed files input s out rest
+        → (s : Status) × (sent : List ℕ) × (out : List ℕ) × (all ≡ sent) × EndsAs way as_played sent s out × Parks narration name values key host_seed files way input s out rest
     only as_played all rest (bs, tail, cut, inl refusal) = (
       as_played,
       [],
       [],
       refusal.writes,
-      ends_early as_played [] (early as_played refusal.refuses) refl,
+      ends_early way as_played [] (early as_played refusal.refuses) refl,
       (bs, tail, cut, inl (record { refuses = inl (as_played, refusal.refuses, refl); writes = refl; leaves = refusal.leaves })),
     )
     only as_played all rest (bs, tail, cut, inr (job, asks, it)) =
@@ -515,9 +502,9 @@ module _ (narrations : NarrationsAreUnique) (refusals : RefusalsAreUnique) (none
         let kept_now = record_after s bs in (
           status_at q.end tail,
           frames q.sent,
-          frames (due q tail kept_now),
+          frames (due way q tail kept_now),
           it.writes,
-          subst (λ (t : Status). EndsAs t (frames q.sent) (status_at q.end tail) (frames (due q tail kept_now))) (sym it.status_is) (ends_as q.end tail q.sent q.left kept_now),
+          subst (λ (t : Status). EndsAs way t (frames q.sent) (status_at q.end tail) (frames (due way q tail kept_now))) (sym it.status_is) (ends_as way q.end tail q.sent q.left kept_now),
           (
             bs,
             tail,
@@ -532,13 +519,13 @@ module _ (narrations : NarrationsAreUnique) (refusals : RefusalsAreUnique) (none
 
   -- ---- one after another
 
-  stands : (first : List ℕ) (resumed : List Resuming) (heard written kept : List ℕ) → WereParked narration name values key host_seed files first resumed heard written kept → Stand heard written kept
+  stands : (first : List ℕ) (resumed : List Resuming) (heard written kept : List ℕ) → WereParked narration name values key host_seed files way first resumed heard written kept → Stand heard written kept
   stands first [] heard written kept (is, parked) = subst (λ (h : List ℕ). Stand h written kept) (sym is) (begun first written kept parked)
   stands first (r ∷ earlier) heard written kept (before, sent, held, more, were, finds, parked, heard_is, written_is) =
       subst (λ (h : List ℕ). Stand h written kept) (sym heard_is)
       (subst (λ (w : List ℕ). Stand (before ++ r.input) w kept) (sym written_is) (further before sent held (stands first earlier before sent held were) r more kept finds parked))
 
-  pub split_as_whole : HasCut ARRIVAL → HasOneCut ARRIVAL → IsSplitAsWhole narration name values key host_seed files
+  pub split_as_whole : HasCut ARRIVAL → HasOneCut ARRIVAL → IsSplitAsWhole narration name values key host_seed files way
   split_as_whole each_cut cuts = record {
     begins = begins;
     short = λ first resumed heard written kept were. kept_short heard written kept (stands first resumed heard written kept were);

@@ -7,5 +7,7 @@ pub mod Records
 pub mod ResumeCommand
 pub mod Sessions
 pub mod Splits
+pub mod Words
+pub mod Asking
 -- for proofs alone
 pub mod Going

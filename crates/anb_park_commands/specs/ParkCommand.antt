@@ -1,14 +1,16 @@
 -- What `park` does: a new session of a role on a wire, which is parked where it waits.
 use Rattle.std.specs.Prelude.{◌≡◌, ◌⊎◌, ℕ, List, Option}
 use Rattle.anb_base.specs.Wires.{WireState}
+use Rattle.anb_store.specs.Stores.{StoreState}
 use Rattle.anb_park.specs.Lives.{started}
 use Rattle.anb_status.specs.declared.status.Status.{Status}
 use Rattle.anb_command.specs.Fetches.{Files}
 use Rattle.anb_command.specs.Steps.{Answer, given, InTurn, AnswersWith}
 use Rattle.anb_role_commands.specs.Jobs.{IsRead, Job, JobIs}
+use Rattle.anb_park_commands.specs.declared.ended.RecordWay.TheVariants.{ByWire, ToFile}
 use Rattle.anb_park_commands.specs.Identities.{IdentityIs}
 use Rattle.anb_park_commands.specs.Keys.{KeyIs}
-use Rattle.anb_park_commands.specs.Parking.{CompletesOver, ParksOver}
+use Rattle.anb_park_commands.specs.Parking.{CompletesOver, IsRecordOf, KeepsIn, ParksOver}
 use Rattle.anb_park_commands.specs.Sessions.{Begins, RoleSession}
 
 module _ (narration name values key : List ℕ) (host_seed : Option (List ℕ)) where
@@ -34,7 +36,15 @@ module _ (narration name values key : List ℕ) (host_seed : Option (List ℕ)) 
 
   module _ (told : Option Files) (old new : WireState) (status : Status) where
     abbrev pub DoesPark : Type 0
-    DoesPark = ParksOver Begins NewSessionIs told old new status IsReadToPark
+    DoesPark = ParksOver ByWire Begins NewSessionIs told old new status IsReadToPark
 
     abbrev pub CompletesPark : Type 0
-    CompletesPark = CompletesOver Begins NewSessionIs told old new status
+    CompletesPark = CompletesOver ByWire Begins NewSessionIs told old new status
+
+    -- the same where the record goes to a file of a store
+    pub record DoesParkInto (file : List ℕ) (store store_now : StoreState) : Type 0 where
+      pub over_wire : ParksOver ToFile Begins NewSessionIs told old new status IsReadToPark
+      pub in_store : KeepsIn file (IsRecordOf NewSessionIs told old.left) store store_now status
+
+    abbrev pub CompletesParkInto : Type 0
+    CompletesParkInto = CompletesOver ToFile Begins NewSessionIs told old new status

@@ -1,23 +1,28 @@
 -- What comes of a session over the frames of a wire, which is parked where it waits: the status,
--- what is written, and what is left.
+-- what is written, what is left, and what is kept in a store where the record goes to a file.
 use Rattle.std.specs.Prelude.{◌≡◌, ℕ, ◌⊎◌, Bool, true, false, if◌then◌else◌, List, [], ◌∷◌, ◌++◌, take, Option, Some}
 use Rattle.anb_base.specs.Bytes.{IsBytes}
-use Rattle.anb_base.specs.Moves.{Put}
+use Rattle.anb_base.specs.Moves.{Put, Rose}
 use Rattle.anb_base.specs.Wires.{WireState}
 use Rattle.anb_base.specs.declared.TheConstants.{ARRIVAL}
-use Rattle.anb_frame.specs.Frames.{frames}
+use Rattle.anb_frame.specs.Frames.{frame, frames}
 use Rattle.anb_frame.specs.Cuts.{Tail, End, Cut}
+use Rattle.anb_base.specs.declared.place.Place.{Place}
 use Rattle.anb_park.specs.Records.{after, record_of}
 use Rattle.anb_plays.specs.Plays as plays
 use Rattle.anb_plays.specs.Plays.{Played}
 use Rattle.anb_status.specs.declared.status.Status.{Status}
-use Rattle.anb_status.specs.declared.status.Status.TheVariants.{Done, Parked, WriteFault, NoMemory}
+use Rattle.anb_status.specs.declared.status.Status.TheVariants.{Done, Parked, WriteFault, Unwritten, NoMemory}
+use Rattle.anb_store.specs.Stores.{HasFailed, StoreState, replaced}
+use Rattle.anb_command.specs.Causes.{HasCause}
 use Rattle.anb_command.specs.Fetches.{Files, IfTold}
 use Rattle.anb_command.specs.Outcomes as playing
 use Rattle.anb_command.specs.Outcomes.{IsInTime, IsRefused, LeavesAt}
 use Rattle.anb_command.specs.Refusing.{IsRefusing}
 use Rattle.anb_status.specs.Statuses.{is_fault}
 use Rattle.anb_command.specs.Steps.{Answer, given}
+use Rattle.anb_park_commands.specs.declared.ended.RecordWay.{RecordWay}
+use Rattle.anb_park_commands.specs.declared.ended.RecordWay.TheVariants.{ByWire, ToFile}
 use Rattle.anb_park_commands.specs.Records.{RecordIs}
 use Rattle.anb_park_commands.specs.Sessions.{RoleSession}
 
@@ -32,23 +37,30 @@ abbrev pub status_at : plays.End → Tail → Status
 status_at (plays.waiting e) End = Parked e
 status_at end tail = playing.status_at end tail
 
--- what is due, each in a frame: the messages, and where it is parked then the record
-abbrev pub due : Played (List ℕ) → Tail → (saved : List ℕ) → List (List ℕ)
-due p tail saved = p.sent ++ (if is_parked p.end tail then saved ∷ [] else [])
+-- what is due over the wire, each in a frame: the messages, and then the record where it is parked
+-- and the record goes there
+abbrev pub due : RecordWay → Played (List ℕ) → Tail → (saved : List ℕ) → List (List ℕ)
+due ByWire p tail saved = p.sent ++ (if is_parked p.end tail then saved ∷ [] else [])
+due ToFile p tail saved = p.sent
+
+-- what goes over the wire of a record: its frame, or nothing
+abbrev pub by_wire : RecordWay → (record_bytes : List ℕ) → List ℕ
+by_wire ByWire record_bytes = frame record_bytes
+by_wire ToFile record_bytes = []
 
 -- the record of a session once these arrived too
 abbrev pub record_after : RoleSession → List (List ℕ) → List ℕ
 record_after s more = record_of s.key (after s.parked more)
 
 -- what comes of a session over further arrivals
-module _ (Comes : RoleSession → List (List ℕ) → Played (List ℕ) → Type 0) where
+module _ (way : RecordWay) (Comes : RoleSession → List (List ℕ) → Played (List ℕ) → Type 0) where
   -- a play to its end: what is due is written, and what it used of the input is read
   pub record IsPlayed (s : RoleSession) (left : List ℕ) (arrivals : List (List ℕ)) (tail : Tail)
       (status : Status) (out rest : List ℕ) : Type 0 where
     pub play : Played (List ℕ)
     pub plays : Comes s arrivals play
     pub status_is : status ≡ status_at play.end tail
-    pub writes : out ≡ frames (due play tail (record_after s arrivals))
+    pub writes : out ≡ frames (due way play tail (record_after s arrivals))
     pub leaves : LeavesAt play.end left arrivals play.left tail rest
 
   module _ (Prepares : Answer RoleSession → Type 0) (left : List ℕ) (arrivals : List (List ℕ))
@@ -65,11 +77,15 @@ module _ (Comes : RoleSession → List (List ℕ) → Played (List ℕ) → Type
     abbrev pub CutShort : Status → (out : List ℕ) → (left_now : Option (List ℕ)) → Type 0
     CutShort WriteFault out left_now =
         (s : RoleSession) × Prepares (given s) × ((p : Played (List ℕ)) × Comes s arrivals p
-        × ((n : ℕ) × (out ≡ take n (frames (due p tail (record_after s arrivals))))))
+        × ((n : ℕ) × (out ≡ take n (frames (due way p tail (record_after s arrivals))))))
     CutShort NoMemory out left_now =
         ((out ≡ []) × (left_now ≡ Some left))
         ⊎ ((s : RoleSession) × Prepares (given s) × ((p : Played (List ℕ)) × Comes s arrivals p
-        × ((k : ℕ) × (out ≡ frames (take k (due p tail (record_after s arrivals)))))))
+        × ((k : ℕ) × (out ≡ frames (take k (due way p tail (record_after s arrivals)))))))
+    -- all messages, where the play is parked over the whole input
+    CutShort (Unwritten file) out left_now =
+        (s : RoleSession) × Prepares (given s) × ((p : Played (List ℕ)) × Comes s arrivals p
+        × (is_parked p.end tail ≡ true) × (out ≡ frames p.sent)) × (left_now ≡ Some [])
     CutShort status out left_now = playing.CutShort Comes Prepares left arrivals status out left_now
 
     -- the outcome, in both directions. What is written may be untold
@@ -111,3 +127,30 @@ module _ (Comes : RoleSession → List (List ℕ) → Played (List ℕ) → Type
         (s : RoleSession) (arrivals : List (List ℕ)) (tail : Tail) (p : Played (List ℕ))
         → IsBytes left → Cut ARRIVAL left arrivals tail → Prepares files (given s)
         → Comes s arrivals p → p.end ≡ plays.done → (status ≡ Done) ⊎ (status ≡ NoMemory)))
+
+-- ---- records in files
+
+-- What a store holds then, where records go to this file: where the role is parked it holds such a
+-- record there, and each other file is as it was. A file that can't be written leaves all as they
+-- were. No other status does anything to it.
+module _ (file : List ℕ) (IsRecord : List ℕ → Type 0) (old new : StoreState) where
+  abbrev pub KeepsIn : Status → Type 0
+  KeepsIn (Parked e) = (record_bytes : List ℕ) × IsRecord record_bytes × (new ≡ replaced old file record_bytes)
+  KeepsIn (Unwritten name) = (name ≡ file) × HasFailed old new
+  KeepsIn status = new ≡ old
+
+-- wherever the files and the input are told, these bytes are the record of what is asked for, once
+-- the input's arrivals came too
+abbrev pub IsRecordOf : (Files → Answer RoleSession → Type 0) → Option Files → (left : Option (List ℕ))
+    → (record_bytes : List ℕ) → Type 0
+IsRecordOf Prepares told left record_bytes = IfTold told (λ files. IfTold left (λ input.
+    (arrivals : List (List ℕ)) (tail : Tail) (s : RoleSession) → IsBytes input
+    → Cut ARRIVAL input arrivals tail → Prepares files (given s)
+    → record_bytes ≡ record_after s arrivals))
+
+-- why a fault is answered: that of the file only where a count of the store rose
+module _ (file : List ℕ) (names : List (List ℕ)) (place : Option Place) (faults faults_now : List ℕ → ℕ)
+    (old new : WireState) (store store_now : StoreState) where
+  abbrev pub HasParkCause : Status → Type 0
+  HasParkCause (Unwritten name) = (name ≡ file) × Rose store.faults store_now.faults
+  HasParkCause status = HasCause names place faults faults_now old new status

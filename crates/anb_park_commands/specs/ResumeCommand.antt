@@ -2,15 +2,17 @@
 -- it waits.
 use Rattle.std.specs.Prelude.{◌≡◌, ◌⊎◌, ℕ, List, Option}
 use Rattle.anb_base.specs.Wires.{WireState}
+use Rattle.anb_store.specs.Stores.{StoreState}
 use Rattle.anb_status.specs.declared.status.Status.{Status}
 use Rattle.anb_command.specs.Fetches.{Files}
 use Rattle.anb_command.specs.Files.{FileIs}
 use Rattle.anb_command.specs.Roles.{Part, PartInFile}
 use Rattle.anb_command.specs.Steps.{Answer, given, InTurn, AnswersWith}
 use Rattle.anb_command.specs.declared.limits.TheConstants.{RECORD_LIMIT}
+use Rattle.anb_park_commands.specs.declared.ended.RecordWay.TheVariants.{ByWire, ToFile}
 use Rattle.anb_park_commands.specs.Identities.{IdentityIs}
 use Rattle.anb_park_commands.specs.Keys.{KeyIs}
-use Rattle.anb_park_commands.specs.Parking.{CompletesOver, ParksOver}
+use Rattle.anb_park_commands.specs.Parking.{CompletesOver, IsRecordOf, KeepsIn, ParksOver}
 use Rattle.anb_park_commands.specs.Records.{RecordIs}
 use Rattle.anb_park_commands.specs.Sessions.{GoesOn, RoleSession}
 
@@ -42,7 +44,15 @@ module _ (narration name saved key : List ℕ) where
 
   module _ (told : Option Files) (old new : WireState) (status : Status) where
     abbrev pub DoesResume : Type 0
-    DoesResume = ParksOver GoesOn ResumedIs told old new status IsReadToResume
+    DoesResume = ParksOver ByWire GoesOn ResumedIs told old new status IsReadToResume
 
     abbrev pub CompletesResume : Type 0
-    CompletesResume = CompletesOver GoesOn ResumedIs told old new status
+    CompletesResume = CompletesOver ByWire GoesOn ResumedIs told old new status
+
+    -- the same where the record goes to a file of a store
+    pub record DoesResumeInto (file : List ℕ) (store store_now : StoreState) : Type 0 where
+      pub over_wire : ParksOver ToFile GoesOn ResumedIs told old new status IsReadToResume
+      pub in_store : KeepsIn file (IsRecordOf ResumedIs told old.left) store store_now status
+
+    abbrev pub CompletesResumeInto : Type 0
+    CompletesResumeInto = CompletesOver ToFile GoesOn ResumedIs told old new status

@@ -17,6 +17,7 @@ ghost use Rattle.anb_park_commands.specs.Identities.{IdentityIs, identity};
 use anb_base::{NoMemory, Shelf, Text};
 use anb_command::{Playable, Status, narration_in_file, playable_of, protocol_of_narration};
 use anb_compile::fitting_codes_play;
+use anb_protocol::protocols_hold;
 use anb_seal::hash;
 use anb_syntax::{Narration, text_of};
 use std::alloc::Global;
@@ -86,6 +87,8 @@ fn owner_of(alloc: Global, narration: &Narration, name: &Text) -> Result<Owner, 
     match playable_of(alloc, protocol, name) {
         Ok(playable) => {
             fitting_codes_play(&playable.protocol);
+            protocols_hold();
+            let _ = playable.protocol.name();
             Ok(Owner { playable, id })
         }
         Err(status) => Err(status),

@@ -9,7 +9,7 @@ returns-in-Ok-playable_of-clause-given c = inr (c.in-Ok-protocol_of_narration.pr
 pub returns-in-Ok-playable_of-clause-runs : goal.returns-in-Ok-playable_of-clause-runs
 returns-in-Ok-playable_of-clause-runs c =
     let role = c.in-Ok-playable_of.playable in
-    runs_role role.protocol role.role role.code c.fitting_codes_play.ensures c.in-Ok-playable_of.ensures.fits
+    runs_role role.protocol role.role role.code (c.protocols_hold.ensures role.protocol c.name.ensures.protocol) c.fitting_codes_play.ensures c.in-Ok-playable_of.ensures.fits
 
 pub returns-in-Err-protocol_of_narration-clause-refused : goal.returns-in-Err-protocol_of_narration-clause-refused
 returns-in-Err-protocol_of_narration-clause-refused c =

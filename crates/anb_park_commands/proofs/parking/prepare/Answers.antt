@@ -1,11 +1,14 @@
-use Rattle.std.proofs.Common.{Option, ◌∙◌, subst, inl, inr, refl}
+use Rattle.std.proofs.Common.{Option, ◌∙◌, subst, sym, inl, inr, refl}
 use Rattle.anb_base.proofs.Moving.{Rose-later}
+use Rattle.anb_code.specs.CodeValue.{CodeValue}
 use Rattle.anb_command.specs.Errands.{ErrandOf}
 use Rattle.anb_command.specs.Fetches.{Files, IfTold}
 use Rattle.anb_command.specs.Steps.{given}
 use Rattle.anb_command.proofs.Failing.{IsFailure-map}
+use Rattle.anb_park_commands.specs.Going.{RunsRole}
 use Rattle.anb_park_commands.specs.Keys.{KeyIs}
 use Rattle.anb_park_commands.proofs.Chains.{begun_given, begun_no_key, begun_no_part, begun_no_values, key_read, narration_read, values_read}
+use Rattle.anb_park_commands.proofs.Small.{small_begun}
 use Rattle.anb_park_commands.proofs.parking.prepare.Goals as goal
 
 pub returns-in-Ok-key_in_file-clause-ready : goal.returns-in-Ok-key_in_file-clause-ready
@@ -19,6 +22,13 @@ returns-in-Ok-key_in_file-clause-ready g c =
     begun_given told play.narration.now play.name.now play.values.now c.args.words.key.now c.args.host_seed role.protocol role.role role.code c.in-Ok.ensures.fits
     p.code p.initial p.seed c.in-Ok-prepare_code.ensures.same c.in-Ok.ensures.given (subst (λ (t : Option Files). IfTold t (λ files. ErrandOf files play.values.now c.args.host_seed role.code (given (record { code = p.code; initial = p.initial; seed = p.seed })))) first c.in-Ok-prepare_code.ensures.given)
     c.in-Ok.owner.id c.in-Ok-key_in_file.key c.in-Ok.ensures.runs c.in-Ok-prepare_code.ensures.bytes c.in-Ok.ensures.identity (subst (λ (t : Option Files). IfTold t (λ files. KeyIs files c.args.words.key.now (given c.in-Ok-key_in_file.key))) (next ∙ first) c.in-Ok-key_in_file.ensures.given)
+
+pub returns-in-Ok-key_in_file-clause-small : goal.returns-in-Ok-key_in_file-clause-small
+returns-in-Ok-key_in_file-clause-small g c =
+    let role = c.in-Ok.owner.playable in
+    let p = c.in-Ok-prepare_code.prepared in
+    small_begun role.protocol role.role p.code (subst (λ (code : CodeValue). RunsRole role.protocol role.role code) (sym c.in-Ok-prepare_code.ensures.same) c.in-Ok.ensures.runs)
+    c.in-Ok.owner.id p.seed p.initial c.in-Ok-prepare_code.ensures.takes c.in-Ok-prepare_code.ensures.total
 
 pub returns-in-Err-clause-refused : goal.returns-in-Err-clause-refused
 returns-in-Err-clause-refused g c =
