@@ -1,4 +1,4 @@
--- What is written by `help`, `fmt`, `compile` and `explain`.
+-- What is written by `help`, `fmt`, `compile` and `explain`, and of pages.
 use Rattle.std.proofs.Common.{◌≡◌, ℕ, true, List, Option, take, refl, sym, inr, ◌∙◌}
 use Rattle.anb_read.specs.Laws.{NarrationsAreUnique, RefusalsAreUnique, NoneIsBoth}
 use Rattle.anb_status.specs.declared.status.Status.{Status}
@@ -6,7 +6,7 @@ use Rattle.anb_command.specs.Fetches.{Files, IfTold}
 use Rattle.anb_command.specs.Files.{NarrationInFile}
 use Rattle.anb_command.specs.Roles.{Part, PartInFile}
 use Rattle.anb_status.specs.Statuses.{is_fault}
-use Rattle.anb_command.specs.Steps.{refused, given, HasOneAnswer, IsFailure}
+use Rattle.anb_command.specs.Steps.{refused, given, AnswersWith, HasOneAnswer, IsFailure}
 use Rattle.anb_command.specs.Writing.{IsWriting, IsWritingOne, IsWritten}
 use Rattle.anb_status.specs.declared.status.Status.TheVariants.{Done, NoMemory, Unreached, WriteFault}
 use Rattle.anb_words.specs.declared.words.RoleText.{RoleText}
@@ -15,13 +15,17 @@ use Rattle.anb_command.proofs.Ones.{IsSettled, RefusesQuietly, one_settled, then
 use Rattle.anb_command.proofs.Written.{completes_text, faulty, the_one, written, told_written, told_refusal}
 use Rattle.anb_text_commands.specs.TextCommands.{CanonicalOf, CompletesDescribe, CompletesFmt, FmtText, Describes, DescribedText, HelpText, IsWrittenByLines, help_text}
 
--- ---- `help`
+-- ---- one text, whatever the files
 
-help_one : HasOneAnswer HelpText
-help_one x y is js = is ∙ sym js
+module _ (text : List ℕ) where
+  text_one : HasOneAnswer (AnswersWith text)
+  text_one x y is js = is ∙ sym js
+
+  pub writes_text : (w now : Option (List ℕ)) (s : Status) → IsWritten text s w now → IsWritingOne (AnswersWith text) s w now
+  writes_text w now s is = the_one (AnswersWith text) text_one w now s (written (AnswersWith text) (one_settled (AnswersWith text) text_one) w now text s refl is)
 
 pub writes_help : (w now : Option (List ℕ)) (s : Status) → IsWritten help_text s w now → IsWritingOne HelpText s w now
-writes_help w now s is = the_one HelpText help_one w now s (written HelpText (one_settled HelpText help_one) w now help_text s refl is)
+writes_help w now s is = writes_text help_text w now s is
 
 -- ---- commands whose text comes of files
 

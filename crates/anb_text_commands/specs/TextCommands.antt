@@ -19,8 +19,10 @@ use Rattle.anb_status.specs.declared.status.Status.TheVariants.{NoMemory}
 use Rattle.anb_command.specs.Fetches.{Files, IfTold}
 use Rattle.anb_command.specs.Files.{NarrationInFile}
 use Rattle.anb_command.specs.Roles.{Part, PartInFile}
-use Rattle.anb_command.specs.Steps.{Answer, refused, given, InTurn}
+use Rattle.anb_command.specs.Steps.{Answer, refused, given, AnswersWith, InTurn}
 use Rattle.anb_command.specs.Writing.{CompletesText, IsWriting, IsWritingOne, IsWritten}
+use Rattle.anb_help.specs.Pages.{text_of}
+use Rattle.anb_help.specs.declared.pages.Page.{Page}
 use Rattle.anb_words.specs.declared.words.RoleText.{RoleText}
 use Rattle.anb_words.specs.declared.words.RoleText.TheVariants.{RoleFile, Explanation}
 
@@ -98,13 +100,14 @@ help_text =
     ++ codes "anb branch <narration> <role> <values> [--arm <n>] [place]\n"
     ++ codes "anb certify <narration> <role> <rolefile>\n"
     ++ codes "anb why <narration>\n"
-    ++ codes "anb park <narration> <role> <values> <key> [place]\n"
-    ++ codes "anb resume <narration> <role> <record> <key> [place]\n"
+    ++ codes "anb park <narration> <role> <values> <key> [place] [--record <file>]\n"
+    ++ codes "anb resume <narration> <role> <record> <key> [place] [--record <file>]\n"
     ++ codes "anb stage <narration> <folder> [--timeout <seconds>]\n"
     ++ codes "anb chart <narration> [--role <name>]\n"
     ++ codes "anb check <narration>\n"
     ++ codes "anb trace <narration> <role> <values> <transcript>\n"
     ++ codes "anb values <narration> [<role> <values>]\n"
+    ++ codes "anb judge <narration> <role> <values> <transcript>\n"
 
 abbrev pub HelpText : Answer (List ℕ) → Type 0
 HelpText answer = answer ≡ given help_text
@@ -114,3 +117,14 @@ DoesHelp old new status = IsWritingOne HelpText status old.written new.written
 
 abbrev pub CompletesHelp : Status → Type 0
 CompletesHelp status = CompletesText HelpText status
+
+-- `--help`, `--version` and `help` of a command write a page
+module _ (about : Page) where
+  abbrev pub PageText : Answer (List ℕ) → Type 0
+  PageText = AnswersWith (text_of about)
+
+  abbrev pub DoesPage : (old new : WireState) → Status → Type 0
+  DoesPage old new status = IsWritingOne PageText status old.written new.written
+
+  abbrev pub CompletesPage : Status → Type 0
+  CompletesPage status = CompletesText PageText status

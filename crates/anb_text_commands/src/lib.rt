@@ -19,8 +19,8 @@ ghost use Rattle.anb_status.specs.Statuses.{IsEarly, is_fault, phase_of};
 ghost use Rattle.anb_command.specs.Steps.{IsFailure, refused, given};
 ghost use Rattle.anb_command.specs.Touches.{Touches};
 ghost use Rattle.anb_status.specs.declared.status.Status.TheVariants as status;
-ghost use Rattle.anb_text_commands.specs.TextCommands.{CompletesDescribe, CompletesFmt, CompletesHelp};
-ghost use Rattle.anb_text_commands.specs.TextCommands.{DoesDescribe, DoesFmt, DoesHelp};
+ghost use Rattle.anb_text_commands.specs.TextCommands.{CompletesDescribe, CompletesFmt, CompletesHelp, CompletesPage};
+ghost use Rattle.anb_text_commands.specs.TextCommands.{DoesDescribe, DoesFmt, DoesHelp, DoesPage};
 ghost use Rattle.anb_text_commands.specs.TextCommands.{CanBeTold, DescribedText, FmtText, IsTextOf, IsWrittenByLines, text_by};
 ghost use Rattle.anb_text.specs.Writing.{IsWritten};
 
@@ -30,6 +30,7 @@ use anb_command::{
 };
 use anb_compile::fitting_codes_play;
 use anb_explain::{Explanation, explanation_of, write_explanation};
+use anb_help::{Page, text_of as text_on};
 use anb_read::{narrations_are_unique, none_is_both, refusals_are_unique};
 use anb_syntax::text_of;
 use anb_text::{WriteNo, write_role_file};
@@ -50,13 +51,14 @@ const HELP: &str = concat!(
     "anb branch <narration> <role> <values> [--arm <n>] [place]\n",
     "anb certify <narration> <role> <rolefile>\n",
     "anb why <narration>\n",
-    "anb park <narration> <role> <values> <key> [place]\n",
-    "anb resume <narration> <role> <record> <key> [place]\n",
+    "anb park <narration> <role> <values> <key> [place] [--record <file>]\n",
+    "anb resume <narration> <role> <record> <key> [place] [--record <file>]\n",
     "anb stage <narration> <folder> [--timeout <seconds>]\n",
     "anb chart <narration> [--role <name>]\n",
     "anb check <narration>\n",
     "anb trace <narration> <role> <values> <transcript>\n",
     "anb values <narration> [<role> <values>]\n",
+    "anb judge <narration> <role> <values> <transcript>\n",
 );
 
 /// The canonical text of the narration in the file.
@@ -263,4 +265,14 @@ pub fn help<W: Wire>(wire: &mut W) -> Status
     ensures wire { OverWire place.Stdio false result (W.state wire.old) (W.state wire.new) }
 {
     write_text(wire, HELP.as_bytes())
+}
+
+/// Writes a page on the program or on a command.
+pub fn page<W: Wire>(wire: &mut W, about: Page) -> Status
+    ensures does { DoesPage about (W.state wire.old) (W.state wire.new) result }
+    ensures completes { (is_fault result ≡ true → result ≡ status.NoMemory)
+        → CompletesPage about result }
+    ensures wire { OverWire place.Stdio false result (W.state wire.old) (W.state wire.new) }
+{
+    write_text(wire, text_on(about).as_bytes())
 }

@@ -6,7 +6,7 @@ use Rattle.anb_words.specs.declared.words.Command.{Command}
 use Rattle.anb_words.specs.declared.words.Command.TheVariants as command
 use Rattle.anb_words.specs.declared.words.Endpoint.{Endpoint}
 use Rattle.anb_words.specs.declared.words.Endpoint.TheVariants as endpoint
-use Rattle.anb_words.specs.Words.{Asked, fmt, describe, play, enact, replay, host, rehearse, drill, help, certify, why, park, resume, chart, role_chart, branch, check, trace, all_values, role_values}
+use Rattle.anb_words.specs.Words.{Asked, fmt, describe, play, enact, replay, host, rehearse, drill, help, page, certify, why, park, resume, chart, role_chart, branch, check, trace, all_values, role_values, judge}
 
 abbrev pub place_by : Endpoint → Place
 place_by endpoint.Stdio = place.Stdio
@@ -25,6 +25,7 @@ asked_by (Some (command.Host role)) = Some (host role.narration.now role.name.no
 asked_by (Some (command.Rehearse words)) = Some (rehearse words.narration.now words.values.now words.schedule.now)
 asked_by (Some (command.Drill exchanges)) = Some (drill exchanges)
 asked_by (Some command.Help) = Some help
+asked_by (Some (command.Page about)) = Some (page about)
 asked_by (Some (command.Certify words)) = Some (certify words.narration.now words.name.now words.code.now)
 asked_by (Some (command.Why narration)) = Some (why narration.now)
 asked_by (Some (command.Park words)) =
@@ -40,3 +41,5 @@ asked_by (Some (command.Trace words)) =
     Some (trace words.narration.now words.name.now words.values.now words.transcript.now)
 asked_by (Some (command.Values narration)) = Some (all_values narration.now)
 asked_by (Some (command.RoleValues narration role values)) = Some (role_values narration.now role.now values.now)
+asked_by (Some (command.Judge words)) =
+    Some (judge words.narration.now words.name.now words.values.now words.transcript.now)

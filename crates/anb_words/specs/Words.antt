@@ -3,6 +3,9 @@ use Rattle.std.specs.Prelude.{ℕ, Bool, true, false, not, ◌&&◌, ◌==◌, n
 use Rattle.std.specs.Option.{option_map}
 use Rattle.anb_base.specs.declared.place.Place.{Place}
 use Rattle.anb_base.specs.declared.place.Place.TheVariants.{Stdio, Dial, Listen}
+use Rattle.anb_help.specs.Pages.{page_of}
+use Rattle.anb_help.specs.declared.pages.Page.{Page}
+use Rattle.anb_help.specs.declared.pages.Page.TheVariants.{Overview, Version}
 use Rattle.anb_text.specs.Reading.{number_of}
 use Rattle.anb_words.specs.declared.words.RoleText.{RoleText}
 use Rattle.anb_words.specs.declared.words.RoleText.TheVariants.{RoleFile, Explanation}
@@ -18,6 +21,7 @@ pub data Asked : Type 0 where
   rehearse : (narration values schedule : List ℕ) → Asked
   drill : (exchanges : ℕ) → Asked
   help : Asked
+  page : Page → Asked
   certify : (narration role code : List ℕ) → Asked
   why : (narration : List ℕ) → Asked
   park : (narration role values key : List ℕ) → Place → Asked
@@ -29,6 +33,7 @@ pub data Asked : Type 0 where
   trace : (narration role values transcript : List ℕ) → Asked
   all_values : (narration : List ℕ) → Asked
   role_values : (narration role values : List ℕ) → Asked
+  judge : (narration role values transcript : List ℕ) → Asked
 
 -- a name may be any word that isn't empty and doesn't begin with `-`
 abbrev pub is_operand : List ℕ → Bool
@@ -173,9 +178,22 @@ values_in (narration ∷ role ∷ values ∷ []) =
     then Some (role_values narration role values) else None
 values_in words = None
 
+-- `help` may be asked of a command
+abbrev pub judge_in : List (List ℕ) → Option Asked
+judge_in (narration ∷ role ∷ values ∷ transcript ∷ []) =
+    if is_operand narration && is_operand role && is_operand values && is_operand transcript
+    then Some (judge narration role values transcript) else None
+judge_in words = None
+
 abbrev pub help_in : List (List ℕ) → Option Asked
 help_in [] = Some help
+help_in (command ∷ []) = option_map page (page_of command)
 help_in words = None
+
+-- a page that is asked for by one word
+abbrev pub alone_in : Page → List (List ℕ) → Option Asked
+alone_in about [] = Some (page about)
+alone_in about words = None
 
 abbrev pub command_in : (command : List ℕ) → List (List ℕ) → Option Asked
 command_in command words =
@@ -198,6 +216,9 @@ command_in command words =
     else if bytes_eq command (codes "check") then check_in words
     else if bytes_eq command (codes "trace") then trace_in words
     else if bytes_eq command (codes "values") then values_in words
+    else if bytes_eq command (codes "--help") then alone_in Overview words
+    else if bytes_eq command (codes "--version") then alone_in Version words
+    else if bytes_eq command (codes "judge") then judge_in words
     else None
 
 abbrev pub asked_of : List (List ℕ) → Option Asked
@@ -216,6 +237,7 @@ files_of (Some (host narration role values place)) = narration ∷ values ∷ []
 files_of (Some (rehearse narration values schedule)) = narration ∷ values ∷ schedule ∷ []
 files_of (Some (drill exchanges)) = []
 files_of (Some help) = []
+files_of (Some (page about)) = []
 files_of (Some (certify narration role code)) = narration ∷ code ∷ []
 files_of (Some (why narration)) = narration ∷ []
 files_of (Some (park narration role values key place)) = narration ∷ values ∷ key ∷ []
@@ -227,6 +249,7 @@ files_of (Some (check narration)) = narration ∷ []
 files_of (Some (trace narration role values transcript)) = narration ∷ values ∷ transcript ∷ []
 files_of (Some (all_values narration)) = narration ∷ []
 files_of (Some (role_values narration role values)) = narration ∷ values ∷ []
+files_of (Some (judge narration role values transcript)) = narration ∷ values ∷ transcript ∷ []
 
 -- the place that is reached
 abbrev pub place_of : Option Asked → Option Place
@@ -240,6 +263,7 @@ place_of (Some (host narration role values place)) = Some place
 place_of (Some (rehearse narration values schedule)) = Some Stdio
 place_of (Some (drill exchanges)) = Some Stdio
 place_of (Some help) = Some Stdio
+place_of (Some (page about)) = Some Stdio
 place_of (Some (certify narration role code)) = Some Stdio
 place_of (Some (why narration)) = Some Stdio
 place_of (Some (park narration role values key place)) = Some place
@@ -251,6 +275,7 @@ place_of (Some (check narration)) = Some Stdio
 place_of (Some (trace narration role values transcript)) = Some Stdio
 place_of (Some (all_values narration)) = Some Stdio
 place_of (Some (role_values narration role values)) = Some Stdio
+place_of (Some (judge narration role values transcript)) = Some Stdio
 
 -- whether the input is read
 abbrev pub is_reading : Option Asked → Bool

@@ -5,6 +5,7 @@ ghost use Rattle.std.specs.Option.{option_map};
 ghost use Rattle.anb_words.specs.Words.{are_seconds, arm_of, drill, drill_of, is_operand, seconds_in};
 
 use anb_base::{NoMemory, Place, Text};
+use anb_help::{Page, page_of};
 use itoa::Buffer;
 use std::alloc::Global;
 
@@ -26,6 +27,7 @@ pub enum Command<'w> {
     /// The number of exchanges of the drill, from 1 to 200.
     Drill(u32),
     Help,
+    Page(Page),
     Certify(CertifyWords<'w>),
     Why {
         narration: &'w Text,
@@ -52,6 +54,7 @@ pub enum Command<'w> {
         role: &'w Text,
         values: &'w Text,
     },
+    Judge(ReplayWords<'w>),
 }
 
 /// What is written of a role.
@@ -80,7 +83,7 @@ pub struct EnactWords<'w> {
     pub endpoint: Endpoint<'w>,
 }
 
-/// What is asked of `replay` and of `trace`: the names of the files and of the role.
+/// What is asked of `replay`, of `trace` and of `judge`: the names of the files and of the role.
 #[derive(Clone, Copy)]
 pub struct ReplayWords<'w> {
     pub narration: &'w Text,
@@ -144,7 +147,7 @@ impl<'w> Command<'w> {
     ghost use Rattle.anb_words.specs.Commands.{asked_by};
     ghost use Rattle.anb_words.specs.Words.{asked_of, command_in, enact_in, fmt_in, help_in, host_in, play_in, describe_in, replay_in};
     ghost use Rattle.anb_words.specs.Words.{certify_in, chart_in, drill_in, park_in, rehearse_in, resume_in, why_in};
-    ghost use Rattle.anb_words.specs.Words.{branch_in, branch_on, check_in, trace_in, values_in};
+    ghost use Rattle.anb_words.specs.Words.{alone_in, branch_in, branch_on, check_in, judge_in, trace_in, values_in};
 
     /// Reads a whole word list.
     pub fn read(words: &'w [Text]) -> Option<Self>
@@ -179,6 +182,9 @@ impl<'w> Command<'w> {
             "check" => Self::read_check(words),
             "trace" => Self::read_trace(words),
             "values" => Self::read_values(words),
+            "--help" => Self::read_alone(Page::Overview, words),
+            "--version" => Self::read_alone(Page::Version, words),
+            "judge" => Self::read_judge(words),
             _ => None,
         }
     }
@@ -469,11 +475,41 @@ impl<'w> Command<'w> {
         }
     }
 
+    fn read_judge(words: &'w [Text]) -> Option<Self>
+        ensures { asked_by result ≡ judge_in words.now }
+    {
+        let [narration, name, values, transcript] = words else {
+            return None;
+        };
+        if !(is_operand(narration) && is_operand(name) && is_operand(values)) {
+            return None;
+        }
+        if !is_operand(transcript) {
+            return None;
+        }
+        Some(Command::Judge(ReplayWords {
+            narration,
+            name,
+            values,
+            transcript,
+        }))
+    }
+
     fn read_help(words: &'w [Text]) -> Option<Self>
         ensures { asked_by result ≡ help_in words.now }
     {
         match words {
             [] => Some(Command::Help),
+            [command] => Some(Command::Page(page_of(command.as_str())?)),
+            _ => None,
+        }
+    }
+
+    fn read_alone(page: Page, words: &'w [Text]) -> Option<Self>
+        ensures { asked_by result ≡ alone_in page words.now }
+    {
+        match words {
+            [] => Some(Command::Page(page)),
             _ => None,
         }
     }
