@@ -177,7 +177,7 @@ module _ (narration name values transcript : List ℕ) (host_seed : Option (List
 -- ---- what comes of it
 
 -- the status of a replay is no fault, but want of memory
-quiet_end : (end : ReplayEnd) → is_fault (status_of end) ≡ false → end ≢ replayed.NoMemory
+pub quiet_end : (end : ReplayEnd) → is_fault (status_of end) ≡ false → end ≢ replayed.NoMemory
 quiet_end replayed.NoMemory never = faulty never
 quiet_end replayed.Follows quiet = λ never. absurd (cc)
 quiet_end (replayed.Differs n d) quiet = λ never. absurd (cc)
@@ -191,7 +191,7 @@ after_end (replayed.Differs n d) = inl refl
 after_end (replayed.Short event) = inl refl
 after_end (replayed.Stopped halt n) = inl refl
 
-no_cause : (end : ReplayEnd) (T : WireState) → HasWireCause (Some Stdio) T T (status_of end)
+pub no_cause : (end : ReplayEnd) (T : WireState) → HasWireCause (Some Stdio) T T (status_of end)
 no_cause replayed.NoMemory T = tt
 no_cause replayed.Follows T = tt
 no_cause (replayed.Differs n d) T = tt
@@ -230,14 +230,14 @@ module _ (narration values transcript file : List ℕ) where
   pub third_of_three : file ≡ transcript → IsOneOf (narration ∷ values ∷ transcript ∷ []) file
   third_of_three is = inr (inr (inl is))
 
-never_unreached : (end : ReplayEnd) (P : Status → Type 0) → OnUnreached (status_of end) (λ at. P (Unreached at))
+pub never_unreached : (end : ReplayEnd) (P : Status → Type 0) → OnUnreached (status_of end) (λ at. P (Unreached at))
 never_unreached replayed.NoMemory P = tt
 never_unreached replayed.Follows P = tt
 never_unreached (replayed.Differs n d) P = tt
 never_unreached (replayed.Short event) P = tt
 never_unreached (replayed.Stopped halt n) P = tt
 
-no_wire_fault : (end : ReplayEnd) → (status_of end ≢ ReadFault) × (status_of end ≢ WriteFault)
+pub no_wire_fault : (end : ReplayEnd) → (status_of end ≢ ReadFault) × (status_of end ≢ WriteFault)
 no_wire_fault replayed.NoMemory = (λ never. absurd (cc), λ never. absurd (cc))
 no_wire_fault replayed.Follows = (λ never. absurd (cc), λ never. absurd (cc))
 no_wire_fault (replayed.Differs n d) = (λ never. absurd (cc), λ never. absurd (cc))

@@ -7,4 +7,4 @@ mod role_replay;
 
 pub use role_file::enact;
 pub use role_play::{play, prepare};
-pub use role_replay::{compare, replay};
+pub use role_replay::{compare, replay, status_of};

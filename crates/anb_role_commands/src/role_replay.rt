@@ -166,7 +166,7 @@ pub fn compare(alloc: Global, prepared: &Prepared, transcript: &Transcript) -> S
 }
 
 /// The status of a replay that ended so.
-fn status_of(end: ReplayEnd) -> Status
+pub fn status_of(end: ReplayEnd) -> Status
     ensures { result ≡ status_of end }
 {
     match end {

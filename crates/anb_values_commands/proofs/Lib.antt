@@ -1,6 +1,6 @@
 mod Telling
 mod Drawn
-mod Owned
+pub mod Owned
 mod Labels
 mod Counting
 mod DrawnValues

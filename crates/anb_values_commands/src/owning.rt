@@ -98,7 +98,7 @@ fn own_in_files<F: Shelf>(
 }
 
 /// What a file gives for the names that occur in some role's knowledge.
-fn values_for<F: Shelf>(
+pub fn values_for<F: Shelf>(
     alloc: Global,
     shelf: &mut F,
     values: &Text,
@@ -152,7 +152,7 @@ fn own_text(alloc: Global, protocol: &Protocol, role: u32, fitted: &Fitted) -> R
 }
 
 /// The label of the first value that is longer than an arrival may be.
-fn first_long<'l>(labels: &'l [Text], values: &[Bytes]) -> Option<&'l Text>
+pub fn first_long<'l>(labels: &'l [Text], values: &[Bytes]) -> Option<&'l Text>
     requires { length values.now ≡ length labels.now }
     ensures { option_copied result ≡ first_long labels.now values.now }
 {
@@ -165,7 +165,7 @@ fn first_long<'l>(labels: &'l [Text], values: &[Bytes]) -> Option<&'l Text>
 }
 
 /// The status of a value that is too long.
-fn long_value(alloc: Global, label: &Text) -> Status
+pub fn long_value(alloc: Global, label: &Text) -> Status
     ensures { (result ≡ status.BadValues (refusal.Long label.now)) ⊎ (result ≡ status.NoMemory) }
 {
     match label.copy(alloc) {

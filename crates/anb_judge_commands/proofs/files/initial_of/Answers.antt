@@ -1,0 +1,44 @@
+use Rattle.std.proofs.Common.{◌≤◌, ◌∙◌, ℕ, List, [], length, All, ap, sym, subst}
+use Rattle.std.specs.Prelude.{option_copied}
+use Rattle.std.proofs.lemmas.List.{length-map}
+use Rattle.anb_base.specs.declared.TheConstants.{ARRIVAL}
+use Rattle.anb_honest.specs.Joint.{cast, given_bytes}
+use Rattle.anb_command.specs.Roles.{Part}
+use Rattle.anb_protocol.specs.Texts.{known_by, term_text}
+use Rattle.anb_values_commands.proofs.Owned.{none_is_long}
+use Rattle.anb_judge_commands.proofs.Reading.{initial_given, long_refused}
+use Rattle.anb_judge_commands.proofs.files.initial_of.Goals as goal
+
+pub first_long-requires : goal.first_long-requires
+first_long-requires c =
+    let p = c.args.protocol.now in
+    let known = known_by p c.args.role in
+    let k = cast p [] c.args.values.now [] in
+    ap length (c.deref-2.ensures.value ∙ c.in-Ok-known_values.ensures [] []) ∙ length-map known (given_bytes k)
+    ∙ sym (ap length (c.deref.ensures.value ∙ c.in-Ok.ensures) ∙ length-map known (term_text p))
+
+pub returns-clause-count : goal.returns-clause-count
+returns-clause-count c =
+    let p = c.args.protocol.now in
+    let k = cast p [] c.args.values.now [] in
+    ap length (c.in-Ok-known_values.ensures [] []) ∙ length-map (known_by p c.args.role) (given_bytes k)
+
+pub returns-clause-short : goal.returns-clause-short
+returns-clause-short c =
+    let p = c.args.protocol.now in
+    let known = known_by p c.args.role in
+    let k = cast p [] c.args.values.now [] in
+    let count =
+    ap length (c.deref-2.ensures.value ∙ c.in-Ok-known_values.ensures [] []) ∙ length-map known (given_bytes k)
+    ∙ sym (ap length (c.deref.ensures.value ∙ c.in-Ok.ensures) ∙ length-map known (term_text p)) in
+    subst (All (λ (v : List ℕ). length v ≤ ARRIVAL)) c.deref-2.ensures.value
+    (none_is_long c.deref.result.now c.deref-2.result.now count (sym c.first_long.ensures ∙ ap option_copied c.in_default.is))
+
+pub returns-clause-bytes : goal.returns-clause-bytes
+returns-clause-bytes c = rw c.deref-3.ensures.value at c.tell_bytes.ensures
+
+pub returns-clause-given : goal.returns-clause-given
+returns-clause-given c =
+    let part : Part = record { protocol = c.args.protocol.now; role = c.args.role } in
+    initial_given part c.args.values.now c.deref.result.now c.in-Ok-known_values.initial.items (c.deref.ensures.value ∙ c.in-Ok.ensures) (c.in-Ok-known_values.ensures [] [])
+    (rw c.deref-2.ensures.value at (sym c.first_long.ensures ∙ ap option_copied c.in_default.is))

@@ -1,0 +1,3 @@
+pub mod JudgeCommand
+-- for proofs alone
+pub mod Tasks
