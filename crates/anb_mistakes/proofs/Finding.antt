@@ -15,7 +15,7 @@ use Rattle.anb_protocol.specs.declared.refusals.ResolveNo.{ResolveNo}
 use Rattle.anb_read.proofs.Lexed.{lexed_end, lexed_bad}
 use Rattle.anb_mistakes.specs.Mends.{mend}
 use Rattle.anb_mistakes.specs.Pointing.{pointed}
-use Rattle.anb_mistakes.specs.Spots.{is_spot, nth, spot}
+use Rattle.anb_mistakes.specs.Spots.{HasTokens, is_spot, nth, spot}
 use Rattle.anb_mistakes.specs.Unresolved.{IsUnresolvedText, offset_in}
 use Rattle.anb_mistakes.specs.declared.spots.Follower.{Follower}
 
@@ -61,7 +61,11 @@ last_apart (v ∷ ts) (w ∷ us) t u e =
     let others : ts ++ t ∷ [] ≡ us ++ u ∷ [] = cc e in
     ap (λ z. z ∷ ts) first ∙ ap (λ (l : List Tok). w ∷ l) (last_apart ts us t u others)
 
+-- a text has one list of tokens
+pub tokens_once : (x : List ℕ) (ts us : List Tok) → HasTokens x ts → HasTokens x us → ts ≡ us
+tokens_once x ts us a b = last_apart ts us a.last b.last (lexes_once 0 x (ts ++ a.last ∷ []) (us ++ b.last ∷ []) a.lexes b.lexes)
+
 pub resolved_once : (name x : List ℕ) (n : Narration) (why : ResolveNo) (reason text other : List ℕ) → IsUnresolvedText name x n why reason text → IsUnresolvedText name x n why reason other → text ≡ other
 resolved_once name x n why reason text other a b =
-    let same = last_apart a.tokens b.tokens a.has.last b.has.last (lexes_once 0 x (a.tokens ++ a.has.last ∷ []) (b.tokens ++ b.has.last ∷ []) a.has.lexes b.has.lexes) in
+    let same = tokens_once x a.tokens b.tokens a.has b.has in
     a.is ∙ ap (λ (ts : List Tok). pointed name x (offset_in x (spot n why ts)) reason (mend n why (spot n why ts))) same ∙ sym b.is

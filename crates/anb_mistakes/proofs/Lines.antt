@@ -1,8 +1,10 @@
 -- Texts that are put together piece by piece.
-use Rattle.std.proofs.Common.{◌≡◌, ℕ, suc, ◌+◌, ◌-◌, ◌<◌, List, [], ◌∷◌, ◌++◌, length, drop, get_or, Bool, true, false, refl, ap, sym, ◌∙◌, arith, append_assoc, length-drop}
-use Rattle.std.specs.Prelude.{codes, replicate}
+use Rattle.std.proofs.Common.{◌≡◌, ℕ, suc, ◌+◌, ◌-◌, ◌<◌, List, [], ◌∷◌, ◌++◌, length, drop, take, get_or, Bool, true, false, refl, ap, sym, ◌∙◌, arith, append_assoc, length-drop, inl, inr}
+use Rattle.std.specs.Prelude.{codes, nat_lt, replicate}
+use Rattle.std.proofs.lemmas.Bool.{cases_lt, le-ltb, lt-ltb}
 use Rattle.std.proofs.lemmas.List.{append-nil, drop_more}
 use Rattle.anb_read.specs.declared.grammar.GrammarWord.{GrammarWord}
+use Rattle.anb_mistakes.specs.Pointing.{gap, part}
 use Rattle.anb_mistakes.specs.Words.{word_text, other_words}
 
 pub heading_put : (old name line column message : List ℕ)
@@ -17,6 +19,18 @@ shown_put old number source blank below = simp append_assoc
 
 pub pointed_put : (heading shown mend : List ℕ) → ((([] ++ heading) ++ shown) ++ mend) ++ codes "\n" ≡ heading ++ (shown ++ (mend ++ codes "\n"))
 pointed_put heading shown mend = simp append_assoc
+
+-- ---- parts of lines
+
+rest_is_long : (from : ℕ) (line : List ℕ) → nat_lt 120 (length (drop from line)) ≡ nat_lt (from + 120) (length line)
+rest_is_long from line = elim (cases_lt 120 (length (drop from line))) [
+  | inl less ↦ lt-ltb _ _ less ∙ sym (lt-ltb _ _ (omega (arith, less, length-drop from line)))
+  | inr more ↦ le-ltb _ _ more ∙ sym (le-ltb _ _ (omega (arith, more, length-drop from line)))
+]
+
+pub part_put : (old : List ℕ) (from : ℕ) (line : List ℕ)
+    → ((old ++ gap (nat_lt 0 from)) ++ take 120 (drop from line)) ++ gap (nat_lt 120 (length (drop from line))) ≡ old ++ part from line
+part_put old from line = rw (rest_is_long from line) (simp append_assoc)
 
 -- ---- spaces
 

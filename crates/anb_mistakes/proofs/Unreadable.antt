@@ -1,9 +1,9 @@
 -- What is said of texts that are no narration.
-use Rattle.std.proofs.Common.{◌≡◌, ◌≢◌, ℕ, ◌+◌, List, length, drop, Some, None, refl, sym, ap, ◌∙◌, arith}
+use Rattle.std.proofs.Common.{◌≡◌, ◌≢◌, ℕ, ◌+◌, List, ◌++◌, length, drop, Some, None, refl, sym, ap, ◌∙◌, arith}
 use Rattle.std.proofs.lemmas.List.{drop_all}
 use Rattle.anb_syntax.specs.Lexing.{gap_len, token_here}
 use Rattle.anb_syntax.specs.Nexts.{IsNext}
-use Rattle.anb_syntax.specs.Words.{Word}
+use Rattle.anb_syntax.specs.Words.{Tok, Word, head}
 use Rattle.anb_syntax.specs.declared.tokens.Next.{Next}
 use Rattle.anb_syntax.specs.declared.tokens.Next.TheVariants as next
 use Rattle.anb_syntax.specs.declared.tokens.Token.{Token}
@@ -13,27 +13,35 @@ use Rattle.anb_read.specs.declared.refusal.ReadNo.TheVariants as reading
 use Rattle.anb_read.proofs.GoingOn.{expected_once}
 use Rattle.anb_read.proofs.Standing.{refusal_begins}
 use Rattle.anb_mistakes.specs.Pointing.{pointed}
-use Rattle.anb_mistakes.specs.Unread.{AreWords, IsUnreadText, Mends, reason}
+use Rattle.anb_mistakes.specs.Near.{section_text}
+use Rattle.anb_mistakes.specs.Spots.{item_at}
+use Rattle.anb_mistakes.specs.Unread.{AreHints, AreWords, IsUnreadText, Mends, reason}
 use Rattle.anb_mistakes.specs.Words.{expected_text}
+use Rattle.anb_mistakes.proofs.Finding.{tokens_once}
 
 words_once : (x : List ℕ) (why : ReadNo) (mend other : List ℕ) → AreWords x why mend → AreWords x why other → mend ≡ other
 words_once x why mend other a b = a.2 ∙ ap expected_text (expected_once x why a.0 b.0 a.1 b.1) ∙ sym b.2
 
+hints_once : (x : List ℕ) (at : ℕ) (mend other : List ℕ) → AreHints x at mend → AreHints x at other → mend ≡ other
+hints_once x at mend other (words, are, (ts, has, is)) (words', are', (ts', has', is')) =
+    is ∙ ap (λ (l : List ℕ). l ++ section_text (head (item_at at ts))) (words_once x (reading.Grammar at) words words' are are')
+    ∙ ap (λ (l : List Tok). words' ++ section_text (head (item_at at l))) (tokens_once x ts ts' has has') ∙ sym is'
+
 mends_once : (x : List ℕ) (why : ReadNo) (mend other : List ℕ) → Mends x why mend → Mends x why other → mend ≡ other
 mends_once x (reading.Token at) mend other a b = words_once x (reading.Token at) mend other a b
-mends_once x (reading.Grammar at) mend other a b = words_once x (reading.Grammar at) mend other a b
+mends_once x (reading.Grammar at) mend other a b = hints_once x at mend other a b
 mends_once x (reading.Deep at) mend other a b = a ∙ sym b
 mends_once x reading.NoMemory mend other a b = absurd a
 
 pub said_once : (name x : List ℕ) (why : ReadNo) (text other : List ℕ) → IsUnreadText name x why text → IsUnreadText name x why other → text ≡ other
 said_once name x why text other a b = a.is ∙ ap (pointed name x (offset why) (reason x why)) (mends_once x why a.mend b.mend a.mends b.mends) ∙ sym b.is
 
--- what isn't deep has words
-pub words_mend : (x : List ℕ) (why : ReadNo) (mend : List ℕ) → ((at : ℕ) → why ≢ reading.Deep at) → (why ≡ reading.NoMemory → ⊥) → AreWords x why mend → Mends x why mend
-words_mend x (reading.Token at) mend deep memory a = a
-words_mend x (reading.Grammar at) mend deep memory a = a
-words_mend x (reading.Deep at) mend deep memory a = absurd (deep at refl)
-words_mend x reading.NoMemory mend deep memory a = absurd (memory refl)
+-- where no token begins there are words alone
+pub words_mend : (x : List ℕ) (why : ReadNo) (mend : List ℕ) → ((at : ℕ) → why ≢ reading.Deep at) → ((at : ℕ) → why ≢ reading.Grammar at) → (why ≡ reading.NoMemory → ⊥) → AreWords x why mend → Mends x why mend
+words_mend x (reading.Token at) mend deep grammar memory a = a
+words_mend x (reading.Grammar at) mend deep grammar memory a = absurd (grammar at refl)
+words_mend x (reading.Deep at) mend deep grammar memory a = absurd (deep at refl)
+words_mend x reading.NoMemory mend deep grammar memory a = absurd (memory refl)
 
 -- want of memory is no refusal
 pub never_memory : (x : List ℕ) (why : ReadNo) → IsRefusal x why → why ≡ reading.NoMemory → ⊥

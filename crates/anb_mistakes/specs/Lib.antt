@@ -1,6 +1,7 @@
 pub mod Items
 pub mod Laws
 pub mod Mends
+pub mod Near
 pub mod Places
 pub mod Pointing
 pub mod Spots

@@ -1,6 +1,6 @@
 -- What would mend a narration that isn't well formed.
-use Rattle.std.specs.Prelude.{◌≡◌, ℕ, List, [], ◌∷◌, ◌++◌, length, Bool, false, ◌==◌, ◌||◌, codes, decimal, Option, Some, None, if◌then◌else◌}
-use Rattle.std.specs.Str.{bytes_eq}
+use Rattle.std.specs.Prelude.{◌≡◌, ℕ, List, [], ◌∷◌, ◌++◌, ◌==◌, codes, decimal, Option, Some, None, if◌then◌else◌}
+use Rattle.std.specs.List.{flat_map}
 use Rattle.anb_format.specs.Formats.{field_count}
 use Rattle.anb_format.specs.declared.pieces.FormatNo.{FormatNo}
 use Rattle.anb_format.specs.declared.pieces.FormatNo.TheVariants.{NoHead, RestNotLast}
@@ -15,6 +15,7 @@ use Rattle.anb_protocol.specs.declared.refusals.Kind.TheVariants as kind
 use Rattle.anb_protocol.specs.declared.refusals.ResolveNo.{ResolveNo}
 use Rattle.anb_protocol.specs.declared.refusals.ResolveNo.TheVariants as resolving
 use Rattle.anb_mistakes.specs.Items.{is_format, pieces_of, sort_of}
+use Rattle.anb_mistakes.specs.Near.{hint, near_among, near_text}
 use Rattle.anb_mistakes.specs.Spots.{arguments}
 
 abbrev pub most : Kind → ℕ
@@ -32,41 +33,9 @@ fields_text count = if count == 1 then codes "1 field" else decimal count ++ cod
 abbrev pub given_text : ℕ → List ℕ
 given_text count = if count == 1 then codes "1 is given" else decimal count ++ codes " are given"
 
--- one byte is another one, or is missing in one of the two
-abbrev pub is_near : List ℕ → List ℕ → Bool
-is_near [] y = length y == 1
-is_near (b ∷ x) [] = length x == 0
-is_near (b ∷ x) (c ∷ y) = if b == c then is_near x y else bytes_eq x y || bytes_eq (b ∷ x) y || bytes_eq x (c ∷ y)
-
--- the first bytes differ, where both have some
-abbrev pub IsForked : List ℕ → List ℕ → Type 0
-IsForked (b ∷ x) (c ∷ y) = (b == c) ≡ false
-IsForked _ _ = Unit {0}
-
--- the first text, if it isn't empty
-abbrev pub first_text : List ℕ → List ℕ → List ℕ
-first_text [] other = other
-first_text (b ∷ x) other = b ∷ x
-
--- the first name that is near, or none
-abbrev pub near_among : List (List ℕ) → List ℕ → List ℕ
-near_among [] x = []
-near_among (y ∷ ys) x = if is_near x y then y else near_among ys x
-
-abbrev pub near_type : List TypeItem → List ℕ → List ℕ
-near_type [] x = []
-near_type (i ∷ is) x = first_text (near_among i.names x) (near_type is x)
-
-abbrev pub near_format : List FormatItem → List ℕ → List ℕ
-near_format [] x = []
-near_format (f ∷ fs) x = if is_near x f.title then f.title else near_format fs x
-
+-- the names of the types and of the formats that are near
 abbrev pub near : Narration → List ℕ → List ℕ
-near n x = first_text (near_type n.types x) (near_format n.formats x)
-
-abbrev pub near_text : List ℕ → List ℕ
-near_text [] = []
-near_text (b ∷ x) = codes "; near: " ++ b ∷ x
+near n x = flat_map (λ i. near_among i.names x) n.types ++ flat_map (λ f. hint x f.title) n.formats
 
 abbrev pub sort_text : Option Sort → List ℕ
 sort_text None = []

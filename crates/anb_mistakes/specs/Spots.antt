@@ -1,5 +1,5 @@
 -- Where in a text stands what its narration is refused for. All of it is said of the tokens of the text.
-use Rattle.std.specs.Prelude.{ℕ, ◌+◌, ◌-◌, List, [], ◌∷◌, ◌++◌, Bool, true, false, ◌==◌, ◌&&◌, ◌||◌, not, Option, Some, None, if◌then◌else◌}
+use Rattle.std.specs.Prelude.{ℕ, ◌+◌, ◌-◌, List, [], ◌∷◌, ◌++◌, Bool, true, false, ◌==◌, nat_le, ◌&&◌, ◌||◌, not, Option, Some, None, if◌then◌else◌}
 use Rattle.anb_syntax.specs.Grammar.{Narration}
 use Rattle.anb_syntax.specs.Lexing.{Lexes}
 use Rattle.anb_syntax.specs.Words.{Word, name, sign, Tok, head, tail, word_eqb, types_word, formats_word, knowledge_word, actions_word}
@@ -84,6 +84,15 @@ typed ts = before_uses (behind types_word types_word ts)
 
 abbrev pub used : List Tok → List Tok
 used ts = behind knowledge_word actions_word ts
+
+-- The tokens from the first of the item on in which the offset stands: items end with semicolons.
+abbrev pub item_from : (at : ℕ) → (item tokens : List Tok) → List Tok
+item_from at item [] = item
+item_from at item (t ∷ ts) =
+    if nat_le at t.at then item else item_from at (if word_eqb (sign 59) t.word then ts else item) ts
+
+abbrev pub item_at : ℕ → List Tok → List Tok
+item_at at ts = item_from at ts ts
 
 abbrev pub anything : Follower
 anything = record { colon = true; arrow = true; paren = true; equals = true; other = true; but = None }

@@ -3,6 +3,7 @@
 
 mod items;
 mod mends;
+mod near;
 mod placing;
 mod pointing;
 mod spots;

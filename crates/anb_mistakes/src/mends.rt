@@ -1,10 +1,13 @@
 //! What would mend a narration that isn't well formed.
 ghost use Rattle.std.specs.Prelude.{◌≡◌, ◌≤◌, ◌++◌, IfOk, OnOk, codes, decimal, length, map};
+ghost use Rattle.std.specs.List.{flat_map};
 ghost use Rattle.anb_base.specs.declared.TheConstants.{SMALL_FILE};
 ghost use Rattle.anb_syntax.specs.Views.{format_of, narration_of, tok_of, type_of};
-ghost use Rattle.anb_mistakes.specs.Mends.{IsForked, fields_text, first_text, given_text, is_near, lead, mend as mend_of, miscounted, most, near as near_in, near_among, near_format, near_text, near_type, overlap, shape_text, sort_text, unsorted};
+ghost use Rattle.anb_mistakes.specs.Mends.{fields_text, given_text, lead, mend as mend_of, miscounted, most, near as near_in, overlap, shape_text, sort_text, unsorted};
+ghost use Rattle.anb_mistakes.specs.Near.{hint, near_among, near_text};
 
-use crate::items::{field_count, is_format, is_same, pieces_of, sort_of};
+use crate::items::{field_count, is_format, pieces_of, sort_of};
+use crate::near::{put_hint, put_near};
 use crate::pointing::put;
 use crate::tokens::{arguments, others};
 use anb_base::{NoMemory, Text};
@@ -37,7 +40,12 @@ pub(crate) fn mend(
             &mut out,
             b"a name is declared once, and a role has one line of knowledge",
         )?,
-        ResolveNo::Unknown(name) => put_unknown(&mut out, narration, name.as_str().as_bytes())?,
+        ResolveNo::Unknown(name) => put_unknown(
+            alloc,
+            &mut out,
+            narration,
+            name.as_str().as_bytes(),
+        )?,
         ResolveNo::WrongSort(name) => put_unsorted(&mut out, narration, name.as_str().as_bytes())?,
         ResolveNo::WrongCount(name) => {
             let given = arguments(others(others(tokens)));
@@ -102,100 +110,60 @@ fn put_given(out: &mut Vec<u8>, count: usize) -> Result<(), NoMemory>
     Ok(())
 }
 
-/// Appends that a name isn't declared, and one that is near.
-fn put_unknown(out: &mut Vec<u8>, narration: &Narration, name: &[u8]) -> Result<(), NoMemory>
+/// Appends that a name isn't declared, and those that are near.
+fn put_unknown(
+    alloc: Global,
+    out: &mut Vec<u8>,
+    narration: &Narration,
+    name: &[u8],
+) -> Result<(), NoMemory>
     ensures { OnOk result (out.new.items ≡ out.old.items
         ++ (name.now ++ (codes " isn't declared"
         ++ near_text (near_in (narration_of narration.now) name.now)))) }
 {
     put(out, name)?;
     put(out, b" isn't declared")?;
-    put_near(out, near(narration, name))?;
+    put_near(out, &near(alloc, narration, name)?)?;
     Ok(())
 }
 
-/// Appends a name that is near, where there is one.
-fn put_near(out: &mut Vec<u8>, near: &[u8]) -> Result<(), NoMemory>
-    ensures { OnOk result (out.new.items ≡ out.old.items ++ near_text near.now) }
+/// The declared names that are near, each behind a comma.
+fn near(alloc: Global, narration: &Narration, name: &[u8]) -> Result<Vec<u8>, NoMemory>
+    ensures { IfOk result (λ v. v.items ≡ near_in (narration_of narration.now) name.now) }
 {
-    match near {
-        [] => {}
-        [_, ..] => {
-            put(out, b"; near: ")?;
-            put(out, near)?;
-        }
-    }
-    Ok(())
+    let mut out = Vec::new(alloc);
+    put_near_types(&mut out, &narration.types, name)?;
+    put_near_formats(&mut out, &narration.formats, name)?;
+    Ok(out)
 }
 
-/// The first declared name that is near, or none.
-fn near<'n>(narration: &'n Narration, name: &[u8]) -> &'n [u8]
-    ensures { result.now ≡ near_in (narration_of narration.now) name.now }
-{
-    let near = near_type(&narration.types, name);
-    if near.is_empty() {
-        return near_format(&narration.formats, name);
-    }
-    near
-}
-
-fn near_type<'n>(types: &'n [TypeItem], name: &[u8]) -> &'n [u8]
-    ensures { result.now ≡ near_type (map type_of types.now) name.now }
+fn put_near_types(out: &mut Vec<u8>, types: &[TypeItem], name: &[u8]) -> Result<(), NoMemory>
+    ensures { OnOk result (out.new.items ≡ out.old.items
+        ++ flat_map (λ i. near_among i.names name.now) (map type_of types.now)) }
 {
     for item in types {
-        let near = near_among(item.names.as_slice(), name);
-        if !near.is_empty() {
-            return near;
-        }
+        put_near_among(out, item.names.as_slice(), name)?;
     }
-    &[]
+    Ok(())
 }
 
-fn near_among<'n>(names: &'n [Text], name: &[u8]) -> &'n [u8]
-    ensures { result.now ≡ near_among names.now name.now }
+fn put_near_among(out: &mut Vec<u8>, names: &[Text], name: &[u8]) -> Result<(), NoMemory>
+    ensures { OnOk result (out.new.items ≡ out.old.items ++ near_among names.now name.now) }
 {
     for each in names {
-        if is_near(name, each.as_str().as_bytes()) {
-            return each.as_str().as_bytes();
-        }
+        put_hint(out, name, each.as_str().as_bytes())?;
     }
-    &[]
+    Ok(())
 }
 
-fn near_format<'n>(formats: &'n [FormatItem], name: &[u8]) -> &'n [u8]
-    ensures { result.now ≡ near_format (map format_of formats.now) name.now }
+fn put_near_formats(out: &mut Vec<u8>, formats: &[FormatItem], name: &[u8]) -> Result<(), NoMemory>
+    ensures { OnOk result (out.new.items ≡ out.old.items
+        ++ flat_map (λ f. hint name.now f.title) (map format_of formats.now)) }
 {
     for item in formats {
-        if is_near(name, item.name.as_str().as_bytes()) {
-            return item.name.as_str().as_bytes();
-        }
+        put_hint(out, name, item.name.as_str().as_bytes())?;
     }
-    &[]
-}
-
-/// Whether one byte is another one, or is missing in one of the two.
-fn is_near(a: &[u8], b: &[u8]) -> bool
-    ensures { result ≡ is_near a.now b.now }
-{
-    let mut i = 0;
-    'same: while i < a.len() && i < b.len() && a[i] == b[i] {
-        i += 1;
-    }
-    differ_by_one(&a[i..], &b[i..])
-}
-
-/// The same of two whose first bytes differ, if both have some.
-fn differ_by_one(a: &[u8], b: &[u8]) -> bool
-    requires { IsForked a.now b.now }
-    ensures { result ≡ is_near a.now b.now }
-{
-    match (a, b) {
-        ([], _) => b.len() == 1,
-        (_, []) => a.len() == 1,
-        ([_, more @ ..], [_, others @ ..]) => {
-            is_same(more, others) || is_same(a, others) || is_same(more, b)
-        }
-    }
+    Ok(())
 }
 
 /// Appends what a name is that is used as something else.

@@ -1,10 +1,12 @@
 //! Messages at places of a text.
-ghost use Rattle.std.specs.Prelude.{◌≡◌, ◌+◌, ◌-◌, ◌≤◌, ◌++◌, IfOk, OnOk, length, decimal, map, replicate, take};
+ghost use Rattle.std.specs.Prelude.{◌≡◌, ◌+◌, ◌-◌, ◌≤◌, ◌++◌, IfOk, OnOk, length, decimal, drop, replicate, take};
+ghost use Rattle.std.specs.List.{flat_map};
 ghost use Rattle.anb_base.specs.declared.TheConstants.{SMALL_FILE};
-ghost use Rattle.anb_mistakes.specs.Pointing.{below, blank, heading, padded, pointed, shown};
+ghost use Rattle.anb_mistakes.specs.Pointing.{below, blank, gap, heading, padded, part, pointed, shown, skipped, space, unreturned};
 
 use crate::placing::{first_line, place};
 use anb_base::NoMemory;
+use anb_visible::visible;
 use itoa::Buffer;
 use std::alloc::Global;
 
@@ -25,7 +27,13 @@ pub(crate) fn pointed(
     let start = at + 1 - column;
     let mut out = Vec::new(alloc);
     put_heading(&mut out, name, line, column, message)?;
-    put_shown(&mut out, line, &text[start..at], first_line(&text[start..]))?;
+    put_shown(
+        alloc,
+        &mut out,
+        line,
+        &text[start..at],
+        first_line(&text[start..]),
+    )?;
     put(&mut out, mend)?;
     put(&mut out, b"\n")?;
     Ok(out)
@@ -54,19 +62,101 @@ fn put_heading(
     Ok(())
 }
 
-/// Appends the source line, and the sign below what follows these bytes of it.
-fn put_shown(out: &mut Vec<u8>, line: usize, before: &[u8], source: &[u8]) -> Result<(), NoMemory>
+/// Appends the source line, or a part of it, and the sign below what follows these bytes of it.
+fn put_shown(
+    alloc: Global,
+    out: &mut Vec<u8>,
+    line: usize,
+    before: &[u8],
+    source: &[u8],
+) -> Result<(), NoMemory>
     ensures { OnOk result (out.new.items
         ≡ out.old.items ++ shown line before.now source.now) }
 {
+    let source = unreturned(source);
+    let from = skipped(source.len(), before.len());
     put_padded(out, line)?;
     put(out, b" | ")?;
-    put(out, source)?;
+    put_part(out, from, source)?;
     put(out, b"\n")?;
     put_blank(out, line)?;
     put(out, b" | ")?;
-    put_below(out, before)?;
+    put_space(alloc, out, from, before)?;
     put(out, b"^\n")?;
+    Ok(())
+}
+
+/// A line without the carriage return that ends it.
+fn unreturned(line: &[u8]) -> &[u8]
+    ensures { result.now ≡ unreturned line.now }
+{
+    let count = line.len();
+    if count > 0 && line[count - 1] == b'\r' {
+        &line[..count - 1]
+    } else {
+        line
+    }
+}
+
+/// How many bytes are left out at a line's front.
+fn skipped(all: usize, before: usize) -> usize
+    ensures { result ≡ skipped all before }
+{
+    if all <= 120 {
+        0
+    } else {
+        before.saturating_sub(60)
+    }
+}
+
+/// Appends the part of a line behind so many bytes.
+fn put_part(out: &mut Vec<u8>, from: usize, line: &[u8]) -> Result<(), NoMemory>
+    ensures { OnOk result (out.new.items ≡ out.old.items ++ part from line.now) }
+{
+    let rest = behind(line, from);
+    put(out, gap(from > 0))?;
+    put(out, first(rest, 120))?;
+    put(out, gap(rest.len() > 120))?;
+    Ok(())
+}
+
+/// What stands behind so many bytes.
+fn behind(bytes: &[u8], count: usize) -> &[u8]
+    ensures { result.now ≡ drop count bytes.now }
+{
+    if count <= bytes.len() {
+        &bytes[count..]
+    } else {
+        &[]
+    }
+}
+
+/// The first bytes, so many where there are as many.
+fn first(bytes: &[u8], count: usize) -> &[u8]
+    ensures { result.now ≡ take count bytes.now }
+{
+    if count <= bytes.len() {
+        &bytes[..count]
+    } else {
+        bytes
+    }
+}
+
+/// What stands where bytes are left out.
+fn gap(is: bool) -> &'static [u8]
+    ensures { result.now ≡ gap is }
+{
+    if is { b".." } else { b"" }
+}
+
+/// Appends as wide a space as these bytes of a line take, behind so many that aren't shown.
+fn put_space(alloc: Global, out: &mut Vec<u8>, from: usize, before: &[u8]) -> Result<(), NoMemory>
+    ensures { OnOk result (out.new.items ≡ out.old.items ++ space from before.now) }
+{
+    let mut part = Vec::from_slice(alloc, gap(from > 0))?;
+    put(&mut part, behind(before, from))?;
+    let shown = visible(alloc, &part)?;
+    put_below(out, &shown)?;
     Ok(())
 }
 
@@ -102,18 +192,19 @@ fn put_spaces(out: &mut Vec<u8>, count: usize) -> Result<(), NoMemory>
 
 /// Appends what stands below the bytes.
 fn put_below(out: &mut Vec<u8>, before: &[u8]) -> Result<(), NoMemory>
-    ensures { OnOk result (out.new.items ≡ out.old.items ++ map below before.now) }
+    ensures { OnOk result (out.new.items ≡ out.old.items ++ flat_map below before.now) }
 {
     for b in before {
-        out.push(below(*b))?;
+        put(out, below(*b))?;
     }
     Ok(())
 }
 
-fn below(b: u8) -> u8
-    ensures { result ≡ below b }
+/// What stands below a byte.
+fn below(b: u8) -> &'static [u8]
+    ensures { result.now ≡ below b }
 {
-    if b == b'\t' { b'\t' } else { b' ' }
+    if (128..192).contains(&b) { b"" } else { b" " }
 }
 
 /// Appends bytes.

@@ -3,10 +3,10 @@ ghost use Rattle.std.specs.Prelude.{◌≡◌, ◌≤◌, List, ℕ, length, map
 ghost use Rattle.anb_base.specs.declared.TheConstants.{SMALL_FILE};
 ghost use Rattle.anb_syntax.specs.Views.{narration_of, tok_of};
 ghost use Rattle.anb_syntax.specs.Words.{head};
-ghost use Rattle.anb_mistakes.specs.Spots.{a_format, a_line, a_sender, action as action_in, anything, applied, applied_but, before_uses, ends_types, behind as behind_in, behind_some, first_of, is_agent_sort, is_named, is_other, is_spot, limit_spot, misused, no_atom, not_applied, nth as nth_in, second as second_in, spot as spot_in, stands_behind, typed as typed_in, used as used_in};
+ghost use Rattle.anb_mistakes.specs.Spots.{a_format, a_line, a_sender, action as action_in, anything, applied, applied_but, before_uses, ends_types, behind as behind_in, behind_some, first_of, is_agent_sort, is_named, is_other, is_spot, item_at, limit_spot, misused, no_atom, not_applied, nth as nth_in, second as second_in, spot as spot_in, stands_behind, typed as typed_in, used as used_in};
 
 use crate::items::{field_count, is_format, pieces_of, sort_of};
-use crate::tokens::{arguments, begins, is_word, others};
+use crate::tokens::{arguments, begins, is_sign, is_word, others};
 use anb_protocol::{Item, Kind, ResolveNo};
 use anb_syntax::{Narration, Sort, Token, TokenKind};
 
@@ -199,6 +199,23 @@ fn behind<'t>(one: &[u8], other: &[u8], text: &[u8], tokens: &'t [Token]) -> &'t
         }
     }
     &[]
+}
+
+/// The tokens from the first of the item on in which the offset stands.
+pub(crate) fn item_at(at: u32, tokens: &[Token]) -> &[Token]
+    ensures { (text : List ℕ) → map (tok_of text) result.now
+        ≡ item_at at (map (tok_of text) tokens.now) }
+{
+    let mut first = 0;
+    for i in 0..tokens.len() {
+        if at <= tokens[i].at {
+            return &tokens[first..];
+        }
+        if is_sign(b';', tokens[i]) {
+            first = i + 1;
+        }
+    }
+    &tokens[first..]
 }
 
 /// The tokens before formats, knowledge and actions.

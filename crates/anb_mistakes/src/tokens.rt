@@ -29,7 +29,7 @@ pub(crate) fn tokens(alloc: Global, text: &[u8]) -> Result<Vec<Token>, NoMemory>
 }
 
 /// The bytes of a token.
-fn bytes_of(text: &[u8], token: Token) -> &[u8]
+pub(crate) fn bytes_of(text: &[u8], token: Token) -> &[u8]
     ensures { result.now ≡ take token.len (drop token.at text.now) }
 {
     let (at, len) = (token.at as usize, token.len as usize);
@@ -58,7 +58,7 @@ fn is_same(a: &[u8], b: &[u8]) -> bool
 }
 
 /// Whether a token is this sign.
-fn is_sign(c: u8, token: Token) -> bool
+pub(crate) fn is_sign(c: u8, token: Token) -> bool
     ensures { (text : List ℕ) → result ≡ word_eqb (sign c) (tok_of text token).word }
 {
     match token.kind {

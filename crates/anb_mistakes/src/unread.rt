@@ -3,9 +3,12 @@ ghost use Rattle.std.specs.Prelude.{◌≡◌, ◌≤◌, IfOk, length};
 ghost use Rattle.anb_base.specs.declared.TheConstants.{SMALL_FILE};
 ghost use Rattle.anb_read.specs.Refusals.{IsRefusal};
 ghost use Rattle.anb_mistakes.specs.Laws.{UnreadTextsAreUnique};
-ghost use Rattle.anb_mistakes.specs.Unread.{IsUnreadText, Mends, reason};
+ghost use Rattle.anb_mistakes.specs.Unread.{AreHints, AreWords, IsUnreadText, Mends, reason};
 
+use crate::near::put_section;
 use crate::pointing::{pointed, put};
+use crate::spots::item_at;
+use crate::tokens::tokens;
 use crate::words::expected_text;
 use anb_base::{Bytes, NoMemory, Text};
 use anb_read::{ReadNo, expected};
@@ -64,9 +67,32 @@ fn mend(alloc: Global, text: &[u8], why: ReadNo) -> Result<Vec<u8>, NoMemory>
     requires refused { IsRefusal text.now why }
     ensures { IfOk result (λ v. Mends text.now why v.items) }
 {
-    if let ReadNo::Deep { at: _ } = why {
-        return Ok(Vec::from_slice(alloc, b"a term has 64 levels at most")?);
+    match why {
+        ReadNo::Deep { at: _ } => Ok(Vec::from_slice(alloc, b"a term has 64 levels at most")?),
+        ReadNo::Grammar { at } => hints(alloc, text, at),
+        _ => words(alloc, text, why),
     }
+}
+
+/// The words that are expected there, and the section that is near.
+fn hints(alloc: Global, text: &[u8], at: u32) -> Result<Vec<u8>, NoMemory>
+    requires size { length text.now ≤ SMALL_FILE }
+    requires refused { IsRefusal text.now (ReadNo.Grammar at) }
+    ensures { IfOk result (λ v. AreHints text.now at v.items) }
+{
+    let mut out = words(alloc, text, ReadNo::Grammar { at })?;
+    let all = tokens(alloc, text)?;
+    let item = item_at(at, &all);
+    put_section(alloc, &mut out, text, item)?;
+    Ok(out)
+}
+
+/// The words that are expected there.
+fn words(alloc: Global, text: &[u8], why: ReadNo) -> Result<Vec<u8>, NoMemory>
+    requires size { length text.now ≤ SMALL_FILE }
+    requires refused { IsRefusal text.now why }
+    ensures { IfOk result (λ v. AreWords text.now why v.items) }
+{
     let words = expected(alloc, text, why)?;
     Ok(expected_text(alloc, &words)?)
 }

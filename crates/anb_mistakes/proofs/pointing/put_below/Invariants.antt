@@ -1,6 +1,7 @@
-use Rattle.std.proofs.Common.{◌≡◌, ◌++◌, drop, map}
+use Rattle.std.proofs.Common.{◌≡◌, ◌++◌, drop}
+use Rattle.std.specs.List.{flat_map}
 use Rattle.anb_mistakes.specs.Pointing.{below}
 use Rattle.anb_mistakes.proofs.pointing.put_below.Given as goal
 
 abbrev pub invariant-loop-b : goal.invariant-loop-b
-invariant-loop-b l = l.out.items ++ map below (drop l.b-index l.before) ≡ l.fn.out.items ++ map below l.before
+invariant-loop-b l = l.out.items ++ flat_map below (drop l.b-index l.before) ≡ l.fn.out.items ++ flat_map below l.before
