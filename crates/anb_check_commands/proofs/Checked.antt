@@ -15,7 +15,7 @@ use Rattle.anb_command.specs.Writing.{IsWritten}
 use Rattle.anb_command.proofs.Chains.{told_map}
 use Rattle.anb_command.proofs.Ones.{file_one, is_one, narration_one, not_both, protocol_one, same_given, same_refusal, send_one, then_one}
 use Rattle.anb_command.proofs.Written.{faulty}
-use Rattle.anb_check_commands.specs.CheckCommand.{CompletesCheck, IsTelling, IsVerdict, IsVerdictOnFile, SendableOfText, Tells}
+use Rattle.anb_check_commands.specs.CheckCommand.{CompletesCheck, IsShownVerdict, IsTelling, IsVerdict, IsVerdictOnFile, SendableOfText, Tells}
 use Rattle.anb_check_commands.specs.Telling.{IsLast, IsTold, ended_by}
 
 module _ (narrations : NarrationsAreUnique) (refusals : RefusalsAreUnique) (none : NoneIsBoth) (narration : List ℕ) where
@@ -24,11 +24,14 @@ module _ (narrations : NarrationsAreUnique) (refusals : RefusalsAreUnique) (none
       then_one (NarrationIs x) _ (narration_one narrations refusals none x) (λ n.
       then_one (ProtocolIs n) SendableOf (protocol_one n) (λ p. then_one _ _ (send_one p) (λ u. is_one p)))
 
-  same_verdict : (x : List ℕ) (s t : Status) (said other : List ℕ) → IsVerdict narration x s said → IsVerdict narration x t other → s ≡ t
-  same_verdict x s t said other (inl (due, is)) (inl (also, js)) = same_refusal s t (text_one x (refused s) (refused t) due also)
-  same_verdict x s t said other (inl (due, is)) (inr (p, also, done, report)) = not_both s p (text_one x (refused s) (given p) due also)
-  same_verdict x s t said other (inr (p, due, done, report)) (inl (also, js)) = not_both t p (text_one x (refused t) (given p) also due)
-  same_verdict x s t said other (inr (p, due, done, report)) (inr (q, also, done', report')) = done ∙ sym done'
+  same_plain : (x : List ℕ) (s t : Status) (said other : List ℕ) → IsVerdict narration x s said → IsVerdict narration x t other → s ≡ t
+  same_plain x s t said other (inl (due, is)) (inl (also, js)) = same_refusal s t (text_one x (refused s) (refused t) due also)
+  same_plain x s t said other (inl (due, is)) (inr (p, also, done, report)) = not_both s p (text_one x (refused s) (given p) due also)
+  same_plain x s t said other (inr (p, due, done, report)) (inl (also, js)) = not_both t p (text_one x (refused t) (given p) also due)
+  same_plain x s t said other (inr (p, due, done, report)) (inr (q, also, done', report')) = done ∙ sym done'
+
+  same_verdict : (x : List ℕ) (s t : Status) (out other : List ℕ) → IsShownVerdict narration x s out → IsShownVerdict narration x t other → s ≡ t
+  same_verdict x s t out other one two = same_plain x s t one.said two.said one.verdict two.verdict
 
   module _ (files : Files) where
     same_file : (x y : List ℕ) → FileIs files narration NARRATION_LIMIT (given x) → FileIs files narration NARRATION_LIMIT (given y) → x ≡ y
@@ -39,7 +42,7 @@ module _ (narrations : NarrationsAreUnique) (refusals : RefusalsAreUnique) (none
     same_status s t out other (inl (due, is)) (inr (y, g, on)) = not_both s y (file_one files narration NARRATION_LIMIT (refused s) (given y) due g)
     same_status s t out other (inr (x, f, on)) (inl (also, js)) = not_both t x (file_one files narration NARRATION_LIMIT (refused t) (given x) also f)
     same_status s t out other (inr (x, f, on)) (inr (y, g, also)) =
-        same_verdict x s t out other on (subst (λ (z : List ℕ). IsVerdict narration z t other) (sym (same_file x y f g)) also)
+        same_verdict x s t out other on (subst (λ (z : List ℕ). IsShownVerdict narration z t other) (sym (same_file x y f g)) also)
 
     module _ (w now : Option (List ℕ)) where
       concluded : (s : Status) (out : List ℕ) → is_fault s ≡ false → Tells files narration s out → Put w now out → IsTelling files narration s w now
@@ -76,7 +79,7 @@ module _ (narrations : NarrationsAreUnique) (refusals : RefusalsAreUnique) (none
 
   module _ (told : Option Files) where
     pub does_told : (w now : Option (List ℕ)) (x : List ℕ) (status : Status) (said : List ℕ) (result : Status) → IfTold told (λ files. HasFile files narration NARRATION_LIMIT x)
-        → IsVerdict narration x status said → IsLast status → IsTold status said result w now → IfTold told (λ files. IsTelling files narration result w now)
+        → IsShownVerdict narration x status said → IsLast status → IsTold status said result w now → IfTold told (λ files. IsTelling files narration result w now)
     does_told w now x status said result file verdict last is = told_map told (λ files f. telling files w now status said result last (x, f, verdict) is) file
 
     pub does_without_memory : (w : Option (List ℕ)) (x : List ℕ) → IfTold told (λ files. HasFile files narration NARRATION_LIMIT x) → IfTold told (λ files. IsTelling files narration NoMemory w w)
@@ -91,11 +94,11 @@ module _ (narrations : NarrationsAreUnique) (refusals : RefusalsAreUnique) (none
   pub completes_check : (told : Option Files) (w now : Option (List ℕ)) (s : Status) → IfTold told (λ files. IsTelling files narration s w now) → (is_fault s ≡ true → s ≡ NoMemory) → CompletesCheck narration told s
   completes_check told w now s does only_memory = told_map told (λ files tells x f. by files tells x f (is_fault s) refl) does where
     from : (files : Files) (x : List ℕ) → FileIs files narration NARRATION_LIMIT (given x) → ((out : List ℕ) × Tells files narration s out × Put w now out)
-        → ((said : List ℕ) × IsVerdict narration x s said) ⊎ (s ≡ NoMemory)
+        → ((out : List ℕ) × IsShownVerdict narration x s out) ⊎ (s ≡ NoMemory)
     from files x f (out, inl (due, is), put) = not_both s x (file_one files narration NARRATION_LIMIT (refused s) (given x) due f)
-    from files x f (out, inr (y, g, verdict), put) = inl (out, subst (λ (z : List ℕ). IsVerdict narration z s out) (same_file files y x g f) verdict)
+    from files x f (out, inr (y, g, verdict), put) = inl (out, subst (λ (z : List ℕ). IsShownVerdict narration z s out) (same_file files y x g f) verdict)
 
     by : (files : Files) → IsTelling files narration s w now → (x : List ℕ) → FileIs files narration NARRATION_LIMIT (given x) → (b : Bool) → is_fault s ≡ b
-        → ((said : List ℕ) × IsVerdict narration x s said) ⊎ (s ≡ NoMemory)
+        → ((out : List ℕ) × IsShownVerdict narration x s out) ⊎ (s ≡ NoMemory)
     by files tells x f true fault = inr (only_memory fault)
     by files tells x f false calm = from files x f (tells.is calm)

@@ -1,4 +1,3 @@
 pub mod Checked
 pub mod Verdicts
-pub mod Sendable
 pub mod Lacks

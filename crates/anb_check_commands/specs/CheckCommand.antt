@@ -8,11 +8,12 @@ use Rattle.anb_protocol.specs.Protocols.{ProtocolValue, protocol_of}
 use Rattle.anb_code.specs.CodeValue.{CodeValue}
 use Rattle.anb_compile.specs.Fitting.{FitRoles}
 use Rattle.anb_pattern.specs.Taken.{TakenValue}
-use Rattle.anb_accept.specs.Roles.{IsTakenBy}
+use Rattle.anb_outsider.specs.Texts.{IsSaidOf}
 use Rattle.anb_lack.specs.Lacking.{IsLackText}
 use Rattle.anb_mistakes.specs.Unread.{IsUnreadText}
 use Rattle.anb_mistakes.specs.Unresolved.{IsUnresolvedText}
 use Rattle.anb_report.specs.Reporting.{report}
+use Rattle.anb_visible.specs.Visible.{IsClean, visible}
 use Rattle.anb_command.specs.declared.limits.TheConstants.{NARRATION_LIMIT}
 use Rattle.anb_status.specs.declared.status.NarrationNo.TheVariants.{Read, Resolve}
 use Rattle.anb_status.specs.declared.status.Status.{Status}
@@ -36,10 +37,11 @@ SaidOf name x (BadNarration (Resolve why)) said =
 SaidOf name x (CannotSend action role) said = (n : Narration) × Text n x × IsLackText (protocol_of n) said
 SaidOf name x status said = ⊥
 
--- what is said of each role in order, by the patterns whose instances are exactly what it takes
+-- what is said of each role in order, by the patterns whose instances are exactly what it takes, and by what comes of a
+-- recording of another run
 pub record AreTaken (p : ProtocolValue) (taken : List TakenValue) : Type 0 where
   pub count : length taken ≡ length p.roles
-  pub each : (role : ℕ) (t : TakenValue) → slice_get taken role ≡ Some t → IsTakenBy p role t
+  pub each : (role : ℕ) (t : TakenValue) → slice_get taken role ≡ Some t → IsSaidOf p role t
 
 -- the report on all roles, by a code for each that fits it, and by what each takes
 pub record IsReport (p : ProtocolValue) (said : List ℕ) : Type 0 where
@@ -55,11 +57,19 @@ IsVerdict name x status said =
     (SendableOfText x (refused status) × SaidOf name x status said)
     ⊎ ((p : ProtocolValue) × SendableOfText x (given p) × (status ≡ Done) × IsReport p said)
 
+-- What is written of it: what is said, with control bytes, and what isn't UTF-8, as `\x1b`. So a terminal
+-- gets no control byte of a file or of its name.
+pub record IsShownVerdict (name x : List ℕ) (status : Status) (out : List ℕ) : Type 0 where
+  pub said : List ℕ
+  pub verdict : IsVerdict name x status said
+  pub shown : out ≡ visible said
+  pub clean : IsClean out
+
 module _ (files : Files) (narration : List ℕ) where
   -- of the text in the file
   abbrev pub IsVerdictOnFile : Status → List ℕ → Type 0
-  IsVerdictOnFile status said =
-      (x : List ℕ) × FileIs files narration NARRATION_LIMIT (given x) × IsVerdict narration x status said
+  IsVerdictOnFile status out =
+      (x : List ℕ) × FileIs files narration NARRATION_LIMIT (given x) × IsShownVerdict narration x status out
 
   -- an outcome, where no fault comes: the file is too long, or the verdict on its text
   abbrev pub Tells : Status → List ℕ → Type 0
@@ -67,13 +77,13 @@ module _ (files : Files) (narration : List ℕ) where
       (FileIs files narration NARRATION_LIMIT (refused status) × (out ≡ [])) ⊎ IsVerdictOnFile status out
 
   abbrev pub TellsPart : List ℕ → Type 0
-  TellsPart out = (status : Status) × (said : List ℕ) × IsVerdictOnFile status said × ((n : ℕ) × (out ≡ take n said))
+  TellsPart out = (status : Status) × (whole : List ℕ) × IsVerdictOnFile status whole × ((n : ℕ) × (out ≡ take n whole))
 
   -- what is written where a fault comes, or memory is wanting
   abbrev pub TellsLess : Status → List ℕ → Type 0
   TellsLess WriteFault out = TellsPart out
   TellsLess NoMemory out = out ≡ []
-  TellsLess (Unreached place) out = ((status : Status) × (said : List ℕ) × IsVerdictOnFile status said) × (out ≡ [])
+  TellsLess (Unreached place) out = ((status : Status) × (whole : List ℕ) × IsVerdictOnFile status whole) × (out ≡ [])
   TellsLess (FileFault name) out = out ≡ []
   TellsLess status out = ⊥
 
@@ -92,4 +102,4 @@ module _ (narration : List ℕ) (told : Option Files) where
   abbrev pub CompletesCheck : Status → Type 0
   CompletesCheck status =
       IfTold told (λ files. (x : List ℕ) → FileIs files narration NARRATION_LIMIT (given x)
-      → ((said : List ℕ) × IsVerdict narration x status said) ⊎ (status ≡ NoMemory))
+      → ((out : List ℕ) × IsShownVerdict narration x status out) ⊎ (status ≡ NoMemory))

@@ -7,21 +7,23 @@ ghost use Rattle.anb_syntax.specs.Views.{narration_of};
 ghost use Rattle.anb_command.specs.declared.limits.TheConstants.{NARRATION_LIMIT};
 ghost use Rattle.anb_status.specs.Statuses.{why_ill_formed};
 ghost use Rattle.anb_compile.specs.Fitting.{FitRoles};
-ghost use Rattle.anb_check_commands.specs.CheckCommand.{AreTaken, IsReport, IsVerdict};
+ghost use Rattle.anb_check_commands.specs.CheckCommand.{AreTaken, IsReport, IsShownVerdict, IsVerdict};
 ghost use Rattle.anb_check_commands.specs.Telling.{IsLast, IsVerdictOnNarration, IsVerdictOnProtocol};
 
-use anb_accept::taken_by;
 use anb_base::{Bytes, NoMemory, Text};
 use anb_code::RoleCode;
-use anb_command::{NarrationNo, Status, codes_of, ill_formed};
+use anb_command::{NarrationNo, Status, ill_formed};
+use anb_compile::{CompileNo, compile_all};
 use anb_lack::lack_text;
 use anb_mistakes::{unread_text, unresolved_text};
+use anb_outsider::said_of;
 use anb_pattern::Taken;
 use anb_protocol::{Protocol, ResolveNo, protocols_hold};
 use anb_read::{ReadNo, read};
 use anb_report::report;
 use anb_resolve::{resolve, small_is_countable};
 use anb_syntax::Narration;
+use anb_visible::visible;
 use itoa::Buffer;
 use std::alloc::Global;
 
@@ -32,8 +34,22 @@ pub(crate) struct Verdict {
     pub(crate) said: Bytes,
 }
 
-/// The verdict on the text in the file of this name.
+/// The verdict on the text in the file of this name, as a terminal may have it.
 pub(crate) fn verdict_on(alloc: Global, name: &Text, text: &[u8]) -> Result<Verdict, NoMemory>
+    requires { length text.now ≤ NARRATION_LIMIT }
+    ensures is { IfOk result (λ v. IsShownVerdict name.now text.now v.status v.said) }
+    ensures last { IfOk result (λ v. IsLast v.status) }
+{
+    let Verdict { status, said } = plain_verdict_on(alloc, name, text)?;
+    let shown = visible(alloc, said.as_slice())?;
+    Ok(Verdict {
+        status,
+        said: Bytes::new(shown),
+    })
+}
+
+/// The verdict with all bytes of the file as they are.
+fn plain_verdict_on(alloc: Global, name: &Text, text: &[u8]) -> Result<Verdict, NoMemory>
     requires { length text.now ≤ NARRATION_LIMIT }
     ensures is { IfOk result (λ v. IsVerdict name.now text.now v.status v.said) }
     ensures last { IfOk result (λ v. IsLast v.status) }
@@ -95,19 +111,20 @@ fn verdict_on_protocol(alloc: Global, protocol: &Protocol) -> Result<Verdict, No
     ensures is { IfOk result (λ v. IsVerdictOnProtocol protocol.now v.status v.said) }
     ensures last { IfOk result (λ v. IsLast v.status) }
 {
-    match codes_of(alloc, protocol) {
+    match compile_all(alloc, protocol) {
         Ok(codes) => Ok(Verdict {
             said: report_on(alloc, protocol, &codes)?,
             status: Status::Done,
         }),
-        Err(Status::CannotSend { action, role }) => match lack_text(alloc, protocol)? {
-            Some(said) => Ok(Verdict {
+        Err(CompileNo::CannotSend { action, role }) => {
+            let said = lack_text(alloc, protocol, role, action)?;
+            let role = protocol.roles()[role as usize].copy(alloc)?;
+            Ok(Verdict {
                 said,
                 status: Status::CannotSend { action, role },
-            }),
-            None => unreachable!(),
-        },
-        Err(_) => Err(NoMemory),
+            })
+        }
+        Err(CompileNo::NoMemory) => Err(NoMemory),
     }
 }
 
@@ -120,7 +137,7 @@ fn report_on(alloc: Global, protocol: &Protocol, codes: &[RoleCode]) -> Result<B
     report(alloc, protocol, codes, &taken)
 }
 
-/// What each role takes.
+/// What each role takes, and what comes of a recording of another run.
 fn taken_by_all(alloc: Global, protocol: &Protocol) -> Result<Vec<Taken>, NoMemory>
     ensures { IfOk result (λ taken. AreTaken protocol.now taken.items) }
 {
@@ -128,7 +145,7 @@ fn taken_by_all(alloc: Global, protocol: &Protocol) -> Result<Vec<Taken>, NoMemo
     let _ = protocol.name();
     let mut out = Vec::new(alloc);
     for role in 0..protocol.roles().len() {
-        let taken = taken_by(alloc, protocol, role as u32)?;
+        let taken = said_of(alloc, protocol, role as u32)?;
         out.push(taken)?;
     }
     Ok(out)

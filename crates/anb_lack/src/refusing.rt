@@ -1,10 +1,10 @@
 //! The text of a refusal.
-ghost use Rattle.std.specs.Prelude.{◌≡◌, ◌++◌, IfOk, MatchOption, OnOk, map};
+ghost use Rattle.std.specs.Prelude.{◌≡◌, ◌++◌, IfOk, OnOk, map};
 ghost use Rattle.std.specs.List.{AllByRecursion};
 ghost use Rattle.anb_term.specs.View.{tree_of};
 ghost use Rattle.anb_protocol.specs.Laws.{HoldsOf};
-ghost use Rattle.anb_protocol.specs.Plays.{IsSendable};
 ghost use Rattle.anb_protocol.specs.Texts.{IsTermOf};
+ghost use Rattle.anb_compile.specs.Unsent.{IsFirstUnsentOfAll};
 ghost use Rattle.anb_reason.specs.Reach.{IsReason};
 ghost use Rattle.anb_lack.specs.Lacking.{IsLackText};
 
@@ -13,23 +13,26 @@ use crate::origins::origins;
 use crate::parts::lacking;
 use anb_base::{Bytes, NoMemory};
 use anb_protocol::{Protocol, protocols_hold};
-use anb_reason::{Refusal, reason};
+use anb_reason::{Refusal, refusal_of};
 use std::alloc::Global;
 
-/// What the sender of the first message that can't be sent lacks, or None where each role can send what
-/// it has to. Beside what `reason` costs, each term of the sender's plan and of the message is looked at
-/// a few times, and each line of the text once more. Where a term is from costs what `reason` does
-/// once more.
-pub fn lack_text(alloc: Global, protocol: &Protocol) -> Result<Option<Bytes>, NoMemory>
-    ensures { IfOk result (λ text.
-        MatchOption text (IsSendable protocol.now) (IsLackText protocol.now)) }
+/// What the sender of the first message that can't be sent lacks: its number and the action's, as
+/// `compile_all` tells them. Beside what `refusal_of` costs, each term of the sender's plan and of the
+/// message is looked at a few times, and each line of the text once more. Where a term is from costs
+/// what `refusal_of` does once more.
+pub fn lack_text(
+    alloc: Global,
+    protocol: &Protocol,
+    role: u32,
+    action: u32,
+) -> Result<Bytes, NoMemory>
+    requires { IsFirstUnsentOfAll protocol.now role action }
+    ensures { IfOk result (IsLackText protocol.now) }
 {
     protocols_hold();
     let _ = protocol.name();
-    match reason(alloc, protocol)? {
-        Some(refusal) => Ok(Some(refusal_text(alloc, protocol, &refusal)?)),
-        None => Ok(None),
-    }
+    let refusal = refusal_of(alloc, protocol, role, action)?;
+    refusal_text(alloc, protocol, &refusal)
 }
 
 /// The text of a refusal.

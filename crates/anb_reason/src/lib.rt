@@ -10,5 +10,5 @@ mod shut_lists;
 
 pub use laws::shut_has_none;
 pub use numbers::{all_flagged, back, composing, front, marks, put_all, same_flags};
-pub use reasons::{Refusal, reason};
+pub use reasons::{Refusal, reason, refusal_of};
 pub use shut_lists::shut;

@@ -40,16 +40,13 @@ pub struct Refusal {
     pub terms: Terms,
 }
 
-/// Why a narration is refused, or None where each role can send what it has to. It compiles all roles,
-/// and then composes each subterm of what the sender has.
+/// Why a narration is refused, or None where each role can send what it has to. It compiles all roles;
+/// where one can't send, [`refusal_of`] follows.
 pub fn reason(alloc: Global, p: &Protocol) -> Result<Option<Refusal>, NoMemory>
     ensures reason { IfOk result (λ r. MatchOption r (IsSendable p.now) (IsReason p.now)) }
     ensures terms { IfOk result (λ r. IfSome r (λ refusal.
         IsTermOf p.now (tree_of refusal.term) × AllByRecursion (IsTermOf p.now) refusal.terms)) }
 {
-    protocols_hold();
-    terms_of_plans();
-    let _ = p.name();
     match compile_all(alloc, p) {
         Ok(_) => Ok(None),
         Err(CompileNo::NoMemory) => Err(NoMemory),
@@ -60,8 +57,22 @@ pub fn reason(alloc: Global, p: &Protocol) -> Result<Option<Refusal>, NoMemory>
     }
 }
 
-/// The refusal at a role's action that can't be sent.
-fn refusal_of(alloc: Global, p: &Protocol, role: u32, action: u32) -> Result<Refusal, NoMemory>
+/// Why a narration is refused whose first action that can't be sent is known, with its sender, as
+/// [`compile_all`] tells them. It composes each subterm of what the sender has.
+pub fn refusal_of(alloc: Global, p: &Protocol, role: u32, action: u32) -> Result<Refusal, NoMemory>
+    requires { IsFirstUnsentOfAll p.now role action }
+    ensures reason { IfOk result (IsReason p.now) }
+    ensures terms { IfOk result (λ refusal.
+        IsTermOf p.now (tree_of refusal.term) × AllByRecursion (IsTermOf p.now) refusal.terms) }
+{
+    protocols_hold();
+    terms_of_plans();
+    let _ = p.name();
+    refusal_in_plan(alloc, p, role, action)
+}
+
+/// The refusal in a role's plan, which has an action that can't be sent.
+fn refusal_in_plan(alloc: Global, p: &Protocol, role: u32, action: u32) -> Result<Refusal, NoMemory>
     requires protocol { IsProtocol p.now }
     requires holds { HoldsOf p.now }
     requires terms { AllByRecursion (λ e. IsTermOf p.now (term_in e)) (plan_of p.now role) }

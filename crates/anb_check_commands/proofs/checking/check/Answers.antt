@@ -10,9 +10,13 @@ returns-in-Ok-verdict_on-clause-does g c =
     (g.W.Wire.state c.args.wire.now).written (g.W.Wire.state c.tell_verdict.new.wire).written c.in-Ok.text c.in-Ok-verdict_on.verdict.status c.in-Ok-verdict_on.verdict.said c.tell_verdict.result
     c.in-Ok.ensures.file (rw c.as_slice.ensures at c.in-Ok-verdict_on.ensures.is) c.in-Ok-verdict_on.ensures.last c.tell_verdict.ensures.tells
 
+pub returns-in-Ok-verdict_on-clause-faults : goal.returns-in-Ok-verdict_on-clause-faults
+returns-in-Ok-verdict_on-clause-faults g c =
+    wire_cause (c.args.narration.now ∷ []) Stdio (g.F.Shelf.faults c.args.shelf.now) (g.F.Shelf.faults c.fetch_file.new.shelf) (g.W.Wire.state c.args.wire.now) (g.W.Wire.state c.tell_verdict.new.wire) c.tell_verdict.result c.tell_verdict.ensures.cause
+
 pub returns-in-Ok-verdict_on-clause-completes : goal.returns-in-Ok-verdict_on-clause-completes
 returns-in-Ok-verdict_on-clause-completes g c = λ none.
     completes_check c.narrations_are_unique.ensures c.refusals_are_unique.ensures c.none_is_both.ensures c.args.narration.now (g.F.Shelf.files c.args.shelf.now)
     (g.W.Wire.state c.args.wire.now).written (g.W.Wire.state c.tell_verdict.new.wire).written c.tell_verdict.result (returns-in-Ok-verdict_on-clause-does g c)
     (only_memory (c.args.narration.now ∷ []) Stdio (g.F.Shelf.faults c.args.shelf.now) (g.F.Shelf.faults c.fetch_file.new.shelf) (g.W.Wire.state c.args.wire.now) (g.W.Wire.state c.tell_verdict.new.wire) none c.tell_verdict.result
-    (wire_cause (c.args.narration.now ∷ []) Stdio (g.F.Shelf.faults c.args.shelf.now) (g.F.Shelf.faults c.fetch_file.new.shelf) (g.W.Wire.state c.args.wire.now) (g.W.Wire.state c.tell_verdict.new.wire) c.tell_verdict.result c.tell_verdict.ensures.cause))
+    (returns-in-Ok-verdict_on-clause-faults g c))

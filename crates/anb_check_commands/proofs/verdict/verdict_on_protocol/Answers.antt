@@ -1,18 +1,18 @@
-use Rattle.std.proofs.Common.{inl}
-use Rattle.anb_status.specs.declared.status.Status.TheVariants.{CannotSend}
-use Rattle.anb_check_commands.proofs.Sendable.{cannot_send, not_sendable}
+use Rattle.std.proofs.Common.{◌≡◌, ℕ, List, Some, length, arith, ap, refl, sym, ◌∙◌, subst, inl}
+use Rattle.std.specs.Prelude.{slice_get}
+use Rattle.anb_term.proofs.Lists.{slice_get-at}
+use Rattle.anb_compile.specs.declared.refusal.CompileNo.{CompileNo}
+use Rattle.anb_compile.specs.Unsent.{IsFirstUnsentOfAll, RefusesRoles}
 use Rattle.anb_check_commands.proofs.verdict.verdict_on_protocol.Goals as goal
 
-pub unreachable-requires : goal.unreachable-requires
-unreachable-requires c =
+pub returns-in_ok-role-in-Err-CannotSend-clause-is :
+    goal.returns-in_ok-role-in-Err-CannotSend-clause-is
+returns-in_ok-role-in-Err-CannotSend-clause-is c =
     let w = c.in-Err-CannotSend in
     let p = c.args.protocol.now in
-    let sendable = rw c.in-None.is at c.in_ok-said-in-Err-CannotSend.ensures in
-    not_sendable p (CannotSend w.action w.role) (cannot_send p w.field-0 w.action w.role w.field-0-is w.ensures.refused) sendable
-
-pub returns-in-Some-clause-is : goal.returns-in-Some-clause-is
-returns-in-Some-clause-is c =
-    let w = c.in-Err-CannotSend in
-    let p = c.args.protocol.now in
-    let text = rw c.in-Some.is at c.in_ok-said-in-Err-CannotSend.ensures in
-    inl (cannot_send p w.field-0 w.action w.role w.field-0-is w.ensures.refused, text)
+    let name = c.in_ok-role-in-Err-CannotSend.role in
+    let first : IsFirstUnsentOfAll p w.role w.action = subst (λ (no : CompileNo). RefusesRoles p no) w.field-0-is w.ensures.refused in
+    let here : slice_get c.roles.result.now w.role ≡ Some c.index-roles-role.result =
+    slice_get-at c.roles.result.now w.role c.index-roles-role.result (omega (arith, first.is_role, ap length c.roles.ensures)) c.index-roles-role.is in
+    let named : slice_get p.roles w.role ≡ Some name = subst (λ (roles : List (List ℕ)). slice_get roles w.role ≡ Some name) c.roles.ensures (here ∙ ap (λ (n : List ℕ). Some n) (sym c.in_ok-role-in-Err-CannotSend.ensures)) in
+    inl ((w.role, w.action, name, first, named, refl), c.in_ok-said-in-Err-CannotSend.ensures)

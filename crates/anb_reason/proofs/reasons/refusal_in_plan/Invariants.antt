@@ -2,7 +2,7 @@ use Rattle.std.proofs.Common.{map, take}
 use Rattle.anb_close.specs.Entries as entries
 use Rattle.anb_protocol.specs.Views.{plan_event}
 use Rattle.anb_reason.proofs.Refusing.{At, NoneStuck}
-use Rattle.anb_reason.proofs.reasons.refusal_of.Given as goal
+use Rattle.anb_reason.proofs.reasons.refusal_in_plan.Given as goal
 
 abbrev pub invariant-loop-i : goal.invariant-loop-i
 invariant-loop-i l = record {

@@ -1,7 +1,7 @@
 use Rattle.anb_check_commands.proofs.Verdicts.{of_narration}
 use Rattle.anb_lemmas.proofs.Results.{if_ok_map}
 use Rattle.anb_syntax.specs.Views.{narration_of}
-use Rattle.anb_check_commands.proofs.verdict.verdict_on.Goals as goal
+use Rattle.anb_check_commands.proofs.verdict.plain_verdict_on.Goals as goal
 
 pub returns-in-Ok-clause-is : goal.returns-in-Ok-clause-is
 returns-in-Ok-clause-is c =
