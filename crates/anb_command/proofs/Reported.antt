@@ -1,10 +1,13 @@
 -- That faults are told, from step to step.
 use Rattle.std.proofs.Common.{◌≡◌, ℕ, ◌+◌, ◌<◌, List, true, false, lt_of_not-le, refl, ap, sym, ◌∙◌, arith}
 use Rattle.anb_base.specs.Wires.{WireState}
+use Rattle.anb_session.specs.Faults.{TellsEnd}
+use Rattle.anb_session.specs.declared.PlayEnd.{PlayEnd}
+use Rattle.anb_session.specs.declared.PlayEnd.TheVariants as ends
 use Rattle.anb_status.specs.declared.status.Status.{Status}
 use Rattle.anb_status.specs.declared.status.Status.TheVariants.{ReadFault, WriteFault}
 use Rattle.anb_status.specs.Statuses.{is_fault}
-use Rattle.anb_command.specs.OverWire.{OnlyWrites}
+use Rattle.anb_command.specs.OverWire.{OnlyWrites, StaysReached}
 use Rattle.anb_command.specs.Reported.{TellsFaults, TellsWireFaults, is_file_fault}
 
 -- nothing failed
@@ -37,6 +40,19 @@ end_told status end read write is_read is_write S T reads writes reaches = recor
   writes = λ rose. ap status (writes rose) ∙ is_write;
   reaches = λ rose. absurd (omega (arith, reaches, rose));
 }
+
+module _ (S T : WireState) (end : PlayEnd) (tells : TellsEnd S T end) where
+  pub session_told : (status : PlayEnd → Status) → status ends.ReadFault ≡ ReadFault → status ends.WriteFault ≡ WriteFault → TellsWireFaults S T (status end)
+  session_told status is_read is_write =
+      end_told status end ends.ReadFault ends.WriteFault is_read is_write S T tells.reading.told tells.writing.told tells.reach_faults
+
+  pub session_stays : StaysReached S T
+  session_stays = record {
+    reached = tells.reached;
+    reach_faults = tells.reach_faults;
+    reads = tells.reading.never_falls;
+    writes = tells.writing.never_falls;
+  }
 
 -- a status that is no fault tells that nothing failed: another one may stand in its place, or more come
 module _ (S T : WireState) (s : Status) (calm : is_fault s ≡ false) (told : TellsWireFaults S T s) where

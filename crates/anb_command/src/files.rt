@@ -1,7 +1,7 @@
 //! Files, and what they hold.
 ghost use Rattle.std.specs.Prelude.{◌≡◌, ◌≢◌, ◌⊎◌, ◌≤◌, ℕ, List, [], ◌∷◌, length, AllPairs, IfOk, IfErr, All};
 ghost use Rattle.anb_base.specs.declared.TheConstants.{ARRIVAL};
-ghost use Rattle.std.specs.List.{AllByRecursion};
+ghost use Rattle.std.specs.List.{AllByRecursion, sum_by};
 ghost use Rattle.anb_base.specs.Bytes.{IsBytes};
 ghost use Rattle.anb_base.specs.Moves.{Rose};
 ghost use Rattle.anb_syntax.specs.Grammar.{IsSpellable};
@@ -233,6 +233,7 @@ pub fn values_in_file<F: Shelf>(
     ensures each { IfOk result (λ fitted. length fitted.values ≡ length names.now) }
     ensures bytes { IfOk result (λ fitted. AllByRecursion IsBytes fitted.values) }
     ensures short { IfOk result (λ fitted. All (λ value. length value ≤ ARRIVAL) fitted.values) }
+    ensures total { IfOk result (λ fitted. sum_by length fitted.values ≤ VALUES_LIMIT) }
     ensures refused { IfErr result (λ status. IsFailure status
         (λ file. (file ≡ name.now) × Rose (F.faults shelf.old file) (F.faults shelf.new file))
         (IfTold (F.files shelf.old) (λ files.
@@ -256,6 +257,7 @@ fn values_of_text(alloc: Global, text: &[u8], names: &[Text]) -> Result<Fitted, 
     ensures each { IfOk result (λ fitted. length fitted.values ≡ length names.now) }
     ensures bytes { IfOk result (λ fitted. AllByRecursion IsBytes fitted.values) }
     ensures short { IfOk result (λ fitted. All (λ value. length value ≤ ARRIVAL) fitted.values) }
+    ensures total { IfOk result (λ fitted. sum_by length fitted.values ≤ length text.now) }
     ensures refused { IfErr result (λ status. IsFailure status (λ file. ⊥)
         (ValuesAre names.now text.now (refused status))) }
     ensures early { IfErr result IsEarly }

@@ -1,10 +1,11 @@
 //! What a code needs before the wire is touched.
 ghost use Rattle.std.specs.Prelude.{◌≡◌, ◌≢◌, ℕ, List, [], ◌∷◌, length, AllPairs, IfOk, IfErr, ◌≤◌, All};
 ghost use Rattle.anb_base.specs.declared.TheConstants.{ARRIVAL};
-ghost use Rattle.std.specs.List.{AllByRecursion};
+ghost use Rattle.std.specs.List.{AllByRecursion, sum_by};
 ghost use Rattle.anb_base.specs.Bytes.{IsBytes};
 ghost use Rattle.anb_base.specs.Moves.{Rose};
 ghost use Rattle.anb_code.specs.Taking.{take_texts};
+ghost use Rattle.anb_command.specs.declared.limits.TheConstants.{VALUES_LIMIT};
 ghost use Rattle.anb_command.specs.Errands.{ErrandOf};
 ghost use Rattle.anb_command.specs.Fetches.{Fetches, IfTold};
 ghost use Rattle.anb_command.specs.Reported.{TellsFileFaults};
@@ -42,6 +43,7 @@ pub fn prepare_code<F: Shelf>(
     ensures takes { IfOk result (λ p. length p.initial ≡ length (take_texts p.code.instrs)) }
     ensures bytes { IfOk result (λ p. AllByRecursion IsBytes p.initial) }
     ensures short { IfOk result (λ p. All (λ value. length value ≤ ARRIVAL) p.initial) }
+    ensures total { IfOk result (λ p. sum_by length p.initial ≤ VALUES_LIMIT) }
     ensures refused { IfErr result (λ status. IsFailure status
         (λ file. (file ≡ values.now) × Rose (F.faults shelf.old file) (F.faults shelf.new file))
         (IfTold (F.files shelf.old) (λ files.

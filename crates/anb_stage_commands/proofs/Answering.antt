@@ -106,10 +106,7 @@ module _ (narrations : NarrationsAreUnique) (refusals : RefusalsAreUnique) (none
 
     fails : (p : ProtocolValue) (status : Status) → SendableInFile files s.narration (given p) → FailsRelaying s old new p status → IsWriting Text status w w
     fails p status f (inr (is, some)) = no_memory Text w status is
-    fails p status f (inl r) = by r.is where
-      by : (status ≡ status_after s.limit new p r.refusal) ⊎ (status ≡ NoMemory) → IsWriting Text status w w
-      by (inl is) = subst (λ (t : Status). IsWriting Text t w w) (sym is) (by_refusal p r.refusal f r.refuses)
-      by (inr is) = no_memory Text w status is
+    fails p status f (inl r) = subst (λ (t : Status). IsWriting Text t w w) (sym r.is) (by_refusal p r.refusal f r.refuses)
 
     pub answers_text : (p : ProtocolValue) (text : List ℕ) (status : Status) → SendableInFile files s.narration (given p) → Relays s old new p text → IsWritten text status w now → IsWritingOne Text status w now
     answers_text p text status f relays is = the_one Text one w now status (whole p text status f relays is)

@@ -55,7 +55,7 @@ cause_of p n limit old new words (no.Long action len) few is = tt
 cause_of p n limit old new words no.NoMemory few is = tt
 
 module _ (s : Staged) (old new : ℕ → Child) (p : ProtocolValue) (n : ℕ) (words : List (List (List ℕ))) (count : n ≡ length p.roles) (asked : words ≡ words_for s p.roles) where
-  pub refuses_as : (r : RelayNo) (status : Status) → IsRefused n old new words (ends_in p) r → (status ≡ status_after s.limit new p r) ⊎ (status ≡ NoMemory) → FailsRelaying s old new p status
+  pub refuses_as : (r : RelayNo) (status : Status) → IsRefused n old new words (ends_in p) r → status ≡ status_after s.limit new p r → FailsRelaying s old new p status
   refuses_as r status is same = inl (record {
     refusal = r;
     is = same;
@@ -82,14 +82,12 @@ before_of limit children p (no.Cut action have need) = inl (refl, λ e. cc)
 before_of limit children p (no.Long action len) = inl (refl, λ e. cc)
 before_of limit children p no.NoMemory = inr refl
 
-pub before_status : (limit : Option ℕ) (children : ℕ → Child) (p : ProtocolValue) (r : RelayNo) (status : Status) → (status ≡ status_after limit children p r) ⊎ (status ≡ NoMemory) → IsBefore status
-before_status limit children p r status (inl is) = subst IsBefore (sym is) (before_of limit children p r)
-before_status limit children p r status (inr is) = subst IsBefore (sym is) (inr refl)
+pub before_status : (limit : Option ℕ) (children : ℕ → Child) (p : ProtocolValue) (r : RelayNo) (status : Status) → status ≡ status_after limit children p r → IsBefore status
+before_status limit children p r status is = subst IsBefore (sym is) (before_of limit children p r)
 
 pub cause_status : (p : ProtocolValue) (n : ℕ) (limit : Option ℕ) (old new : ℕ → Child) (words : List (List (List ℕ))) (r : RelayNo) (status : Status) → n ≤ 32
-    → IsRefused n old new words (ends_in p) r → (status ≡ status_after limit new p r) ⊎ (status ≡ NoMemory) → HasChildCause limit old new status
-cause_status p n limit old new words r status few refuses (inl is) = subst (HasChildCause limit old new) (sym is) (cause_of p n limit old new words r few refuses)
-cause_status p n limit old new words r status few refuses (inr is) = subst (HasChildCause limit old new) (sym is) tt
+    → IsRefused n old new words (ends_in p) r → status ≡ status_after limit new p r → HasChildCause limit old new status
+cause_status p n limit old new words r status few refuses is = subst (HasChildCause limit old new) (sym is) (cause_of p n limit old new words r few refuses)
 
 -- the cause of a refusal before the relay is one of all
 pub cause_before : (s : Staged) (old new : ℕ → Child) (faults faults_now : List ℕ → ℕ) (status : Status) → HasChildCause s.limit old new status → HasCauseBefore s old new faults faults_now status
@@ -223,18 +221,17 @@ module _ (narrations : NarrationsAreUnique) (refusals : RefusalsAreUnique) (none
   never_faulty name status (Some seconds) true is cause =
       let c = subst (HasStageCause s.limit (s.narration ∷ []) faults faults_now old new S T) is cause in absurd (calm c.0 c.1 c.2)
 
-  refused_as : (p : ProtocolValue) (status : Status) → AllGoWell p old → Cause status → (r : RelayNo) → (status ≡ status_after s.limit new p r) ⊎ (status ≡ NoMemory)
+  refused_as : (p : ProtocolValue) (status : Status) → AllGoWell p old → Cause status → (r : RelayNo) → status ≡ status_after s.limit new p r
       → IsRefused (length p.roles) old new (words_for s p.roles) (ends_in p) r → AnswersAs status
   unfolding Cause AnswersAs
-  refused_as p status well cause r (inr is) refuses = inr is
-  refused_as p status well cause no.NoMemory (inl is) refuses = inr is
-  refused_as p status well cause (no.Fault role) (inl is) refuses =
+  refused_as p status well cause no.NoMemory is refuses = inr is
+  refused_as p status well cause (no.Fault role) is refuses =
       never_faulty (get_or p.roles role []) status s.limit (new role).silent is cause
-  refused_as p status well cause (no.Bad role n) (inl is) refuses =
+  refused_as p status well cause (no.Bad role n) is refuses =
       absurd (refuses.bad.1 (sym (subst (λ (o : Option ℕ). IfSome o (λ t. t ≡ n)) (well.good role refuses.bad.0) refuses.bad.2)))
-  refused_as p status well cause (no.Ended action) (inl is) refuses = absurd (not_missing _ (sym well.none ∙ (refuses.writes well.outputs well.tails well.cut).0))
-  refused_as p status well cause (no.Cut action have need) (inl is) refuses = absurd (not_missing _ (sym well.none ∙ (refuses.writes well.outputs well.tails well.cut).0))
-  refused_as p status well cause (no.Long action len) (inl is) refuses = absurd (not_missing _ (sym well.none ∙ (refuses.writes well.outputs well.tails well.cut).0))
+  refused_as p status well cause (no.Ended action) is refuses = absurd (not_missing _ (sym well.none ∙ (refuses.writes well.outputs well.tails well.cut).0))
+  refused_as p status well cause (no.Cut action have need) is refuses = absurd (not_missing _ (sym well.none ∙ (refuses.writes well.outputs well.tails well.cut).0))
+  refused_as p status well cause (no.Long action len) is refuses = absurd (not_missing _ (sym well.none ∙ (refuses.writes well.outputs well.tails well.cut).0))
 
   reported : (text : List ℕ) (status : Status) (w now : Option (List ℕ)) → Cause status → IsReport s old new w now text status → AnswersAs status
   unfolding Cause AnswersAs

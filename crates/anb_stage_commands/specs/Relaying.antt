@@ -17,11 +17,11 @@ use Rattle.anb_stage_commands.specs.Reports.{report_text}
 use Rattle.anb_stage_commands.specs.StageCommand.{HasChildFault, status_after}
 use Rattle.anb_stage_commands.specs.Words.{Staged, words_for}
 
--- the roles of a refusal are the protocol's
-abbrev pub IsNamed : ProtocolValue → RelayNo → Type 0
-IsNamed p (no.Fault role) = role < length p.roles
-IsNamed p (no.Bad role status) = role < length p.roles
-IsNamed p refusal = Unit {0}
+-- the roles of a refusal are among so many
+abbrev pub IsNamed : ℕ → RelayNo → Type 0
+IsNamed roles (no.Fault role) = role < roles
+IsNamed roles (no.Bad role status) = role < roles
+IsNamed roles refusal = Unit {0}
 
 -- a refusal before the place is reached, or want of memory
 abbrev pub IsBefore : Status → Type 0
@@ -45,7 +45,7 @@ module _ (s : Staged) (old new : ℕ → Child) where
 
   pub record RefusesAs (p : ProtocolValue) (status : Status) : Type 0 where
     pub refusal : RelayNo
-    pub is : (status ≡ status_after s.limit new p refusal) ⊎ (status ≡ NoMemory)
+    pub is : status ≡ status_after s.limit new p refusal
     pub refuses : IsRefused (length p.roles) old new (words_for s p.roles) (ends_in p) refusal
 
   -- it is refused, or there is no memory for the report

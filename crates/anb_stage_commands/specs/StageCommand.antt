@@ -69,10 +69,10 @@ module _ (s : Staged) (old new : ℕ → Child) (written written_now : Option (L
     pub children : (role : ℕ) → role < 32 → new role ≡ old role
     pub unwritten : written_now ≡ written
 
-  -- The relay is refused, and nothing is written. There may be no memory for the name of a role.
+  -- the relay is refused, and nothing is written
   pub record IsRefusedAs (p : ProtocolValue) (status : Status) : Type 0 where
     pub refusal : RelayNo
-    pub is : (status ≡ status_after s.limit new p refusal) ⊎ (status ≡ NoMemory)
+    pub is : status ≡ status_after s.limit new p refusal
     pub refuses : IsRefused (length p.roles) old new (words_for s p.roles) (ends_in p) refusal
     pub unwritten : written_now ≡ written
 

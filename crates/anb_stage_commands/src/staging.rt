@@ -2,6 +2,7 @@
 ghost use Rattle.std.specs.Prelude.{◌≡◌, ◌⊎◌, ◌<◌, ◌≤◌, ℕ, [], ◌∷◌, length, get_or, Some, IfOk, IfErr, false};
 ghost use Rattle.anb_base.specs.Moves.{Rose};
 ghost use Rattle.anb_base.specs.declared.place.Place.TheVariants as place;
+ghost use Rattle.anb_protocol.specs.Protocols.{ProtocolValue};
 ghost use Rattle.anb_stage.specs.declared.TheConstants.{ROLES};
 ghost use Rattle.anb_command.specs.Causes.{NoneRose};
 ghost use Rattle.anb_command.specs.Fetches.{Fetches, IfTold};
@@ -87,7 +88,8 @@ fn relayed_in_file<F: Shelf, P: Spawner>(
     }
 }
 
-/// Relays among the children of all roles of a protocol, and gives the report.
+/// Relays among the children of all roles of a protocol, and gives the report. The names of roles are
+/// copied before the first child is started, so a fault is told whatever memory there is.
 fn relayed<P: Spawner>(
     alloc: Global,
     spawner: &mut P,
@@ -104,13 +106,16 @@ fn relayed<P: Spawner>(
         (HasChildCause words.entry.limit (P.child spawner.old) (P.child spawner.new)) }
 {
     has_few_roles(protocol);
+    let Ok(names) = copied(alloc, protocol.roles()) else {
+        return Err(Status::NoMemory);
+    };
     let Ok(all) = words_for(alloc, words, protocol.roles()) else {
         return Err(Status::NoMemory);
     };
     limit_waits(spawner, words.limit);
     let sent = match relay(alloc, protocol, &all, spawner) {
         Ok(sent) => sent,
-        Err(no) => return Err(refusal(alloc, protocol, words.limit, spawner, no)),
+        Err(no) => return Err(refusal(names, words.limit, spawner, no)),
     };
     match report_text(alloc, &sent) {
         Ok(text) => Ok(text),
@@ -135,66 +140,46 @@ fn has_few_roles(protocol: &Protocol)
     let _ = protocol.name();
 }
 
-/// The status of a relay that was refused.
-fn refusal<P: Spawner>(
-    alloc: Global,
-    protocol: &Protocol,
-    limit: Option<u32>,
-    spawner: &P,
-    no: RelayNo,
-) -> Status
-    requires few { length protocol.now.roles ≤ ROLES }
-    requires named { IsNamed protocol.now no }
-    ensures { (result ≡ status_after limit (P.child spawner.now) protocol.now no)
-        ⊎ (result ≡ status.NoMemory) }
+/// Copies of these names.
+fn copied(alloc: Global, names: &[Text]) -> Result<Vec<Text>, NoMemory>
+    ensures { IfOk result (λ copies. copies.items ≡ names.now) }
+{
+    let mut copies = Vec::new(alloc);
+    for name in names {
+        copies.push(name.copy(alloc)?)?;
+    }
+    Ok(copies)
+}
+
+/// The status of a relay that was refused, where the roles have these names.
+fn refusal<P: Spawner>(mut names: Vec<Text>, limit: Option<u32>, spawner: &P, no: RelayNo) -> Status
+    requires few { length names.items ≤ ROLES }
+    requires named { IsNamed (length names.items) no }
+    ensures { (p : ProtocolValue) → names.items ≡ p.roles
+        → result ≡ status_after limit (P.child spawner.now) p no }
 {
     match no {
         RelayNo::Fault(role) => {
-            child_fault(alloc, protocol, limit, spawner.was_silent(role), role)
+            let name = names.swap_remove(role as usize);
+            child_fault(name, limit, spawner.was_silent(role))
         }
         RelayNo::Ended(action) => Status::ChildEnded(action),
         RelayNo::Cut { action, have, need } => Status::ChildCut { action, have, need },
         RelayNo::Long { action, len } => Status::ChildLong { action, len },
-        RelayNo::Bad { role, status } => child_bad(alloc, protocol, role, status),
+        RelayNo::Bad { role, status } => Status::ChildBad {
+            role: names.swap_remove(role as usize),
+            status,
+        },
         RelayNo::NoMemory => Status::NoMemory,
     }
 }
 
-/// The status of a call for a role's child that failed, by silence or not.
-fn child_fault(
-    alloc: Global,
-    protocol: &Protocol,
-    limit: Option<u32>,
-    silent: bool,
-    role: u32,
-) -> Status
-    requires { role < length protocol.now.roles }
-    ensures { (result ≡ fault_status (get_or protocol.now.roles role []) limit silent)
-        ⊎ (result ≡ status.NoMemory) }
+/// The status of a call for this role's child that failed, by silence or not.
+fn child_fault(role: Text, limit: Option<u32>, silent: bool) -> Status
+    ensures { result ≡ fault_status role limit silent }
 {
-    let Ok(name) = protocol.roles()[role as usize].copy(alloc) else {
-        return Status::NoMemory;
-    };
     match limit {
-        Some(seconds) if silent => Status::ChildSilent {
-            role: name,
-            seconds,
-        },
-        _ => Status::ChildFault(name),
-    }
-}
-
-/// The status of a role's child that ended with another status than 0.
-fn child_bad(alloc: Global, protocol: &Protocol, role: u32, ended: u8) -> Status
-    requires { role < length protocol.now.roles }
-    ensures { (result ≡ status.ChildBad (get_or protocol.now.roles role []) ended)
-        ⊎ (result ≡ status.NoMemory) }
-{
-    match protocol.roles()[role as usize].copy(alloc) {
-        Ok(role) => Status::ChildBad {
-            role,
-            status: ended,
-        },
-        Err(NoMemory) => Status::NoMemory,
+        Some(seconds) if silent => Status::ChildSilent { role, seconds },
+        _ => Status::ChildFault(role),
     }
 }
