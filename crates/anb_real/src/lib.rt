@@ -1,8 +1,9 @@
-//! The wire, the files and standard error of the machine. They tell nothing of the bytes, and count
-//! their faults.
+//! The wire, the files, the store and standard error of the machine, which tell nothing of the bytes
+//! and count their faults; and its words and random bytes.
 #![tactic(auto)]
 
 mod again;
+mod arguments;
 mod connecting;
 mod connection;
 mod descriptors;
@@ -10,11 +11,14 @@ mod faults;
 mod frames;
 mod shelf;
 mod standard_error;
+mod store;
 mod wire;
 
+pub use arguments::{seed, words};
 pub use descriptors::fill_standard_descriptors;
 pub use shelf::RealShelf;
 pub use standard_error::StandardError;
+pub use store::RealStore;
 pub use wire::RealWire;
 
 #[cfg(test)]

@@ -1,4 +1,2 @@
-pub mod Compiled
-pub mod Narrow
 mod Usage
 mod Idle

@@ -4,10 +4,11 @@ use Rattle.std.specs.Prelude.{ℕ, List, Option, Some, None}
 use Rattle.anb_base.specs.Wires.{WireState}
 use Rattle.anb_status.specs.declared.status.Status.{Status}
 use Rattle.anb_command.specs.Fetches.{Files}
-use Rattle.anb_words.specs.Words.{Asked, fmt, describe, play, enact, replay, host, rehearse, drill, help, branch, certify, why, park, resume, chart, role_chart, check, trace, all_values, role_values}
+use Rattle.anb_words.specs.Words.{Asked, fmt, describe, play, enact, replay, host, rehearse, drill, help, page, branch, certify, why, park, resume, chart, role_chart, check, trace, all_values, role_values, judge}
 use Rattle.anb_branch_commands.specs.BranchCommand.{CompletesBranch, DoesBranch}
 use Rattle.anb_check_commands.specs.CheckCommand.{CompletesCheck, DoesCheck}
 use Rattle.anb_host_commands.specs.HostCommand.{CompletesHost, DoesHost}
+use Rattle.anb_judge_commands.specs.JudgeCommand.{CompletesJudge, DoesJudge}
 use Rattle.anb_park_commands.specs.ParkCommand.{CompletesPark, DoesPark}
 use Rattle.anb_park_commands.specs.ResumeCommand.{CompletesResume, DoesResume}
 use Rattle.anb_rehearse_commands.specs.DrillCommand.{CompletesDrill, DoesDrill}
@@ -25,9 +26,11 @@ use Rattle.anb_text_commands.specs.TextCommands.{
   CompletesDescribe,
   CompletesFmt,
   CompletesHelp,
+  CompletesPage,
   DoesDescribe,
   DoesFmt,
   DoesHelp,
+  DoesPage,
 }
 
 -- by what is asked for, the files and the seed of the host: the wire before and after, and the status
@@ -50,6 +53,7 @@ Does (Some (rehearse narration values schedule)) told seed old new status =
     DoesRehearse narration values schedule told seed old new status
 Does (Some (drill exchanges)) told seed old new status = DoesDrill exchanges old new status
 Does (Some help) told seed old new status = DoesHelp old new status
+Does (Some (page about)) told seed old new status = DoesPage about old new status
 Does (Some (branch narration role values arm place)) told seed old new status =
     DoesBranch narration role values arm told seed old new status
 Does (Some (certify narration role code)) told seed old new status =
@@ -65,6 +69,8 @@ Does (Some (check narration)) told seed old new status = DoesCheck narration tol
 Does (Some (all_values narration)) told seed old new status = DoesValues narration told seed old new status
 Does (Some (role_values narration role values)) told seed old new status =
     DoesRoleValues narration role values told old new status
+Does (Some (judge narration role values transcript)) told seed old new status =
+    DoesJudge narration role values transcript told old new status
 
 -- where nothing failed
 abbrev pub Completes : Option Asked → Option Files → Option (List ℕ) → (old new : WireState) → Status → Type 0
@@ -86,6 +92,7 @@ Completes (Some (rehearse narration values schedule)) told seed old new status =
     CompletesRehearse narration values schedule told seed old new status
 Completes (Some (drill exchanges)) told seed old new status = CompletesDrill exchanges status
 Completes (Some help) told seed old new status = CompletesHelp status
+Completes (Some (page about)) told seed old new status = CompletesPage about status
 Completes (Some (branch narration role values arm place)) told seed old new status =
     CompletesBranch narration role values arm told seed old new status
 Completes (Some (certify narration role code)) told seed old new status =
@@ -101,3 +108,5 @@ Completes (Some (check narration)) told seed old new status = CompletesCheck nar
 Completes (Some (all_values narration)) told seed old new status = CompletesValues narration told seed status
 Completes (Some (role_values narration role values)) told seed old new status =
     CompletesRoleValues narration role values told status
+Completes (Some (judge narration role values transcript)) told seed old new status =
+    CompletesJudge narration role values transcript told status

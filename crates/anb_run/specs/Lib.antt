@@ -1,5 +1,3 @@
-pub mod Certified
 pub mod Commands
-pub mod Compiled
-pub mod Narrow
 pub mod Stages
+pub mod Stores

@@ -3,7 +3,8 @@
 //! [`run`] reads the words, does what they ask for over a shelf of files and a wire, and tells on an
 //! error sink why it didn't. What it does and when it completes are relations by what is asked for,
 //! with a case for each command; the other clauses hold of every command. [`run_all`] does the same
-//! where child programs may be started, for the one command that does so.
+//! where child programs may be started, for the one command that does so, and [`run_with_store`] where
+//! records may go to files.
 #![tactic(auto)]
 
 ghost use Rattle.std.specs.Prelude.{◌≡◌, ◌↔◌, None};
@@ -19,15 +20,14 @@ ghost use Rattle.anb_words.specs.Words.{asked_of, files_of, is_reading, place_of
 ghost use Rattle.anb_status.specs.declared.status.Status.TheVariants.{Usage};
 ghost use Rattle.anb_branch_commands.specs.Laws.{ArmsArePlayed};
 ghost use Rattle.anb_run.specs.Commands.{Completes, Does};
-ghost use Rattle.anb_run.specs.Certified.{CertifiedFilesPlay};
-ghost use Rattle.anb_run.specs.Compiled.{CompiledFilesPlay};
-ghost use Rattle.anb_run.specs.Narrow.{EnactedMessagesAreNarrow};
+ghost use Rattle.anb_file_laws.specs.Certified.{CertifiedFilesPlay};
+ghost use Rattle.anb_file_laws.specs.Compiled.{CompiledFilesPlay};
+ghost use Rattle.anb_file_laws.specs.Narrow.{EnactedMessagesAreNarrow};
 ghost use Rattle.anb_park_commands.specs.Splits.{SplitPlaysAreWhole};
 
 mod all;
-mod laws;
+mod storing;
 
-use crate::laws::{certified_files_play, compiled_files_play, enacted_messages_are_narrow};
 pub use all::run_all;
 use anb_base::{Shelf, Sink, Text, Wire};
 use anb_branch_commands::{arms_are_played, branch};
@@ -36,14 +36,17 @@ use anb_chart_commands::{chart, chart_for};
 use anb_check_commands::check;
 use anb_command::{Command, tell};
 pub use anb_command::{Due, Halt, NarrationNo, Status};
+use anb_file_laws::{certified_files_play, compiled_files_play, enacted_messages_are_narrow};
 use anb_host_commands::host;
+use anb_judge_commands::judge;
 use anb_park_commands::{park, resume, split_plays_are_whole};
 use anb_rehearse_commands::{drill, rehearse};
 use anb_role_commands::{enact, play, replay};
-use anb_text_commands::{describe, fmt, help};
+use anb_text_commands::{describe, fmt, help, page};
 use anb_trace_commands::trace;
 use anb_values_commands::{role_values, values};
 use std::alloc::Global;
+pub use storing::run_with_store;
 
 /// Does what the words ask for. The words are those after the program's name. The files are fetched
 /// from the shelf, what a role sends and receives goes over the wire, and the line of a status other
@@ -107,6 +110,7 @@ pub fn run<F: Shelf, W: Wire, E: Sink>(
         Some(Command::Rehearse(words)) => rehearse(alloc, shelf, wire, words, seed),
         Some(Command::Drill(exchanges)) => drill(alloc, wire, exchanges),
         Some(Command::Help) => help(wire),
+        Some(Command::Page(about)) => page(wire, about),
         Some(Command::Branch(words)) => branch(alloc, shelf, wire, words, seed),
         Some(Command::Certify(words)) => certify(alloc, shelf, wire, words),
         Some(Command::Why { narration }) => why(alloc, shelf, wire, narration),
@@ -126,6 +130,7 @@ pub fn run<F: Shelf, W: Wire, E: Sink>(
                 values,
             },
         ) => role_values(alloc, shelf, wire, narration, role, values),
+        Some(Command::Judge(words)) => judge(alloc, shelf, wire, words),
     };
     tell(err, &status);
     status

@@ -5,7 +5,7 @@ use Rattle.anb_command.proofs.OverWire.{untouched}
 use Rattle.anb_command.proofs.Reported.{told_before, told_behind}
 use Rattle.anb_run.proofs.Idle.{fetches_none}
 use Rattle.anb_run.proofs.run.Goals as goal
-use Rattle.anb_run.proofs.run.Goals.{in-None, in-Some-Fmt, in-Some-Describe, in-Some-Play, in-Some-Enact, in-Some-Replay, in-Some-Host, in-Some-Rehearse, in-Some-Drill, in-Some-Help, in-Some-Branch, in-Some-Certify, in-Some-Why, in-Some-Park, in-Some-Resume, in-Some-Chart, in-Some-RoleChart, in-Some-Check, in-Some-Trace, in-Some-Values, in-Some-RoleValues}
+use Rattle.anb_run.proofs.run.Goals.{in-None, in-Some-Fmt, in-Some-Describe, in-Some-Play, in-Some-Enact, in-Some-Replay, in-Some-Host, in-Some-Rehearse, in-Some-Drill, in-Some-Help, in-Some-Page, in-Some-Branch, in-Some-Certify, in-Some-Why, in-Some-Park, in-Some-Resume, in-Some-Chart, in-Some-RoleChart, in-Some-Check, in-Some-Trace, in-Some-Values, in-Some-RoleValues, in-Some-Judge}
 
 pub returns-clause-faults : goal.returns-clause-faults
 returns-clause-faults g c = elim c.match-read.branch [
@@ -19,6 +19,7 @@ returns-clause-faults g c = elim c.match-read.branch [
   | in-Some-Rehearse w ↦ rw (sym c.read.ensures, w.in-Some-Rehearse.is, w.in-Some-Rehearse.field-0-is, w.shelf-is, w.wire-is, w.status-is) (w.rehearse-status.ensures.faults)
   | in-Some-Drill w ↦ rw (sym c.read.ensures, w.in-Some-Drill.is, w.in-Some-Drill.field-0-is, w.shelf-is, w.wire-is, w.status-is) (wire_cause [] Stdio (g.F.Shelf.faults c.args.shelf.now) (g.F.Shelf.faults c.args.shelf.now) (g.W.Wire.state c.args.wire.now) (g.W.Wire.state w.drill-status.new.wire) w.drill-status.result w.drill-status.ensures.wire.cause)
   | in-Some-Help w ↦ rw (sym c.read.ensures, w.in-Some-Help.is, w.in-Some-Help.field-0-is, w.shelf-is, w.wire-is, w.status-is) (wire_cause [] Stdio (g.F.Shelf.faults c.args.shelf.now) (g.F.Shelf.faults c.args.shelf.now) (g.W.Wire.state c.args.wire.now) (g.W.Wire.state w.help-status.new.wire) w.help-status.result w.help-status.ensures.wire.cause)
+  | in-Some-Page w ↦ rw (sym c.read.ensures, w.in-Some-Page.is, w.in-Some-Page.field-0-is, w.shelf-is, w.wire-is, w.status-is) (wire_cause [] Stdio (g.F.Shelf.faults c.args.shelf.now) (g.F.Shelf.faults c.args.shelf.now) (g.W.Wire.state c.args.wire.now) (g.W.Wire.state w.page-status.new.wire) w.page-status.result w.page-status.ensures.wire.cause)
   | in-Some-Branch w ↦ rw (sym c.read.ensures, w.in-Some-Branch.is, w.in-Some-Branch.field-0-is, w.shelf-is, w.wire-is, w.status-is) (w.branch-status.ensures.faults)
   | in-Some-Certify w ↦ rw (sym c.read.ensures, w.in-Some-Certify.is, w.in-Some-Certify.field-0-is, w.shelf-is, w.wire-is, w.status-is) (w.certify-status.ensures.faults)
   | in-Some-Why w ↦ rw (sym c.read.ensures, w.in-Some-Why.is, w.in-Some-Why.field-0-is, w.shelf-is, w.wire-is, w.status-is) (w.why-status.ensures.faults)
@@ -30,6 +31,7 @@ returns-clause-faults g c = elim c.match-read.branch [
   | in-Some-Values w ↦ rw (sym c.read.ensures, w.in-Some-Values.is, w.in-Some-Values.field-0-is, w.shelf-is, w.wire-is, w.status-is) (w.values-status.ensures.faults)
   | in-Some-RoleValues w ↦ rw (sym c.read.ensures, w.in-Some-RoleValues.is, w.in-Some-RoleValues.field-0-is, w.shelf-is, w.wire-is, w.status-is) (w.role_values-status.ensures.faults)
   | in-Some-Trace w ↦ rw (sym c.read.ensures, w.in-Some-Trace.is, w.in-Some-Trace.field-0-is, w.shelf-is, w.wire-is, w.status-is) (w.trace-status.ensures.faults)
+  | in-Some-Judge w ↦ rw (sym c.read.ensures, w.in-Some-Judge.is, w.in-Some-Judge.field-0-is, w.shelf-is, w.wire-is, w.status-is) (w.judge-status.ensures.faults)
 ]
 
 pub returns-clause-fetches : goal.returns-clause-fetches
@@ -44,6 +46,7 @@ returns-clause-fetches g c = elim c.match-read.branch [
   | in-Some-Rehearse w ↦ rw (sym c.read.ensures, w.in-Some-Rehearse.is, w.in-Some-Rehearse.field-0-is, w.shelf-is) (w.rehearse-status.ensures.fetches)
   | in-Some-Drill w ↦ rw (sym c.read.ensures, w.in-Some-Drill.is, w.in-Some-Drill.field-0-is, w.shelf-is) (fetches_none _ _)
   | in-Some-Help w ↦ rw (sym c.read.ensures, w.in-Some-Help.is, w.in-Some-Help.field-0-is, w.shelf-is) (fetches_none _ _)
+  | in-Some-Page w ↦ rw (sym c.read.ensures, w.in-Some-Page.is, w.in-Some-Page.field-0-is, w.shelf-is) (fetches_none _ _)
   | in-Some-Branch w ↦ rw (sym c.read.ensures, w.in-Some-Branch.is, w.in-Some-Branch.field-0-is, w.shelf-is) (w.branch-status.ensures.fetches)
   | in-Some-Certify w ↦ rw (sym c.read.ensures, w.in-Some-Certify.is, w.in-Some-Certify.field-0-is, w.shelf-is) (w.certify-status.ensures.fetches)
   | in-Some-Why w ↦ rw (sym c.read.ensures, w.in-Some-Why.is, w.in-Some-Why.field-0-is, w.shelf-is) (w.why-status.ensures.fetches)
@@ -55,6 +58,7 @@ returns-clause-fetches g c = elim c.match-read.branch [
   | in-Some-Values w ↦ rw (sym c.read.ensures, w.in-Some-Values.is, w.in-Some-Values.field-0-is, w.shelf-is) (w.values-status.ensures.fetches)
   | in-Some-RoleValues w ↦ rw (sym c.read.ensures, w.in-Some-RoleValues.is, w.in-Some-RoleValues.field-0-is, w.shelf-is) (w.role_values-status.ensures.fetches)
   | in-Some-Trace w ↦ rw (sym c.read.ensures, w.in-Some-Trace.is, w.in-Some-Trace.field-0-is, w.shelf-is) (w.trace-status.ensures.fetches)
+  | in-Some-Judge w ↦ rw (sym c.read.ensures, w.in-Some-Judge.is, w.in-Some-Judge.field-0-is, w.shelf-is) (w.judge-status.ensures.fetches)
 ]
 
 pub returns-clause-touches : goal.returns-clause-touches
@@ -69,6 +73,7 @@ returns-clause-touches g c = elim c.match-read.branch [
   | in-Some-Rehearse w ↦ rw (sym c.read.ensures, w.in-Some-Rehearse.is, w.in-Some-Rehearse.field-0-is, w.wire-is, w.status-is) (w.rehearse-status.ensures.touches)
   | in-Some-Drill w ↦ rw (sym c.read.ensures, w.in-Some-Drill.is, w.in-Some-Drill.field-0-is, w.wire-is, w.status-is) (w.drill-status.ensures.wire.touches)
   | in-Some-Help w ↦ rw (sym c.read.ensures, w.in-Some-Help.is, w.in-Some-Help.field-0-is, w.wire-is, w.status-is) (w.help-status.ensures.wire.touches)
+  | in-Some-Page w ↦ rw (sym c.read.ensures, w.in-Some-Page.is, w.in-Some-Page.field-0-is, w.wire-is, w.status-is) (w.page-status.ensures.wire.touches)
   | in-Some-Branch w ↦ rw (sym c.read.ensures, w.in-Some-Branch.is, w.in-Some-Branch.field-0-is, w.wire-is, w.status-is) (w.branch-status.ensures.touches)
   | in-Some-Certify w ↦ rw (sym c.read.ensures, w.in-Some-Certify.is, w.in-Some-Certify.field-0-is, w.wire-is, w.status-is) (w.certify-status.ensures.touches)
   | in-Some-Why w ↦ rw (sym c.read.ensures, w.in-Some-Why.is, w.in-Some-Why.field-0-is, w.wire-is, w.status-is) (w.why-status.ensures.touches)
@@ -80,6 +85,7 @@ returns-clause-touches g c = elim c.match-read.branch [
   | in-Some-Values w ↦ rw (sym c.read.ensures, w.in-Some-Values.is, w.in-Some-Values.field-0-is, w.wire-is, w.status-is) (w.values-status.ensures.touches)
   | in-Some-RoleValues w ↦ rw (sym c.read.ensures, w.in-Some-RoleValues.is, w.in-Some-RoleValues.field-0-is, w.wire-is, w.status-is) (w.role_values-status.ensures.touches)
   | in-Some-Trace w ↦ rw (sym c.read.ensures, w.in-Some-Trace.is, w.in-Some-Trace.field-0-is, w.wire-is, w.status-is) (w.trace-status.ensures.touches)
+  | in-Some-Judge w ↦ rw (sym c.read.ensures, w.in-Some-Judge.is, w.in-Some-Judge.field-0-is, w.wire-is, w.status-is) (w.judge-status.ensures.touches)
 ]
 
 pub returns-clause-reported : goal.returns-clause-reported
@@ -94,6 +100,7 @@ returns-clause-reported g c = elim c.match-read.branch [
   | in-Some-Rehearse w ↦ rw (w.shelf-is, w.wire-is, w.status-is) w.rehearse-status.ensures.reported
   | in-Some-Drill w ↦ rw (w.shelf-is, w.wire-is, w.status-is) (told_behind _ _ _ _ _ refl w.drill-status.ensures.wire.told)
   | in-Some-Help w ↦ rw (w.shelf-is, w.wire-is, w.status-is) (told_behind _ _ _ _ _ refl w.help-status.ensures.wire.told)
+  | in-Some-Page w ↦ rw (w.shelf-is, w.wire-is, w.status-is) (told_behind _ _ _ _ _ refl w.page-status.ensures.wire.told)
   | in-Some-Branch w ↦ rw (w.shelf-is, w.wire-is, w.status-is) w.branch-status.ensures.reported
   | in-Some-Certify w ↦ rw (w.shelf-is, w.wire-is, w.status-is) w.certify-status.ensures.reported
   | in-Some-Why w ↦ rw (w.shelf-is, w.wire-is, w.status-is) w.why-status.ensures.reported
@@ -103,6 +110,7 @@ returns-clause-reported g c = elim c.match-read.branch [
   | in-Some-RoleChart w ↦ rw (w.shelf-is, w.wire-is, w.status-is) w.chart_for-status.ensures.reported
   | in-Some-Check w ↦ rw (w.shelf-is, w.wire-is, w.status-is) w.check-status.ensures.reported
   | in-Some-Trace w ↦ rw (w.shelf-is, w.wire-is, w.status-is) w.trace-status.ensures.reported
+  | in-Some-Judge w ↦ rw (w.shelf-is, w.wire-is, w.status-is) w.judge-status.ensures.reported
   | in-Some-Values w ↦ rw (w.shelf-is, w.wire-is, w.status-is) w.values-status.ensures.reported
   | in-Some-RoleValues w ↦ rw (w.shelf-is, w.wire-is, w.status-is) w.role_values-status.ensures.reported
 ]
@@ -119,6 +127,7 @@ returns-clause-completes g c = elim c.match-read.branch [
   | in-Some-Rehearse w ↦ rw (sym c.read.ensures, w.in-Some-Rehearse.is, w.in-Some-Rehearse.field-0-is, w.shelf-is, w.wire-is, w.status-is) (w.rehearse-status.ensures.completes)
   | in-Some-Drill w ↦ rw (sym c.read.ensures, w.in-Some-Drill.is, w.in-Some-Drill.field-0-is, w.shelf-is, w.wire-is, w.status-is) (λ none. w.drill-status.ensures.completes (only_memory [] Stdio (g.F.Shelf.faults c.args.shelf.now) (g.F.Shelf.faults c.args.shelf.now) (g.W.Wire.state c.args.wire.now) (g.W.Wire.state w.drill-status.new.wire) none w.drill-status.result (wire_cause [] Stdio (g.F.Shelf.faults c.args.shelf.now) (g.F.Shelf.faults c.args.shelf.now) (g.W.Wire.state c.args.wire.now) (g.W.Wire.state w.drill-status.new.wire) w.drill-status.result w.drill-status.ensures.wire.cause)))
   | in-Some-Help w ↦ rw (sym c.read.ensures, w.in-Some-Help.is, w.in-Some-Help.field-0-is, w.shelf-is, w.wire-is, w.status-is) (λ none. w.help-status.ensures.completes (only_memory [] Stdio (g.F.Shelf.faults c.args.shelf.now) (g.F.Shelf.faults c.args.shelf.now) (g.W.Wire.state c.args.wire.now) (g.W.Wire.state w.help-status.new.wire) none w.help-status.result (wire_cause [] Stdio (g.F.Shelf.faults c.args.shelf.now) (g.F.Shelf.faults c.args.shelf.now) (g.W.Wire.state c.args.wire.now) (g.W.Wire.state w.help-status.new.wire) w.help-status.result w.help-status.ensures.wire.cause)))
+  | in-Some-Page w ↦ rw (sym c.read.ensures, w.in-Some-Page.is, w.in-Some-Page.field-0-is, w.shelf-is, w.wire-is, w.status-is) (λ none. w.page-status.ensures.completes (only_memory [] Stdio (g.F.Shelf.faults c.args.shelf.now) (g.F.Shelf.faults c.args.shelf.now) (g.W.Wire.state c.args.wire.now) (g.W.Wire.state w.page-status.new.wire) none w.page-status.result (wire_cause [] Stdio (g.F.Shelf.faults c.args.shelf.now) (g.F.Shelf.faults c.args.shelf.now) (g.W.Wire.state c.args.wire.now) (g.W.Wire.state w.page-status.new.wire) w.page-status.result w.page-status.ensures.wire.cause)))
   | in-Some-Branch w ↦ rw (sym c.read.ensures, w.in-Some-Branch.is, w.in-Some-Branch.field-0-is, w.shelf-is, w.wire-is, w.status-is) (w.branch-status.ensures.completes)
   | in-Some-Certify w ↦ rw (sym c.read.ensures, w.in-Some-Certify.is, w.in-Some-Certify.field-0-is, w.shelf-is, w.wire-is, w.status-is) (w.certify-status.ensures.completes)
   | in-Some-Why w ↦ rw (sym c.read.ensures, w.in-Some-Why.is, w.in-Some-Why.field-0-is, w.shelf-is, w.wire-is, w.status-is) (w.why-status.ensures.completes)
@@ -127,6 +136,7 @@ returns-clause-completes g c = elim c.match-read.branch [
   | in-Some-Chart w ↦ rw (sym c.read.ensures, w.in-Some-Chart.is, w.in-Some-Chart.field-0-is, w.shelf-is, w.wire-is, w.status-is) (w.chart-status.ensures.completes)
   | in-Some-RoleChart w ↦ rw (sym c.read.ensures, w.in-Some-RoleChart.is, w.in-Some-RoleChart.field-0-is, w.shelf-is, w.wire-is, w.status-is) (w.chart_for-status.ensures.completes)
   | in-Some-Trace w ↦ rw (sym c.read.ensures, w.in-Some-Trace.is, w.in-Some-Trace.field-0-is, w.shelf-is, w.wire-is, w.status-is) (w.trace-status.ensures.completes)
+  | in-Some-Judge w ↦ rw (sym c.read.ensures, w.in-Some-Judge.is, w.in-Some-Judge.field-0-is, w.shelf-is, w.wire-is, w.status-is) (w.judge-status.ensures.completes)
   | in-Some-Check w ↦ rw (sym c.read.ensures, w.in-Some-Check.is, w.in-Some-Check.field-0-is, w.shelf-is, w.wire-is, w.status-is) (w.check-status.ensures.completes)
   | in-Some-Values w ↦ rw (sym c.read.ensures, w.in-Some-Values.is, w.in-Some-Values.field-0-is, w.shelf-is, w.wire-is, w.status-is) (w.values-status.ensures.completes)
   | in-Some-RoleValues w ↦ rw (sym c.read.ensures, w.in-Some-RoleValues.is, w.in-Some-RoleValues.field-0-is, w.shelf-is, w.wire-is, w.status-is) (w.role_values-status.ensures.completes)

@@ -40,8 +40,8 @@ use Rattle.anb_role_commands.specs.Jobs.{Job, JobIs, JobOf, makes_names}
 use Rattle.anb_role_commands.specs.PlayCommand.{PlayOf}
 use Rattle.anb_role_commands.proofs.Draws.{draws_as_made}
 use Rattle.anb_text_commands.specs.TextCommands.{IsDescribed}
-use Rattle.anb_run.specs.Certified.{CertifiedFilesPlay}
-use Rattle.anb_run.specs.Compiled.{CompiledFilesPlay, IsEnactedAs, IsEnactedAsPlayed, IsLoadedAgain, as_played}
+use Rattle.anb_file_laws.specs.Certified.{CertifiedFilesPlay}
+use Rattle.anb_file_laws.specs.Compiled.{CompiledFilesPlay, IsEnactedAs, IsEnactedAsPlayed, IsLoadedAgain, as_played}
 use Rattle.anb_command.proofs.Given.{fit_bytes, fit_count}
 
 -- ---- how an end is told

@@ -8,7 +8,7 @@ use Rattle.anb_command.specs.Roles.{Part, PartInFile, RoleIs}
 use Rattle.anb_command.specs.Steps.{given}
 use Rattle.anb_certify_commands.specs.CertifyCommand.{CertifyText}
 use Rattle.anb_role_commands.specs.Jobs.{JobOf}
-use Rattle.anb_run.specs.Compiled.{IsEnactedAs, IsEnactedAsPlayed}
+use Rattle.anb_file_laws.specs.Compiled.{IsEnactedAs, IsEnactedAsPlayed}
 
 -- A role file that is certified for a role is enacted as this role's plan is played, also where another
 -- role can't send. Where all can, that is what `play` does.

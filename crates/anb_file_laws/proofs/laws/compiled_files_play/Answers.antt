@@ -1,5 +1,5 @@
-use Rattle.anb_run.proofs.Compiled.{compiled_files_play}
-use Rattle.anb_run.proofs.laws.compiled_files_play.Goals as goal
+use Rattle.anb_file_laws.proofs.Compiled.{compiled_files_play}
+use Rattle.anb_file_laws.proofs.laws.compiled_files_play.Goals as goal
 
 pub returns : goal.returns
 returns c =

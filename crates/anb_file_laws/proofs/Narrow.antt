@@ -12,7 +12,7 @@ use Rattle.anb_command.specs.Steps.{given}
 use Rattle.anb_command.proofs.Given.{fit_count, fit_short}
 use Rattle.anb_command.proofs.Ones.{not_both, same_given}
 use Rattle.anb_role_commands.specs.EnactCommand.{ErrandIs}
-use Rattle.anb_run.specs.Narrow.{EnactedMessagesAreNarrow}
+use Rattle.anb_file_laws.specs.Narrow.{EnactedMessagesAreNarrow}
 
 -- a verified code with a short value for each take
 record IsNarrow (errand : Errand) : Type 0 where

@@ -1,13 +1,13 @@
-//! Laws on what commands do with each other's files.
-ghost use Rattle.anb_run.specs.Certified.{CertifiedFilesPlay};
-ghost use Rattle.anb_run.specs.Compiled.{CompiledFilesPlay};
-ghost use Rattle.anb_run.specs.Narrow.{EnactedMessagesAreNarrow};
+//! The laws.
+ghost use Rattle.anb_file_laws.specs.Certified.{CertifiedFilesPlay};
+ghost use Rattle.anb_file_laws.specs.Compiled.{CompiledFilesPlay};
+ghost use Rattle.anb_file_laws.specs.Narrow.{EnactedMessagesAreNarrow};
 
 use anb_text::{codes_are_unique, faults_are_unique, files_are_unique};
 
 /// A law: a file that `compile` wrote is loaded as the code that was written, and `enact` of it does
 /// what `play` does, with the same values.
-pub(crate) fn compiled_files_play()
+pub fn compiled_files_play()
     ensures { CompiledFilesPlay }
 {
     anb_read::narrations_are_unique();
@@ -20,7 +20,7 @@ pub(crate) fn compiled_files_play()
 }
 
 /// A law: `enact` of a role file that `certify` certified does what `play` does, with the same values.
-pub(crate) fn certified_files_play()
+pub fn certified_files_play()
     ensures { CertifiedFilesPlay }
 {
     anb_read::narrations_are_unique();
@@ -33,7 +33,7 @@ pub(crate) fn certified_files_play()
 }
 
 /// A law: no message of a role file is longer than its register's width says.
-pub(crate) fn enacted_messages_are_narrow()
+pub fn enacted_messages_are_narrow()
     ensures { EnactedMessagesAreNarrow }
 {
     anb_machine::runs_send_within();

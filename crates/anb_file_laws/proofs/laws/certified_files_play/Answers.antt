@@ -1,5 +1,5 @@
-use Rattle.anb_run.proofs.Compiled.{certified_files_play}
-use Rattle.anb_run.proofs.laws.certified_files_play.Goals as goal
+use Rattle.anb_file_laws.proofs.Compiled.{certified_files_play}
+use Rattle.anb_file_laws.proofs.laws.certified_files_play.Goals as goal
 
 pub returns : goal.returns
 returns c =

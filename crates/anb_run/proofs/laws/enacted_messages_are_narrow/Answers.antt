@@ -1,5 +1,0 @@
-use Rattle.anb_run.proofs.Narrow.{enacted_messages_are_narrow}
-use Rattle.anb_run.proofs.laws.enacted_messages_are_narrow.Goals as goal
-
-pub returns : goal.returns
-returns c = enacted_messages_are_narrow c.runs_send_within.ensures
