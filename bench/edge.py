@@ -40,6 +40,7 @@ from edge_runs import (
     want_below,
     write_ping,
 )
+from edge_records import RECORDS
 from edge_stages import STAGES
 
 
@@ -628,6 +629,7 @@ QUICK = (
     dials_itself,
     stopped_roles,
     dropped_bytes,
+    *RECORDS,
     *STAGES,
 )
 

@@ -7,19 +7,22 @@ _anb_kinds() {
         play | branch | host) echo narration role values ;;
         park) echo narration role values file ;;
         resume) echo narration role file file ;;
-        replay | trace) echo narration role values file ;;
+        replay | trace | judge) echo narration role values file ;;
         stage) echo narration folder ;;
         rehearse) echo narration values file ;;
         values) echo narration role values ;;
         drill) echo number ;;
         enact) echo file values ;;
         certify) echo narration role file ;;
+        help) echo command ;;
     esac
 }
 
+_anb_commands='check chart explain fmt why play values branch park resume host replay trace judge stage rehearse drill compile enact certify help'
+
 # The options that can follow these words of a command, which stand after all others.
 _anb_options() {
-    local command=$1 arm='' place=''
+    local command=$1 arm='' place='' record=''
     shift
     [[ $command == chart && $# == 0 ]] && echo --role
     case $command in
@@ -27,10 +30,12 @@ _anb_options() {
         play | host | park | resume | enact) place='--dial --listen' ;;
         stage) place=--timeout ;;
     esac
+    [[ $command == park || $command == resume ]] && record=--record
     [[ $1 == --arm ]] && shift 2 && arm=''
     case $# in
-        0) echo "$arm" "$place" ;;
-        2) [[ $1 == --dial || $1 == --listen ]] && echo --timeout ;;
+        0) echo "$arm" "$place" "$record" ;;
+        2) [[ $1 == --dial || $1 == --listen ]] && echo --timeout "$record" ;;
+        4) [[ $3 == --timeout ]] && echo "$record" ;;
     esac
 }
 
@@ -93,7 +98,7 @@ _anb() {
     done
     at=$((${#words[@]} - 1))
     if ((at == 1)); then
-        _anb_offer 'check chart explain fmt why play values branch park resume host replay trace stage rehearse drill compile enact certify help'
+        [[ $word == -* ]] && _anb_offer '--help --version' || _anb_offer "$_anb_commands"
         return
     fi
     read -ra kinds < <(_anb_kinds "${words[1]}")
@@ -103,6 +108,7 @@ _anb() {
         file) _anb_files '' ;;
         folder) compopt -o filenames 2>/dev/null; mapfile -t COMPREPLY < <(compgen -d -- "$(_anb_file "$word")") ;;
         role) _anb_offer "$(_anb_roles "${words[2]}")" ;;
+        command) _anb_offer "$_anb_commands" ;;
         number) ;;
         *)
             ((${#kinds[@]})) || return
@@ -110,6 +116,7 @@ _anb() {
                 --role) _anb_offer "$(_anb_roles "${words[2]}")" ;;
                 --arm) _anb_offer '1 2 3 4 5 6 7 8' ;;
                 --dial | --listen | --timeout) ;;
+                --record) _anb_files '' ;;
                 *) _anb_offer "$(_anb_options "${words[1]}" "${words[@]:${#kinds[@]}+2:at-${#kinds[@]}-2}")" ;;
             esac
             ;;

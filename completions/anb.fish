@@ -9,11 +9,16 @@ function __anb_count
             echo 2
         case play branch host rehearse certify values
             echo 3
-        case park resume replay trace
+        case park resume replay trace judge
             echo 4
         case '*'
             echo 0
     end
+end
+
+# Whether the word to complete is the first.
+function __anb_first
+    test (count (commandline -opc)) -eq 1
 end
 
 # Whether the command is one of these and the word to complete has this place after it, from 1.
@@ -45,6 +50,12 @@ function __anb_option
         case timeout
             contains -- "$rest[1]" --dial --listen
             and test (count $rest) -eq 2 -o \( (count $rest) -eq 3 -a "$rest[-1]" = --timeout \)
+        case record
+            if contains -- "$rest[1]" --dial --listen; and test (count $rest) -ge 2
+                set -e rest[1..2]
+                test (count $rest) -ge 2 -a "$rest[1]" = --timeout; and set -e rest[1..2]
+            end
+            test (count $rest) -eq 0 -o "$rest" = --record
     end
 end
 
@@ -67,35 +78,39 @@ function __anb_roles
 end
 
 complete -c anb -f
-complete -c anb -n __fish_use_subcommand -a check -d 'Say why a narration is refused, or what its roles check'
-complete -c anb -n __fish_use_subcommand -a chart -d 'Draw a narration'
-complete -c anb -n __fish_use_subcommand -a explain -d 'Write what a role does'
-complete -c anb -n __fish_use_subcommand -a fmt -d 'Write the canonical text'
-complete -c anb -n __fish_use_subcommand -a why -d 'Say what the sender of a message lacks'
-complete -c anb -n __fish_use_subcommand -a play -d 'Play a role'
-complete -c anb -n __fish_use_subcommand -a branch -d 'Play a role of a text with a choice'
-complete -c anb -n __fish_use_subcommand -a park -d 'Play a role and park it'
-complete -c anb -n __fish_use_subcommand -a resume -d 'Go on from a parked session'
-complete -c anb -n __fish_use_subcommand -a host -d 'Serve many sessions of a role'
-complete -c anb -n __fish_use_subcommand -a values -d 'Write values files'
-complete -c anb -n __fish_use_subcommand -a replay -d 'Compare a transcript with a role'
-complete -c anb -n __fish_use_subcommand -a trace -d 'Tell step by step what a role does'
-complete -c anb -n __fish_use_subcommand -a stage -d 'Relay among children of all roles'
-complete -c anb -n __fish_use_subcommand -a rehearse -d 'Rehearse all roles'
-complete -c anb -n __fish_use_subcommand -a drill -d 'Write how large a rehearsal is'
-complete -c anb -n __fish_use_subcommand -a compile -d 'Write the code of a role'
-complete -c anb -n __fish_use_subcommand -a enact -d 'Run the code of a role file'
-complete -c anb -n __fish_use_subcommand -a certify -d 'Certify the code of a role file'
-complete -c anb -n __fish_use_subcommand -a help -d 'List the commands'
+complete -c anb -n __anb_first -a check -d 'Say why a narration is refused, or what its roles check'
+complete -c anb -n __anb_first -a chart -d 'Draw a narration'
+complete -c anb -n __anb_first -a explain -d 'Write what a role does'
+complete -c anb -n __anb_first -a fmt -d 'Write the canonical text'
+complete -c anb -n __anb_first -a why -d 'Say what the sender of a message lacks'
+complete -c anb -n __anb_first -a play -d 'Play a role'
+complete -c anb -n __anb_first -a branch -d 'Play a role of a text with a choice'
+complete -c anb -n __anb_first -a park -d 'Play a role and park it'
+complete -c anb -n __anb_first -a resume -d 'Go on from a parked session'
+complete -c anb -n __anb_first -a host -d 'Serve many sessions of a role'
+complete -c anb -n __anb_first -a values -d 'Write values files'
+complete -c anb -n __anb_first -a replay -d 'Compare a transcript with a role'
+complete -c anb -n __anb_first -a trace -d 'Tell step by step what a role does'
+complete -c anb -n __anb_first -a judge -d 'Judge a transcript whatever the role drew'
+complete -c anb -n __anb_first -a stage -d 'Relay among children of all roles'
+complete -c anb -n __anb_first -a rehearse -d 'Rehearse all roles'
+complete -c anb -n __anb_first -a drill -d 'Write how large a rehearsal is'
+complete -c anb -n __anb_first -a compile -d 'Write the code of a role'
+complete -c anb -n __anb_first -a enact -d 'Run the code of a role file'
+complete -c anb -n __anb_first -a certify -d 'Certify the code of a role file'
+complete -c anb -n __anb_first -a help -d 'List the commands'
+complete -c anb -n __anb_first -l help -d 'Say what the commands are for'
+complete -c anb -n __anb_first -l version -d 'Write the version'
+complete -c anb -n '__anb_at 1 help' -a 'check chart explain fmt why play values branch park resume host replay trace stage rehearse drill compile enact certify help' -d Command
 
-set -l with_role explain compile play values branch host park resume replay trace certify
+set -l with_role explain compile play values branch host park resume replay trace judge certify
 complete -c anb -n "__anb_at 1 check chart fmt why stage rehearse $with_role" -k -a '(__fish_complete_suffix .anb)'
 complete -c anb -n "__anb_at 2 $with_role" -a '(__anb_roles)' -d Role
-complete -c anb -n '__anb_at 3 play values branch host park replay trace' -k -a '(__fish_complete_suffix .values)'
+complete -c anb -n '__anb_at 3 play values branch host park replay trace judge' -k -a '(__fish_complete_suffix .values)'
 complete -c anb -n '__anb_at 2 rehearse enact' -k -a '(__fish_complete_suffix .values)'
 complete -c anb -n '__anb_at 1 enact' -F
 complete -c anb -n '__anb_at 3 rehearse certify resume' -F
-complete -c anb -n '__anb_at 4 park resume replay trace' -F
+complete -c anb -n '__anb_at 4 park resume replay trace judge' -F
 complete -c anb -n '__anb_at 2 stage' -a '(__fish_complete_directories)'
 
 set -l with_place play branch host park resume enact
@@ -105,3 +120,4 @@ complete -c anb -n "__anb_option place $with_place" -x -l dial -d 'Connect to ho
 complete -c anb -n "__anb_option place $with_place" -x -l listen -d 'Wait for a connection at host:port'
 complete -c anb -n '__anb_option silence stage' -x -l timeout -d 'Seconds that a child may be silent'
 complete -c anb -n "__anb_option timeout $with_place" -x -l timeout -d 'Seconds to wait'
+complete -c anb -n '__anb_option record park resume' -r -F -l record -d 'The file of the record'

@@ -21,7 +21,9 @@ it writes, errors too. The commands run in a folder of their own with a copy of 
 the path. A fenced block with two words behind its fence, as ```anb mine.anb, is a file that the reader writes.
 
 Words: what `help` lists is what REFERENCE and the manual page list, and the manual page says what each file is; README
-names each command, and completions are tried in their shells (docs/check_completions.py).
+names each command, and completions are tried in their shells (docs/check_completions.py). The overview of `--help` has
+the commands in the groups that README, REFERENCE and the manual page have; the page of `help` on each command begins
+with the words that `help` lists, and its example ends with one of the page's statuses; and the version is CHANGELOG's.
 
 The edge to the machine: the rows of bench/edge.py that take little time.
 
@@ -56,6 +58,12 @@ GATE = ROOT / "crates" / "anb_examples"
 LISTS = ["README.md", "docs/REFERENCE.md", "anb.1", "completions/anb.bash", "completions/_anb", "completions/anb.fish"]
 # The words of commands that stand for no file.
 NO_FILES = {"role", "name", "n", "folder", "place", "seconds"}
+# What the program takes beside the words that `help` lists.
+ASKS = ["anb help <command>", "anb --help", "anb --version"]
+# What makes the files of the pages' examples.
+MADE = """anb compile examples/mutual/mutual.anb B > b.role
+printf 'a key of my own' > my.key
+anb park examples/ping/ping.anb A examples/ping/A.values my.key | tail -c +11 > a.record"""
 MARK = "\x1e"
 
 
@@ -478,7 +486,7 @@ def plain(form):
 
 def check_words(program):
     """The pages list the words that `help` does, and the manual page has an entry for each file among them."""
-    wanted = {plain(line): line for line in run(program, "help").splitlines()}
+    wanted = {plain(line): line for line in [*run(program, "help").splitlines(), *ASKS]}
     reference, manual = (ROOT / "docs" / "REFERENCE.md").read_text(), (ROOT / "anb.1").read_text()
     synopsis, files = (manual.partition(f".SH {name}\n")[2].partition(".SH ")[0] for name in ("SYNOPSIS", "FILES"))
     told = {
@@ -486,8 +494,79 @@ def check_words(program):
         "anb.1": re.findall(r"^\.BI? .*anb .*$", synopsis, re.M),
     }
     gaps = [f"{name}: {form}" for name, forms in told.items() for form in sorted(set(wanted) ^ set(map(plain, forms)))]
-    named = {word for line in wanted.values() for word in re.findall(r"<(\w+)>", line)} - NO_FILES
+    named = {word for line in wanted.values() for word in re.findall(r"<(\w+)>", line)} - NO_FILES - {"command"}
     gaps += [f"anb.1: nothing on the file {word}" for word in sorted(named) if f".I {word}\n" not in files]
+    print(*gaps, sep="\n", end="\n" * bool(gaps))
+    return len(gaps)
+
+
+def groups_of(text, heading, command, commands):
+    """The groups of a text by patterns for their headings and their commands."""
+    found = []
+    for line in text.splitlines():
+        if title := re.match(heading, line):
+            found.append((title[1].lower(), set()))
+        elif found and (it := re.match(command, line)) and it[1] in commands:
+            found[-1][1].add(it[1])
+    return [group for group in found if group[1]]
+
+
+def check_groups(program):
+    """The overview and the pages have the same commands in the same groups."""
+    commands = set(commands_of(program)) - {"help"}
+    overview = run(program, "--help")
+    told = set(re.findall(r"^  (\w+) ", overview, re.M))
+    wanted = groups_of(overview, r"(\w[\w ]*)$", r"  (\w+) ", commands)
+    readme, reference, manual = ((ROOT / name).read_text() for name in ("README.md", "docs/REFERENCE.md", "anb.1"))
+    manual = manual.partition(".SH COMMANDS\n")[2].partition(".SH ")[0]
+    rows = re.findall(r"^\| (?:look|play|records|whole|codes)[\w ]* \| (`.*) \|$", readme, re.M)
+    gaps = [f"anb --help: {command} stands in it or in the words of help alone" for command in sorted(commands ^ told)]
+    if [set(re.findall(r"`(\w+)`", row)) & commands for row in rows] != [group[1] for group in wanted]:
+        gaps.append("README.md: its groups of commands aren't those of the overview")
+    if groups_of(reference, r"\| ([a-z ]+) \| \|$", r"\| `anb (\w+)", commands) != wanted:
+        gaps.append("docs/REFERENCE.md: its groups of commands aren't those of the overview")
+    if groups_of(manual, r"\.SS (.+)", r"\.BI? (\w+)", commands) != wanted:
+        gaps.append("anb.1: its groups of commands aren't those of the overview")
+    return gaps
+
+
+def numbers_in(text):
+    """The statuses that a page tells, also as `4 to 8`."""
+    ranges = [range(int(first), int(last) + 1) for first, last in re.findall(r"(\d+) to (\d+)", text)]
+    return {int(number) for number in re.findall(r"\d+", text)}.union(*ranges)
+
+
+def page_gaps(page, form, statuses, folder):
+    """What is wrong with the page on a command: its words, its length, its statuses and its example."""
+    lines = page.splitlines()
+    told = numbers_in(page.partition("\nStatuses: ")[2].partition("\nExample: ")[0])
+    if lines[0] != form or len(lines) > 10:
+        yield "its words or its length"
+    if not told or told - statuses:
+        yield f"statuses {sorted(told - statuses)}"
+    example = page.partition("\nExample: ")[2]
+    if "--listen" in example:
+        return
+    path = f"{folder / 'bin'}:{os.environ['PATH']}"
+    done = subprocess.run(["sh", "-c", example], cwd=folder, env={**os.environ, "PATH": path}, timeout=120,
+                          stdin=subprocess.DEVNULL, capture_output=True)
+    if not example or done.returncode not in told:
+        yield f"its example ends with {done.returncode}"
+
+
+def check_pages_of(program):
+    """What the program says of itself agrees with `help` and with the pages."""
+    gaps = check_groups(program)
+    rows = re.findall(r"^\| (\d+) \|", (ROOT / "docs" / "REFERENCE.md").read_text(), re.M)
+    folder = scratch(program)
+    outputs_of([MADE], folder, program)
+    for form in run(program, "help").splitlines():
+        command = form.split()[1]
+        page = run(program, "help", command)
+        gaps += [f"anb help {command}: {gap}" for gap in page_gaps(page, form, set(map(int, rows)), folder)]
+    shutil.rmtree(folder)
+    if (ROOT / "CHANGELOG.md").read_text().splitlines()[0] != f"# {run(program, '--version').strip()}":
+        gaps.append("CHANGELOG.md: its first version isn't the program's")
     print(*gaps, sep="\n", end="\n" * bool(gaps))
     return len(gaps)
 
@@ -518,6 +597,11 @@ def check_index(program, write):
     return 1
 
 
+def lacks(words):
+    """Whether a block's first line names a program, after `where`, that isn't installed."""
+    return "where" in words and not shutil.which(words[-1])
+
+
 def check_page(name, program, write):
     """The number of commands, and how many blocks write something else."""
     lines = (ROOT / name).read_text().splitlines()
@@ -526,7 +610,7 @@ def check_page(name, program, write):
     for at, words, block in list(blocks_of(lines)):
         if len(words) == 2:
             (folder / words[1]).write_text("\n".join(block) + "\n")
-        if not block or not block[0].startswith("$ "):
+        if not block or not block[0].startswith("$ ") or lacks(words):
             continue
         found = with_outputs(block, folder, program)
         commands += sum(line.startswith("$ ") for line in block)
@@ -598,7 +682,7 @@ def main():
         sys.exit(__doc__)
     program, write = pathlib.Path(words[0]).resolve(), "--write" in sys.argv
     examples, faults = check_examples(program, write)
-    faults += check_lists(program) + check_words(program) + check_completions_of(program)
+    faults += check_lists(program) + check_words(program) + check_pages_of(program) + check_completions_of(program)
     faults += check_index(program, write) + check_gate(write) + check_house()
     commands = 0
     for name in PAGES:

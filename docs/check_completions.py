@@ -41,6 +41,8 @@ ARMS = "1 2 3 4 5 6 7 8"
 PLAY, PARK, BRANCH = "anb play m.anb A A.values", "anb park m.anb A A.values key", "anb branch m.anb A A.values"
 # The line up to the word to complete, and what is offered there.
 TABLE = [
+    ("anb --help", ""),
+    ("anb help check", ""),
     ("anb play m.anb", ROLES),
     ("anb explain ~/m.anb", ROLES),
     ("anb trace $HOME/m.anb", ROLES),
@@ -50,8 +52,11 @@ TABLE = [
     (PLAY, "--dial --listen"),
     (f"{PLAY} --dial 127.0.0.1:4070", "--timeout"),
     (f"{PLAY} --listen 127.0.0.1:0 --timeout 5", ""),
-    (PARK, "--dial --listen"),
-    (f"{PARK} --dial 127.0.0.1:4070", "--timeout"),
+    (PARK, "--dial --listen --record"),
+    (f"{PARK} --dial 127.0.0.1:4070", "--timeout --record"),
+    (f"{PARK} --dial 127.0.0.1:4070 --timeout 5", "--record"),
+    (f"{PARK} --listen 127.0.0.1:0 --record a.record", ""),
+    (f"{PARK} --record a.record", ""),
     (BRANCH, "--arm --dial --listen"),
     (f"{BRANCH} --arm", ARMS),
     (f"{BRANCH} --arm 1", "--dial --listen"),
@@ -131,7 +136,7 @@ def in_zsh(lines, folder):
 
 def faults(commands):
     """What the shells offer otherwise, a line each. What isn't installed is told, and is no fault."""
-    table = {"anb": " ".join(commands), **dict(TABLE)}
+    table = {"anb": " ".join(commands), "anb help": " ".join(commands), **dict(TABLE)}
     for shell, ask in (("bash", in_bash), ("zsh", in_zsh), ("fish", in_fish)):
         if not shutil.which(shell):
             print(f"completions: {shell} isn't installed, so its completion wasn't tried")

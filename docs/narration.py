@@ -268,3 +268,58 @@ def taken(story, role):
         return pattern if isinstance(pattern, str) else f"{pattern[0]}({','.join(map(text, pattern[1:]))})"
 
     return [None if text(p) == text_of(m) else text(p) for p, m in zip(arrivals, heard)], meanings, once
+
+
+def goes_on(story, role, arrivals):
+    """Whether a role takes these terms as its first arrivals: it opens all that it can, and whatever the narration has
+    in two ways must be one. Made apart from `anb`, by going through the terms that come."""
+    heard = [message for _, receiver, message in story.actions if receiver == role]
+    own = [*story.knows.get(role, []), *story.fresh_names(role)]
+    has, opened, more = [*zip(own, own), *zip(heard, arrivals)], set(), True
+
+    def composed(term):
+        for narrated, value in has:
+            if narrated == term:
+                return value
+        parts = [composed(part) for part in term[1:]] if isinstance(term, tuple) else [None]
+        return None if None in parts else (term[0], *parts)
+
+    while more:
+        more = False
+        for at, (narrated, value) in enumerate(has):
+            count = KEYS.get(narrated[0], 0) if isinstance(narrated, tuple) else None
+            keys = [] if count is None else [composed(key) for key in narrated[1 : 1 + count]]
+            if count is not None and at not in opened and None not in keys:
+                if not isinstance(value, tuple) or value[: 1 + count] != (narrated[0], *keys):
+                    return False
+                has += zip(narrated[1 + count :], value[1 + count :])
+                opened.add(at)
+                more = True
+    for narrated, value in has:
+        parts = [composed(part) for part in narrated[1:]] if isinstance(narrated, tuple) else [None]
+        if None not in parts and value != (narrated[0], *parts) or value != composed(narrated):
+            return False
+    return True
+
+
+def with_others(term, names):
+    """A term with other names in the places of these."""
+    if isinstance(term, str):
+        return term + "'" if term in names else term
+    return (term[0], *(with_others(part, names) for part in term[1:]))
+
+
+def recording(story, role):
+    """What comes of a recording of a run in which a role drew other names: the first event up to which the role doesn't
+    take it, and the first name that it draws for which alone it doesn't; or nothing."""
+    own = [message for message in story.actions if role in message[:2]]
+    events = [event for event, (_, receiver, _) in enumerate(own, 1) if receiver == role]
+    heard = [message for _, receiver, message in own if receiver == role]
+    drawn = story.fresh_names(role)
+    for count, event in enumerate(events, 1):
+        def goes(names):
+            return goes_on(story, role, [with_others(message, names) for message in heard[:count]])
+
+        if not goes(drawn):
+            return event, next(name for name in drawn if not goes([name]))
+    return None

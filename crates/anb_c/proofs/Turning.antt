@@ -9,7 +9,8 @@ use Rattle.anb_machine.specs.declared.turn.Turn.{Turn}
 use Rattle.anb_machine.specs.declared.turn.Turn.TheVariants.{Message, Wants, Done, Stopped, NoMemory}
 use Rattle.anb_park.specs.Lives.{LiveValue, Stands, sent_after}
 use Rattle.anb_park.specs.Records.{Parked, after, play_of}
-use Rattle.anb_park.proofs.Standing.{after_nothing, parked_here}
+use Rattle.anb_park.specs.Going.{after_nothing}
+use Rattle.anb_park.proofs.Standing.{parked_here}
 use Rattle.anb_c.specs.Sessions.{IsAt, IsFailed, LiveFailed, StandsAt, SendsMore, Waits, with_pending}
 use Rattle.anb_c.specs.Turning.{GoesOn}
 use Rattle.anb_c.specs.declared.session.Session.{Session}
