@@ -44,7 +44,7 @@ def records_in_files(program):
     want("the record is as it was", program.read("a.record"), first)
     want("an absolute name", program.run(*parks, os.path.join(program.folder, "b.record"))[1][0], 29)
     want("going on", [resumes(program, name) for name in ("a.record", "b.record")], [True, True])
-    names = {"a.record", "b.record", "folder", "key", "ping.anb", "ping.values"}
+    names = {"A.values", "B.values", "a.record", "b.record", "folder", "key", "ping.anb", "ping.values"}
     want("what stays in the folder", set(os.listdir(program.folder)), names)
     return "written for its owner alone, over itself too; six names that are no file to write"
 
