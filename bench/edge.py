@@ -570,6 +570,7 @@ def commands(program):
         ["chart", "ping.anb"],
         ["check", "ping.anb"],
         ["trace", *role, "transcript"],
+        ["judge", *role, "transcript"],
         ["stage", "ping.anb", "."],
         ["values", "ping.anb"],
         ["help"],
@@ -600,7 +601,7 @@ def closed_pipes(program):
     for how, prepare in SIGNALS.items():
         for words in all_words:
             # What writes nothing can't fail to.
-            status, line = (0, b"") if words[0] == "replay" else (15, b"anb: write failed\n")
+            status, line = (0, b"") if words[0] in ("replay", "judge") else (15, b"anb: write failed\n")
             wrong = [words[0], *(["nothing"] * (len(words) - 1) or ["nothing"])]
             usual = run(wrong, prepare, subprocess.DEVNULL, subprocess.PIPE)
             for _ in range(program.times):
