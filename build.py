@@ -1,20 +1,28 @@
 #!/usr/bin/env python3
 """Proves and builds the program, several crates side by side.
 
-    python3 build.py [--jobs N]
+    python3 build.py [--jobs N] [--write] [--for-checks]
 
 Builds what the crate anb stands on by crates.txt, and no crate of tests, cases or examples: as many crates side by
-side as there are processors and memory, the longest chain of crates first. Each is proved by `rt lib` in a folder of
-its own below .lanes/, over the libraries below it as they were built, since a check holds the crates below it. What is
-proved is kept in each crate's out/, so an interrupted build goes on where it was. The program is replaced only by one
-that was built. What a crate was made from is told by contents (out/made), and not by times.
+side as there are processors and memory, the longest chain of crates first. Each is proved from nothing in a folder of
+its own below .lanes/, over the libraries below it as they were built, since a check holds the crates below it. A library
+is built as the gate builds it, with its statements and without its proofs (out/statements), so a check above reads a
+small part of it. Crates that were proved are kept, so an interrupted build goes on with those that are left. Where a
+crate fails, the build goes on with all that doesn't stand on it, and what was said of each that failed is shown at the
+end. The program is replaced only by one that was built. What a crate was made from is told by contents, and not by times.
 
-Progress stands on standard error: the minutes gone, and those left by the times that bench/minutes.tsv has. The status
-is 0 where the program was built, else 125, and what failed is shown.
+With --for-checks each library is built by `rt lib` (out/rlib), with its proofs and with what makes the next check of the
+same crate short. It takes twice as long, and is for whoever changes crates: `rt check` begins with such libraries.
+
+Progress stands on standard error: the minutes gone, and those left by the times that bench/minutes.tsv has. With --write
+what the crates took this time stands there after. The status is 0 where the program was built, else 125, and what failed
+is shown.
 """
 
 import fcntl
 import hashlib
+import importlib.machinery
+import importlib.util
 import os
 import pathlib
 import re
@@ -27,14 +35,17 @@ import time
 ROOT = pathlib.Path(__file__).resolve().parent
 CRATES = ROOT / "crates"
 LANES = ROOT / ".lanes"
+MINUTES = ROOT / "bench" / "minutes.tsv"
 PROGRAM = "anb"
 # What a check of one crate takes of memory, in kilobytes.
 ROOM = 3_500_000
 # The least seconds between two lines of progress, at a terminal and elsewhere.
 EACH = {True: 1, False: 30}
-# The folders of a crate that it is made from, and those in out/ that a check keeps.
+# The folders of a crate that it is made from.
 SOURCES = ("src", "specs", "proofs")
-KEPT = ("incremental", "rlib")
+# The folder in out/ that a library is built in, and for checks the ones that `rt lib` keeps, the library's first.
+STATEMENTS = ("statements",)
+FOR_CHECKS = ("rlib", "incremental")
 # The most processors that one check makes use of.
 JOBS = 4
 
@@ -62,9 +73,23 @@ def standing_on(crates, name):
 
 def minutes_of(crates):
     """The minutes of one processor that proving each crate took, where they were measured, else two."""
-    rows = [it.split("\t") for it in (ROOT / "bench" / "minutes.tsv").read_text().splitlines()[1:]]
-    measured = {row[0]: float(row[1] or 0) for row in rows}
+    measured = {row[0]: float(row[1] or 0) for row in rows_of(MINUTES)}
     return {name: measured.get(name, 2.0) for name in crates}
+
+
+def rows_of(file):
+    """The rows of a table that is separated by tabs, without its head."""
+    return [it.split("\t") for it in file.read_text().splitlines()[1:]]
+
+
+def write_minutes(seconds):
+    """Puts what the proofs of these crates took of one processor into their rows."""
+    head = MINUTES.read_text().splitlines()[0]
+    rows = {row[0]: row for row in rows_of(MINUTES)}
+    for name, used in seconds.items():
+        row = rows.setdefault(name, [name, "", "", "", "0"])
+        row[1] = f"{used / 60:.1f}"
+    MINUTES.write_text("\n".join([head, *("\t".join(it) for it in rows.values())]) + "\n")
 
 
 def chains(crates, order, minutes):
@@ -101,8 +126,8 @@ def move(one, other):
 class Lane:
     """A folder in which one crate is proved, with the sources of all that it stands on."""
 
-    def __init__(self, crates, name, jobs):
-        self.name, self.jobs, self.begun = name, jobs, time.time()
+    def __init__(self, crates, name, jobs, kept):
+        self.name, self.kept, self.begun = name, kept, time.time()
         self.top = LANES / name
         self.folder = self.top / "crates" / name
         shutil.rmtree(self.top, ignore_errors=True)
@@ -114,9 +139,11 @@ class Lane:
         (self.top / "crates.txt").write_text("\n".join(wanted) + "\n")
         if (ROOT / "HANDLES").exists():
             shutil.copy(ROOT / "HANDLES", self.top)
-        for part in KEPT:
-            move(CRATES / name / "out" / part, self.folder / "out" / part)
-        words = ["rt", "run", "--", "help"] if name == PROGRAM else ["rt", "lib", "--jobs", str(jobs)]
+        words = [sys.executable, ROOT / "build.py", "--crate", name, "--jobs", str(jobs)]
+        if kept == FOR_CHECKS:
+            words = ["rt", "run", "--", "help"] if name == PROGRAM else ["rt", "lib", "--jobs", str(jobs)]
+            for part in kept:
+                move(CRATES / name / "out" / part, self.folder / "out" / part)
         with open(self.top / "log", "w") as log:
             self.process = subprocess.Popen(
                 words, cwd=self.folder, stdin=subprocess.DEVNULL, stdout=log, stderr=log, start_new_session=True
@@ -130,7 +157,15 @@ class Lane:
             if (here / part).is_dir():
                 shutil.copytree(here / part, there / part)
         if name != self.name:
-            shutil.copytree(here / "out" / "rlib", there / "out" / "rlib", copy_function=os.link)
+            shutil.copytree(here / "out" / self.kept[0], there / "out" / "rlib", copy_function=os.link)
+
+    def has_ended(self):
+        """Whether the check has ended; then what it took of one processor is noted, in seconds."""
+        ended, status, used = os.wait4(self.process.pid, os.WNOHANG)
+        if ended:
+            self.process.returncode = os.waitstatus_to_exitcode(status)
+            self.seconds = used.ru_utime + used.ru_stime
+        return ended != 0
 
     def end(self):
         """Ends the check with all that it started."""
@@ -143,51 +178,87 @@ class Lane:
 
     def close(self, made):
         """Keeps what was proved, and the program; gives whether the crate was built, and what was said."""
-        out = CRATES / self.name / "out"
-        for part in KEPT:
-            move(self.folder / "out" / part, out / part)
+        out, program = CRATES / self.name / "out", self.folder / "out" / PROGRAM
         said = (self.top / "log").read_text(errors="replace")
-        program = self.folder / "out" / PROGRAM
-        is_well = self.process.returncode == 0 and (self.name != PROGRAM or program.is_file())
+        is_program = self.name == PROGRAM
+        is_well = self.process.returncode == 0 and (program.is_file() or not is_program)
+        if is_well or self.kept == FOR_CHECKS:
+            move(self.folder / "out" / "rlib", out / self.kept[0])
+            move(self.folder / "out" / "incremental", out / "incremental")
         if is_well:
-            if self.name == PROGRAM:
+            if is_program:
+                out.mkdir(parents=True, exist_ok=True)
                 os.replace(program, out / PROGRAM)
-            (out / "made").write_text(made)
+            made_file(self.name, self.kept).write_text(made)
         shutil.rmtree(self.top, ignore_errors=True)
         return is_well, said
+
+
+def made_file(name, kept):
+    """Where it stands what a library or the program was made from."""
+    out = CRATES / name / "out"
+    return out / "made" if name == PROGRAM else out / kept[0] / "made"
+
+
+def toolchain():
+    """The program rt as a module, without its verbs being run."""
+    path = os.path.realpath(shutil.which("rt"))
+    loader = importlib.machinery.SourceFileLoader("rt_main", path)
+    module = importlib.util.module_from_spec(importlib.util.spec_from_loader("rt_main", loader))
+    sys.modules["rt_main"] = module
+    loader.exec_module(module)
+    return module
+
+
+def prove(name, jobs):
+    """Proves the crate in this folder from nothing, and builds its library or the program; gives the status."""
+    rt = toolchain()
+    rt.rtlib.guarded()
+    rt.rtlib.Crate = rt.Crate
+    top = os.path.dirname(os.path.dirname(os.getcwd()))
+    rt.Crate.allowed = rt.handles_of(top)
+    crate = next(it for it in rt.rtlib.crates_below(top) if it.name == name)
+    words = crate.words(["--jobs", str(jobs)])
+    if not crate.is_program:
+        os.makedirs(os.path.dirname(crate.rlib))
+        return crate.call(rt.rtlib.RATTLE, "build", *words, "--statements", "-o", crate.rlib)
+    os.makedirs(f"{crate.folder}/out")
+    words += ["--toolchain", f"{rt.rtlib.KIT}/toolchain", "--backend", "llvm"]
+    made = crate.call(rt.rtlib.RATTLE, "build", *words, "-o", f"out/{name}.o")
+    return made or crate.link(f"out/{name}.o", f"out/{name}")
 
 
 class Build:
     """The crates that are to be built, and how far that is."""
 
-    def __init__(self, jobs):
-        self.crates, self.jobs, self.known = listed(), jobs, {}
+    def __init__(self, jobs, kept):
+        self.crates, self.jobs, self.kept, self.known = listed(), jobs, kept, {}
         self.order = standing_on(self.crates, PROGRAM)
         self.minutes = minutes_of(self.crates)
         self.chain = chains(self.crates, self.order, self.minutes)
         self.take_back()
         self.left = [it for it in self.order if not self.is_made(it)]
-        self.running, self.begun, self.done, self.told = {}, time.time(), 0.0, 0.0
+        self.running, self.failed, self.seconds = {}, {}, {}
+        self.begun, self.done, self.told = time.time(), 0.0, 0.0
         self.is_terminal = sys.stderr.isatty()
 
     def take_back(self):
-        """Keeps what a build that was killed left in its folders."""
+        """Keeps what a build for checks that was killed left in its folders."""
         for top in LANES.glob("*"):
-            for part in KEPT:
+            for part in FOR_CHECKS[1:]:
                 there = CRATES / top.name / "out" / part
                 if not there.exists():
                     move(top / "crates" / top.name / "out" / part, there)
             shutil.rmtree(top, ignore_errors=True)
 
     def is_made(self, name):
-        out = CRATES / name / "out"
-        thing = out / PROGRAM if name == PROGRAM else out / "rlib" / "stamp"
-        made = out / "made"
-        return thing.is_file() and made.is_file() and made.read_text() == contents(self.crates, name, self.known)
+        made = made_file(name, self.kept)
+        is_there = name != PROGRAM or (CRATES / name / "out" / PROGRAM).is_file()
+        return is_there and made.is_file() and made.read_text() == contents(self.crates, name, self.known)
 
     def ready(self):
         """The crates that can be begun, the longest chain first."""
-        waiting = {*self.left, *self.running}
+        waiting = {*self.left, *self.running, *self.failed}
         found = [it for it in self.left if not waiting & {*self.crates[it]}]
         return sorted(found, key=lambda it: -self.chain[it])
 
@@ -198,18 +269,20 @@ class Build:
             name = ready.pop(0)
             idle = self.jobs - len(self.running)
             self.left.remove(name)
-            self.running[name] = Lane(self.crates, name, max(1, min(JOBS, idle // (len(ready) + 1))))
+            self.running[name] = Lane(self.crates, name, max(1, min(JOBS, idle // (len(ready) + 1))), self.kept)
 
-    def ended(self):
-        """Closes what has ended, and gives the first that failed with what was said."""
+    def close_ended(self):
+        """Closes what has ended. Nothing that stands on a crate that failed is begun."""
         for name, lane in [*self.running.items()]:
-            if lane.process.poll() is not None:
+            if lane.has_ended():
                 del self.running[name]
                 self.done += self.minutes[name]
+                self.seconds[name] = lane.seconds
                 is_well, said = lane.close(contents(self.crates, name, self.known))
                 if not is_well:
-                    return name, said
-        return None
+                    print(f"\nanb: {name} couldn't be built", file=sys.stderr, flush=True)
+                    self.failed[name] = said
+                    self.left = [it for it in self.left if name not in standing_on(self.crates, it)]
 
     def minutes_left(self):
         """The minutes left by the table, at the speed of what is done so far."""
@@ -238,12 +311,10 @@ class Build:
             self.begin()
             self.tell()
             time.sleep(0.2)
-            failed = self.ended()
-            if failed:
-                self.stop()
-                show(*failed)
-                return False
-        return True
+            self.close_ended()
+        for name, said in self.failed.items():
+            show(name, said)
+        return not self.failed
 
     def stop(self):
         """Ends what runs, and keeps what it has proved."""
@@ -261,17 +332,20 @@ def has_room():
 
 
 def show(name, said):
-    """What a check said that isn't about its progress, the last lines of it."""
+    """What a check said that isn't about its progress."""
     lines = [it for it in said.splitlines() if not re.match(r"so far|statements |rt: chose|crate \w+: modules", it)]
-    print(f"\nanb: {name} couldn't be built", *lines[-60:], sep="\n", file=sys.stderr)
+    print(f"\nanb: why {name} couldn't be built", *lines, sep="\n", file=sys.stderr)
 
 
 def main():
-    jobs = int(sys.argv[2]) if sys.argv[1:2] == ["--jobs"] else len(os.sched_getaffinity(0))
+    words = sys.argv[1:]
+    jobs = int(words[words.index("--jobs") + 1]) if "--jobs" in words else len(os.sched_getaffinity(0))
+    if words[:1] == ["--crate"]:
+        return prove(words[1], jobs)
     LANES.mkdir(exist_ok=True)
     with open(LANES / "lock", "w") as lock:
         fcntl.flock(lock, fcntl.LOCK_EX)
-        build = Build(jobs)
+        build = Build(jobs, FOR_CHECKS if "--for-checks" in words else STATEMENTS)
         signal.signal(signal.SIGTERM, lambda *_: sys.exit(125))
         signal.signal(signal.SIGHUP, lambda *_: sys.exit(125))
         try:
@@ -282,6 +356,9 @@ def main():
             gone = int((time.time() - build.begun) / 60)
             print(f"\nanb: stopped after {gone} minutes; what is proved so far is kept", file=sys.stderr)
             return 125
+        finally:
+            if "--write" in words:
+                write_minutes(build.seconds)
     (CRATES / PROGRAM / "out" / "crates").write_text("\n".join(build.order) + "\n")
     shutil.rmtree(LANES, ignore_errors=True)
     return 0

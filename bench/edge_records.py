@@ -2,6 +2,7 @@
 import contextlib
 import os
 import random
+import socket
 import time
 
 from edge_runs import FRAME, LATE, accept, listener, read_all, want, want_below, write_ping
@@ -80,4 +81,43 @@ def killed_records(program):
     return f"{kills} kills, {len(left)} files left beside the record"
 
 
-RECORDS = (records_in_files, silent_records, killed_records)
+def recorded_plays(program):
+    """play --record leaves the values and the transcript, for their owner alone, and replay ends as the play did"""
+    write_ping(program)
+    plays = ("play", *ROLE, "ping.values", "--record")
+    want("play", program.run(*plays, "r", given=FRAME, before="umask 0;")[1], (0, FRAME, b""))
+    modes = [oct(os.stat(os.path.join(program.folder, name)).st_mode & 0o7777) for name in ("r", "r/values", "r/transcript")]
+    want("modes", modes, ["0o700", "0o600", "0o600"])
+    digits = FRAME[4:].hex().encode()
+    want("the transcript", program.read("r/transcript"), b"> " + digits + b"\n< " + digits + b"\n")
+    want("its replay", program.run("replay", *ROLE, "r/values", "r/transcript")[1], (0, b"", b""))
+    want("the folder again", program.run(*plays, "r", given=FRAME)[1], (38, b"", UNWRITTEN % b"r/values"))
+    want("what is in it", program.read("r/transcript"), b"> " + digits + b"\n< " + digits + b"\n")
+    want("a play that waits", program.run(*plays, "s")[1], (11, FRAME, b"anb: waiting at event 2\n"))
+    want("its replay", program.run("replay", *ROLE, "s/values", "s/transcript")[1][0], 19)
+    for name in ("nowhere/r", "a" * 300):
+        line = UNWRITTEN % (name + "/values").encode()
+        want(f"a recording at {name:.40}", program.run(*plays, name, given=FRAME)[1], (38, FRAME, line))
+    return "modes 700 and 600; refused where it is there; done and waiting are replayed so"
+
+
+def killed_plays(program):
+    """a play that is killed leaves the lines so far, each whole"""
+    write_ping(program)
+    digits = FRAME[4:].hex().encode()
+    whole = (b"", b"> " + digits + b"\n")
+    kills = 0
+    for turn in range(4 * program.times):
+        made, at = listener()
+        run = program.start("play", *ROLE, "ping.values", "--dial", at, "--record", f"r{turn}")
+        peer = accept(made)
+        want("what the peer got", peer.recv(len(FRAME), socket.MSG_WAITALL), FRAME)
+        run.kill()
+        kills += run.end()[0] < 0
+        peer.close()
+        want("the lines so far", program.read(f"r{turn}/transcript"), whole[1])
+        want("their replay", program.run("replay", *ROLE, f"r{turn}/values", f"r{turn}/transcript")[1][0], 19)
+    return f"{kills} kills behind the first message"
+
+
+RECORDS = (records_in_files, silent_records, killed_records, recorded_plays, killed_plays)

@@ -1,6 +1,7 @@
 """Processor minutes of each part of the gate, crate by crate, as a table in Markdown.
 
     python3 bench/gate.py [--log FILE] [--kept] [--write] [NAME ..]
+    python3 bench/gate.py --table
 
 Runs `rt ci --anew` with a prover that notes the processor time of each of its calls, and then writes a row
 a crate: proof, tests, and edits, the slowest edits, and the longest chain of crates. With names it does the
@@ -8,13 +9,12 @@ same for these crates alone, one after another, over libraries that are built fi
 edits begin with one more proof of the crate and end with a check that it stands, which count among them.
 With --log the notes go to this file, behind those of earlier runs, and the table is that of all notes; of a
 part that was done again its last run counts, and an edit that is gone counts no more. With --kept it runs
-`rt ci` with the names, which takes what earlier runs on this machine passed. With --write the table stands
-in docs/PROVING.md after, and its figures in bench/minutes.tsv, which build.py reads.
+`rt ci` with the names, which takes what earlier runs on this machine passed. With --write what was measured
+stands in bench/minutes.tsv after, which build.py reads and writes too, and the table of all figures there in
+docs/PROVING.md. --table writes the page alone.
 """
 import collections
 import glob
-import importlib.machinery
-import importlib.util
 import json
 import os
 import resource
@@ -94,11 +94,7 @@ def noted(prover, log, root, run=None):
 
 def gate(shim):
     """The program rt as a module, whose prover is the shim."""
-    path = os.path.realpath(shutil.which("rt"))
-    loader = importlib.machinery.SourceFileLoader("rt_main", path)
-    module = importlib.util.module_from_spec(importlib.util.spec_from_loader("rt_main", loader))
-    sys.modules["rt_main"] = module
-    loader.exec_module(module)
+    module = build.toolchain()
     prover, module.rtlib.RATTLE = module.rtlib.RATTLE, shim
     return module, prover
 
@@ -203,9 +199,30 @@ def chain(sums):
     yield f"The program's {len(order)} crates take {sum(minutes_of.values()):.0f} minutes of one processor to prove, and their longest chain {longest[found[0]]:.1f}: {named}."
 
 
+def figures():
+    """The figures that stand in bench/minutes.tsv, in seconds, of the crates that there are."""
+    crates, found = build.listed(), collections.defaultdict(collections.Counter)
+    for crate, *parts in build.rows_of(build.MINUTES):
+        if crate in crates:
+            found[crate].update({part: 60 * float(it) for part, it in zip(PARTS, parts) if it})
+    return found
+
+
 def write(sums):
-    """Puts the table and the chain into docs/PROVING.md, and the figures into bench/minutes.tsv."""
-    page, rows = "docs/PROVING.md", [*table(sums)]
+    """Puts what was measured into bench/minutes.tsv, in the place of what stands there."""
+    all_sums = figures()
+    for crate, parts in sums.items():
+        all_sums[crate] = collections.Counter({**all_sums[crate], **parts})
+    with open(build.MINUTES, "w") as file:
+        print("crate", *PARTS, "tried", sep="\t", file=file)
+        for crate in (it for it in build.listed() if it in all_sums):
+            print(crate, *(minutes(all_sums[crate][it]) for it in PARTS), edits_in(crate), sep="\t", file=file)
+
+
+def write_page():
+    """Puts the table and the chain into docs/PROVING.md, by the figures that stand."""
+    page, sums = "docs/PROVING.md", figures()
+    rows = [*table(sums)]
     with open(page) as file:
         lines = file.read().split("\n")
     first = lines.index(rows[0])
@@ -214,10 +231,6 @@ def write(sums):
     lines = [it if not it.startswith("The program's ") else "".join(chain(sums)) for it in lines]
     with open(page, "w") as file:
         file.write("\n".join(lines))
-    with open("bench/minutes.tsv", "w") as file:
-        print("crate", *PARTS, "tried", sep="\t", file=file)
-        for crate, parts in sums.items():
-            print(crate, *(minutes(parts[it]) for it in PARTS), edits_in(crate), sep="\t", file=file)
 
 
 def processor_ticks():
@@ -228,6 +241,9 @@ def processor_ticks():
 
 
 def main(words):
+    if words == ["--table"]:
+        write_page()
+        return 0
     with tempfile.TemporaryDirectory() as room:
         log = f"{room}/log"
         if words[:1] == ["--log"]:
@@ -254,6 +270,7 @@ def main(words):
         print(*table(sums), "", *slowest(notes), "", *chain(sums), sep="\n")
         if is_written:
             write(sums)
+            write_page()
     return status
 
 
