@@ -1,5 +1,5 @@
 -- A role whose arrivals are instances of the patterns goes on to the end.
-use Rattle.std.proofs.Common.{◌≡◌, ℕ, suc, ◌+◌, List, [], ◌∷◌, ◌++◌, length, map, IsTrue, Some, refl, sym, ◌∙◌, subst, inl, arith, append_assoc}
+use Rattle.std.proofs.Common.{◌≡◌, ℕ, ◌+◌, List, [], ◌∷◌, ◌++◌, length, map, IsTrue, Some, refl, sym, ◌∙◌, subst, inl, arith, append_assoc}
 use Rattle.std.specs.Prelude.{slice_get, Bool}
 use Rattle.std.proofs.lemmas.List.{length-map}
 use Rattle.anb_term.specs.declared.term.Op.{Op}
@@ -11,12 +11,13 @@ use Rattle.anb_term.specs.Statements.{GivesOne}
 use Rattle.anb_term.proofs.Lists.{map-append}
 use Rattle.anb_term.proofs.Frames.{agree_before, one_more}
 use Rattle.anb_plays.specs.Plans.{Event, know, fresh, send, recv, known, CanSend}
-use Rattle.anb_plays.specs.Plays.{Played, Walk, done, ends, says}
+use Rattle.anb_plays.specs.Plays.{done, ends, says}
 use Rattle.anb_plays.specs.Honest.{honest, heard, made, LabelsAreFormed}
 use Rattle.anb_plays.specs.Statements.{HonestAgree}
 use Rattle.anb_accept.specs.Taking.{later, later_with, labels, labels_with}
 use Rattle.anb_accept.specs.Laws.{InstancesGoOn}
 use Rattle.anb_unify.proofs.Putting.{each_itself}
+use Rattle.anb_accept.proofs.Drawing.{Over, DrawsFrom, draws_on, draws_now}
 
 pub formed_both : (has : Op → Bool) (xs ys : List Tree) → AreFormed has (trees_of xs) → AreFormed has (trees_of ys) → AreFormed has (trees_of (xs ++ ys))
 formed_both has [] ys f g = g
@@ -50,37 +51,18 @@ module _ {A : Type 0} (m : Meaning A) (agrees : HonestAgree m) (gives : GivesOne
         one = λ r s t er es. let h = agree.one r s t er es in (of h.0, own r h.0 h.1, own s h.0 h.2);
       }
 
-  pub Draws : ℕ → List Tree → Type 0
-  Draws i ts = (k : ℕ) (t : Tree) → slice_get ts k ≡ Some t → draw (i + k) ≡ of t
-
-  pub draws_on : (i : ℕ) (t : Tree) (ts : List Tree) → Draws i (t ∷ ts) → Draws (i + 1) ts
-  unfolding Draws
-  draws_on i t ts h k u e = let n : i + suc k ≡ i + 1 + k = omega arith in subst (λ j. draw j ≡ of u) n (h (suc k) u e)
-
-  pub draws_now : (i : ℕ) (t : Tree) (ts : List Tree) → Draws i (t ∷ ts) → draw i ≡ of t
-  unfolding Draws
-  draws_now i t ts h = let n : i + 0 ≡ i = omega arith in subst (λ j. draw j ≡ of t) n (h 0 t refl)
-
-  -- what comes of some events
-  record Over (es : List Event) (F : List Tree) (V : List A) (e i : ℕ) (arrivals : List A) : Type 0 where
-    played : Played A
-    is : Walk m draw es F V e i arrivals played
-    end : played.end ≡ done
-    used : played.left ≡ []
-
   later_on : (F : List Tree) (V : List A) (t : Tree) (x : A) (G : List Tree) (W : List A) → Agree m (F ++ t ∷ G) (V ++ x ∷ W) → Agree m ((F ++ t ∷ []) ++ G) ((V ++ x ∷ []) ++ W)
   later_on F V t x G W a = subst (λ l. Agree m l ((V ++ x ∷ []) ++ W)) (sym (append_assoc F (t ∷ []) G)) (subst (λ l. Agree m (F ++ t ∷ G) l) (sym (append_assoc V (x ∷ []) W)) a)
 
-  walks : (es : List Event) (F : List Tree) (V : List A) (e i : ℕ) (ps : List Tree) → length V ≡ length F → Agree m (F ++ later es) (V ++ map of (later_with es ps)) → length ps ≡ length (heard es) → CanSend m.has F es → Draws i (made es)
-      → Over es F V e i (map of ps)
-  unfolding Draws
+  walks : (es : List Event) (F : List Tree) (V : List A) (e i : ℕ) (ps : List Tree) → length V ≡ length F → Agree m (F ++ later es) (V ++ map of (later_with es ps)) → length ps ≡ length (heard es) → CanSend m.has F es → DrawsFrom m draw atoms i (made es)
+      → Over m draw es F V e i (map of ps)
   walks [] F V e i [] long agree count can drawn = record { played = ends done []; is = refl; end = refl; used = refl }
   walks [] F V e i (p ∷ ps) long agree count can drawn = absurd (omega arith)
   walks (know t ∷ es) F V e i ps long agree count can drawn = let h = walks es F V e i ps long agree count can drawn in record { played = h.played; is = h.is; end = h.end; used = h.used }
   walks (fresh t ∷ es) F V e i ps long agree count can drawn =
       let a = later_on F V t (of t) (later es) (map of (later_with es ps)) agree in
-      let b = subst (λ x. Agree m ((F ++ t ∷ []) ++ later es) ((V ++ x ∷ []) ++ map of (later_with es ps))) (sym (draws_now i t (made es) drawn)) a in
-      let h = walks es (F ++ t ∷ []) (V ++ draw i ∷ []) e (i + 1) ps (one_more V F (draw i) t long) b count can (draws_on i t (made es) drawn) in
+      let b = subst (λ x. Agree m ((F ++ t ∷ []) ++ later es) ((V ++ x ∷ []) ++ map of (later_with es ps))) (sym (draws_now m draw atoms i t (made es) drawn)) a in
+      let h = walks es (F ++ t ∷ []) (V ++ draw i ∷ []) e (i + 1) ps (one_more V F (draw i) t long) b count can (draws_on m draw atoms i t (made es) drawn) in
       record { played = h.played; is = h.is; end = h.end; used = h.used }
   walks (send t ∷ es) F V e i ps long agree count can drawn =
       let g = gives F V t (agree_before m F (later es) V (map of (later_with es ps)) long agree) can.0 in
@@ -95,7 +77,6 @@ module _ {A : Type 0} (m : Meaning A) (agrees : HonestAgree m) (gives : GivesOne
       record { played = h.played; is = inl (here, h.is); end = h.end; used = h.used }
 
 pub instances_go_on : {A : Type 0} (m : Meaning A) → HonestAgree m → GivesOne m → InstancesGoOn m
-unfolding Draws
 instances_go_on m agrees gives names plan patterns atoms draw are sendable formed good drawn =
     let of = λ (t : Tree). honest m atoms t in
     let takes = are.taken patterns (record { put = leaf; keeps = λ n h. refl; is = sym (each_itself patterns) }) in

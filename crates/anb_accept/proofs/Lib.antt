@@ -1,3 +1,4 @@
+pub mod Drawing
 pub mod GoingOn
 pub mod Filling
 pub mod Solving

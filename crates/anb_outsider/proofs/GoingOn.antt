@@ -14,13 +14,14 @@ use Rattle.anb_term.specs.Agree.{Agree}
 use Rattle.anb_term.specs.Statements.{GivesOne, NewAtomAgrees}
 use Rattle.anb_term.proofs.Lists.{map-append}
 use Rattle.anb_plays.specs.Plans.{Event, know, fresh, send, recv, known, CanSend, IsFreshAfter}
-use Rattle.anb_plays.specs.Plays.{Played, Walk, done, ends, says}
+use Rattle.anb_plays.specs.Plays.{done, ends, says}
 use Rattle.anb_plays.specs.Honest.{honest, honest_all, heard, made, LabelsAreFormed}
 use Rattle.anb_plays.specs.Statements.{HonestAgree}
 use Rattle.anb_plays.proofs.Plays.{known-append}
 use Rattle.anb_protocol.specs.Laws.{KnowsFirst}
 use Rattle.anb_unify.specs.Substitutions.{put_in}
 use Rattle.anb_accept.specs.Taking.{later, later_with, labels, labels_with}
+use Rattle.anb_accept.proofs.Drawing.{Over, DrawsFrom, draws_on, draws_now}
 use Rattle.anb_accept.proofs.GoingOn.{formed_both, known_formed, later_formed, through_terms}
 use Rattle.anb_unify.proofs.Putting.{put_all}
 use Rattle.anb_outsider.specs.Recordings.{other_name, recorded, is_drawn, TakesRecording}
@@ -63,15 +64,6 @@ module _ {A : Type 0} (m : Meaning A) (agrees : HonestAgree m) (gives : GivesOne
     (names : ℕ) (plan : List Event) (takes : TakesRecording m.has names plan) (knows : KnowsFirst plan) (formed : LabelsAreFormed m.has plan) where
   abbrev of : Tree → A
   of t = honest m atoms t
-
-  abbrev DrawsFrom : ℕ → List Tree → Type 0
-  DrawsFrom i ts = (k : ℕ) (t : Tree) → slice_get ts k ≡ Some t → draw (i + k) ≡ of t
-
-  draws_on : (i : ℕ) (t : Tree) (ts : List Tree) → DrawsFrom i (t ∷ ts) → DrawsFrom (i + 1) ts
-  draws_on i t ts h k u e = let n : i + suc k ≡ i + 1 + k = omega arith in subst (λ j. draw j ≡ of u) n (h (suc k) u e)
-
-  draws_now : (i : ℕ) (t : Tree) (ts : List Tree) → DrawsFrom i (t ∷ ts) → draw i ≡ of t
-  draws_now i t ts h = let n : i + 0 ≡ i = omega arith in subst (λ j. draw j ≡ of t) n (h 0 t refl)
 
   abbrev came : List Event → List Tree
   came es = recorded names (is_drawn plan) es
@@ -118,17 +110,11 @@ module _ {A : Type 0} (m : Meaning A) (agrees : HonestAgree m) (gives : GivesOne
       let here = subst (λ (l : List Tree). Agree (terms_over m.has) (l ++ later to) (l ++ later_with to (came to))) same taken in
       through_terms m agrees gives draw atoms good (terms_by to) (came_by to) (all_formed to es whole) here
 
-  record Over (es : List Event) (F : List Tree) (V : List A) (e i : ℕ) (arrivals : List A) : Type 0 where
-    played : Played A
-    is : Walk m draw es F V e i arrivals played
-    end : played.end ≡ done
-    used : played.left ≡ []
-
   values_next : (pre : List Event) (e : Event) (xs : List Tree) (V : List A) → later_with (e ∷ []) (came (e ∷ [])) ≡ xs → V ≡ map of (came_by pre) → V ++ map of xs ≡ map of (came_by (pre ++ e ∷ []))
   values_next pre e xs V is v = ap (λ l. l ++ map of xs) v ∙ sym (map-append of (came_by pre) xs) ∙ ap (λ l. map of (came_by pre ++ l)) (sym is) ∙ ap (map of) (sym (came_next pre e))
 
   walk : (es pre : List Event) (F : List Tree) (V : List A) (e i : ℕ) → plan ≡ pre ++ es → F ≡ terms_by pre → V ≡ map of (came_by pre) → Agree m F V → CanSend m.has F es → IsFreshAfter F es
-      → DrawsFrom i (made es) → Over es F V e i (map of (came es))
+      → DrawsFrom m draw atoms i (made es) → Over m draw es F V e i (map of (came es))
   walk [] pre F V e i is f v agree can new_ones drawn = record { played = ends done []; is = refl; end = refl; used = refl }
   walk (know t ∷ es) pre F V e i is f v agree can new_ones drawn =
       let g : F ≡ terms_by (pre ++ know t ∷ []) = f ∙ sym (terms_next pre (know t) ∙ append-nil (terms_by pre)) in
@@ -142,7 +128,7 @@ module _ {A : Type 0} (m : Meaning A) (agrees : HonestAgree m) (gives : GivesOne
       let h = walk es (pre ++ send t ∷ []) F V (e + 1) i (is ∙ sym (append_assoc pre (send t ∷ []) es)) g w agree can.1 new_ones drawn in
       record { played = says b.0 h.played; is = (b.0, h.played, b.1, h.is, refl); end = h.end; used = h.used }
   walk (fresh t ∷ es) pre F V e i is f v agree can ((a, atom, avoids), new_ones) drawn =
-      let d : draw i ≡ of t = draws_now i t (made es) drawn in
+      let d : draw i ≡ of t = draws_now m draw atoms i t (made es) drawn in
       let own : of t ≡ atoms a = ap of atom in
       let value : IsTrue (m.is_value (draw i)) = subst (λ x. IsTrue (m.is_value x)) (sym (d ∙ own)) (good a) in
       let values = subst (AreValues m) (sym v) (agrees atoms (came_by pre) good (all_formed pre (fresh t ∷ es) is)).0 in
@@ -150,7 +136,7 @@ module _ {A : Type 0} (m : Meaning A) (agrees : HonestAgree m) (gives : GivesOne
       let g : F ++ t ∷ [] ≡ terms_by (pre ++ fresh t ∷ []) = ap (λ l. l ++ t ∷ []) f ∙ sym (terms_next pre (fresh t)) in
       let w : V ++ draw i ∷ [] ≡ map of (came_by (pre ++ fresh t ∷ [])) = ap (λ x. V ++ x ∷ []) d ∙ values_next pre (fresh t) (t ∷ []) V refl v in
       let h = walk es (pre ++ fresh t ∷ []) (F ++ t ∷ []) (V ++ draw i ∷ []) e (i + 1) (is ∙ sym (append_assoc pre (fresh t ∷ []) es)) g w more can new_ones
-      (draws_on i t (made es) drawn) in
+      (draws_on m draw atoms i t (made es) drawn) in
       record { played = h.played; is = h.is; end = h.end; used = h.used }
   walk (recv t ∷ es) pre F V e i is f v agree can new_ones drawn =
       let x = put_in (other_name names (is_drawn plan)) t in
