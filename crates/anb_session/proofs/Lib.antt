@@ -4,3 +4,4 @@ pub mod Faults
 pub mod Prompt
 pub mod Turning
 pub mod Written
+pub mod Standing

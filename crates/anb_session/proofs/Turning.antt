@@ -1,16 +1,19 @@
 -- What a turn comes to, from what its calls did.
 use Rattle.std.proofs.Common.{◌≡◌, ℕ, List, [], ◌∷◌, ◌++◌, Option, refl, sym, ap, ◌∙◌, subst, append_assoc}
+use Rattle.std.proofs.lemmas.List.{append-nil}
 use Rattle.anb_base.specs.Moves.{Put}
 use Rattle.anb_base.specs.Wires.{WireState}
 use Rattle.anb_base.specs.declared.TheConstants.{ARRIVAL}
 use Rattle.anb_base.proofs.Moving.{put_nothing}
 use Rattle.anb_frame.specs.Cuts.{Tail, CutLeft}
 use Rattle.anb_frame.specs.Frames.{frame}
+use Rattle.anb_machine.specs.Machines.{MachineValue}
 use Rattle.anb_machine.specs.declared.turn.Halt.{Halt}
 use Rattle.anb_plays.specs.Plays.{ends, says, done, stopped, waiting, Run}
 use Rattle.anb_session.specs.declared.PlayEnd.{PlayEnd}
 use Rattle.anb_session.specs.declared.PlayEnd.TheVariants.{Done, Stopped, Waiting, NoMemory}
 use Rattle.anb_session.specs.Sessions.{Runs, end_at}
+use Rattle.anb_session.specs.Standing.{CameTo, StandsAt}
 use Rattle.anb_session.specs.Turns.{EndsWaiting, Receives, WaitsPromptly, ReceivesPromptly, SendsPromptly, Passes, Closes, Hears, WentOn, HeardAll}
 use Rattle.anb_session.proofs.Continued.{saying, receiving, going_nowhere, continued, ending, is_done, is_stopped}
 use Rattle.anb_session.proofs.Prompt.{prompt_still, nowhere_promptly, joined_promptly, prompt_whole}
@@ -129,3 +132,12 @@ module _ {A : Type 0} (Follows : A → List (List ℕ) → A → Type 0) where
               let f = one.first arrivals tail cut in
               f.1 ∙ ap (λ xs. one.used ++ xs) (l.2 f.0 tail f.2),
         )
+
+    -- it came to an end here, where it stands so
+    pub came_at_last : (end : PlayEnd) (machine : MachineValue) → Follows y [] z → StandsAt machine end → CameTo Follows x z machine s end
+    came_at_last end machine last stands = record {
+      used = one.used ++ [];
+      follows = joined x y z one.used [] one.follows last;
+      first = λ arrivals tail cut. let f = one.first arrivals tail cut in (f.0, f.1 ∙ ap (λ (l : List (List ℕ)). l ++ f.0) (sym (append-nil one.used)));
+      stands = stands;
+    }

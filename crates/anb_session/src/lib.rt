@@ -2,7 +2,7 @@
 //! come in.
 #![tactic(auto)]
 
-ghost use Rattle.std.specs.Prelude.{◌≡◌, ◌≢◌, ◌≤◌, ◌<◌, ℕ, List, length, true, IfOk, OnOk, IfErr, IfSome, IfNone};
+ghost use Rattle.std.specs.Prelude.{◌≡◌, ◌≢◌, ◌⊎◌, ◌≤◌, ◌<◌, ℕ, List, [], length, true, IfOk, OnOk, IfErr, IfSome, IfNone};
 ghost use Rattle.anb_base.specs.Moves.{Put};
 ghost use Rattle.anb_base.specs.declared.TheConstants.{ARRIVAL, WIDE};
 ghost use Rattle.anb_frame.specs.Frames.{frame};
@@ -10,6 +10,7 @@ ghost use Rattle.anb_frame.specs.Cuts.{Tail, CutLeft};
 ghost use Rattle.anb_machine.specs.Machines.{gives, left as left_in, waits};
 ghost use Rattle.anb_session.specs.Faults.{IsQuiet, TellsEnd};
 ghost use Rattle.anb_session.specs.Sessions.{Runs, IsPrompt, waits_at};
+ghost use Rattle.anb_session.specs.Standing.{CameTo, ComesOf, StandsAt};
 ghost use Rattle.anb_session.specs.Turns.{EndsSending, EndsWaiting, Receives, Passes, Closes, AwaitsNow, WentOn, HeardAll};
 ghost use Rattle.anb_session.specs.Turns.{WaitsPromptly, ReceivesPromptly, SendsPromptly, TookNothing};
 
@@ -67,6 +68,8 @@ pub fn play_all<P: Playable, W: Wire>(alloc: Global, played: &mut P, wire: &mut 
         (W.state wire.old) (W.state wire.new) }
     ensures awaits { waits_at result ≡ true → AwaitsNow (P.machine played.new) }
     ensures heard { HeardAll P.Follows played.old played.new (W.state wire.old) result }
+    ensures came { result ≢ PlayEnd.NoMemory
+        → CameTo P.Follows played.old played.new (P.machine played.new) (W.state wire.old) result }
     ensures faults { TellsEnd (W.state wire.old) (W.state wire.new) result }
 {
     let Ok(mut buffer) = vec![in alloc; 0u8; ARRIVAL as usize] else {
@@ -100,6 +103,9 @@ fn turn<P: Playable, W: Wire>(
     ensures awaits { IfSome result (λ end. waits_at end ≡ true → AwaitsNow (P.machine played.new)) }
     ensures heard { IfSome result
         (HeardAll P.Follows played.old played.new (W.state wire.old)) }
+    ensures stood { IfSome result (λ end. end ≢ PlayEnd.NoMemory
+        → P.Follows played.old [] played.new) }
+    ensures stands { IfSome result (StandsAt (P.machine played.new)) }
     ensures faults { IfSome result (TellsEnd (W.state wire.old) (W.state wire.new)) }
 {
     match played.advance(alloc) {
@@ -128,6 +134,8 @@ pub fn send<W: Wire>(alloc: Global, wire: &mut W, message: &[u8]) -> Result<(), 
         (SendsPromptly message.now (W.state wire.old) (W.state wire.new)) }
     ensures took_nothing { TookNothing (W.state wire.old) (W.state wire.new) }
     ensures waits { IfErr result (λ end. waits_at end ≢ true) }
+    ensures cut_off { IfErr result (λ end.
+        (end ≡ PlayEnd.WriteFault) ⊎ (end ≡ PlayEnd.NoMemory)) }
     ensures quiet { OnOk result (IsQuiet (W.state wire.old) (W.state wire.new)) }
     ensures faults { IfErr result (TellsEnd (W.state wire.old) (W.state wire.new)) }
 {
@@ -160,6 +168,7 @@ pub fn receive<W: Wire>(
         WaitsPromptly event (W.state wire.old) (W.state wire.new)) }
     ensures written { W.written wire.new ≡ W.written wire.old }
     ensures no_write_fault { result ≢ Err PlayEnd.WriteFault }
+    ensures comes { IfErr result (ComesOf event) }
     ensures quiet { OnOk result (IsQuiet (W.state wire.old) (W.state wire.new)) }
     ensures faults { IfErr result (TellsEnd (W.state wire.old) (W.state wire.new)) }
 {

@@ -3,6 +3,7 @@
 ghost use Rattle.std.specs.Prelude.{◌≡◌, ◌≢◌, ◌≤◌, ◌<◌, ℕ, List, [], ◌∷◌, ◌++◌, length, IsTrue, OnOk};
 ghost use Rattle.anb_base.specs.declared.TheConstants.{ARRIVAL, WIDE};
 ghost use Rattle.anb_machine.specs.Machines.{MachineValue, gives, left, waits, Turned};
+ghost use Rattle.anb_session.specs.Standing.{IsNext};
 
 use anb_base::{Bytes, NoMemory};
 use anb_machine::{Machine, Turn};
@@ -25,6 +26,7 @@ pub trait Playable {
     /// Takes the arrival that it wants.
     fn arrive(&mut self, bytes: Bytes) -> Result<(), NoMemory>
         requires waits { IsTrue (waits (machine self.old)) }
+        requires next { IsNext (machine self.old) }
         requires short { length bytes ≤ ARRIVAL }
         ensures gives { OnOk result ((arrivals : List (List ℕ))
             → gives (machine self.old) (bytes ∷ arrivals) ≡ gives (machine self.new) arrivals) }

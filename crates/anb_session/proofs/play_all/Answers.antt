@@ -3,7 +3,7 @@ use Rattle.anb_machine.specs.Machines.{gives}
 use Rattle.anb_session.specs.Turns.{Ends}
 use Rattle.anb_session.proofs.Faults.{quiet_still, quiet_joined, ends_later, wants_memory}
 use Rattle.anb_session.proofs.Prompt.{prompt_still}
-use Rattle.anb_session.proofs.Turning.{by_told, passes_nowhere, passes_joined, closes_behind, went_nowhere, went_further, heard_at_last}
+use Rattle.anb_session.proofs.Turning.{by_told, passes_nowhere, passes_joined, closes_behind, went_nowhere, went_further, heard_at_last, came_at_last}
 use Rattle.anb_session.proofs.Written.{written_back}
 use Rattle.anb_session.proofs.play_all.Goals as goal
 
@@ -49,6 +49,7 @@ returns-in-Some g c =
       prompt = closes.prompt;
       awaits = last.awaits;
       heard = heard_at_last g.P.Playable.Follows g.met.P.Playable.joined c.args.played.now c.loop-end.played c.turn.new.played s t old.went_on end last.heard;
+      came = λ some. came_at_last g.P.Playable.Follows g.met.P.Playable.joined c.args.played.now c.loop-end.played c.turn.new.played s t old.went_on end (machine c.turn.new.played) (last.stood some) last.stands;
       faults = ends_later s t u end old.quiet last.faults;
     }
 
@@ -63,3 +64,6 @@ returns-in_default-clause-heard g c = λ e is. absurd (cc)
 
 pub returns-in_default-clause-faults : goal.returns-in_default-clause-faults
 returns-in_default-clause-faults g c = wants_memory (g.W.Wire.state c.args.wire.now)
+
+pub returns-in_default-clause-came : goal.returns-in_default-clause-came
+returns-in_default-clause-came g c = λ some. absurd (some refl)

@@ -1,4 +1,4 @@
-use Rattle.std.proofs.Common.{◌≡◌, ℕ, List, [], ◌∷◌, sym, ap, ◌∙◌}
+use Rattle.std.proofs.Common.{◌≡◌, ℕ, List, [], ◌∷◌, refl, sym, ap, ◌∙◌}
 use Rattle.anb_base.specs.Moves.{Put}
 use Rattle.anb_frame.specs.Frames.{frame}
 use Rattle.anb_plays.specs.Plays.{Played, says}
@@ -10,6 +10,7 @@ use Rattle.anb_session.proofs.Answered.{no_error, no_error_twice, an_error}
 use Rattle.anb_session.proofs.Faults.{quiet_still, ends_quietly, wants_memory}
 use Rattle.anb_session.proofs.Prompt.{prompt_nothing}
 use Rattle.anb_session.proofs.Turning.{by_told, passes_saying, hears_so, closes_done, closes_stopped, closes_wanting, wanting_room, went_nowhere, went_hearing, heard_nothing}
+use Rattle.anb_session.proofs.Standing.{stands_unsent, stands_waiting}
 use Rattle.anb_session.proofs.turn.Goals as goal
 
 -- ---- a message
@@ -137,3 +138,40 @@ returns-in-NoMemory-clause-closes g c = closes_wanting (gives (g.P.Playable.mach
 
 pub returns-in-NoMemory-clause-faults : goal.returns-in-NoMemory-clause-faults
 returns-in-NoMemory-clause-faults g c = wants_memory (g.W.Wire.state c.args.wire.now)
+
+-- ---- where it stands
+
+pub arrive-requires-clause-next : goal.arrive-requires-clause-next
+arrive-requires-clause-next g c = (c.in-Wants.event, c.in-Wants.ensures.turned.1)
+
+pub returns-in-Message-clause-stood : goal.returns-in-Message-clause-stood
+returns-in-Message-clause-stood g c =
+    an_error c.send.result c.err.result _ _ c.err.ensures.value c.send.ensures.cut_off (λ end off some. c.in-Message.ensures.followed (λ is. cc))
+
+pub returns-in-Message-clause-stands : goal.returns-in-Message-clause-stands
+returns-in-Message-clause-stands g c =
+    an_error c.send.result c.err.result _ _ c.err.ensures.value c.send.ensures.cut_off (λ end off. stands_unsent (g.P.Playable.machine c.advance.new.self) end off)
+
+pub returns-in-Err-clause-stood : goal.returns-in-Err-clause-stood
+returns-in-Err-clause-stood g c = λ some. c.in-Wants.ensures.followed (λ is. cc)
+
+pub returns-in-Err-clause-stands : goal.returns-in-Err-clause-stands
+returns-in-Err-clause-stands g c = stands_waiting (g.P.Playable.machine c.advance.new.self) c.in-Wants.event c.in-Err.end c.in-Wants.ensures.turned.1 c.in-Err.ensures.comes
+
+pub returns-in-Err-arrive-clause-stood : goal.returns-in-Err-arrive-clause-stood
+returns-in-Err-arrive-clause-stood g c = λ some. absurd (some refl)
+
+pub returns-in-Done-clause-stood : goal.returns-in-Done-clause-stood
+returns-in-Done-clause-stood g c = λ some. c.in-Done.ensures.followed (λ is. cc)
+
+pub returns-in-Done-clause-stands : goal.returns-in-Done-clause-stands
+returns-in-Done-clause-stands g c = sym (c.in-Done.ensures.turned.0 []) ∙ c.in-Done.ensures.turned.1 []
+
+pub returns-in-Stopped-clause-stood : goal.returns-in-Stopped-clause-stood
+returns-in-Stopped-clause-stood g c = λ some. c.in-Stopped.ensures.followed (λ is. cc)
+
+pub returns-in-Stopped-clause-stands : goal.returns-in-Stopped-clause-stands
+returns-in-Stopped-clause-stands g c = sym (c.in-Stopped.ensures.turned.0 []) ∙ c.in-Stopped.ensures.turned.1 []
+
+pub returns-in-NoMemory-clause-stood : goal.returns-in-NoMemory-clause-stood
+returns-in-NoMemory-clause-stood g c = λ some. absurd (some refl)
