@@ -23,7 +23,7 @@ use Rattle.anb_command.proofs.Ones.{as_given, as_refused, not_both, same_given, 
 use Rattle.anb_command.proofs.Preparing.{told_both}
 use Rattle.anb_role_commands.specs.Jobs.{IsRead, Job, JobIs, JobOf, makes_names}
 use Rattle.anb_role_commands.specs.PlayCommand.{PlayOf}
-use Rattle.anb_role_commands.specs.Playing.{IsPlayable, IsPlayableInEach, PlayIn, play_by, play_in}
+use Rattle.anb_role_commands.specs.Playing.{IsPlayable, IsPlayableInEach, IsPreparedFor, PlayIn, play_by, play_in}
 use Rattle.anb_role_commands.proofs.Draws.{draws_as_made}
 
 -- ---- a code that fits plays its job
@@ -86,6 +86,19 @@ module _ (values : List ℕ) (host_seed : Option (List ℕ)) (p : ProtocolValue)
         comes = plays_as p role code initial seed law fits (count_known p role code initial fits (subst (λ (c : CodeValue). length initial ≡ length (take_texts c.instrs)) is each)) bytes;
       }) (subst (λ (c : CodeValue). IfTold told (λ files. ErrandOf files values host_seed code (given (record { code = c; initial = initial; seed = seed })))) is errand))
 
+  pub role_prepared : (told : Option Files) (same : CodeValue) (initial : List (List ℕ)) (seed : List ℕ) → same ≡ code → IfTold told (λ files. ErrandOf files values host_seed code (given (record { code = same; initial = initial; seed = seed })))
+      → FittingCodesPlay p → length initial ≡ length (take_texts same.instrs) → AllByRecursion IsBytes initial
+      → IfTold told (λ files. IsPreparedFor (JobOf files values host_seed (record { protocol = p; role = role })) same initial seed)
+  role_prepared told same initial seed is errand law each bytes =
+      subst (λ (c : CodeValue). IfTold told (λ files. IsPreparedFor (JobOf files values host_seed (record { protocol = p; role = role })) c initial seed)) (sym is)
+      (told_map told (λ files e. record {
+        protocol = p;
+        role = role;
+        asks = job_given files initial seed e;
+        texts = fits.texts;
+        comes = plays_as p role code initial seed law fits (count_known p role code initial fits (subst (λ (c : CodeValue). length initial ≡ length (take_texts c.instrs)) is each)) bytes;
+      }) (subst (λ (c : CodeValue). IfTold told (λ files. ErrandOf files values host_seed code (given (record { code = c; initial = initial; seed = seed })))) is errand))
+
   pub role_ready_in_each : (told : Option Files) (same : CodeValue) (initial : List (List ℕ)) (seed : List ℕ) → same ≡ code → IfTold told (λ files. ErrandOf files values host_seed code (given (record { code = same; initial = initial; seed = seed })))
       → FittingCodesPlay p → length initial ≡ length (take_texts same.instrs) → AllByRecursion IsBytes initial
       → IfTold told (λ files. IsPlayableInEach (JobOf files values host_seed (record { protocol = p; role = role })) same initial seed)
@@ -114,6 +127,11 @@ module _ (told : Option Files) (narration name values : List ℕ) (host_seed : O
   pub whole_ready_in_each : (part : Part) (code : CodeValue) (initial : List (List ℕ)) (seed : List ℕ) → IfTold told (λ files. PartInFile files narration name (given part))
       → IfTold told (λ files. IsPlayableInEach (JobOf files values host_seed part) code initial seed) → IfTold told (λ files. IsPlayableInEach (JobIs files narration name values host_seed) code initial seed)
   whole_ready_in_each part code initial seed first next = told_both told (λ files f n. record { asked = n.asked; asks = inr (part, f, n.asks); comes = n.comes }) first next
+
+  pub whole_prepared : (part : Part) (code : CodeValue) (initial : List (List ℕ)) (seed : List ℕ) → IfTold told (λ files. PartInFile files narration name (given part))
+      → IfTold told (λ files. IsPreparedFor (JobOf files values host_seed part) code initial seed) → IfTold told (λ files. IsPreparedFor (JobIs files narration name values host_seed) code initial seed)
+  whole_prepared part code initial seed first next =
+      told_both told (λ files f n. record { protocol = n.protocol; role = n.role; asks = inr (part, f, n.asks); texts = n.texts; comes = n.comes }) first next
 
   pub narration_read : (file : List ℕ) → file ≡ narration → IfTold told (λ files. IsRead files narration name values file)
   narration_read file is = by told where

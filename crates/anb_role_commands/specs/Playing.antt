@@ -1,10 +1,13 @@
 -- A code that plays a role.
-use Rattle.std.specs.Prelude.{ℕ, List}
+use Rattle.std.specs.Prelude.{◌≡◌, ℕ, List}
 use Rattle.anb_plays.specs.Plays.{Played}
 use Rattle.anb_plays.specs.Runs.{without_place}
 use Rattle.anb_code.specs.CodeValue.{CodeValue}
+use Rattle.anb_code.specs.Taking.{take_texts}
 use Rattle.anb_machine.specs.ByteRuns.{run_bytes}
 use Rattle.anb_protocol.specs.Plays.{IsPlay}
+use Rattle.anb_protocol.specs.Protocols.{ProtocolValue}
+use Rattle.anb_protocol.specs.Texts.{known_texts}
 use Rattle.anb_command.specs.Prepared.{IsReady, IsRunBy}
 use Rattle.anb_command.specs.Steps.{Answer, given}
 use Rattle.anb_role_commands.specs.Jobs.{Job}
@@ -17,6 +20,15 @@ play_by code initial seed arrivals = without_place (run_bytes code initial seed 
 -- there is something to play, and the code plays it
 abbrev pub IsPlayable : (Answer Job → Type 0) → CodeValue → (initial : List (List ℕ)) → (seed : List ℕ) → Type 0
 IsPlayable Prepares code initial seed = IsReady PlayOf Prepares (play_by code initial seed)
+
+-- what is asked has these initial values and this seed, the code's takes have the texts of what its role
+-- knows, and the code plays it
+pub record IsPreparedFor (Prepares : Answer Job → Type 0) (code : CodeValue) (initial : List (List ℕ)) (seed : List ℕ) : Type 0 where
+  pub protocol : ProtocolValue
+  pub role : ℕ
+  pub asks : Prepares (given (record { protocol = protocol; role = role; initial = initial; seed = seed }))
+  pub texts : take_texts code.instrs ≡ known_texts protocol role
+  pub comes : IsRunBy PlayOf (record { protocol = protocol; role = role; initial = initial; seed = seed }) (play_by code initial seed)
 
 -- ---- in any session
 

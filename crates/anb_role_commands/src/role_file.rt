@@ -56,7 +56,7 @@ pub fn enact<F: Shelf, W: Wire>(
 }
 
 /// Reads the files of a run.
-fn load_prepared<F: Shelf>(
+pub fn load_prepared<F: Shelf>(
     alloc: Global,
     shelf: &mut F,
     words: EnactWords,

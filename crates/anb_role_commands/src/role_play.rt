@@ -17,7 +17,7 @@ ghost use Rattle.anb_command.specs.Steps.{IsFailure, refused, given};
 ghost use Rattle.anb_command.specs.Touches.{Touches};
 ghost use Rattle.anb_role_commands.specs.Jobs.{IsRead, JobIs, JobOf};
 ghost use Rattle.anb_role_commands.specs.PlayCommand.{CompletesPlay, DoesPlay};
-ghost use Rattle.anb_role_commands.specs.Playing.{IsPlayable, IsPlayableInEach, play_by};
+ghost use Rattle.anb_role_commands.specs.Playing.{IsPlayable, IsPlayableInEach, IsPreparedFor, play_by};
 
 use anb_base::{ARRIVAL, Shelf, Text, Wire};
 use anb_command::{
@@ -102,6 +102,10 @@ pub fn prepare<F: Shelf>(
         IsPlayable
         (JobIs files words.entry.narration.now words.entry.name.now words.entry.values.now host_seed)
         p.code p.initial p.seed)) }
+    ensures prepared { IfOk result (λ p. IfTold (F.files shelf.old) (λ files.
+        IsPreparedFor
+        (JobIs files words.entry.narration.now words.entry.name.now words.entry.values.now host_seed)
+        p.code p.initial p.seed)) }
     ensures sessions { IfOk result (λ p. IfTold (F.files shelf.old) (λ files.
         IsPlayableInEach
         (JobIs files words.entry.narration.now words.entry.name.now words.entry.values.now host_seed)
@@ -139,6 +143,9 @@ fn prepare_role<F: Shelf>(
     requires fits { FitsRole playable.protocol playable.role playable.code }
     ensures ready { IfOk result (λ p. IfTold (F.files shelf.old) (λ files.
         IsPlayable (JobOf files values.now host_seed
+        (record { protocol = playable.protocol; role = playable.role })) p.code p.initial p.seed)) }
+    ensures prepared { IfOk result (λ p. IfTold (F.files shelf.old) (λ files.
+        IsPreparedFor (JobOf files values.now host_seed
         (record { protocol = playable.protocol; role = playable.role })) p.code p.initial p.seed)) }
     ensures sessions { IfOk result (λ p. IfTold (F.files shelf.old) (λ files.
         IsPlayableInEach (JobOf files values.now host_seed

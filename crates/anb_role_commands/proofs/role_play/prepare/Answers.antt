@@ -4,7 +4,7 @@ use Rattle.anb_lemmas.proofs.Results.{if_ok_map}
 use Rattle.anb_command.specs.Roles.{Part}
 use Rattle.anb_command.proofs.Failing.{IsFailure-map}
 use Rattle.anb_command.proofs.Preparing.{if_err_map}
-use Rattle.anb_role_commands.proofs.Preparing.{part_refused, job_refused, whole_ready, whole_ready_in_each, narration_read, values_read}
+use Rattle.anb_role_commands.proofs.Preparing.{part_refused, job_refused, whole_prepared, whole_ready, whole_ready_in_each, narration_read, values_read}
 use Rattle.anb_role_commands.proofs.role_play.prepare.Goals as goal
 
 pub returns-in-Ok-clause-ready : goal.returns-in-Ok-clause-ready
@@ -14,6 +14,14 @@ returns-in-Ok-clause-ready g c =
     if_ok_map c.prepare_role.result _ _ (λ p is.
     whole_ready (g.F.Shelf.files c.args.shelf.now) c.args.words.narration.now c.args.words.name.now c.args.words.values.now c.args.host_seed
     (record { protocol = playable.protocol; role = playable.role }) p.code p.initial p.seed c.in-Ok.ensures.given is) (rw kept at c.prepare_role.ensures.ready)
+
+pub returns-in-Ok-clause-prepared : goal.returns-in-Ok-clause-prepared
+returns-in-Ok-clause-prepared g c =
+    let kept = c.playable_in_file.ensures.fetches.same_files in
+    let playable = c.in-Ok.playable in
+    if_ok_map c.prepare_role.result _ _ (λ p is.
+    whole_prepared (g.F.Shelf.files c.args.shelf.now) c.args.words.narration.now c.args.words.name.now c.args.words.values.now c.args.host_seed
+    (record { protocol = playable.protocol; role = playable.role }) p.code p.initial p.seed c.in-Ok.ensures.given is) (rw kept at c.prepare_role.ensures.prepared)
 
 pub returns-in-Ok-clause-sessions : goal.returns-in-Ok-clause-sessions
 returns-in-Ok-clause-sessions g c =

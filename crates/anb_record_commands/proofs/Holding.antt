@@ -1,0 +1,63 @@
+-- What a folder holds once lines were appended to its transcript.
+use Rattle.std.proofs.Common.{◌≡◌, ◌≢◌, ℕ, false, List, [], ◌∷◌, ◌++◌, length, Option, Some, None, refl, ap, sym, ◌∙◌, subst, inl, inr, arith, append_assoc, length-append}
+use Rattle.std.specs.Prelude.{bytes_eq, codes}
+use Rattle.std.proofs.lemmas.List.{append-nil}
+use Rattle.anb_lemmas.proofs.Items.{bytes_differ, bytes_eq-same}
+use Rattle.anb_store.specs.Stores.{StoreState, with_file}
+use Rattle.anb_transcript.specs.declared.transcript.TranscriptLine.{TranscriptLine}
+use Rattle.anb_recording.specs.Journals.{Files, appended, begun}
+use Rattle.anb_recording.specs.Lines.{line_text, lines_text}
+use Rattle.anb_recording.specs.Recordings.{all_appended}
+use Rattle.anb_record_commands.specs.Names.{transcript_in, values_in}
+use Rattle.anb_record_commands.specs.Outcomes.{HoldsIn}
+
+pub names_differ : (folder : List ℕ) → values_in folder ≢ transcript_in folder
+names_differ folder is =
+    let same : length (values_in folder) ≡ length (transcript_in folder) = ap (length {A = ℕ}) is in
+    let seven : length (codes "/values") ≡ 7 = refl in
+    let eleven : length (codes "/transcript") ≡ 11 = refl in
+    omega (arith, same, seven, eleven, length-append folder (codes "/values"), length-append folder (codes "/transcript"))
+
+with_same : (files : Files) (name content : List ℕ) → with_file files name content name ≡ Some content
+with_same files name content = rw (bytes_eq-same name) refl
+
+with_other : (files : Files) (name content other : List ℕ) → other ≢ name → with_file files name content other ≡ files other
+with_other files name content other differ = rw (bytes_differ other name differ) refl
+
+-- a store with these files, in which one holds a text and the others are as they were at first
+record HoldsText (file text : List ℕ) (at_first : Files) (store : StoreState) : Type 0 where
+  files : Files
+  told : store.files ≡ Some files
+  holds : files file ≡ Some text
+  others : (name : List ℕ) → name ≢ file → files name ≡ at_first name
+
+module _ (file : List ℕ) (at_first : Files) where
+  appended_text : (lines : List TranscriptLine) (text : List ℕ) (store : StoreState) → HoldsText file text at_first store → HoldsText file (text ++ lines_text lines) at_first (all_appended file store lines)
+  appended_text [] text store holds = subst (λ (t : List ℕ). HoldsText file t at_first store) (sym (append-nil text)) holds
+  appended_text (line ∷ lines) text store holds =
+      subst (λ (t : List ℕ). HoldsText file t at_first (all_appended file store (line ∷ lines))) (append_assoc text (line_text line) (lines_text lines))
+      (appended_text lines (text ++ line_text line) (appended store file (line_text line)) (record {
+        files = with_file holds.files file (text ++ line_text line);
+        told = rw (holds.told, holds.holds) refl;
+        holds = with_same holds.files file (text ++ line_text line);
+        others = λ name differ. with_other holds.files file (text ++ line_text line) name differ ∙ holds.others name differ;
+      }))
+
+pub folder_holds : (folder values : List ℕ) (lines : List TranscriptLine) (store : StoreState)
+    → HoldsIn folder store (all_appended (transcript_in folder) (begun store (values_in folder) values (transcript_in folder)) lines) values (lines_text lines)
+folder_holds folder values lines store files told =
+    let v = values_in folder in
+    let t = transcript_in folder in
+    let first : Files = with_file files v values in
+    let h = appended_text t first lines [] (begun store v values t) (record {
+      files = with_file first t [];
+      told = rw told refl;
+      holds = with_same first t [];
+      others = λ name differ. with_other first t [] name differ;
+    }) in (
+      h.files,
+      h.told,
+      h.others v (names_differ folder) ∙ with_same files v values,
+      h.holds,
+      λ name other. h.others name (λ is. other (inr is)) ∙ with_other files v values name (λ is. other (inl is)),
+    )

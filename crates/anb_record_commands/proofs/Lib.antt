@@ -1,0 +1,6 @@
+pub mod Telling
+pub mod Holding
+pub mod Placeless
+pub mod Asked
+pub mod Recorded
+pub mod Replayed

@@ -1,0 +1,49 @@
+use Rattle.std.proofs.Common.{[], ◌∷◌, refl}
+use Rattle.anb_words.specs.Commands.{place_by}
+use Rattle.anb_record_commands.proofs.Telling.{told_cause, told_faults, told_reaches, told_touches}
+use Rattle.anb_record_commands.proofs.enacting.enact_into.Goals as goal
+
+pub returns-clause-does : goal.returns-clause-does
+returns-clause-does g c =
+    let e = c.enact_recorded.ensures in
+    record {
+      end = c.enact_recorded.result.status;
+      missed = c.enact_recorded.result.missing;
+      enacts = e.does;
+      told_so = c.told.ensures;
+      why_missed = e.why_missed;
+      early = e.early;
+      recorded = e.recorded;
+    }
+
+pub returns-clause-faults : goal.returns-clause-faults
+returns-clause-faults g c =
+    let e = c.enact_recorded.ensures in
+    let r = c.enact_recorded.result in
+    rw c.told.ensures
+    (told_cause c.args.folder.now (g.J.Store.state c.args.journal.now) (g.J.Store.state c.enact_recorded.new.journal) (g.W.Wire.state c.args.wire.now) (g.W.Wire.state c.enact_recorded.new.wire) r.status r.missing e.why_missed
+    (c.args.words.code.now ∷ c.args.words.values.now ∷ []) (place_by c.args.words.endpoint) (g.F.Shelf.faults c.args.shelf.now) (g.F.Shelf.faults c.enact_recorded.new.shelf) e.faults)
+
+pub returns-clause-reported : goal.returns-clause-reported
+returns-clause-reported g c =
+    let e = c.enact_recorded.ensures in
+    let r = c.enact_recorded.result in
+    rw c.told.ensures
+    (told_faults c.args.folder.now (g.J.Store.state c.args.journal.now) (g.J.Store.state c.enact_recorded.new.journal) (g.W.Wire.state c.args.wire.now) (g.W.Wire.state c.enact_recorded.new.wire) r.status r.missing e.why_missed
+    (c.args.words.code.now ∷ c.args.words.values.now ∷ []) (place_by c.args.words.endpoint) (g.F.Shelf.faults c.args.shelf.now) (g.F.Shelf.faults c.enact_recorded.new.shelf) e.reported)
+
+pub returns-clause-reached : goal.returns-clause-reached
+returns-clause-reached g c =
+    let e = c.enact_recorded.ensures in
+    let r = c.enact_recorded.result in
+    rw c.told.ensures
+    (told_reaches c.args.folder.now (g.J.Store.state c.args.journal.now) (g.J.Store.state c.enact_recorded.new.journal) (g.W.Wire.state c.args.wire.now) (g.W.Wire.state c.enact_recorded.new.wire) r.status r.missing e.why_missed
+    (c.args.words.code.now ∷ c.args.words.values.now ∷ []) (place_by c.args.words.endpoint) (g.F.Shelf.faults c.args.shelf.now) (g.F.Shelf.faults c.enact_recorded.new.shelf) e.reached)
+
+pub returns-clause-touches : goal.returns-clause-touches
+returns-clause-touches g c =
+    let e = c.enact_recorded.ensures in
+    let r = c.enact_recorded.result in
+    rw c.told.ensures
+    (told_touches c.args.folder.now (g.J.Store.state c.args.journal.now) (g.J.Store.state c.enact_recorded.new.journal) (g.W.Wire.state c.args.wire.now) (g.W.Wire.state c.enact_recorded.new.wire) r.status r.missing e.why_missed
+    (c.args.words.code.now ∷ c.args.words.values.now ∷ []) (place_by c.args.words.endpoint) (g.F.Shelf.faults c.args.shelf.now) (g.F.Shelf.faults c.enact_recorded.new.shelf) e.touches)

@@ -1,0 +1,16 @@
+-- What the code's reading of the words stands for.
+use Rattle.std.specs.Prelude.{Option, Some, None}
+use Rattle.anb_words.specs.Commands.{place_by}
+use Rattle.anb_record_commands.specs.declared.words.RecordingWords.{RecordingWords}
+use Rattle.anb_record_commands.specs.declared.words.RecordingWords.TheVariants as code
+use Rattle.anb_record_commands.specs.Words.{Recording, enact, play}
+
+abbrev pub recording : RecordingWords → Recording
+recording (code.Play words folder) =
+    play words.narration.now words.name.now words.values.now (place_by words.endpoint) folder.now
+recording (code.Enact words folder) =
+    enact words.code.now words.values.now (place_by words.endpoint) folder.now
+
+abbrev pub recording_by : Option RecordingWords → Option Recording
+recording_by None = None
+recording_by (Some words) = Some (recording words)

@@ -1,0 +1,45 @@
+-- A recorded play is replayed to its end.
+use Rattle.std.specs.Prelude.{◌≡◌, ◌+◌, ◌≤◌, ℕ, List, length, Option, Some, None}
+use Rattle.std.specs.List.{AllByRecursion}
+use Rattle.anb_base.specs.Bytes.{IsBytes}
+use Rattle.anb_plays.specs.Plays.{Run}
+use Rattle.anb_recording.specs.Lines.{IsPlain, lines_text}
+use Rattle.anb_status.specs.declared.status.Status.{Status}
+use Rattle.anb_status.specs.declared.status.Status.TheVariants.{Done, ReadFault, Short, Stopped, TooLarge, Truncated, Waiting}
+use Rattle.anb_transcript.specs.declared.transcript.TranscriptLine.{TranscriptLine}
+use Rattle.anb_command.specs.Fetches.{Files}
+use Rattle.anb_command.specs.Steps.{given}
+use Rattle.anb_command.specs.declared.limits.TheConstants.{TRANSCRIPT_LIMIT, VALUES_LIMIT}
+use Rattle.anb_role_commands.specs.Jobs.{Job, JobIs}
+use Rattle.anb_role_commands.specs.PlayCommand.{PlayOf}
+use Rattle.anb_role_commands.specs.ReplayCommand.{ReplayOutcome}
+use Rattle.anb_record_commands.specs.Names.{transcript_in, values_in}
+use Rattle.anb_record_commands.specs.Outcomes.{IsReadAgain, ReplaysAs, text_of}
+use Rattle.anb_record_commands.specs.PlayInto.{job_values}
+
+-- The status of a replay of so many lines, where the play ended so. It ends as the play did; where that
+-- waited for an arrival the transcript ends before the next event. Nothing is said of a play that the
+-- wire cut off in a message.
+abbrev pub replayed_as : (count : ℕ) → Status → Option Status
+replayed_as count Done = Some Done
+replayed_as count (Stopped halt) = Some (Stopped (record { event = halt.event; at = 0 }))
+replayed_as count (Waiting e) = Some (Short (count + 1))
+replayed_as count (Truncated have need) = Some (Short (count + 1))
+replayed_as count (TooLarge len) = Some (Short (count + 1))
+replayed_as count ReadFault = Some (Short (count + 1))
+replayed_as count status = None
+
+-- Wherever the narration is as it was, and the two files of a recorded play are there and short enough to
+-- be read, `replay` ends as the play did, whatever seed the machine has now.
+abbrev pub RecordedPlaysReplay : Type 0
+RecordedPlaysReplay =
+    (files later : Files) (narration name values folder : List ℕ) (host_seed other_seed : Option (List ℕ))
+    (job : Job) (run : Run) (lines : List TranscriptLine) (end due : Status)
+    → JobIs files narration name values host_seed (given job)
+    → ((arrivals : List (List ℕ)) → AllByRecursion IsBytes arrivals → PlayOf job arrivals (run arrivals))
+    → AllByRecursion IsPlain lines → ReplaysAs run lines end → IsReadAgain (job_values job)
+    → later narration ≡ files narration
+    → later (values_in folder) ≡ Some (text_of (job_values job)) → length (text_of (job_values job)) ≤ VALUES_LIMIT
+    → later (transcript_in folder) ≡ Some (lines_text lines) → length (lines_text lines) ≤ TRANSCRIPT_LIMIT
+    → replayed_as (length lines) end ≡ Some due
+    → ReplayOutcome narration name (values_in folder) (transcript_in folder) other_seed later due

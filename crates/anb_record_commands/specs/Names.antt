@@ -1,0 +1,10 @@
+-- The files of a recording, in its folder.
+use Rattle.std.specs.Prelude.{ℕ, List, ◌++◌, codes}
+
+-- the values that were used, with the seed in force
+abbrev pub values_in : (folder : List ℕ) → List ℕ
+values_in folder = folder ++ codes "/values"
+
+-- a line for each message and each arrival
+abbrev pub transcript_in : (folder : List ℕ) → List ℕ
+transcript_in folder = folder ++ codes "/transcript"

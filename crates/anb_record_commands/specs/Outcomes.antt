@@ -1,0 +1,114 @@
+-- What comes of a play that is recorded: its status, and what is in the folder.
+use Rattle.std.specs.Prelude.{◌≡◌, ◌≢◌, ◌⊎◌, ◌+◌, ℕ, Bool, List, [], ◌++◌, length, Option, Some, Ok, if◌then◌else◌}
+use Rattle.std.specs.List.{AllByRecursion}
+use Rattle.anb_base.specs.Bytes.{IsBytes}
+use Rattle.anb_base.specs.Moves.{Rose}
+use Rattle.anb_base.specs.Wires.{WireState}
+use Rattle.anb_base.specs.declared.TheConstants.{ARRIVAL}
+use Rattle.anb_base.specs.declared.place.Place.{Place}
+use Rattle.anb_frame.specs.Cuts.{Tail, CutLeft}
+use Rattle.anb_plays.specs.Plays.{Played, Run, waiting}
+use Rattle.anb_recording.specs.Journals.{Files, IsEither, IsThere, OthersStay}
+use Rattle.anb_recording.specs.Lines.{IsPlain, lines_text}
+use Rattle.anb_store.specs.Stores.{StoreState}
+use Rattle.anb_status.specs.Statuses.{Phase, at_any_time, is_fault, phase_of}
+use Rattle.anb_status.specs.declared.status.Status.{Status}
+use Rattle.anb_status.specs.declared.status.Status.TheVariants.{Unreached, Unwritten, WriteFault, NoMemory}
+use Rattle.anb_status.specs.declared.status.Status.TheVariants as status
+use Rattle.anb_transcript.specs.Replays.{AreDue, Replays, arrivals_of}
+use Rattle.anb_transcript.specs.declared.following.ReplayEnd.{ReplayEnd}
+use Rattle.anb_transcript.specs.declared.following.ReplayEnd.TheVariants as replayed
+use Rattle.anb_transcript.specs.declared.transcript.TranscriptLine.{TranscriptLine}
+use Rattle.anb_values.specs.Fit.{Fit}
+use Rattle.anb_values_text.specs.Texts.{values_text}
+use Rattle.anb_command.specs.Causes.{HasCause}
+use Rattle.anb_command.specs.Steps.{Answer, given}
+use Rattle.anb_record_commands.specs.Names.{transcript_in, values_in}
+use Rattle.anb_record_commands.specs.declared.ended.Missing.{Missing}
+use Rattle.anb_record_commands.specs.declared.ended.Missing.TheVariants as missing
+
+-- The status that is told, where the play ended so by itself and this is missing of its recording. What
+-- can't be written stands in the place of an end that is no fault of its own.
+abbrev pub told_as : (end : Status) → Missing → Status
+told_as end missing.Nothing = end
+told_as end (missing.There name) = Unwritten name
+told_as end (missing.Unwritten name) = if is_fault end then end else Unwritten name
+told_as end missing.NoMemory = if is_fault end then end else NoMemory
+
+-- a status may come when the play's may; that of a file that can't be written comes before the wire is
+-- touched or behind the play
+abbrev pub recorded_phase : Status → Phase
+recorded_phase (Unwritten name) = at_any_time
+recorded_phase s = phase_of s
+
+-- one of the folder's files
+abbrev pub IsOfFolder : (folder : List ℕ) → List ℕ → Type 0
+IsOfFolder folder name = IsEither (values_in folder) (transcript_in folder) name
+
+module _ (folder : List ℕ) (store store_now : StoreState) where
+  -- Why something is missing. A file that is there already is left, and so is the wire. One that couldn't
+  -- be written is counted by the store.
+  abbrev pub IsMissing : (old new : WireState) → (end : Status) → Missing → Type 0
+  IsMissing old new end missing.Nothing = Unit {0}
+  IsMissing old new end missing.NoMemory = Unit {0}
+  IsMissing old new end (missing.Unwritten name) = IsOfFolder folder name × (end ≢ NoMemory → Rose store.faults store_now.faults)
+  IsMissing old new end (missing.There name) =
+      IsOfFolder folder name × IsThere store name × (end ≡ NoMemory) × (new ≡ old) × (store_now ≡ store)
+
+  -- why a fault is answered
+  abbrev pub HasRecordCause : (names : List (List ℕ)) → Option Place → (faults faults_now : List ℕ → ℕ) → (old new : WireState) → Status → Type 0
+  HasRecordCause names place faults faults_now old new (Unwritten name) = IsOfFolder folder name × (IsThere store name ⊎ Rose store.faults store_now.faults)
+  HasRecordCause names place faults faults_now old new s = HasCause names place faults faults_now old new s
+
+  -- wherever the files are told, these two are in the folder now, and each other one is as it was
+  abbrev pub HoldsIn : (values transcript : List ℕ) → Type 0
+  HoldsIn values transcript = (files : Files) → store.files ≡ Some files
+      → (now : Files) × (store_now.files ≡ Some now) × (now (values_in folder) ≡ Some values) × (now (transcript_in folder) ≡ Some transcript)
+      × ((name : List ℕ) → (IsOfFolder folder name → ⊥) → now name ≡ files name)
+
+-- What a replay of these lines comes to where the play ended so: it ends as the play did, and where that
+-- waited it is as a transcript that ends before the next event, at which the run over its arrivals waits.
+abbrev pub ReplaysAs : Run → List TranscriptLine → Status → Type 0
+ReplaysAs R lines status.Done = Replays R lines replayed.Follows
+ReplaysAs R lines (status.Stopped halt) = (n : ℕ) × Replays R lines (replayed.Stopped halt n)
+ReplaysAs R lines (status.Waiting e) = Replays R lines (replayed.Short (length lines + 1)) × ((R (arrivals_of lines)).end ≡ waiting e)
+ReplaysAs R lines (status.Truncated have need) = Replays R lines (replayed.Short (length lines + 1))
+ReplaysAs R lines (status.TooLarge len) = Replays R lines (replayed.Short (length lines + 1))
+ReplaysAs R lines status.ReadFault = Replays R lines (replayed.Short (length lines + 1))
+ReplaysAs R lines WriteFault = AreDue R lines
+ReplaysAs R lines (Unreached place) = lines ≡ []
+ReplaysAs R lines s = Unit {0}
+
+-- the values that a run was given, by their labels, and the seed of its draws
+pub record Valued : Type 0 where
+  pub labels : List (List ℕ)
+  pub initial : List (List ℕ)
+  pub seed : List ℕ
+
+-- their values file, and what it is read as
+abbrev pub text_of : Valued → List ℕ
+text_of g = values_text g.labels g.initial (Some g.seed)
+
+abbrev pub IsReadAgain : Valued → Type 0
+IsReadAgain g = Fit (text_of g) g.labels (Ok (record { values = g.initial; seed = Some g.seed }))
+
+-- What is recorded of a run whose play ended so over an input of which this was left: its transcript,
+-- whose arrivals are the first of those that were there
+pub record HasTranscript (R : Run) (folder : List ℕ) (store store_now : StoreState) (valued : Valued)
+    (left : Option (List ℕ)) (end : Status) : Type 0 where
+  pub lines : List TranscriptLine
+  pub plain : AllByRecursion IsPlain lines
+  pub heard : (arrivals : List (List ℕ)) (tail : Tail) → CutLeft ARRIVAL left arrivals tail
+      → (rest : List (List ℕ)) × (arrivals ≡ arrivals_of lines ++ rest)
+  pub replays : ReplaysAs R lines end
+  pub reads : IsReadAgain valued
+  pub holds : HoldsIn folder store store_now (text_of valued) (lines_text lines)
+
+-- what is recorded of a thing that is asked for, which is given so
+pub record HasRecord {A : Type 0} (IsRunOf : A → List (List ℕ) → Played (List ℕ) → Type 0) (valued_of : A → Valued)
+    (Prepares : Answer A → Type 0) (folder : List ℕ) (store store_now : StoreState) (left : Option (List ℕ)) (end : Status) : Type 0 where
+  pub asked : A
+  pub asks : Prepares (given asked)
+  pub run : Run
+  pub comes : (arrivals : List (List ℕ)) → AllByRecursion IsBytes arrivals → IsRunOf asked arrivals (run arrivals)
+  pub transcript : HasTranscript run folder store store_now (valued_of asked) left end

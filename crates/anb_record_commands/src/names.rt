@@ -1,0 +1,32 @@
+//! The files of a recording.
+ghost use Rattle.std.specs.Prelude.{◌≡◌, ◌++◌, IfOk};
+ghost use Rattle.anb_record_commands.specs.Names.{transcript_in, values_in};
+
+use anb_base::{NoMemory, Text};
+use std::alloc::Global;
+
+/// The names of a recording's files.
+#[derive(Drop)]
+pub(crate) struct Names {
+    pub(crate) values: Text,
+    pub(crate) transcript: Text,
+}
+
+/// The names in this folder.
+pub(crate) fn names_in(alloc: Global, folder: &Text) -> Result<Names, NoMemory>
+    ensures values { IfOk result (λ names. names.values ≡ values_in folder.now) }
+    ensures transcript { IfOk result (λ names. names.transcript ≡ transcript_in folder.now) }
+{
+    let values = name_in(alloc, folder, "/values")?;
+    let transcript = name_in(alloc, folder, "/transcript")?;
+    Ok(Names { values, transcript })
+}
+
+/// The folder's name with this behind it.
+fn name_in(alloc: Global, folder: &Text, file: &str) -> Result<Text, NoMemory>
+    ensures { IfOk result (λ name. name ≡ folder.now ++ file.now) }
+{
+    let mut name = String::from_str(alloc, folder.as_str())?;
+    name.push_str(file)?;
+    Ok(Text::new(name))
+}

@@ -1,0 +1,4 @@
+pub mod Noting
+pub mod Reading
+pub mod Remembering
+pub mod Replaying

@@ -1,0 +1,7 @@
+pub mod Journals
+pub mod Lines
+pub mod Recordings
+pub mod Laws
+-- for proofs alone
+pub mod Following
+pub mod Joining
