@@ -29,6 +29,6 @@ pub use over::{run_over, status_of};
 pub use playable::{
     Playable, codes_of, no_role, playable_in_file, playable_of, role_named, sendable_in_file,
 };
-pub use prepare::{Prepared, prepare_code, seed_of};
+pub use prepare::{Prepared, prepare_code, seed_of, texts_of_takes};
 pub use reaching::{reach, reach_stdio};
 pub use text::{reach_streams, write_text};

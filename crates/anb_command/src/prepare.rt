@@ -73,7 +73,7 @@ pub fn prepare_code<F: Shelf>(
 }
 
 /// The texts of the code's takes.
-fn texts_of_takes(alloc: Global, code: &RoleCode) -> Result<Vec<Text>, NoMemory>
+pub fn texts_of_takes(alloc: Global, code: &RoleCode) -> Result<Vec<Text>, NoMemory>
     ensures texts { IfOk result (λ names. names.items ≡ take_texts code.now.instrs) }
     ensures differ { IfOk result (λ names.
         AllPairs (λ (one other : List ℕ). one ≢ other) names.items) }

@@ -86,14 +86,14 @@ pub const WHY: &str = concat!(
 
 /// The page on `play`.
 pub const PLAY: &str = concat!(
-    "anb play <narration> <role> <values> [place]\n",
+    "anb play <narration> <role> <values> [place] [--record <folder>]\n",
     "Plays the role: sends its messages, each in a frame after its length in four bytes, and\n",
     "stops at the first arrival that an honest partner wouldn't have sent. The place is --dial\n",
     "or --listen with <host>:<port>, after which --timeout <seconds> may stand; without a place\n",
-    "the role speaks over standard streams.\n",
+    "the role speaks over standard streams. The folder gets the values and the transcript.\n",
     "Statuses: 0; 4 the narration is refused; 5 no such role; 6 a role can't send; 7 the values;\n",
     "8 no seed; 10 it stopped; 11 it waits; 12, 13 a frame is cut or too long; 2, 3 a file;\n",
-    "9, 14, 15 the place; 99.\n",
+    "9, 14, 15 the place; 38 the folder; 99.\n",
     "Example: anb play examples/ping/ping.anb A examples/ping/A.values --dial 127.0.0.1:4070\n",
 );
 
@@ -226,11 +226,11 @@ pub const COMPILE: &str = concat!(
 
 /// The page on `enact`.
 pub const ENACT: &str = concat!(
-    "anb enact <rolefile> <values> [place]\n",
+    "anb enact <rolefile> <values> [place] [--record <folder>]\n",
     "Runs exactly the code of a role file, and names the instruction where it stops. The values\n",
-    "are those of the code's takes. For places see play.\n",
+    "are those of the code's takes. For places and the folder see play.\n",
     "Statuses: 0; 16 the role file; 7 the values; 8 no seed; 10 it stopped; 11 it waits; 12, 13 a\n",
-    "frame is cut or too long; 2, 3 a file; 9, 14, 15 the place; 99.\n",
+    "frame is cut or too long; 2, 3 a file; 9, 14, 15 the place; 38 the folder; 99.\n",
     "Example: anb enact b.role examples/mutual/B.values --listen 127.0.0.1:4070\n",
 );
 

@@ -9,6 +9,7 @@ mod connection;
 mod descriptors;
 mod faults;
 mod frames;
+mod journal;
 mod shelf;
 mod standard_error;
 mod store;

@@ -19,8 +19,8 @@ const MODE: u32 = 0o600;
 /// replaces, flushed to the disk, and renamed over that one. All names share one count of faults.
 #[derive(Drop)]
 pub struct RealStore {
-    rt: HostRuntime,
-    faults: u64,
+    pub(crate) rt: HostRuntime,
+    pub(crate) faults: u64,
 }
 
 impl Model for RealStore {
@@ -68,7 +68,7 @@ fn name_beside(rt: &HostRuntime, alloc: Global, name: &str) -> io::Result<String
 }
 
 /// A new file of this name.
-fn create(rt: &HostRuntime, name: &str) -> io::Result<File> {
+pub(crate) fn create(rt: &HostRuntime, name: &str) -> io::Result<File> {
     let mut options = OpenOptions::new();
     let options = options.write(true).create_new(true);
     options.mode(MODE).open(rt, name)

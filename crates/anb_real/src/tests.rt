@@ -1,10 +1,12 @@
-//! The wire over loopback, and a file.
+//! The wire over loopback, and files.
 
 use super::*;
 use anb_base::{Failed, Place, Shelf, ShelfNo, Text, Wire, read_full, write_whole};
+use anb_store::{Store, StoreNo};
 use std::alloc::{AllocError, Global};
 use std::io::{Read, Write};
 use std::net::{OpenListener, SocketAddr, TcpListener, TcpStream};
+use std::os::unix::fs::PermissionsExt;
 use std::process::{Child, Command};
 use std::test::Fail;
 use std::{env, fs, io};
@@ -14,6 +16,14 @@ const LONG: usize = 500_000;
 
 /// The file of the test of the shelf.
 const FILE: &str = "shelf_test_file";
+
+/// The folder of the first test of the store, and the file there.
+const FOLDER: &str = "store_test_folder";
+
+const KEPT: &str = "store_test_folder/kept";
+
+/// How long the name of a file is at most.
+const LONGEST_NAME: usize = 255;
 
 #[test]
 fn a_real_wire_talks_over_loopback(rt: HostRuntime) -> Result<(), Fail> {
@@ -174,6 +184,57 @@ fn fetches_four(rt: HostRuntime, shelf: &mut RealShelf) -> bool {
         Ok(bytes) => bytes.into_vec().as_slice() == b"four".as_slice(),
         Err(_) => false,
     }
+}
+
+#[test]
+fn a_real_store_replaces_a_file_whole(rt: HostRuntime) -> Result<(), Fail> {
+    fs::create_dir(&rt, FOLDER)?;
+    let mut store = RealStore::new(rt);
+    let is_made = keeps(rt, &mut store, KEPT, b"a long one") && holds(rt, KEPT, "a long one");
+    let is_replaced = keeps(rt, &mut store, KEPT, b"new") && holds(rt, KEPT, "new");
+    let is_for_its_owner = mode_of(rt, KEPT)? == 0o600;
+    fs::remove_file(&rt, KEPT)?;
+    // This fails where anything else was left there.
+    fs::remove_dir(&rt, FOLDER)?;
+    assert!(rt; is_made);
+    assert!(rt; is_replaced);
+    assert!(rt; is_for_its_owner);
+    assert!(rt; fails(rt, &mut store, KEPT));
+    Ok(())
+}
+
+/// The file beside it can't be made, since its name would be too long.
+#[test]
+fn a_file_that_is_not_replaced_stays(rt: HostRuntime) -> Result<(), Fail> {
+    let name = "a".repeat(rt.alloc(), LONGEST_NAME)?;
+    fs::write(&rt, name.as_str(), b"old")?;
+    let is_failed = fails(rt, &mut RealStore::new(rt), name.as_str());
+    let stays = holds(rt, name.as_str(), "old");
+    fs::remove_file(&rt, name.as_str())?;
+    assert!(rt; is_failed);
+    assert!(rt; stays);
+    Ok(())
+}
+
+fn keeps(rt: HostRuntime, store: &mut RealStore, name: &str, bytes: &[u8]) -> bool {
+    store.replace(rt.alloc(), name, bytes) == Ok(())
+}
+
+fn fails(rt: HostRuntime, store: &mut RealStore, name: &str) -> bool {
+    store.replace(rt.alloc(), name, b"new") == Err(StoreNo::Failed)
+}
+
+/// Whether the file of this name has this content.
+fn holds(rt: HostRuntime, name: &str, content: &str) -> bool {
+    match fs::read_to_string(&rt, name) {
+        Ok(found) => found.as_str() == content,
+        Err(_) => false,
+    }
+}
+
+/// Who may read and write the file of this name.
+fn mode_of(rt: HostRuntime, name: &str) -> io::Result<u32> {
+    Ok(fs::metadata(&rt, name)?.permissions().mode() & 0o7777)
 }
 
 fn text(alloc: Global, s: &str) -> Result<Text, AllocError> {

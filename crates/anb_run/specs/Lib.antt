@@ -1,3 +1,4 @@
 pub mod Commands
 pub mod Stages
 pub mod Stores
+pub mod Recordings

@@ -3,8 +3,8 @@
 //! [`run`] reads the words, does what they ask for over a shelf of files and a wire, and tells on an
 //! error sink why it didn't. What it does and when it completes are relations by what is asked for,
 //! with a case for each command; the other clauses hold of every command. [`run_all`] does the same
-//! where child programs may be started, for the one command that does so, and [`run_with_store`] where
-//! records may go to files.
+//! where child programs may be started, for the one command that does so, [`run_with_store`] where
+//! records may go to files, and [`run_recording`] where plays may be recorded too.
 #![tactic(auto)]
 
 ghost use Rattle.std.specs.Prelude.{◌≡◌, ◌↔◌, None};
@@ -26,6 +26,7 @@ ghost use Rattle.anb_file_laws.specs.Narrow.{EnactedMessagesAreNarrow};
 ghost use Rattle.anb_park_commands.specs.Splits.{SplitPlaysAreWhole};
 
 mod all;
+mod recording;
 mod storing;
 
 pub use all::run_all;
@@ -45,6 +46,7 @@ use anb_role_commands::{enact, play, replay};
 use anb_text_commands::{describe, fmt, help, page};
 use anb_trace_commands::trace;
 use anb_values_commands::{role_values, values};
+pub use recording::run_recording;
 use std::alloc::Global;
 pub use storing::run_with_store;
 

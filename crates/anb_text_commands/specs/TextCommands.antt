@@ -91,8 +91,8 @@ module _ (kind : RoleText) (narration role : List ℕ) (told : Option Files) whe
 abbrev pub help_text : List ℕ
 help_text =
     codes "anb fmt <narration>\n" ++ codes "anb compile <narration> <role>\n"
-    ++ codes "anb explain <narration> <role>\n" ++ codes "anb play <narration> <role> <values> [place]\n"
-    ++ codes "anb enact <rolefile> <values> [place]\n"
+    ++ codes "anb explain <narration> <role>\n" ++ codes "anb play <narration> <role> <values> [place] [--record <folder>]\n"
+    ++ codes "anb enact <rolefile> <values> [place] [--record <folder>]\n"
     ++ codes "anb replay <narration> <role> <values> <transcript>\n"
     ++ codes "anb host <narration> <role> <values> [place]\n"
     ++ codes "anb rehearse <narration> <values> <schedule>\n" ++ codes "anb drill <n>\n"
