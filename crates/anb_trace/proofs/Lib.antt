@@ -7,3 +7,8 @@ pub mod Exact
 pub mod Lengths
 pub mod Passed
 pub mod Opening
+pub mod Inward
+pub mod Held
+pub mod Closed
+pub mod Arriving
+pub mod Placed

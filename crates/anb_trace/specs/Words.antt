@@ -1,14 +1,13 @@
 -- What a trace says of an event, of an instruction, and of why one failed.
-use Rattle.std.specs.Prelude.{ℕ, ◌+◌, ◌-◌, ◌==◌, ◌&&◌, ◌||◌, nat_lt, Bool, false, List, [], ◌∷◌, ◌++◌, length, drop, filter, codes, decimal, Option, Some, None, slice_get, if◌then◌else◌}
+use Rattle.std.specs.Prelude.{ℕ, ◌+◌, ◌-◌, ◌==◌, ◌&&◌, ◌||◌, nat_lt, Bool, true, false, List, [], ◌∷◌, ◌++◌, length, drop, filter, codes, decimal, Option, Some, None, slice_get, if◌then◌else◌}
 use Rattle.std.specs.Option.{option_map_or}
 use Rattle.std.specs.List.{list_any}
 use Rattle.hex.specs.Hex.{encode_lower}
-use Rattle.anb_format.specs.Formats.{FormatValue, pieces_at}
+use Rattle.anb_format.specs.Formats.{pieces_at}
 use Rattle.anb_term.specs.Tree.{Tree}
 use Rattle.anb_code.specs.declared.instr.Instr.{Instr}
-use Rattle.anb_code.specs.declared.instr.Instr.TheVariants.{Take, Fresh, Recv, Unseal, Unwrap, Parse, Equal}
+use Rattle.anb_code.specs.declared.instr.Instr.TheVariants.{Unseal, Unwrap, Parse, Equal}
 use Rattle.anb_code.specs.CodeValue.{CodeValue}
-use Rattle.anb_code.specs.Registers.{count_written}
 use Rattle.anb_code.specs.Spelling.{name_at, raw_instr}
 use Rattle.anb_protocol.specs.Plans.{PlanEvent, to_send, to_receive}
 use Rattle.anb_protocol.specs.Protocols.{ActionValue, ProtocolValue, role_name}
@@ -16,6 +15,8 @@ use Rattle.anb_protocol.specs.Texts.{term_text}
 use Rattle.anb_text.specs.Lines.{instr_line}
 use Rattle.anb_explain.specs.Explained.{is_message, line}
 use Rattle.anb_explain.specs.Explanations.{ExplanationValue}
+use Rattle.anb_trace.specs.Arrivals.{arrival_in, comes_first, writer}
+use Rattle.anb_trace.specs.Differences.{Difference, innermost, inward_from}
 use Rattle.anb_trace.specs.Misfits.{count_text, misfit}
 use Rattle.anb_trace.specs.Openers.{seal_key, wrap_context, wrap_key}
 
@@ -77,12 +78,6 @@ instr_lines s instr first values =
 abbrev pub term_at : SubjectValue → ℕ → List ℕ
 term_at s register = option_map_or (term_text s.protocol) (slice_get s.terms register) []
 
--- the instruction that writes a register
-abbrev pub writer : List FormatValue → List Instr → ℕ → Option Instr
-writer formats [] register = None
-writer formats (instr ∷ instrs) register =
-    if nat_lt register (count_written formats instr) then Some instr else writer formats instrs (register - count_written formats instr)
-
 -- its bytes, where they are there
 abbrev pub bytes_at : List (List ℕ) → ℕ → List ℕ
 bytes_at table register = option_map_or (λ bytes. bytes) (slice_get table register) []
@@ -115,30 +110,32 @@ opened (Unseal k c) = codes "unsealed, but "
 opened (Unwrap k d c) = codes "unwrapped, but "
 opened instr = []
 
--- of two registers that differ the one with the lesser number here has what is due: what is known or made anew, then
--- what was built, then what came in
-abbrev pub rank : Instr → ℕ
-rank (Take text) = 0
-rank Fresh = 0
-rank Recv = 2
-rank (Unseal k c) = 2
-rank (Unwrap k d c) = 2
-rank (Parse f r) = 2
-rank instr = 1
+-- the innermost difference in words, with what it stands in
+abbrev pub place_text : ProtocolValue → Difference → List Difference → List ℕ
+place_text p d [] = term_text p d.term
+place_text p d (inner ∷ rest) = place_text p inner rest ++ (codes " in " ++ term_text p d.term)
 
-abbrev pub rank_at : CodeValue → ℕ → ℕ
-rank_at code register = option_map_or rank (writer code.formats code.instrs register) 0
+-- two sides that differ, of which the second came; or neither did, and they are values of what is known
+abbrev pub sides_text : (came : Bool) → (place due other : List ℕ) → List ℕ
+sides_text true place due other = place ++ (codes " differs: " ++ (encode_lower due ++ (codes " is due, " ++ (encode_lower other ++ codes " came"))))
+sides_text false place due other =
+    codes "the values don't fit each other: " ++ (place ++ (codes " is " ++ (encode_lower due ++ (codes " and " ++ encode_lower other))))
 
--- of a tie, the one that was written first
-abbrev pub comes_first : CodeValue → ℕ → ℕ → Bool
-comes_first code a b = nat_lt (rank_at code a) (rank_at code b) || ((rank_at code a == rank_at code b) && nat_lt a b)
+-- a difference that came with an arrival, or that no arrival is in: the innermost one is told
+abbrev pub difference_text : SubjectValue → List (List ℕ) → (came : Bool) → Difference → List ℕ
+difference_text s table came d =
+    let inner = inward_from s.code s.terms table d in
+    sides_text came (place_text s.protocol d inner) (innermost d inner).due (innermost d inner).came
 
-abbrev pub hex_at : List (List ℕ) → ℕ → List ℕ
-hex_at table register = option_map_or encode_lower (slice_get table register) []
-
+-- two registers of one term that differ, the first of which has what is due
 abbrev pub differing : SubjectValue → List (List ℕ) → ℕ → ℕ → List ℕ
-differing s table due came =
-    term_at s due ++ (codes " differs: " ++ (hex_at table due ++ (codes " is due, " ++ (hex_at table came ++ codes " came"))))
+differing s table due came = option_map_or
+    (λ t. difference_text s table (nat_lt 0 (arrival_in s.code came)) (record { term = t; due = bytes_at table due; came = bytes_at table came }))
+    (slice_get s.terms due) []
+
+-- two registers that differ
+abbrev pub unequal : SubjectValue → List (List ℕ) → ℕ → ℕ → List ℕ
+unequal s table a b = if comes_first s.code b a then differing s table b a else differing s table a b
 
 -- `an` stands before a vowel, and before a letter alone whose name begins with one, as in `an m4`
 abbrev pub is_vowel : ℕ → Bool
@@ -168,5 +165,5 @@ why s table (Parse f r) =
     option_map_or opened (writer s.code.formats s.code.instrs r) []
     ++ (codes "isn't " ++ (article (name_at s.code.formats f) ++ (name_at s.code.formats f
     ++ (codes ": " ++ misfit (pieces_at s.code.formats f) (bytes_at table r)))))
-why s table (Equal a b) = if comes_first s.code b a then differing s table b a else differing s table a b
+why s table (Equal a b) = unequal s table a b
 why s table instr = []

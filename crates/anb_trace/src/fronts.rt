@@ -124,8 +124,9 @@ fn parsed(digits: &[u8]) -> Option<u32>
     }
 }
 
-fn is_same(text: &[u8], other: &[u8]) -> bool
-    ensures { result ≡ bytes_eq text.now other.now }
+/// Whether two byte strings are one.
+pub(crate) fn is_same(one: &[u8], other: &[u8]) -> bool
+    ensures { result ≡ bytes_eq one.now other.now }
 {
-    text == other
+    one == other
 }

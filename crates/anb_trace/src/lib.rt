@@ -5,6 +5,8 @@
 //! registers that it writes. Its last line tells how the run ends. Each line ends with the byte 0A.
 #![tactic(auto)]
 
+mod arrivals;
+mod differences;
 mod events;
 mod fronts;
 mod instrs;
@@ -19,5 +21,5 @@ mod subject;
 mod tracing;
 mod values;
 
-pub use laws::{misfits_are_exact, traces_end_as_runs};
+pub use laws::{innermost_is_one, innermost_stays_closed, misfits_are_exact, traces_tell_runs};
 pub use tracing::write_trace;

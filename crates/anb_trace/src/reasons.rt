@@ -1,23 +1,24 @@
 //! Why an instruction failed.
-ghost use Rattle.std.specs.Prelude.{◌≡◌, ◌++◌, ◌∷◌, [], OnOk, IfSome, IfNone, Some, None, codes};
+ghost use Rattle.std.specs.Prelude.{◌≡◌, ◌++◌, [], IfOk, OnOk, codes};
 ghost use Rattle.anb_code.specs.Spelling.{name_at};
 ghost use Rattle.std.specs.Option.{option_map_or};
 ghost use Rattle.anb_format.specs.Formats.{pieces_at};
 ghost use Rattle.anb_trace.specs.Misfits.{count_text};
 ghost use Rattle.anb_trace.specs.Openers.{seal_key, wrap_key};
 ghost use Rattle.anb_trace.specs.Tracing.{IsOurs, subject_in};
-ghost use Rattle.anb_trace.specs.Words.{article, bytes_at, comes_first, differing, opened, rank, rank_at, term_at, why, writer};
+ghost use Rattle.anb_trace.specs.Arrivals.{last_arrivals, writer};
+ghost use Rattle.anb_trace.specs.Words.{article, bytes_at, differing, opened, term_at, unequal, why};
 ghost use Rattle.anb_trace.specs.Words.{under_with, unopened, unsealed_by, unwrapped_by, unwrapped_with};
 
+use crate::arrivals::{arrival_at, comes_first, last_arrivals, writer};
+use crate::differences::{Holding, Sides, put_difference};
 use crate::misfits::put_misfit;
 use crate::names::article;
 use crate::openers::{seal_key, wrap_context, wrap_key};
 use crate::shown::put_count;
-use crate::subject::{Subject, put_term_at};
-use crate::values::put_hex_at;
+use crate::subject::{Subject, put_term_at, term_at};
 use anb_base::{Bytes, NoMemory};
 use anb_code::{Instr, RoleCode};
-use anb_explain::count_written;
 use anb_format::Piece;
 use std::alloc::Global;
 
@@ -47,13 +48,7 @@ pub(crate) fn put_reason(
             let pieces = pieces_at(subject.code, *format);
             put_misfit(alloc, out, pieces, bytes_at(registers, *of))
         }
-        Instr::Equal(a, b) => {
-            if comes_first(subject.code, *b, *a) {
-                put_difference(alloc, out, subject, registers, *b, *a)
-            } else {
-                put_difference(alloc, out, subject, registers, *a, *b)
-            }
-        }
+        Instr::Equal(a, b) => put_unequal(alloc, out, subject, registers, *a, *b),
         _ => Ok(()),
     }
 }
@@ -301,71 +296,69 @@ fn opened(code: &RoleCode, register: u32) -> &'static [u8]
     }
 }
 
-/// Appends that two registers differ, of which the first has what is due.
-fn put_difference(
+/// Appends that two registers differ.
+fn put_unequal(
     alloc: Global,
     out: &mut Vec<u8>,
     subject: &Subject<'_>,
     registers: &[Bytes],
+    a: u32,
+    b: u32,
+) -> Result<(), NoMemory>
+    requires { IsOurs subject.now }
+    ensures { OnOk result (out.new.items ≡ out.old.items
+        ++ unequal (subject_in subject.now) registers.now a b) }
+{
+    let arrivals = last_arrivals(alloc, subject.code)?;
+    if comes_first(subject.code, &arrivals, b, a) {
+        put_differing(alloc, out, subject, registers, &arrivals, b, a)
+    } else {
+        put_differing(alloc, out, subject, registers, &arrivals, a, b)
+    }
+}
+
+/// Appends how two registers differ, of which the first has what is due.
+fn put_differing(
+    alloc: Global,
+    out: &mut Vec<u8>,
+    subject: &Subject<'_>,
+    registers: &[Bytes],
+    arrivals: &[u32],
     due: u32,
     came: u32,
 ) -> Result<(), NoMemory>
-    requires { IsOurs subject.now }
+    requires ours { IsOurs subject.now }
+    requires arrivals { arrivals.now ≡ last_arrivals subject.now.code.now }
     ensures { OnOk result (out.new.items
         ≡ out.old.items ++ differing (subject_in subject.now) registers.now due came) }
 {
-    put_term_at(alloc, out, subject, due)?;
-    out.extend_from_slice(b" differs: ")?;
-    put_hex_at(alloc, out, registers, due)?;
-    out.extend_from_slice(b" is due, ")?;
-    put_hex_at(alloc, out, registers, came)?;
-    out.extend_from_slice(b" came")?;
-    Ok(())
+    let holding = Holding {
+        code: subject.code,
+        terms: subject.explanation.terms(),
+        registers,
+    };
+    let Some(term) = term_at(holding.terms, due as usize) else {
+        return Ok(());
+    };
+    let sides = Sides {
+        due: copy_at(alloc, registers, due)?,
+        came: copy_at(alloc, registers, came)?,
+    };
+    let has_come = arrival_at(arrivals, came) > 0;
+    put_difference(
+        alloc,
+        out,
+        subject.protocol,
+        &holding,
+        has_come,
+        term,
+        sides,
+    )
 }
 
-/// Whether the first of two registers has what is due.
-fn comes_first(code: &RoleCode, a: u32, b: u32) -> bool
-    ensures { result ≡ comes_first code.now a b }
+/// The bytes of a register in memory of their own.
+fn copy_at(alloc: Global, registers: &[Bytes], register: u32) -> Result<Bytes, NoMemory>
+    ensures { IfOk result (λ copy. copy ≡ bytes_at registers.now register) }
 {
-    let (x, y) = (rank_at(code, a), rank_at(code, b));
-    x < y || (x == y && a < b)
-}
-
-/// The rank of a register.
-fn rank_at(code: &RoleCode, register: u32) -> u32
-    ensures { result ≡ rank_at code.now register }
-{
-    match writer(code, register) {
-        Some(instr) => rank(instr),
-        None => 0,
-    }
-}
-
-/// The rank of a register that this instruction writes.
-fn rank(instr: &Instr) -> u32
-    ensures { result ≡ rank instr.now }
-{
-    match instr {
-        Instr::Take(_) | Instr::Fresh => 0,
-        Instr::Recv | Instr::Unseal(_, _) | Instr::Unwrap(_, _, _) | Instr::Parse(_, _) => 2,
-        _ => 1,
-    }
-}
-
-/// The instruction that writes a register.
-fn writer(code: &RoleCode, register: u32) -> Option<&Instr>
-    ensures some { IfSome result (λ instr.
-        writer code.now.formats code.now.instrs register ≡ Some instr.now) }
-    ensures none { IfNone result (writer code.now.formats code.now.instrs register ≡ None) }
-{
-    let formats = code.formats();
-    let mut left = register as usize;
-    for instr in code.instrs() {
-        let count = count_written(formats, instr);
-        if left < count {
-            return Some(instr);
-        }
-        left -= count;
-    }
-    None
+    Ok(Bytes::new(Vec::from_slice(alloc, bytes_at(registers, register))?))
 }

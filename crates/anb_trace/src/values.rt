@@ -4,7 +4,7 @@ ghost use Rattle.std.specs.List.{AllByRecursion};
 ghost use Rattle.hex.specs.Hex.{encode_lower};
 ghost use Rattle.anb_term.specs.View.{tree_of};
 ghost use Rattle.anb_protocol.specs.Texts.{IsTermOf};
-ghost use Rattle.anb_trace.specs.Words.{bytes_line, hex_at, value_line, value_lines};
+ghost use Rattle.anb_trace.specs.Words.{bytes_line, value_line, value_lines};
 
 use crate::subject::{put_term, term_at};
 use anb_base::{Bytes, NoMemory};
@@ -19,21 +19,6 @@ pub(crate) fn put_hex(alloc: Global, out: &mut Vec<u8>, bytes: &[u8]) -> Result<
     let digits = hex::encode(alloc, bytes)?;
     out.extend_from_slice(digits.as_str().as_bytes())?;
     Ok(())
-}
-
-/// Appends a register's bytes in hexadecimal.
-pub(crate) fn put_hex_at(
-    alloc: Global,
-    out: &mut Vec<u8>,
-    registers: &[Bytes],
-    register: u32,
-) -> Result<(), NoMemory>
-    ensures { OnOk result (out.new.items ≡ out.old.items ++ hex_at registers.now register) }
-{
-    match registers.get(register as usize) {
-        Some(bytes) => put_hex(alloc, out, bytes.as_slice()),
-        None => Ok(()),
-    }
 }
 
 /// Appends a line of bytes.

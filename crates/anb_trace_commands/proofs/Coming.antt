@@ -31,9 +31,9 @@ use Rattle.anb_role_commands.specs.PlayCommand.{PlayOf}
 use Rattle.anb_role_commands.specs.Playing.{play_by}
 use Rattle.anb_role_commands.specs.ReplayCommand.{Comparison, ComparisonIs, Compares, IsReadToCompare, ReplayOutcome, status_of}
 use Rattle.anb_role_commands.proofs.Replaying.{comparison_quiet, compares, only_one}
-use Rattle.anb_trace_commands.specs.TraceCommand.{CompletesTrace, DoesTrace, EndsAsPlayed, IsTracedTo, IsTracing, Outcome, WritesPart, subject_by}
+use Rattle.anb_trace_commands.specs.TraceCommand.{CompletesTrace, DoesTrace, IsTracedTo, IsTracing, Outcome, TellsPlay, WritesPart, subject_by}
 use Rattle.anb_trace_commands.specs.Tracing.{HasComeOf, IsDueAs, IsTraceable, job_by}
-use Rattle.anb_trace.proofs.Ending.{traces_end}
+use Rattle.anb_trace.proofs.Ending.{traces_tell}
 
 module _ (narration name values transcript : List ℕ) (host_seed : Option (List ℕ))
     (one : (files : Files) → HasOneAnswer (ComparisonIs narration name values transcript host_seed files)) where
@@ -67,18 +67,14 @@ module _ (narration name values transcript : List ℕ) (host_seed : Option (List
       compared s some (end, replays, is) =
           subst (λ (t : Status). Compares asked t) (sym is) (compares narration name values transcript host_seed one laws code initial seed lines files comparable end (not_wanting s some end is) replays)
 
-      ends : (terms : List Tree) → EndsAsPlayed asked (trace (subject_by (job_by p role initial seed) code terms) initial seed (arrivals_of lines))
-      ends terms =
-          let law = traces_end (subject_by (job_by p role initial seed) code terms) initial seed (arrivals_of lines) verified count in
-          record {
-            play = R (arrivals_of lines);
-            plays = (ready.comes (arrivals_of lines) ready.bytes (R (arrivals_of lines))).1 refl;
-            end = (run_bytes code initial seed 0 (arrivals_of lines)).end;
-            same = refl;
-            before = law.0;
-            reason = law.1;
-            is = law.2;
-          }
+      told : (terms : List Tree) → TellsPlay asked (subject_by (job_by p role initial seed) code terms) (trace (subject_by (job_by p role initial seed) code terms) initial seed (arrivals_of lines))
+      told terms = record {
+        play = R (arrivals_of lines);
+        plays = (ready.comes (arrivals_of lines) ready.bytes (R (arrivals_of lines))).1 refl;
+        run = run_bytes code initial seed 0 (arrivals_of lines);
+        same = refl;
+        tells = traces_tell (subject_by (job_by p role initial seed) code terms) initial seed (arrivals_of lines) verified count;
+      }
 
       traced_to : (s : Status) (text : List ℕ) → IsDueAs p role code initial seed lines s text → IsTracedTo asked s text
       traced_to s text due = record {
@@ -90,7 +86,7 @@ module _ (narration name values transcript : List ℕ) (host_seed : Option (List
           are = due.are;
           traced = trace (subject_by (job_by p role initial seed) code due.terms) initial seed (arrivals_of lines);
           traces = refl;
-          ends = ends due.terms;
+          tells = told due.terms;
           is = due.is;
         };
       }

@@ -5,11 +5,12 @@ use Rattle.anb_base.specs.Wires.{WireState}
 use Rattle.anb_code.specs.CodeValue.{CodeValue}
 use Rattle.anb_compile.specs.Fitting.{FitsRole}
 use Rattle.anb_explain.specs.Explained.{line, register_terms}
-use Rattle.anb_plays.specs.Plays.{End, Played}
-use Rattle.anb_plays.specs.Runs.{no_place}
+use Rattle.anb_plays.specs.Plays.{Played}
+use Rattle.anb_plays.specs.Runs.{without_place}
 use Rattle.anb_protocol.specs.Plans.{plan_of}
 use Rattle.anb_term.specs.Tree.{Tree}
-use Rattle.anb_trace.specs.Traces.{end_line, trace}
+use Rattle.anb_trace.specs.Laws.{TellsRun}
+use Rattle.anb_trace.specs.Traces.{trace}
 use Rattle.anb_trace.specs.Words.{SubjectValue}
 use Rattle.anb_transcript.specs.Replays.{arrivals_of}
 use Rattle.anb_status.specs.declared.status.Status.{Status}
@@ -31,15 +32,14 @@ differing_line status = []
 abbrev pub subject_by : Job → CodeValue → List Tree → SubjectValue
 subject_by job code terms = record { protocol = job.protocol; plan = plan_of job.protocol job.role; code = code; terms = terms }
 
--- the last line tells how the role's play ends, and of a stop the instruction and why it failed
-pub record EndsAsPlayed (asked : Comparison) (traced : List ℕ) : Type 0 where
+-- The trace tells the role's play: its messages and the arrivals that it uses, each with its bytes below its event, and how
+-- it ends, of a stop with the instruction and why it failed.
+pub record TellsPlay (asked : Comparison) (subject : SubjectValue) (traced : List ℕ) : Type 0 where
   pub play : Played (List ℕ)
   pub plays : PlayOf asked.job (arrivals_of asked.lines) play
-  pub end : End
-  pub same : no_place end ≡ play.end
-  pub before : List ℕ
-  pub reason : List ℕ
-  pub is : traced ≡ before ++ end_line end reason
+  pub run : Played (List ℕ)
+  pub same : without_place run ≡ play
+  pub tells : TellsRun subject 0 (arrivals_of asked.lines) traced run
 
 -- The trace of the run of some code that fits the role, over all arrivals of the transcript, and then
 -- the first line that isn't due, where the replay ends with that status.
@@ -50,7 +50,7 @@ pub record IsTraced (asked : Comparison) (status : Status) (text : List ℕ) : T
   pub are : register_terms asked.job.protocol asked.job.role code ≡ Some terms
   pub traced : List ℕ
   pub traces : traced ≡ trace (subject_by asked.job code terms) asked.job.initial asked.job.seed (arrivals_of asked.lines)
-  pub ends : EndsAsPlayed asked traced
+  pub tells : TellsPlay asked (subject_by asked.job code terms) traced
   pub is : text ≡ traced ++ differing_line status
 
 -- the status is that of the replay

@@ -30,7 +30,7 @@ use anb_protocol::Protocol;
 use anb_read::{narrations_are_unique, none_is_both, refusals_are_unique};
 use anb_role_commands::compare;
 use anb_text::{WriteNo, write_part};
-use anb_trace::{traces_end_as_runs, write_trace};
+use anb_trace::{traces_tell_runs, write_trace};
 use anb_transcript::{Transcript, TranscriptLine, one_reading, one_replay};
 use anb_values::one_fit;
 use itoa::Buffer;
@@ -72,7 +72,7 @@ pub fn trace<F: Shelf, W: Wire>(
     one_fit();
     one_reading();
     one_replay();
-    traces_end_as_runs();
+    traces_tell_runs();
     match prepare(alloc, shelf, words, host_seed) {
         Ok(tracing) => trace_over(alloc, wire, tracing),
         Err(status) => status,
