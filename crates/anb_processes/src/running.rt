@@ -27,6 +27,8 @@ const FIRST_FREE: RawFd = 3;
 #[derive(Drop)]
 pub(crate) struct Running {
     pub(crate) role: u32,
+    /// For how long it may be silent at most.
+    limit: Option<Duration>,
     child: Child,
     input: Option<ChildStdin>,
     output: Option<ChildStdout>,
@@ -42,6 +44,7 @@ impl Running {
         rt: &HostRuntime,
         program: &str,
         role: u32,
+        limit: Option<Duration>,
         words: &[Text],
     ) -> io::Result<Self> {
         let mut command = Command::new(rt.alloc(), program)?;
@@ -54,6 +57,7 @@ impl Running {
             .stderr(rt.stderr());
         let mut running = Running {
             role,
+            limit,
             child: command.spawn(rt)?,
             input: None,
             output: None,
@@ -82,12 +86,7 @@ impl Running {
 
     /// What the child wrote, once there is some. Its output is also at its end where it has ended and
     /// whoever else holds its pipe writes nothing for two seconds.
-    pub(crate) fn read(
-        &mut self,
-        rt: &HostRuntime,
-        limit: Option<Duration>,
-        buf: &mut [u8],
-    ) -> io::Result<usize>
+    pub(crate) fn read(&mut self, rt: &HostRuntime, buf: &mut [u8]) -> io::Result<usize>
         ensures { IfOk result (λ n. n ≤ length buf.new) }
     {
         let start = Instant::now(rt)?;
@@ -103,7 +102,7 @@ impl Running {
             if self.is_long_over(rt)? {
                 return Ok(0);
             }
-            if is_beyond(rt, limit, start)? {
+            if is_beyond(rt, self.limit, start)? {
                 break;
             }
             pauses.pause(rt);
@@ -112,12 +111,7 @@ impl Running {
     }
 
     /// Hands the child the first bytes of the piece. What it no longer takes is dropped.
-    pub(crate) fn write(
-        &mut self,
-        rt: &HostRuntime,
-        limit: Option<Duration>,
-        piece: &[u8],
-    ) -> io::Result<usize>
+    pub(crate) fn write(&mut self, rt: &HostRuntime, piece: &[u8]) -> io::Result<usize>
         ensures { IfOk result (λ n. n ≤ length piece.now) }
     {
         let start = Instant::now(rt)?;
@@ -134,7 +128,7 @@ impl Running {
             if self.is_long_over(rt)? {
                 return Ok(piece.len());
             }
-            if is_beyond(rt, limit, start)? {
+            if is_beyond(rt, self.limit, start)? {
                 break;
             }
             pauses.pause(rt);
@@ -155,7 +149,7 @@ impl Running {
 
     /// Ends the child's input, waits for the child, and answers its status, where it ended by itself.
     /// What it still writes is dropped.
-    pub(crate) fn finish(&mut self, rt: &HostRuntime, limit: Option<Duration>) -> io::Result<u8> {
+    pub(crate) fn finish(&mut self, rt: &HostRuntime) -> io::Result<u8> {
         self.input = None;
         let start = Instant::now(rt)?;
         let mut heard = start;
@@ -174,7 +168,7 @@ impl Running {
                 heard = Instant::now(rt)?;
                 continue;
             }
-            if is_beyond(rt, limit, heard)? {
+            if is_beyond(rt, self.limit, heard)? {
                 break;
             }
             pauses.pause(rt);

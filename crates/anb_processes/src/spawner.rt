@@ -61,8 +61,6 @@ pub struct RealSpawner {
     children: Vec<Named>,
     /// What kills the children where a signal ends this program. There is none without a shell.
     watcher: Option<Watcher>,
-    /// How long a child may be silent at most.
-    limit: Option<Duration>,
     /// The role whose output was last found at its end.
     at_end: Option<u32>,
     counts: Counts,
@@ -87,7 +85,6 @@ impl RealSpawner {
             program,
             children: Vec::new(alloc),
             watcher: None,
-            limit: None,
             at_end: None,
             counts: Counts::new(),
         }
@@ -102,7 +99,6 @@ impl RealSpawner {
             program: _,
             mut children,
             watcher,
-            limit: _,
             at_end,
             counts: _,
         } = self;
@@ -146,10 +142,12 @@ fn start(
     program: &ChildProgram,
     children: &mut Vec<Named>,
     role: u32,
+    limit: Option<u32>,
     words: &[Text],
 ) -> io::Result<()> {
     let name = name_of(rt.alloc(), words)?;
-    let running = Running::start(rt, program.path()?, role, words)?;
+    let limit = limit.map(|seconds| Duration::from_secs(u64::from(seconds)));
+    let running = Running::start(rt, program.path()?, role, limit, words)?;
     match children.push(Named { name, running }) {
         Ok(()) => Ok(()),
         Err(failed) => {
@@ -212,8 +210,15 @@ fn child_in(children: &mut [Named], role: u32) -> Option<&mut Named> {
 impl Spawner for RealSpawner {
     ghost child = { child_of };
 
-    fn start(&mut self, role: u32, words: &[Text]) -> Result<(), Failed> {
-        match start(&self.rt, &self.program, &mut self.children, role, words) {
+    fn start(&mut self, role: u32, limit: Option<u32>, words: &[Text]) -> Result<(), Failed> {
+        match start(
+            &self.rt,
+            &self.program,
+            &mut self.children,
+            role,
+            limit,
+            words,
+        ) {
             Ok(()) => {
                 // Without a watcher the children are as good.
                 let _ = watch(&self.rt, &mut self.watcher, &self.children);
@@ -229,7 +234,7 @@ impl Spawner for RealSpawner {
 
     fn read(&mut self, role: u32, buf: &mut [u8]) -> Result<usize, Failed> {
         let got = match child_in(&mut self.children, role) {
-            Some(child) => child.running.read(&self.rt, self.limit, buf),
+            Some(child) => child.running.read(&self.rt, buf),
             None => Err(no_child()),
         };
         match got {
@@ -245,7 +250,7 @@ impl Spawner for RealSpawner {
 
     fn write(&mut self, role: u32, piece: &[u8]) -> Result<usize, Failed> {
         let put = match child_in(&mut self.children, role) {
-            Some(child) => child.running.write(&self.rt, self.limit, piece),
+            Some(child) => child.running.write(&self.rt, piece),
             None => Err(no_child()),
         };
         match put {
@@ -258,7 +263,7 @@ impl Spawner for RealSpawner {
     fn finish(&mut self, role: u32) -> Result<u8, Failed> {
         let status = match child_in(&mut self.children, role) {
             Some(child) => {
-                let status = child.running.finish(&self.rt, self.limit);
+                let status = child.running.finish(&self.rt);
                 // One that was silent still runs.
                 if !matches!(&status, Err(error) if is_silence(error)) {
                     let _ = unwatch(&self.rt, &mut self.watcher, child);
@@ -274,10 +279,6 @@ impl Spawner for RealSpawner {
             }
             Err(error) => Err(self.counts.fail(role, is_silence(&error))),
         }
-    }
-
-    fn wait_at_most(&mut self, seconds: u32) {
-        self.limit = Some(Duration::from_secs(u64::from(seconds)));
     }
 
     fn was_silent(&self, role: u32) -> bool {

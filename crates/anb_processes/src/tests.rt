@@ -33,7 +33,7 @@ fn start(children: &mut RealSpawner, role: u32, words: &[Text]) -> Result<(), Fa
     ensures others { (other : ℕ) → other ≢ role
         → get_or children.new.phases other 0 ≡ get_or children.old.phases other 0 }
 {
-    match children.start(role, words) {
+    match children.start(role, None, words) {
         Ok(()) => Ok(()),
         Err(Failed) => Err("not started".into()),
     }

@@ -8,6 +8,12 @@ lines-append : (xs ys : List (List ℕ)) → lines (xs ++ ys) ≡ lines xs ++ li
 lines-append [] ys = refl
 lines-append (x ∷ xs) ys = ap (λ l. (x ++ 10 ∷ []) ++ l) (lines-append xs ys) ∙ sym (append_assoc (x ++ 10 ∷ []) (lines xs) (lines ys))
 
+-- what a word in front takes
+pub lines_more : (w : List ℕ) (words : List (List ℕ)) → length (lines (w ∷ words)) ≡ length w + 1 + length (lines words)
+lines_more w words =
+    let e : length (lines (w ∷ words)) ≡ length (w ++ 10 ∷ []) + length (lines words) = length-append (w ++ 10 ∷ []) (lines words) in
+    omega (arith, e, length-append w (10 ∷ []))
+
 -- one word more
 pub lines_next : (words : List (List ℕ)) (i : ℕ) (w : List ℕ) → i < length words → w ≡ get_or words i w
     → lines (take (i + 1) words) ≡ lines (take i words) ++ (w ++ 10 ∷ [])

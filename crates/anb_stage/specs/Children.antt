@@ -1,10 +1,10 @@
 -- What a spawner tells of the child of each role, and what each of its calls changes.
-use Rattle.std.specs.Prelude.{◌≡◌, ◌≢◌, ℕ, Bool, zero, suc, ◌+◌, List, [], ◌∷◌, ◌++◌, length, flat_map, Option}
+use Rattle.std.specs.Prelude.{◌≡◌, ◌≢◌, ℕ, Bool, zero, suc, ◌+◌, List, [], ◌∷◌, ◌++◌, length, flat_map, decimal, Option, Some, None}
 use Rattle.std.specs.Option.{option_map_or}
 
 -- The bytes that are left of its output; for each byte that was read of it, in order, how many bytes
--- had been written to all children by then; the bytes that were written to it, the words that were
--- asked of it, each with a line feed, and the status with which it ends: each may be untold. How often
+-- had been written to all children by then; the bytes that were written to it, what was asked of it,
+-- as words, each with a line feed, and the status with which it ends: each may be untold. How often
 -- a call for it has failed, up to the last value of a u64, and whether the last such call failed since
 -- it was silent for too long. Its phase is 0 before it was started, 1 once it was, and 2 once it was
 -- finished.
@@ -30,6 +30,15 @@ written_to_all children = written_below 32 (λ role. (children role).written)
 -- each word and a line feed
 abbrev pub lines : List (List ℕ) → List ℕ
 lines words = flat_map (λ word. word ++ 10 ∷ []) words
+
+-- for how many seconds a child may be silent, as a word: one without bytes where there is no limit
+abbrev pub limit_word : Option ℕ → List ℕ
+limit_word None = []
+limit_word (Some seconds) = decimal seconds
+
+-- what is asked of a child: that limit, and its words
+abbrev pub asked_words : Option ℕ → List (List ℕ) → List (List ℕ)
+asked_words limit words = limit_word limit ∷ words
 
 -- What a call leaves of its role's child. Of the count of faults each call says itself that it
 -- doesn't fall.

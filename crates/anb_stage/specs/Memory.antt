@@ -1,8 +1,8 @@
 -- A spawner in memory: what it holds, and which of its calls fail.
-use Rattle.std.specs.Prelude.{ℕ, Bool, false, ◌+◌, ◌<◌, ◌≤◌, IsTrue, List, [], ◌∷◌, ◌++◌, length, drop, replicate, get_or, slice_set, Option, Some, None}
+use Rattle.std.specs.Prelude.{ℕ, Bool, false, ◌+◌, ◌<◌, ◌≤◌, IsTrue, List, [], ◌∷◌, ◌++◌, length, drop, replicate, get_or, slice_set, Option, Some}
 use Rattle.anb_base.specs.Memory.{raised, fails_after}
 use Rattle.anb_base.specs.Moves.{last_count}
-use Rattle.anb_stage.specs.Children.{Child, lines}
+use Rattle.anb_stage.specs.Children.{Child, asked_words, lines}
 
 -- a child: what is left of its output, how many bytes had been written to all children when each byte
 -- of it was read, what was written to it, what was asked of it, its status, how many bytes can be
@@ -24,9 +24,8 @@ pub record MemorySpawner : Type 0 where
   -- how many calls came, and the numbers from 1 of those that fail
   pub calls : ℕ
   pub fails : List ℕ
-  -- whether calls fail since a child is silent, and how many seconds are to be waited at most
+  -- whether calls fail since a child is silent
   pub is_silence : Bool
-  pub limit : Option ℕ
 
 -- what is there for a role without an output
 abbrev pub absent : MemoryChild
@@ -89,7 +88,6 @@ fresh_spawner outputs statuses room fails = record {
   calls = 0;
   fails = fails;
   is_silence = false;
-  limit = None;
 }
 
 -- the number of the next call is one of those that fail
@@ -104,9 +102,9 @@ HasNoOutput spawner role = length spawner.children ≤ role
 abbrev pub HasNoRoom : MemoryChild → List ℕ → Type 0
 HasNoRoom c piece = (0 < length piece) × (c.room ≤ length c.written)
 
--- the words can't be asked whole
-abbrev pub HasNoRoomForWords : MemoryChild → List (List ℕ) → Type 0
-HasNoRoomForWords c words = c.room < length c.asked + length (lines words)
+-- the limit and the words can't be asked whole
+abbrev pub HasNoRoomForWords : MemoryChild → Option ℕ → List (List ℕ) → Type 0
+HasNoRoomForWords c limit words = c.room < length c.asked + length (lines (asked_words limit words))
 
 -- the spawner after one more call, by which the child of this role became this one
 abbrev pub with_child : MemorySpawner → ℕ → MemoryChild → MemorySpawner
@@ -124,7 +122,7 @@ abbrev pub failed_at : MemorySpawner → ℕ → MemoryChild
 failed_at spawner role = failed spawner.is_silence (child_at spawner role)
 
 -- after so many bytes were read while so many were written to all children, after bytes were written,
--- after it was started with these words, and after it was finished
+-- after it was started with this limit and these words, and after it was finished
 abbrev pub after_read : MemoryChild → (written n : ℕ) → MemoryChild
 after_read c written n = record c {
   left = drop n c.left;
@@ -134,8 +132,8 @@ after_read c written n = record c {
 abbrev pub after_write : MemoryChild → List ℕ → MemoryChild
 after_write c bytes = record c { written = c.written ++ bytes }
 
-abbrev pub after_start : MemoryChild → List (List ℕ) → MemoryChild
-after_start c words = record c { asked = c.asked ++ lines words; phase = 1 }
+abbrev pub after_start : MemoryChild → Option ℕ → List (List ℕ) → MemoryChild
+after_start c limit words = record c { asked = c.asked ++ lines (asked_words limit words); phase = 1 }
 
 abbrev pub after_finish : MemoryChild → MemoryChild
 after_finish c = record c { phase = 2 }

@@ -1,13 +1,14 @@
 //! Children in memory.
 
-ghost use Rattle.std.specs.Prelude.{◌≡◌, ◌<◌, ◌≤◌, ◌+◌, ◌-◌, ◌^◌, ◌↔◌, ◌⊎◌, ℕ, List, [], ◌++◌, length, take, drop, min, Some, true, IsTrue, IsErr, IfOk, OnOk, OnErr, vec_len, vec_capacity};
+ghost use Rattle.std.specs.Prelude.{◌≡◌, ◌<◌, ◌≤◌, ◌+◌, ◌-◌, ◌^◌, ◌↔◌, ◌⊎◌, ℕ, List, [], ◌∷◌, ◌++◌, length, take, drop, min, Some, true, IsTrue, IsErr, IfOk, OnOk, OnErr, vec_len, vec_capacity};
 ghost use Rattle.anb_base.specs.Memory.{raised, fails_after};
 ghost use Rattle.anb_base.specs.Moves.{Rose};
-ghost use Rattle.anb_stage.specs.Children.{lines, written_to_all};
+ghost use Rattle.anb_stage.specs.Children.{asked_words, limit_word, lines, written_to_all};
 ghost use Rattle.anb_stage.specs.Memory.{fresh_child, fresh_spawner, child_at, children_of, failed, failed_at, after_read, after_write, after_start, after_finish, IsDueToFail, HasNoOutput, HasNoRoom, HasNoRoomForWords, with_child};
 
 use crate::{ROLES, Spawner};
 use anb_base::{Bytes, Failed, NoMemory, Text};
+use itoa::Buffer;
 use std::alloc::Global;
 use std::marker::Model;
 
@@ -51,6 +52,18 @@ impl Room {
         ensures limit { self.new.limit ≡ self.old.limit }
     {
         self.bytes.extend_from_slice(bytes).unwrap();
+    }
+
+    /// Puts the limit and the words, each with a line feed.
+    fn put_asked(&mut self, limit: &str, words: &[Text])
+        requires { length self.old.bytes.items + length (lines (limit.now ∷ words.now))
+            ≤ self.old.limit }
+        ensures put { self.new.bytes.items ≡ self.old.bytes.items ++ lines (limit.now ∷ words.now) }
+        ensures limit { self.new.limit ≡ self.old.limit }
+    {
+        self.put(limit.as_bytes());
+        self.put(b"\n");
+        self.put_lines(words);
     }
 
     /// Puts the words, each with a line feed.
@@ -162,11 +175,16 @@ impl MemChild {
         n
     }
 
-    /// Whether the words, each with a line feed, fit.
-    fn has_room_for(&self, words: &[Text]) -> bool
-        ensures { IsTrue result ↔ (length self.now.asked + length (lines words.now) ≤ self.now.room) }
+    /// Whether the limit and the words, each with a line feed, fit.
+    fn has_room_for(&self, limit: &str, words: &[Text]) -> bool
+        ensures { IsTrue result
+            ↔ (length self.now.asked + length (lines (limit.now ∷ words.now)) ≤ self.now.room) }
     {
         let mut left = self.asked.left();
+        if limit.len() >= left {
+            return false;
+        }
+        left -= limit.len() + 1;
         for word in words {
             let size = word.as_str().len();
             if size >= left {
@@ -177,12 +195,15 @@ impl MemChild {
         true
     }
 
-    /// Keeps the words.
-    fn ask(&mut self, words: &[Text])
-        requires { length self.old.asked + length (lines words.now) ≤ self.old.room }
-        ensures { self.new ≡ after_start self.old words.now }
+    /// Keeps the limit and the words.
+    fn ask(&mut self, limit: &str, words: &[Text])
+        requires { length self.old.asked + length (lines (limit.now ∷ words.now)) ≤ self.old.room }
+        ensures { self.new ≡ record self.old {
+          asked = self.old.asked ++ lines (limit.now ∷ words.now);
+          phase = 1;
+        } }
     {
-        self.asked.put_lines(words);
+        self.asked.put_asked(limit, words);
         self.phase = 1;
     }
 
@@ -195,6 +216,16 @@ impl MemChild {
     }
 }
 
+/// The limit as it is asked.
+fn text_of(digits: &mut Buffer, limit: Option<u32>) -> &str
+    ensures { result.now ≡ limit_word limit }
+{
+    match limit {
+        Some(seconds) => digits.format(seconds),
+        None => "",
+    }
+}
+
 /// A spawner in memory. Each child's output and status stand from the start, and calls fail by their
 /// numbers, which count over all roles. Starting a role without an output is always a fault.
 #[derive(Debug, Drop)]
@@ -203,7 +234,6 @@ pub struct MemSpawner {
     calls: u64,
     fails: Vec<u32>,
     is_silence: bool,
-    limit: Option<u32>,
 }
 
 impl Model for MemSpawner {
@@ -216,13 +246,12 @@ impl Model for MemSpawner {
       calls = s.calls;
       fails = s.fails.items;
       is_silence = s.is_silence;
-      limit = s.limit;
     } };
 }
 
 impl MemSpawner {
     /// A spawner that has started nothing. Each child has room for `room` bytes written and for as
-    /// many bytes of words, each with a line feed; the memory is taken here. The calls whose numbers
+    /// many bytes of what is asked of it; the memory is taken here. The calls whose numbers
     /// from 1 stand in `fails` answer `Failed`.
     pub fn new(
         alloc: Global,
@@ -248,7 +277,6 @@ impl MemSpawner {
             calls: 0,
             fails,
             is_silence: false,
-            limit: None,
         })
     }
 
@@ -257,13 +285,6 @@ impl MemSpawner {
         ensures { self.new ≡ record self.old { is_silence = true } }
     {
         self.is_silence = true;
-    }
-
-    /// How many seconds are to be waited for a child at most.
-    pub fn limit(&self) -> Option<u32>
-        ensures { result ≡ self.now.limit }
-    {
-        self.limit
     }
 
     /// How many roles have an output.
@@ -282,7 +303,8 @@ impl MemSpawner {
         child.written.bytes.as_slice()
     }
 
-    /// The words that were asked of a role's child, each with a line feed.
+    /// What was asked of a role's child: the seconds for which it may be silent, which are empty where
+    /// there is no limit, and its words, each with a line feed.
     pub fn asked(&self, role: u32) -> &[u8]
         requires { role < length self.now.children }
         ensures { result.now ≡ (child_at self.now role).asked }
@@ -336,13 +358,13 @@ impl MemSpawner {
 impl Spawner for MemSpawner {
     ghost child = { children_of };
 
-    fn start(&mut self, role: u32, words: &[Text]) -> Result<(), Failed>
+    fn start(&mut self, role: u32, limit: Option<u32>, words: &[Text]) -> Result<(), Failed>
         ensures fails { IsErr result ↔ (IsDueToFail self.old ⊎ HasNoOutput self.old role
-            ⊎ HasNoRoomForWords (child_at self.old role) words.now) }
+            ⊎ HasNoRoomForWords (child_at self.old role) limit words.now) }
         ensures failed { OnErr result
             (self.new ≡ with_child self.old role (failed_at self.old role)) }
-        ensures started { OnOk result
-            (self.new ≡ with_child self.old role (after_start (child_at self.old role) words.now)) }
+        ensures started { OnOk result (self.new
+            ≡ with_child self.old role (after_start (child_at self.old role) limit words.now)) }
         ensures never_falls { (child_at self.old role).faults ≤ (child_at self.new role).faults }
     {
         let fails = self.next_fails();
@@ -351,10 +373,12 @@ impl Spawner for MemSpawner {
             return Err(Failed);
         }
         let child = &mut self.children[role as usize];
-        if fails || !child.has_room_for(words) {
+        let mut digits = Buffer::new();
+        let limit = text_of(&mut digits, limit);
+        if fails || !child.has_room_for(limit, words) {
             return Err(child.fail(silent));
         }
-        child.ask(words);
+        child.ask(limit, words);
         Ok(())
     }
 
@@ -423,13 +447,6 @@ impl Spawner for MemSpawner {
             return Err(child.fail(silent));
         }
         Ok(child.finish())
-    }
-
-    fn wait_at_most(&mut self, seconds: u32)
-        ensures limited { self.new ≡ record self.old { limit = Some seconds } }
-        ensures same { children_of self.new ≡ children_of self.old }
-    {
-        self.limit = Some(seconds);
     }
 
     fn was_silent(&self, role: u32) -> bool {

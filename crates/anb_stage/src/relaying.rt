@@ -20,6 +20,7 @@ use std::alloc::Global;
 pub(crate) fn relay_all<P: Spawner>(
     alloc: Global,
     words: &[Vec<Text>],
+    limit: Option<u32>,
     actions: &[Ends],
     spawner: &mut P,
     buffer: &mut [u8],
@@ -34,11 +35,11 @@ pub(crate) fn relay_all<P: Spawner>(
         → AreCut (length words.now) (P.child spawner.old) outputs tails
         → IfOk result (λ sent. sent.items ≡ report outputs actions.now) }
     ensures relayed { OnOk result (IsRelayed (length words.now) (P.child spawner.old)
-        (P.child spawner.new) (asked_lists words.now) actions.now) }
+        (P.child spawner.new) (asked_lists limit words.now) actions.now) }
     ensures refused { IfErr result (IsRefused (length words.now) (P.child spawner.old)
-        (P.child spawner.new) (asked_lists words.now) actions.now) }
+        (P.child spawner.new) (asked_lists limit words.now) actions.now) }
 {
-    match start_all(spawner, words) {
+    match start_all(spawner, limit, words) {
         Ok(()) => {}
         Err(no) => return Err(no),
     }

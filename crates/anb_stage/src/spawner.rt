@@ -2,7 +2,7 @@
 
 ghost use Rattle.std.specs.Prelude.{◌≡◌, ◌<◌, ◌≤◌, ℕ, length, take, IfOk, IfSome, OnOk, OnErr};
 ghost use Rattle.anb_base.specs.Moves.{Rose, Took, Put, AtEnd, Stamped};
-ghost use Rattle.anb_stage.specs.Children.{Child, lines, written_to_all, KeptByStart, KeptByRead, KeptByWrite, KeptByFinish, IsUnstarted, OthersStay};
+ghost use Rattle.anb_stage.specs.Children.{Child, asked_words, lines, written_to_all, KeptByStart, KeptByRead, KeptByWrite, KeptByFinish, IsUnstarted, OthersStay};
 ghost use Rattle.anb_stage.specs.declared.TheConstants.{ROLES};
 
 use anb_base::{Failed, Text};
@@ -13,11 +13,13 @@ pub trait Spawner {
     /// What is told of each role's child.
     ghost child: { Self → ℕ → Child };
 
-    /// Starts a role's child with these words.
-    fn start(&mut self, role: u32, words: &[Text]) -> Result<(), Failed>
+    /// Starts a role's child with these words. Where there is a limit, each call for the child fails
+    /// once it was silent for so many seconds: it gave no byte that was waited for, took none, or
+    /// didn't end.
+    fn start(&mut self, role: u32, limit: Option<u32>, words: &[Text]) -> Result<(), Failed>
         requires within { role < ROLES }
-        ensures asked { OnOk result
-            (Put (child self.old role).asked (child self.new role).asked (lines words.now)) }
+        ensures asked { OnOk result (Put (child self.old role).asked (child self.new role).asked
+            (lines (asked_words limit words.now))) }
         ensures started { OnOk result ((child self.new role).phase ≡ 1) }
         ensures failed { OnErr result (IsUnstarted (child self.old role) (child self.new role)) }
         ensures cause { OnErr result
@@ -85,11 +87,6 @@ pub trait Spawner {
         ensures never_falls { (child self.old role).faults ≤ (child self.new role).faults }
         ensures kept { KeptByFinish (child self.old role) (child self.new role) }
         ensures others { OthersStay role (child self.old) (child self.new) };
-
-    /// From now on a call for a child fails once the child was silent for so many seconds: it gave no
-    /// byte that was waited for, took none, or didn't end.
-    fn wait_at_most(&mut self, seconds: u32)
-        ensures { child self.new ≡ child self.old };
 
     /// Whether the last call for a role's child that failed did so since the child was silent for too
     /// long.

@@ -12,14 +12,16 @@ use anb_base::{ARRIVAL, Sent, Text};
 use anb_protocol::{Protocol, protocols_hold};
 use std::alloc::Global;
 
-/// Starts a child for each role of the protocol with the role's words, carries each message from its
-/// sender to its receiver, in the order of the actions, and finishes all children. The first refusal
+/// Starts a child for each role of the protocol with the role's words, each of which may be silent for so
+/// many seconds where there is a limit, carries each message from its sender to its receiver, in the
+/// order of the actions, and finishes all children. The first refusal
 /// in the order of the work ends it: then children may be left that were started and aren't finished.
 /// Roles are started and finished in their order. The messages are answered in the order of actions.
 pub fn relay<P: Spawner>(
     alloc: Global,
     p: &Protocol,
     words: &[Vec<Text>],
+    limit: Option<u32>,
     spawner: &mut P,
 ) -> Result<Vec<Sent>, RelayNo>
     requires words { length words.now ≡ length p.now.roles }
@@ -31,9 +33,9 @@ pub fn relay<P: Spawner>(
         → AreCut (length words.now) (P.child spawner.old) outputs tails
         → IfOk result (λ sent. sent.items ≡ report outputs (ends_in p.now)) }
     ensures relayed { OnOk result (IsRelayed (length words.now) (P.child spawner.old)
-        (P.child spawner.new) (asked_lists words.now) (ends_in p.now)) }
+        (P.child spawner.new) (asked_lists limit words.now) (ends_in p.now)) }
     ensures refused { IfErr result (IsRefused (length words.now) (P.child spawner.old)
-        (P.child spawner.new) (asked_lists words.now) (ends_in p.now)) }
+        (P.child spawner.new) (asked_lists limit words.now) (ends_in p.now)) }
 {
     protocols_hold();
     let _ = p.name();
@@ -43,5 +45,5 @@ pub fn relay<P: Spawner>(
     let Ok(mut buffer) = vec![in alloc; 0u8; ARRIVAL as usize] else {
         return Err(RelayNo::NoMemory);
     };
-    relay_all(alloc, words, &actions, spawner, &mut buffer)
+    relay_all(alloc, words, limit, &actions, spawner, &mut buffer)
 }

@@ -8,18 +8,22 @@ ghost use Rattle.anb_stage.specs.declared.TheConstants.{ROLES};
 use crate::{RelayNo, Spawner};
 use anb_base::Text;
 
-/// Starts all children in order, each with its words.
-pub(crate) fn start_all<P: Spawner>(spawner: &mut P, words: &[Vec<Text>]) -> Result<(), RelayNo>
+/// Starts all children in order, each with its words and all with this limit.
+pub(crate) fn start_all<P: Spawner>(
+    spawner: &mut P,
+    limit: Option<u32>,
+    words: &[Vec<Text>],
+) -> Result<(), RelayNo>
     requires few { length words.now ≤ ROLES }
     requires new { (role : ℕ) → role < length words.now → (P.child spawner.old role).phase ≡ 0 }
     ensures started { OnOk result (Started (P.child spawner.old) (P.child spawner.new)
-        (length words.now) (asked_lists words.now)) }
+        (length words.now) (asked_lists limit words.now)) }
     ensures failed { IfErr result (FailsStarting (P.child spawner.old) (P.child spawner.new)
-        (length words.now) (asked_lists words.now)) }
+        (length words.now) (asked_lists limit words.now)) }
 {
     for (i, own) in words.iter().enumerate() {
         let role = i as u32;
-        if spawner.start(role, own.as_slice()).is_err() {
+        if spawner.start(role, limit, own.as_slice()).is_err() {
             return Err(RelayNo::Fault(role));
         }
     }

@@ -2,7 +2,7 @@
 use Rattle.std.specs.Prelude.{Vec}
 use Rattle.std.specs.Global.{Global}
 use Rattle.std.proofs.lemmas.List.{length-map}
-use Rattle.anb_stage.specs.Words.{asked_lists, words_of}
+use Rattle.anb_stage.specs.Words.{asked_by, asked_lists}
 use Rattle.std.proofs.Common.{◌≡◌, ℕ, Bool, true, false, ◌<◌, ◌≤◌, ◌⊎◌, List, [], ◌∷◌, length, get_or, Option, Some, None, IfSome, refl, sym, ap, ◌∙◌, subst, inl, inr, arith}
 use Rattle.anb_base.specs.Moves.{Rose}
 use Rattle.anb_base.specs.Wires.{WireState}
@@ -26,7 +26,7 @@ use Rattle.anb_command.specs.Writing.{IsWritten}
 use Rattle.anb_command.proofs.Chains.{told_map}
 use Rattle.anb_command.proofs.Ones.{not_both, same_given, sendable_one}
 use Rattle.anb_stage_commands.specs.Reports.{report_text}
-use Rattle.anb_stage_commands.specs.Words.{Staged, child_words, words_for}
+use Rattle.anb_stage_commands.specs.Words.{Staged, asked_for, words_for}
 use Rattle.anb_stage_commands.specs.StageCommand.{AllGoWell, CompletesStage, HasStageCause, IsIdle, IsRefusedAs, IsRelayedAs, IsReport, IsStaged, NoChildRose, fault_status, status_after}
 use Rattle.anb_stage_commands.specs.Relaying.{FailsInFile, FailsRelaying, HasCauseBefore, HasChildCause, IsBefore, Relays, RelaysInFile, Stay}
 
@@ -71,8 +71,8 @@ module _ (s : Staged) (old new : ℕ → Child) (p : ProtocolValue) (n : ℕ) (w
   }
 
 -- as many roles as lists of words
-pub count_words : (s : Staged) (p : ProtocolValue) (all : List (Vec (List ℕ) Global)) → asked_lists all ≡ words_for s p.roles → length all ≡ length p.roles
-count_words s p all asked = sym (length-map all words_of) ∙ ap length asked ∙ length-map p.roles (child_words s)
+pub count_words : (s : Staged) (p : ProtocolValue) (all : List (Vec (List ℕ) Global)) → asked_lists s.limit all ≡ words_for s p.roles → length all ≡ length p.roles
+count_words s p all asked = sym (length-map all (asked_by s.limit)) ∙ ap length asked ∙ length-map p.roles (asked_for s)
 
 before_of : (limit : Option ℕ) (children : ℕ → Child) (p : ProtocolValue) (r : RelayNo) → IsBefore (status_after limit children p r)
 before_of limit children p (no.Fault role) = fault_before (get_or p.roles role []) limit (children role).silent

@@ -1,6 +1,7 @@
 -- The words of `stage`, and those of the children that it starts.
 use Rattle.std.specs.Prelude.{ℕ, List, [], ◌∷◌, ◌++◌, codes, bytes_eq, map, ◌&&◌, Option, Some, None, if◌then◌else◌}
 use Rattle.std.specs.Option.{option_map}
+use Rattle.anb_stage.specs.Children.{asked_words}
 use Rattle.anb_words.specs.Words.{is_operand, seconds_in}
 
 -- the names of the narration's file and of the folder with the values of its roles, and for how many
@@ -35,5 +36,9 @@ abbrev pub child_words : Staged → (role : List ℕ) → List (List ℕ)
 child_words s role =
     codes "play" ∷ s.narration ∷ role ∷ (s.folder ++ (47 ∷ (role ++ codes ".values"))) ∷ []
 
+-- what is asked of it: it may be silent for so long, and has these words
+abbrev pub asked_for : Staged → (role : List ℕ) → List (List ℕ)
+asked_for s role = asked_words s.limit (child_words s role)
+
 abbrev pub words_for : Staged → (roles : List (List ℕ)) → List (List (List ℕ))
-words_for s roles = map (child_words s) roles
+words_for s roles = map (asked_for s) roles

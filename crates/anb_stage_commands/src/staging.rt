@@ -112,23 +112,13 @@ fn relayed<P: Spawner>(
     let Ok(all) = words_for(alloc, words, protocol.roles()) else {
         return Err(Status::NoMemory);
     };
-    limit_waits(spawner, words.limit);
-    let sent = match relay(alloc, protocol, &all, spawner) {
+    let sent = match relay(alloc, protocol, &all, words.limit, spawner) {
         Ok(sent) => sent,
         Err(no) => return Err(refusal(names, words.limit, spawner, no)),
     };
     match report_text(alloc, &sent) {
         Ok(text) => Ok(text),
         Err(NoMemory) => Err(Status::NoMemory),
-    }
-}
-
-/// Bounds how long a child may be silent, where there is a limit.
-fn limit_waits<P: Spawner>(spawner: &mut P, limit: Option<u32>)
-    ensures { P.child spawner.new ≡ P.child spawner.old }
-{
-    if let Some(seconds) = limit {
-        spawner.wait_at_most(seconds);
     }
 }
 

@@ -70,7 +70,8 @@ pub(crate) fn words_for(
     words: StageWords,
     roles: &[Text],
 ) -> Result<Vec<Vec<Text>>, NoMemory>
-    ensures { IfOk result (λ all. asked_lists all.items ≡ words_for (staged words.entry) roles.now) }
+    ensures { IfOk result (λ all. asked_lists words.entry.limit all.items
+        ≡ words_for (staged words.entry) roles.now) }
 {
     let mut all = Vec::new(alloc);
     for role in roles {

@@ -36,11 +36,12 @@ fn wire(alloc: Global) -> Result<MemWire, NoMemory> {
     MemWire::new(alloc, bytes(alloc, b"")?, 1024, 1024, Vec::new(alloc))
 }
 
-/// A shelf with this narration as the file `n`.
-fn shelf(alloc: Global, narration: &str) -> Result<MemShelf, NoMemory> {
+/// A shelf with this narration as the file `n`, of which one fetch fails.
+fn shelf(alloc: Global, narration: &str, fails: u32) -> Result<MemShelf, NoMemory> {
     let mut files = Vec::new(alloc);
     files.push((text(alloc, "n")?, bytes(alloc, narration.as_bytes())?))?;
-    MemShelf::new(alloc, files, Vec::new(alloc))
+    let fails = vec![in alloc; fails]?;
+    MemShelf::new(alloc, files, fails)
 }
 
 /// These words.
@@ -78,20 +79,24 @@ fn children(
 fn stage(alloc: Global, narration: &str, spawner: MemSpawner) -> Result<Staged, Fail>
     requires { (role : ℕ) → (child_at spawner role).phase ≡ 0 }
 {
-    stage_by(alloc, &["stage", "n", "f"], narration, spawner)
+    stage_by(
+        alloc,
+        &["stage", "n", "f"],
+        shelf(alloc, narration, 0)?,
+        spawner,
+    )
 }
 
-/// Stages a narration by these words.
+/// Stages a narration of this shelf by these words.
 fn stage_by(
     alloc: Global,
     all: &[&str],
-    narration: &str,
+    mut shelf: MemShelf,
     mut spawner: MemSpawner,
 ) -> Result<Staged, Fail>
     requires { (role : ℕ) → (child_at spawner role).phase ≡ 0 }
 {
     let words = words(alloc, all)?;
-    let mut shelf = shelf(alloc, narration)?;
     let mut wire = wire(alloc)?;
     let mut err = self::wire(alloc)?;
     let status = run_all(
@@ -135,7 +140,7 @@ fn ping_is_staged(rt: HostRuntime) -> Result<(), Fail> {
     assert_eq!(&rt; staged.spawner.written(1), FRAME);
     assert_eq!(&rt;
         staged.spawner.asked(1),
-        b"play\nn\nB\nf/B.values\n".as_slice()
+        b"\nplay\nn\nB\nf/B.values\n".as_slice()
     );
     Ok(())
 }
@@ -199,11 +204,39 @@ fn each_call_may_fail(rt: HostRuntime) -> Result<(), Fail> {
     Ok(())
 }
 
+/// The narration is all that a stage fetches: its children fetch their values. No child is started
+/// before.
+#[test]
+fn each_fetch_may_fail(rt: HostRuntime) -> Result<(), Fail> {
+    let alloc = rt.alloc();
+    let staged = fetching(&rt, alloc, 1)?;
+    assert_eq!(&rt; staged.number, 2);
+    assert_eq!(&rt; staged.err.written(), b"anb: can't read n\n".as_slice());
+    assert_eq!(&rt; staged.wire.written(), b"".as_slice());
+    assert!(&rt; 1 < staged.spawner.roles());
+    assert_eq!(&rt; staged.spawner.asked(0), b"".as_slice());
+    assert_eq!(&rt; staged.spawner.asked(1), b"".as_slice());
+    let staged = fetching(&rt, alloc, 2)?;
+    assert_eq!(&rt; staged.number, 0);
+    Ok(())
+}
+
+/// Stages Ping, where one fetch fails.
+fn fetching(rt: &impl Abort, alloc: Global, fails: u32) -> Result<Staged, Fail> {
+    let spawner = children(rt, alloc, &[FRAME, FRAME], 0, 0)?;
+    stage_by(
+        alloc,
+        &["stage", "n", "f"],
+        shelf(alloc, PING, fails)?,
+        spawner,
+    )
+}
+
 /// What a stage of Ping by these words comes to whose fifth call fails since B is silent.
 fn silent(rt: &impl Abort, alloc: Global, all: &[&str]) -> Result<Staged, Fail> {
     let mut spawner = children(rt, alloc, &[FRAME, FRAME], 0, 5)?;
     spawner.fall_silent();
-    stage_by(alloc, all, PING, spawner)
+    stage_by(alloc, all, shelf(alloc, PING, 0)?, spawner)
 }
 
 #[test]
@@ -215,10 +248,18 @@ fn a_child_may_be_silent(rt: HostRuntime) -> Result<(), Fail> {
         staged.err.written(),
         b"anb: child B was silent for 7 seconds\n".as_slice()
     );
-    assert_eq!(&rt; staged.spawner.limit(), Some(7));
+    assert!(&rt; 1 < staged.spawner.roles());
+    assert_eq!(&rt;
+        staged.spawner.asked(1),
+        b"7\nplay\nn\nB\nf/B.values\n".as_slice()
+    );
     let staged = silent(&rt, alloc, &["stage", "n", "f"])?;
     assert_eq!(&rt; staged.number, 31);
-    assert_eq!(&rt; staged.spawner.limit(), None);
+    assert!(&rt; 1 < staged.spawner.roles());
+    assert_eq!(&rt;
+        staged.spawner.asked(1),
+        b"\nplay\nn\nB\nf/B.values\n".as_slice()
+    );
     let staged = silent(&rt, alloc, &["stage", "n", "f", "--timeout", "0"])?;
     assert_eq!(&rt; staged.number, 1);
     Ok(())

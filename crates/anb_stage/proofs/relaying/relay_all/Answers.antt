@@ -1,13 +1,13 @@
 use Rattle.std.proofs.Common.{length}
 use Rattle.std.proofs.lemmas.List.{length-map}
-use Rattle.anb_stage.specs.Words.{words_of, asked_lists}
+use Rattle.anb_stage.specs.Words.{asked_by, asked_lists}
 use Rattle.anb_stage.proofs.Steps.{running_from}
 use Rattle.anb_stage.proofs.Whole.{cut_after, running_after, refused_starting, refused_carrying, succeeded, refused_finishing}
 use Rattle.anb_stage.proofs.relaying.relay_all.Goals as goal
 
 pub returns-in-Err-clause-refused : goal.returns-in-Err-clause-refused
 returns-in-Err-clause-refused g c =
-    refused_starting (length c.args.words.now) c.requires.roles (asked_lists c.args.words.now) (length-map c.args.words.now words_of) c.args.actions.now
+    refused_starting (length c.args.words.now) c.requires.roles (asked_lists c.args.limit c.args.words.now) (length-map c.args.words.now (asked_by c.args.limit)) c.args.actions.now
     (g.P.Spawner.child c.args.spawner.now) (g.P.Spawner.child c.start_all.new.spawner) c.in-Err.no c.in-Err.ensures.failed
 
 pub carry_all-requires-clause-running : goal.carry_all-requires-clause-running
@@ -16,7 +16,7 @@ carry_all-requires-clause-running g c =
 
 pub returns-in-Err-carry_all-clause-refused : goal.returns-in-Err-carry_all-clause-refused
 returns-in-Err-carry_all-clause-refused g c =
-    refused_carrying (length c.args.words.now) c.requires.roles (asked_lists c.args.words.now) (length-map c.args.words.now words_of) c.args.actions.now
+    refused_carrying (length c.args.words.now) c.requires.roles (asked_lists c.args.limit c.args.words.now) (length-map c.args.words.now (asked_by c.args.limit)) c.args.actions.now
     (g.P.Spawner.child c.args.spawner.now) (g.P.Spawner.child c.start_all.new.spawner) c.in-Ok.ensures.started
     (g.P.Spawner.child c.carry_all.new.spawner) (c.carry_all.ensures.kept _ c.requires.roles c.requires.within) c.in-Err-carry_all.no
     (λ outputs tails cut. c.in-Err-carry_all.ensures.failed _ outputs tails c.requires.roles c.requires.within cut)
@@ -26,19 +26,19 @@ returns-in-Err-carry_all-clause-refused g c =
 
 pub finish_all-requires-clause-running : goal.finish_all-requires-clause-running
 finish_all-requires-clause-running g c =
-    running_after (length c.args.words.now) c.requires.roles (asked_lists c.args.words.now) (length-map c.args.words.now words_of) c.args.actions.now
+    running_after (length c.args.words.now) c.requires.roles (asked_lists c.args.limit c.args.words.now) (length-map c.args.words.now (asked_by c.args.limit)) c.args.actions.now
     (g.P.Spawner.child c.args.spawner.now) (g.P.Spawner.child c.start_all.new.spawner) c.in-Ok.ensures.started
     (g.P.Spawner.child c.carry_all.new.spawner) (c.carry_all.ensures.kept _ c.requires.roles c.requires.within)
 
 pub returns-in-Ok-finish_all-clause-report : goal.returns-in-Ok-finish_all-clause-report
 returns-in-Ok-finish_all-clause-report g c outputs tails cut =
     c.in-Ok-carry_all.ensures.report _ outputs tails c.requires.roles c.requires.within
-    (cut_after (length c.args.words.now) c.requires.roles (asked_lists c.args.words.now) (length-map c.args.words.now words_of) c.args.actions.now
+    (cut_after (length c.args.words.now) c.requires.roles (asked_lists c.args.limit c.args.words.now) (length-map c.args.words.now (asked_by c.args.limit)) c.args.actions.now
     (g.P.Spawner.child c.args.spawner.now) (g.P.Spawner.child c.start_all.new.spawner) c.in-Ok.ensures.started outputs tails cut)
 
 pub returns-in-Ok-finish_all-clause-relayed : goal.returns-in-Ok-finish_all-clause-relayed
 returns-in-Ok-finish_all-clause-relayed g c =
-    succeeded (length c.args.words.now) c.requires.roles (asked_lists c.args.words.now) (length-map c.args.words.now words_of) c.args.actions.now
+    succeeded (length c.args.words.now) c.requires.roles (asked_lists c.args.limit c.args.words.now) (length-map c.args.words.now (asked_by c.args.limit)) c.args.actions.now
     (g.P.Spawner.child c.args.spawner.now) (g.P.Spawner.child c.start_all.new.spawner) c.in-Ok.ensures.started
     (g.P.Spawner.child c.carry_all.new.spawner) (c.carry_all.ensures.kept _ c.requires.roles c.requires.within)
     (λ outputs tails cut. c.in-Ok-carry_all.ensures.carried _ outputs tails c.requires.roles c.requires.within cut)
@@ -47,7 +47,7 @@ returns-in-Ok-finish_all-clause-relayed g c =
 
 pub returns-in-Err-finish_all-clause-refused : goal.returns-in-Err-finish_all-clause-refused
 returns-in-Err-finish_all-clause-refused g c =
-    refused_finishing (length c.args.words.now) c.requires.roles (asked_lists c.args.words.now) (length-map c.args.words.now words_of) c.args.actions.now
+    refused_finishing (length c.args.words.now) c.requires.roles (asked_lists c.args.limit c.args.words.now) (length-map c.args.words.now (asked_by c.args.limit)) c.args.actions.now
     (g.P.Spawner.child c.args.spawner.now) (g.P.Spawner.child c.start_all.new.spawner) c.in-Ok.ensures.started
     (g.P.Spawner.child c.carry_all.new.spawner) (c.carry_all.ensures.kept _ c.requires.roles c.requires.within)
     (λ outputs tails cut. c.in-Ok-carry_all.ensures.carried _ outputs tails c.requires.roles c.requires.within cut)

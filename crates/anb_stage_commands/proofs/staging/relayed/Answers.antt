@@ -10,9 +10,9 @@ pub returns-in-Err-clause-failed : goal.returns-in-Err-clause-failed
 returns-in-Err-clause-failed g c =
     let s = staged c.args.words in
     let all = c.deref.result.now in
-    let asked = ap asked_lists c.deref.ensures.value ∙ c.in-Ok-words_for.ensures ∙ ap (words_for s) c.roles-2.ensures in
-    refuses_as s (g.P.Spawner.child c.args.spawner.now) (g.P.Spawner.child c.relay.new.spawner) c.args.protocol.now (length all) (asked_lists all)
-    (count_words s c.args.protocol.now all asked) asked c.in-Err.no c.refusal.result (rw c.limit_waits.ensures at c.in-Err.ensures.refused) (c.refusal.ensures c.args.protocol.now (c.in-Ok.ensures ∙ c.roles.ensures))
+    let asked = ap (asked_lists c.args.words.limit) c.deref.ensures.value ∙ c.in-Ok-words_for.ensures ∙ ap (words_for s) c.roles-2.ensures in
+    refuses_as s (g.P.Spawner.child c.args.spawner.now) (g.P.Spawner.child c.relay.new.spawner) c.args.protocol.now (length all) (asked_lists c.args.words.limit all)
+    (count_words s c.args.protocol.now all asked) asked c.in-Err.no c.refusal.result c.in-Err.ensures.refused (c.refusal.ensures c.args.protocol.now (c.in-Ok.ensures ∙ c.roles.ensures))
 
 pub returns-in-Err-clause-before : goal.returns-in-Err-clause-before
 returns-in-Err-clause-before g c =
@@ -22,31 +22,31 @@ pub returns-in-Err-clause-cause : goal.returns-in-Err-clause-cause
 returns-in-Err-clause-cause g c =
     let s = staged c.args.words in
     let all = c.deref.result.now in
-    let asked = ap asked_lists c.deref.ensures.value ∙ c.in-Ok-words_for.ensures ∙ ap (words_for s) c.roles-2.ensures in
+    let asked = ap (asked_lists c.args.words.limit) c.deref.ensures.value ∙ c.in-Ok-words_for.ensures ∙ ap (words_for s) c.roles-2.ensures in
     let count = count_words s c.args.protocol.now all asked in
-    cause_status c.args.protocol.now (length all) c.args.words.limit (g.P.Spawner.child c.args.spawner.now) (g.P.Spawner.child c.relay.new.spawner) (asked_lists all)
-    c.in-Err.no c.refusal.result (omega (arith, count, c.has_few_roles.ensures)) (rw c.limit_waits.ensures at c.in-Err.ensures.refused) (c.refusal.ensures c.args.protocol.now (c.in-Ok.ensures ∙ c.roles.ensures))
+    cause_status c.args.protocol.now (length all) c.args.words.limit (g.P.Spawner.child c.args.spawner.now) (g.P.Spawner.child c.relay.new.spawner) (asked_lists c.args.words.limit all)
+    c.in-Err.no c.refusal.result (omega (arith, count, c.has_few_roles.ensures)) c.in-Err.ensures.refused (c.refusal.ensures c.args.protocol.now (c.in-Ok.ensures ∙ c.roles.ensures))
 
 pub returns-in-Ok-report_text-clause-relayed : goal.returns-in-Ok-report_text-clause-relayed
 returns-in-Ok-report_text-clause-relayed g c =
     let s = staged c.args.words in
     let all = c.deref.result.now in
-    let asked = ap asked_lists c.deref.ensures.value ∙ c.in-Ok-words_for.ensures ∙ ap (words_for s) c.roles-2.ensures in
-    relays_by s (g.P.Spawner.child c.args.spawner.now) (g.P.Spawner.child c.relay.new.spawner) c.args.protocol.now (length all) (asked_lists all)
-    (count_words s c.args.protocol.now all asked) asked c.in-Ok-report_text.text.items c.in-Ok-relay.sent.items (rw c.limit_waits.ensures at c.in-Ok-relay.ensures.relayed)
-    (rw c.limit_waits.ensures at c.in-Ok-relay.ensures.report) (c.in-Ok-report_text.ensures ∙ ap report_text c.deref-2.ensures.value)
+    let asked = ap (asked_lists c.args.words.limit) c.deref.ensures.value ∙ c.in-Ok-words_for.ensures ∙ ap (words_for s) c.roles-2.ensures in
+    relays_by s (g.P.Spawner.child c.args.spawner.now) (g.P.Spawner.child c.relay.new.spawner) c.args.protocol.now (length all) (asked_lists c.args.words.limit all)
+    (count_words s c.args.protocol.now all asked) asked c.in-Ok-report_text.text.items c.in-Ok-relay.sent.items c.in-Ok-relay.ensures.relayed
+    c.in-Ok-relay.ensures.report (c.in-Ok-report_text.ensures ∙ ap report_text c.deref-2.ensures.value)
 
 pub returns-clause-failed : goal.returns-clause-failed
 returns-clause-failed g c =
     let s = staged c.args.words in
     let all = c.deref.result.now in
-    let asked = ap asked_lists c.deref.ensures.value ∙ c.in-Ok-words_for.ensures ∙ ap (words_for s) c.roles-2.ensures in
+    let asked = ap (asked_lists c.args.words.limit) c.deref.ensures.value ∙ c.in-Ok-words_for.ensures ∙ ap (words_for s) c.roles-2.ensures in
     inr (
       refl,
       (
         report_text c.in-Ok-relay.sent.items,
-        relays_by s (g.P.Spawner.child c.args.spawner.now) (g.P.Spawner.child c.relay.new.spawner) c.args.protocol.now (length all) (asked_lists all)
-            (count_words s c.args.protocol.now all asked) asked (report_text c.in-Ok-relay.sent.items) c.in-Ok-relay.sent.items (rw c.limit_waits.ensures at c.in-Ok-relay.ensures.relayed)
-            (rw c.limit_waits.ensures at c.in-Ok-relay.ensures.report) refl,
+        relays_by s (g.P.Spawner.child c.args.spawner.now) (g.P.Spawner.child c.relay.new.spawner) c.args.protocol.now (length all) (asked_lists c.args.words.limit all)
+            (count_words s c.args.protocol.now all asked) asked (report_text c.in-Ok-relay.sent.items) c.in-Ok-relay.sent.items c.in-Ok-relay.ensures.relayed
+            c.in-Ok-relay.ensures.report refl,
       ),
     )

@@ -5,4 +5,4 @@ use Rattle.anb_stage_commands.specs.Words.{words_for}
 use Rattle.anb_stage_commands.proofs.words.words_for.Given as goal
 
 abbrev pub invariant-loop-role : goal.invariant-loop-role
-invariant-loop-role l = asked_lists l.all.items ≡ words_for (staged l.fn.words) (take l.role-index l.roles)
+invariant-loop-role l = asked_lists l.fn.words.limit l.all.items ≡ words_for (staged l.fn.words) (take l.role-index l.roles)

@@ -1,4 +1,4 @@
-use Rattle.std.proofs.Common.{[], ◌∷◌, ◌++◌, length, arith, ap, ◌∙◌, length-append, get_or, List, None, false}
+use Rattle.std.proofs.Common.{[], ◌∷◌, ◌++◌, length, arith, ap, ◌∙◌, length-append, get_or, List, false}
 use Rattle.anb_stage.specs.Memory.{MemoryChild, absent}
 use Rattle.anb_stage.proofs.Fresh.{fresh_next, fresh_unstarted, nothing_left}
 use Rattle.anb_stage.proofs.memory.MemSpawner.new.Goals as goal
@@ -26,7 +26,7 @@ returns-clause-fresh c =
     let steps = c.in-None.ensures.steps in
     let all = nothing_left c.args.room c.loop-output.children.items _ c.loop-output.output-iterator.rest.items _
     (omega (arith, steps.0, c.loop-output.invariant.left)) c.loop-output.invariant.children in
-    ap (λ children. record { children = children; calls = 0; fails = c.args.fails.items; is_silence = false; limit = None }) all
+    ap (λ children. record { children = children; calls = 0; fails = c.args.fails.items; is_silence = false }) all
 
 pub returns-clause-unstarted : goal.returns-clause-unstarted
 returns-clause-unstarted c = λ role.
