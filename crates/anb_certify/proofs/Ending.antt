@@ -1,8 +1,10 @@
 -- Steps of the walk, from the code's instructions and events, and its end.
-use Rattle.std.proofs.Common.{◌≡◌, ℕ, zero, suc, ◌+◌, ◌<◌, ◌≤◌, List, [], ◌∷◌, ◌++◌, length, map, drop, Bool, true, false, Option, Some, None, refl, sym, ap, ◌∙◌, subst, arith}
+use Rattle.std.proofs.Common.{◌≡◌, ℕ, zero, suc, ◌+◌, ◌<◌, ◌≤◌, ◌^◌, List, [], ◌∷◌, ◌++◌, length, map, drop, Bool, true, false, Option, Some, None, refl, sym, ap, ◌∙◌, subst, arith}
 use Rattle.std.specs.Prelude.{slice_get, ◌≢◌}
 use Rattle.std.proofs.lemmas.Slice.Eq.{bytes_eq-Decides}
 use Rattle.std.proofs.lemmas.List.{length-map, length-drop}
+use Rattle.std.proofs.lemmas.List.Sums.{sum_by-cons}
+use Rattle.anb_format.specs.Formats.{FormatValue}
 use Rattle.anb_base.specs.declared.TheConstants.{ARRIVAL, WIDE}
 use Rattle.anb_term.specs.Tree.{Tree}
 use Rattle.anb_term.proofs.Lists.{map-drop, slice_get-map}
@@ -17,7 +19,8 @@ use Rattle.anb_code.specs.CodeValue.{CodeValue}
 use Rattle.anb_code.specs.Meaning.{act_of, acts_of, IsOperator}
 use Rattle.anb_code.specs.Laws.{VerifiedIsRunnable}
 use Rattle.anb_code.specs.Taking.{take_texts, taken_text}
-use Rattle.anb_code.specs.Verified.{IsVerifiedCode}
+use Rattle.anb_code.specs.Registers.{count_written}
+use Rattle.anb_code.specs.Verified.{IsVerifiedCode, count_registers}
 use Rattle.anb_protocol.specs.declared.plans.Event as plans
 use Rattle.anb_protocol.specs.Protocols.{ProtocolValue}
 use Rattle.anb_protocol.specs.Plans.{PlanEvent, to_know, to_make, to_send, to_receive, plan_of}
@@ -34,7 +37,7 @@ use Rattle.anb_outcomes.specs.declared.certificates.CertifyNo.TheVariants.{Frame
 use Rattle.anb_certify.specs.Certified.{HasFrame, IsCertified, Refuses, is_work, does_event, stray}
 use Rattle.anb_certify.specs.Numbered.{TableValue, IsLoose}
 use Rattle.anb_certify.specs.Statements.{CertifiedFits}
-use Rattle.anb_certify.specs.Walking.{Stands, IsAt}
+use Rattle.anb_certify.specs.Walking.{Stands, IsAt, written_in}
 use Rattle.anb_certify.proofs.Framing.{ordered, works_on, meets, strays, none_left}
 use Rattle.anb_certify.proofs.Walking.{does_one, heard, value_is}
 
@@ -80,14 +83,22 @@ next_there p role code act acts events next n v plan d s =
 
 -- ---- from start to end
 
+-- the registers of a code are those that its acts write
+counted : (formats : List FormatValue) (xs : List Instr) → count_registers formats xs ≡ written_in (map (act_of formats) xs)
+counted formats [] = refl
+counted formats (Parse f r ∷ xs) = omega (arith, counted formats xs, sum_by-cons (count_written formats) (Parse f r) xs)
+counted formats (x ∷ xs) = omega (arith, counted formats xs, sum_by-cons (count_written formats) x xs)
+
 pub starts : (p : ProtocolValue) (role : ℕ) (code : CodeValue) (v : TableValue) → HasFrame p role code → VerifiedIsRunnable → IsVerifiedCode ARRIVAL WIDE code → v.terms ≡ [] → v.did ≡ [] → IsAt p role code 0 0 v
 starts p role code v framed runs verified e f =
     let same : code.formats ≡ p.formats = framed.0.formats in
     let ready = runs ARRIVAL WIDE code verified (has_operator p.formats) (λ o h. is_operator p.formats o (subst (λ l. IsOperator l o) same h)) in
     let nil : TableValue = record { terms = []; did = [] } in
+    let few : 0 + written_in (acts_of code) < 2 ^ 32 = omega (arith, verified.few_registers, counted code.formats code.instrs) in
     let made : IsAt p role code 0 0 nil = record {
       framed = framed;
       place = start (events_of p role);
+      few = few;
       have = refl;
       told = λ at w d. absurd d;
       order = ordered p code.formats code.instrs (plan_of p role) 1 framed.1 (start (events_of p role));

@@ -1,5 +1,5 @@
 -- Steps along a code.
-use Rattle.std.proofs.Common.{◌≡◌, ℕ, suc, ◌+◌, ◌<◌, List, [], ◌∷◌, ◌++◌, length, drop, Bool, true, false, Option, Some, None, refl, sym, ap, ◌∙◌, subst, inl, inr, arith, length-append}
+use Rattle.std.proofs.Common.{◌≡◌, ℕ, suc, ◌+◌, ◌<◌, ◌^◌, List, [], ◌∷◌, ◌++◌, length, drop, Bool, true, false, Option, Some, None, refl, sym, ap, ◌∙◌, subst, inl, inr, arith, length-append}
 use Rattle.std.specs.Prelude.{slice_get}
 use Rattle.anb_lemmas.proofs.Lists.{get_last, drop_got}
 use Rattle.anb_term.specs.declared.term.Op.{Op}
@@ -25,7 +25,7 @@ use Rattle.anb_certify.specs.Along.{IsTight, IsFirstLoose, Finds}
 use Rattle.anb_certify.specs.Certified.{FindsOf, Refuses}
 use Rattle.anb_certify.specs.Numbered.{TableValue, HasWorked, IsLoose}
 use Rattle.anb_certify.specs.Tied.{AreEnough}
-use Rattle.anb_certify.specs.Walking.{Stands}
+use Rattle.anb_certify.specs.Walking.{Stands, written_in}
 use Rattle.anb_certify.proofs.Telling.{worked_any, told_more, told_next}
 
 -- a term more, and what was done is the same
@@ -61,6 +61,10 @@ module _ (p : ProtocolValue) (role : ℕ) (code : CodeValue) where
   pub work_ready : (acts : List Act) (es : List Event) (n : ℕ) (v : TableValue) (w : Work) → At (works w ∷ acts) es n v → IsReady has (length v.terms) w
   work_ready acts es n v w s = let r = s.ready in subst (λ k. IsReady has k w) (sym r.0) r.1.0
 
+  -- the registers so far are few
+  pub few_now : (acts : List Act) (es : List Event) (n : ℕ) (v : TableValue) → At acts es n v → length v.terms < 2 ^ 32
+  few_now acts es n v s = omega (arith, s.few)
+
   pub untrue : (acts : List Act) (es : List Event) (n : ℕ) (v : TableValue) (w : Work) → At (works w ∷ acts) es n v → worked terms v.terms w ≡ None → Refuses p role code (Untrue n)
   untrue acts es n v w s none =
       elim (work (terms_over has) s.place.frame (free_lawful has) s.place.regs v.terms s.have w (work_ready acts es n v w s)) [
@@ -79,9 +83,11 @@ module _ (p : ProtocolValue) (role : ℕ) (code : CodeValue) where
             let long : length (v.terms ++ ws) ≡ length v.terms + count_written w = length-append v.terms ws ∙ ap (λ j. length v.terms + j) (sym (ap length same) ∙ k.4) in
             let verified : IsVerified has acts (length (v.terms ++ ws)) = (let P : ℕ → Type 0 = λ j. IsVerified has acts (j + count_written w) in subst (IsVerified has acts) (sym long) (subst P (sym r.0) r.1.1)) in
             let regs : length v.terms ≡ length s.place.regs = values_length (terms_over has) s.place.frame s.place.regs v.terms s.have in
+            let few : length v.terms + (count_written w + written_in acts) < 2 ^ 32 = s.few in
             record {
               framed = s.framed;
               place = after_work s.place w;
+              few = omega (arith, few, long);
               have = values_join (terms_over has) s.place.frame s.place.regs (writes s.place.regs w) v.terms ws s.have (subst V same k.3);
               told = told_next has v.terms ws v.did w s.told (work_ready acts es n v w s) is;
               order = s.order.1;
@@ -108,9 +114,11 @@ module _ (p : ProtocolValue) (role : ℕ) (code : CodeValue) where
       let one : values (terms_over has) s.place.frame (recipe_trees (label (length s.place.regs) ∷ [])) ≡ Some (t ∷ []) = rw at refl in
       let long : length (v.terms ++ t ∷ []) ≡ length v.terms + 1 = length-append v.terms (t ∷ []) in
       let more : suc (length v.terms) ≡ length (v.terms ++ t ∷ []) = omega (arith, long) in
+      let few : length v.terms + (1 + written_in acts) < 2 ^ 32 = s.few in
       record {
         framed = s.framed;
         place = after_take s.place;
+        few = omega (arith, few, long);
         have = values_join (terms_over has) s.place.frame s.place.regs (label (length s.place.regs) ∷ []) v.terms (t ∷ []) s.have one;
         told = told_more v.terms (t ∷ []) v.did s.told;
         order = s.order;
@@ -121,15 +129,17 @@ module _ (p : ProtocolValue) (role : ℕ) (code : CodeValue) where
       }
 
   label_comes : (act : Act) (acts : List Act) (e : Event) (t : Tree) (es : List Event) (n : ℕ) (v : TableValue) (s : At (act ∷ acts) (e ∷ es) n v)
+      → length v.terms + (1 + written_in acts) < 2 ^ 32
       → Along AnySend AnyWork AnyBorder acts es (after_label s.place t) → IsVerified has acts (length v.terms + 1) → NoTakes has acts
       → ((found : Option CertifyNo) → Finds (meaning_of p) acts es (after_label s.place t) v.did (n + 1) found → FindsOf p role code found) → At acts es (n + 1) (heard v t)
-  label_comes act acts e t es n v s order verified none on =
+  label_comes act acts e t es n v s few order verified none on =
       let frame = s.place.frame ++ t ∷ [] in
       let long : length (v.terms ++ t ∷ []) ≡ length v.terms + 1 = length-append v.terms (t ∷ []) in
       let one : values (terms_over has) frame (recipe_trees (label (length s.place.frame) ∷ [])) ≡ Some (t ∷ []) = rw (get_last s.place.frame t) refl in
       record {
         framed = s.framed;
         place = after_label s.place t;
+        few = omega (arith, few, long);
         have = values_join (terms_over has) frame s.place.regs (label (length s.place.frame) ∷ []) v.terms (t ∷ []) (values_more (terms_over has) s.place.frame (t ∷ []) (recipe_trees s.place.regs) v.terms s.have) one;
         told = told_more v.terms (t ∷ []) v.did s.told;
         order = order;
@@ -157,7 +167,7 @@ module _ (p : ProtocolValue) (role : ℕ) (code : CodeValue) where
   fresh_on draws acts t es n v d s =
       let r = s.ready in
       let P : ℕ → Type 0 = λ k. IsVerified has acts (k + 1) in
-      label_comes draws acts (fresh t) t es n v s s.order (subst P (sym r.0) r.1) r.2 (λ found f. s.goes_on found f)
+      label_comes draws acts (fresh t) t es n v s s.few s.order (subst P (sym r.0) r.1) r.2 (λ found f. s.goes_on found f)
   fresh_on takes acts t es n v d s = absurd s.order
   fresh_on receives acts t es n v d s = absurd s.order
   fresh_on (sends r) acts t es n v d s = absurd s.order
@@ -167,7 +177,7 @@ module _ (p : ProtocolValue) (role : ℕ) (code : CodeValue) where
   receive_on receives acts t es n v d enough s =
       let r = s.ready in
       let P : ℕ → Type 0 = λ k. IsVerified has acts (k + 1) in
-      label_comes receives acts (recv t) t es n v s s.order.1 (subst P (sym r.0) r.1) r.2 (λ found f. s.goes_on found (inl (tight (receives ∷ acts) (recv t ∷ es) n v s enough, f)))
+      label_comes receives acts (recv t) t es n v s s.few s.order.1 (subst P (sym r.0) r.1) r.2 (λ found f. s.goes_on found (inl (tight (receives ∷ acts) (recv t ∷ es) n v s enough, f)))
   receive_on takes acts t es n v d enough s = absurd s.order
   receive_on draws acts t es n v d enough s = absurd s.order
   receive_on (sends r) acts t es n v d enough s = absurd s.order
@@ -205,9 +215,11 @@ module _ (p : ProtocolValue) (role : ℕ) (code : CodeValue) where
   pub send_on : (acts : List Act) (r : ℕ) (t : Tree) (es : List Event) (n : ℕ) (v : TableValue) → slice_get v.terms r ≡ Some t → AreEnough v.did v.terms → At (sends r ∷ acts) (send t ∷ es) n v → At acts es (n + 1) v
   send_on acts r t es n v at enough s =
       let q = s.ready in
+      let few : length v.terms + (0 + written_in acts) < 2 ^ 32 = s.few in
       record {
         framed = s.framed;
         place = s.place;
+        few = omega (arith, few);
         have = s.have;
         told = s.told;
         order = s.order.2;

@@ -1,5 +1,5 @@
 //! Certifying a role's code.
-ghost use Rattle.std.specs.Prelude.{◌≡◌, ◌≢◌, ◌<◌, ◌+◌, ◌++◌, ◌∷◌, [], ℕ, List, Some, false, length, map, slice_get, IfErr, OnOk};
+ghost use Rattle.std.specs.Prelude.{◌≡◌, ◌≢◌, ◌<◌, ◌^◌, ◌+◌, ◌++◌, ◌∷◌, [], ℕ, List, Some, false, length, map, slice_get, IfErr, OnOk};
 ghost use Rattle.anb_code.specs.CodeValue.{CodeValue};
 ghost use Rattle.anb_code.specs.Meaning.{act_of};
 ghost use Rattle.anb_compile.specs.Fitting.{FitsRole};
@@ -198,6 +198,7 @@ fn hear(alloc: Global, term: &Term, table: &mut Table) -> Result<(), CertifyNo>
 /// The code is enough before an instruction.
 fn border(alloc: Global, table: &mut Table, at: u32) -> Result<(), CertifyNo>
     requires table { IsTable table.old }
+    requires few { length (terms_in table.old) < 2 ^ 32 }
     requires told { AreTold (terms_in table.old) (did_in table.old) }
     ensures table { OnOk result (IsTable table.new) }
     ensures same { OnOk result (value_of table.new ≡ value_of table.old) }

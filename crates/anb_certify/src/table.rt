@@ -2,7 +2,7 @@
 //!
 //! A term is a number of a pool, so one that is far larger than its code takes a node for each
 //! instruction. Registers of equal terms have equal numbers.
-ghost use Rattle.std.specs.Prelude.{◌≡◌, ◌↔◌, ◌<◌, ◌++◌, ◌∷◌, [], Bool, ℕ, List, length, map, true, false, None, Some, option_map, slice_get, All, IsTrue, IfOk, IfSome, OnOk, MatchOption};
+ghost use Rattle.std.specs.Prelude.{◌≡◌, ◌↔◌, ◌<◌, ◌^◌, ◌++◌, ◌∷◌, [], Bool, ℕ, List, length, map, true, false, None, Some, option_map, slice_get, All, IsTrue, IfOk, IfSome, OnOk, MatchOption};
 ghost use Rattle.anb_term.specs.declared.term.Op.{Op as operator};
 ghost use Rattle.anb_term.specs.Lawful.{picked};
 ghost use Rattle.anb_term.specs.Operator.{keys as keys_of};
@@ -76,10 +76,10 @@ impl Table {
         }
     }
 
-    /// Does a job, where its demand is true in terms, and says whether it is. A job that writes
-    /// registers past the last number finds no memory.
+    /// Does a job, where its demand is true in terms, and says whether it is.
     pub(crate) fn work(&mut self, alloc: Global, job: Job) -> Result<bool, NoMemory>
         requires table { IsTable self.old }
+        requires few { length (terms_in self.old) < 2 ^ 32 }
         requires ready { (has : operator → Bool)
             × IsReady has (length (terms_in self.old)) (work_of job) }
         ensures table { OnOk result (IsTable self.new) }
@@ -88,9 +88,6 @@ impl Table {
         ensures works { IfOk result (λ works. works ≡ true
             → HasWorked (value_of self.old) (work_of job) (value_of self.new)) }
     {
-        if self.ids.len() > u32::MAX as usize {
-            return Err(NoMemory);
-        }
         let at = self.ids.len() as u32;
         let works = self.write(alloc, &job)?;
         self.done.push(Done { at, job })?;
@@ -161,15 +158,13 @@ impl Table {
     /// The first register that is loose, if any.
     pub(crate) fn first_loose(&mut self, alloc: Global) -> Result<Option<u32>, NoMemory>
         requires table { IsTable self.old }
+        requires few { length (terms_in self.old) < 2 ^ 32 }
         requires told { AreTold (terms_in self.old) (did_in self.old) }
         ensures same { OnOk result (value_of self.new ≡ value_of self.old) }
         ensures loose { IfOk result (λ r. MatchOption r
             (IsTable self.new × AreEnough (did_in self.old) (terms_in self.old))
             (λ i. IsLoose (did_in self.old) (terms_in self.old) i)) }
     {
-        if self.ids.len() > u32::MAX as usize {
-            return Err(NoMemory);
-        }
         if self
             .progress
             .look(alloc, &self.pool, &self.ids, &self.done)?

@@ -5,10 +5,10 @@ pub mod Registers
 pub mod Laws
 pub mod Emitting
 pub mod RoleCodes
+pub mod Valued
+pub mod Verifying
 -- for proofs alone
 pub mod Sharing
 pub mod Writing
-pub mod Verifying
 pub mod Once
-pub mod Valued
 pub mod Refusing

@@ -12,7 +12,7 @@ use Rattle.anb_certify.specs.Walking.{Stands}
 use Rattle.anb_certify.proofs.Ending.{heard_is, refused_by}
 use Rattle.anb_certify.proofs.Framing.{does_an_event}
 use Rattle.anb_certify.proofs.Results.{on_both, if_err}
-use Rattle.anb_certify.proofs.Walking.{know_on, fresh_on, receive_on, receive_loose, send_on, send_loose, sent}
+use Rattle.anb_certify.proofs.Walking.{few_now, know_on, fresh_on, receive_on, receive_loose, send_on, send_loose, sent}
 use Rattle.anb_certify.proofs.certifying.meet.Goals as goal
 
 pub returns-in-Know-clause-stands : goal.returns-in-Know-clause-stands
@@ -101,3 +101,13 @@ returns-else-not-branch-clause-refused c =
     let I : Instr → Type 0 = λ x. Stands p role code (act_of code.formats x ∷ acts) (plays.send t ∷ es) n v in
     refused_by p role code n v (λ i l. send_loose p role code acts r t es n v i (c.in_ok-holds-in-Send.ensures.0 c.if-not-branch.false) l (subst I c.in-Send-instr.is (subst E c.in-Send.is s))) e h)
     c.border-in-Send.ensures.loose
+
+pub border-requires-clause-few : goal.border-requires-clause-few
+border-requires-clause-few c =
+    let s = c.requires.stands in
+    few_now s.0 s.1 s.2 (act_of s.2.formats c.args.instr.now ∷ s.3) (event_of (plan_event c.args.event.now) ∷ s.4) c.args.at (value_of c.args.table.now) s.5
+
+pub border-requires-in-Send-clause-few : goal.border-requires-in-Send-clause-few
+border-requires-in-Send-clause-few c =
+    let s = c.requires.stands in
+    few_now s.0 s.1 s.2 (act_of s.2.formats c.args.instr.now ∷ s.3) (event_of (plan_event c.args.event.now) ∷ s.4) c.args.at (value_of c.args.table.now) s.5

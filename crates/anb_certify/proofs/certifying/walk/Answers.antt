@@ -1,4 +1,4 @@
-use Rattle.std.proofs.Common.{◌≡◌, ◌+◌, ℕ, length, ap, subst, arith}
+use Rattle.std.proofs.Common.{◌≡◌, ◌+◌, ℕ, [], length, ap, subst, arith}
 use Rattle.anb_protocol.specs.Plays.{events_of}
 use Rattle.std.proofs.Common.{drop}
 use Rattle.anb_lemmas.proofs.Results.{on_ok_map}
@@ -7,7 +7,7 @@ use Rattle.anb_certify.specs.Certified.{Refuses}
 use Rattle.anb_certify.specs.Numbered.{value_of, IsLoose}
 use Rattle.anb_certify.proofs.Ending.{starts, all_past, refused_by}
 use Rattle.anb_certify.proofs.Results.{if_err}
-use Rattle.anb_certify.proofs.Walking.{ends_well, ends_loose}
+use Rattle.anb_certify.proofs.Walking.{few_now, ends_well, ends_loose}
 use Rattle.anb_certify.proofs.certifying.walk.Goals as goal
 
 pub loop-i-init : goal.loop-i-init
@@ -37,3 +37,12 @@ returns-clause-refused c =
     let loose : (r : ℕ) → IsLoose v.did v.terms r → Refuses p role code (Loose (length c.instrs-count.result.now + 1) r) = λ r l.
     subst (λ n. Refuses p role code (Loose n r)) at (ends_loose p role code (drop c.loop-i.next (events_of p role)) (i + 1) v r l s) in
     if_err c.border.result (λ e h. refused_by p role code (length c.instrs-count.result.now + 1) v loose e h) c.border.ensures.loose
+
+pub border-requires-clause-few : goal.border-requires-clause-few
+border-requires-clause-few c =
+    let p = c.args.p.now in
+    let role = c.args.role in
+    let code = c.args.code.now in
+    let v = value_of c.loop-i.table in
+    let s = all_past p role code c.loop-i.i c.loop-i.next v (omega (arith, ap length c.instrs-count.ensures.instrs, c.loop-i-test.false)) c.loop-i.invariant.at in
+    few_now p role code [] (drop c.loop-i.next (events_of p role)) (c.loop-i.i + 1) v s

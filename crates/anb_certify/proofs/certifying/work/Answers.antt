@@ -1,7 +1,9 @@
+use Rattle.std.proofs.Common.{◌∷◌}
+use Rattle.anb_plays.specs.Codes.{works}
 use Rattle.anb_algebra.specs.ByteMeaning.{has_operator}
 use Rattle.anb_certify.specs.Numbered.{value_of}
 use Rattle.anb_certify.specs.Works.{work_of}
-use Rattle.anb_certify.proofs.Walking.{work_ready, untrue, done_work}
+use Rattle.anb_certify.proofs.Walking.{work_ready, few_now, untrue, done_work}
 use Rattle.anb_certify.proofs.certifying.work.Goals as goal
 
 pub work-requires-clause-ready : goal.work-requires-clause-ready
@@ -16,3 +18,8 @@ returns-then-branch-clause-stands c p role code acts es s =
 pub returns-clause-refused : goal.returns-clause-refused
 returns-clause-refused c p role code acts es s =
     untrue p role code acts es c.args.at (value_of c.args.table.now) (work_of c.args.job) s (c.in_ok-work.ensures.untrue c.if-branch.false)
+
+pub work-requires-clause-few : goal.work-requires-clause-few
+work-requires-clause-few c =
+    let s = c.requires.stands in
+    few_now s.0 s.1 s.2 (works (work_of c.args.job) ∷ s.3) s.4 c.args.at (value_of c.args.table.now) s.5

@@ -1,7 +1,8 @@
-use Rattle.std.proofs.Common.{ℕ, List, Option, map, subst}
+use Rattle.std.proofs.Common.{ℕ, List, Option, map, length, ap, subst, arith}
 use Rattle.std.specs.Prelude.{MatchOption}
 use Rattle.anb_intern.specs.declared.node.NodeId.{NodeId}
 use Rattle.anb_intern.specs.Nodes.{operands_at}
+use Rattle.anb_intern.proofs.Nodes.{operands_long}
 use Rattle.anb_certify.specs.declared.works.Done.{Done}
 use Rattle.anb_certify.specs.Numbered.{AreGrouped, IsLoose}
 use Rattle.anb_certify.specs.Progress.{found_in, HasFound}
@@ -24,3 +25,11 @@ returns-in_ok-settle_all-in-None-clause-loose c =
     let enough = subst (λ d. E ids d) c.deref-4.ensures.value (subst (λ l. E l c.deref-4.result.now) c.deref-3.ensures.value (subst M c.in-None.is c.in_ok-r.ensures)) in
     let p = c.in_ok-settle_all-in-None.ensures ids (operands_at s.pool ids) (map did_of done) grouped enough found in
     (record { under = c.requires.table.under; progress = p }, enough)
+
+pub look-requires-clause-few : goal.look-requires-clause-few
+look-requires-clause-few c =
+    omega (arith, c.requires.few, operands_long c.args.self.now.pool c.args.self.now.ids.items, ap length c.deref.ensures.value)
+
+pub first_loose-requires-clause-few : goal.first_loose-requires-clause-few
+first_loose-requires-clause-few c =
+    omega (arith, c.requires.few, operands_long c.args.self.now.pool c.args.self.now.ids.items, ap length c.deref-3.ensures.value)

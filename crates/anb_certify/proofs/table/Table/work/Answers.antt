@@ -31,3 +31,9 @@ returns-clause-table c =
       under = t.under;
       progress = work_comes w.ids.items (terms_in w) (did_in w) _ ((c.len-at.result, work_of c.args.job) ∷ []) (found_in w.progress) (ap (map did_of) c.in_ok-push.ensures.items ∙ map-append did_of w.done.items (_ ∷ [])) t.progress;
     }
+
+pub overflow_cast-at : goal.overflow_cast-at
+overflow_cast-at c =
+    let s = c.args.self.now in
+    let at : c.len-at.result ≡ length s.ids.items = omega (arith, c.len-at.ensures, s.ids.ok.0) in
+    omega (arith, c.requires.few, operands_long s.pool s.ids.items, at)
