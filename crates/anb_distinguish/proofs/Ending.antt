@@ -24,8 +24,8 @@ use Rattle.anb_unify.proofs.Putting.{named_stays}
 use Rattle.anb_unify.proofs.Steps.{ranged}
 use Rattle.anb_probe.specs.Cases.{IsOver}
 use Rattle.anb_probe.proofs.Dropping.{over_said, not_waiting}
-use Rattle.anb_distinguish.specs.Equations.{work_equation, equations_from, received_from}
-use Rattle.anb_distinguish.proofs.Registers.{Holds, HoldsFrom, made_is, undone_is, picked_long, assigned, assigned_keeps, assigned_at}
+use Rattle.anb_distinguish.specs.Equations.{work_equation, equations_from, received_from, assigned}
+use Rattle.anb_distinguish.proofs.Registers.{Holds, HoldsFrom, made_is, undone_is, picked_long, assigned_keeps, assigned_at}
 
 -- what was written, where a run went on
 went : (o : Option (List Tree)) (next : List Tree → Played Tree) (e at : ℕ) (left : List Tree) → IsOver (on_written o next (ends (stopped e at) left)) → (ws : List Tree) × (o ≡ Some ws) × IsOver (next ws)
@@ -55,7 +55,7 @@ module _ (has : Op → Bool) (names : ℕ) where
       omega (arith, p.2, length-append (picked table ks) ws, picked_long table ks below, ready.1)
   count_is (equal a b) table ws n long ready e = let s = alike_both has (slice_get table a) (slice_get table b) ws e in ap length s.5
 
-  work_solved : (put : ℕ → Tree) (w : Work) (table ws : List Tree) (n : ℕ) → length table ≡ n → Holds names put table → HoldsFrom names put n ws → IsReady has n w → worked m table w ≡ Some ws → Solves names put (work_equation names n w)
+  pub work_solved : (put : ℕ → Tree) (w : Work) (table ws : List Tree) (n : ℕ) → length table ≡ n → Holds names put table → HoldsFrom names put n ws → IsReady has n w → worked m table w ≡ Some ws → Solves names put (work_equation names n w)
   work_solved put (make o rs) table ws n long h g ready e =
       let below = subst (λ l. AllByRecursion (λ k. k < l) rs) (sym long) (recursion_from_All (λ k. k < n) rs ready.2) in
       let z : node o (trees_of (picked table rs)) ∷ [] ≡ ws = cc in

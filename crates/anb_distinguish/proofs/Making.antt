@@ -87,11 +87,11 @@ module _ (names v : ℕ) (honest : ℕ → Tree) where
       all_formed_still none f = tt
       all_formed_still (more t ts) f = (formed_still t f.0, all_formed_still ts f.1)
 
-    each_formed_still : (ts : List Tree) → AreFormed has (trees_of (map (put_in honest) ts)) → AreFormed has (trees_of (map (put_in (spared names v honest)) ts))
+    pub each_formed_still : (ts : List Tree) → AreFormed has (trees_of (map (put_in honest) ts)) → AreFormed has (trees_of (map (put_in (spared names v honest)) ts))
     each_formed_still [] f = tt
     each_formed_still (t ∷ ts) f = (formed_still t f.0, each_formed_still ts f.1)
 
-  spared_keeps : names < v → KeepsNames (names + 1) honest → KeepsNames (names + 1) (spared names v honest)
+  pub spared_keeps : names < v → KeepsNames (names + 1) honest → KeepsNames (names + 1) (spared names v honest)
   spared_keeps behind keeps n h = kept (n == v) refl
     where
       kept : (b : Bool) → (n == v) ≡ b → cond b (leaf names) (honest n) ≡ leaf n

@@ -1,6 +1,6 @@
 -- Registers that hold terms, as variables.
 use Rattle.std.proofs.Common.{◌≡◌, ℕ, zero, suc, ◌+◌, ◌-◌, ◌<◌, List, [], ◌∷◌, ◌++◌, length, map, Some, refl, ap, ◌∙◌, arith, ⊎_elim}
-use Rattle.std.specs.Prelude.{slice_get, unwrap_or, nat_lt, if◌then◌else◌}
+use Rattle.std.specs.Prelude.{slice_get}
 use Rattle.std.specs.List.{AllByRecursion, range_with_len}
 use Rattle.std.proofs.lemmas.Bool.{le-ltb, lt-ltb}
 use Rattle.anb_lemmas.proofs.Lists.{get_either}
@@ -10,7 +10,7 @@ use Rattle.anb_term.specs.Lawful.{picked}
 use Rattle.anb_term.proofs.Lists.{map-append, slice_get-there}
 use Rattle.anb_unify.specs.Substitutions.{put_in, KeepsNames}
 use Rattle.anb_unify.proofs.Putting.{put_node}
-use Rattle.anb_distinguish.specs.Equations.{registers}
+use Rattle.anb_distinguish.specs.Equations.{registers, assigned}
 
 -- the terms of the registers are in the places of their variables
 abbrev pub Holds : ℕ → (ℕ → Tree) → List Tree → Type 0
@@ -55,9 +55,6 @@ picked_long table [] w = refl
 picked_long table (r ∷ rs) w = let x = slice_get-there table r w.0 in rw x.1 (ap suc (picked_long table rs w.1))
 
 -- ---- the terms of a table in the places of its registers
-
-abbrev pub assigned : ℕ → List Tree → ℕ → Tree
-assigned names table n = if nat_lt n names then leaf n else unwrap_or (slice_get table (n - names)) (leaf 0)
 
 pub assigned_keeps : (names : ℕ) (table : List Tree) → KeepsNames names (assigned names table)
 assigned_keeps names table n h = rw (lt-ltb n names h) refl

@@ -14,14 +14,14 @@ use Rattle.anb_unify.specs.Substitutions.{KeepsNames, IsNamed, AreNamed}
 use Rattle.anb_unify.specs.Equations.{Solves}
 use Rattle.anb_unify.proofs.Putting.{named_stays}
 use Rattle.anb_probe.specs.Cases.{IsOver}
-use Rattle.anb_distinguish.specs.Equations.{equations_from, held_from, CanUndoAll, AreSolved}
+use Rattle.anb_distinguish.specs.Equations.{equations_from, held_from, CanUndoAll, AreSolved, assigned}
 use Rattle.anb_distinguish.specs.Laws.{RunsAreSolutions}
-use Rattle.anb_distinguish.proofs.Registers.{Holds, HoldsFrom, assigned, assigned_keeps, assigned_at}
+use Rattle.anb_distinguish.proofs.Registers.{Holds, HoldsFrom, assigned_keeps, assigned_at}
 use Rattle.anb_distinguish.proofs.GoingOn.{goes_on}
 use Rattle.anb_distinguish.proofs.Ending.{ended}
 
 module _ (names : ℕ) (put : ℕ → Tree) (keeps : KeepsNames names put) where
-  held_solved : (ts : List Tree) (n : ℕ) → HoldsFrom names put n ts → AreNamed names (trees_of ts) → AllByRecursion (Solves names put) (held_from ts n)
+  pub held_solved : (ts : List Tree) (n : ℕ) → HoldsFrom names put n ts → AreNamed names (trees_of ts) → AllByRecursion (Solves names put) (held_from ts n)
   held_solved [] n h named = tt
   held_solved (t ∷ ts) n h named =
       let z : n ≡ n + 0 = omega arith in (

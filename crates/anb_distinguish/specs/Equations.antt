@@ -1,5 +1,5 @@
 -- The equations of a code over terms: each register is a variable, and each instruction says what it holds.
-use Rattle.std.specs.Prelude.{◌≡◌, ℕ, ◌+◌, ◌-◌, List, [], ◌∷◌, ◌++◌, length, map, IsTrue}
+use Rattle.std.specs.Prelude.{◌≡◌, ℕ, ◌+◌, ◌-◌, nat_lt, List, [], ◌∷◌, ◌++◌, length, map, IsTrue, slice_get, unwrap_or, if◌then◌else◌}
 use Rattle.std.specs.List.{range_with_len}
 use Rattle.anb_term.specs.Operator.{arity, keys, undoable}
 use Rattle.anb_term.specs.Tree.{Tree, leaf, node, trees_of}
@@ -62,3 +62,7 @@ pub record AreSolved (names : ℕ) (init : List Tree) (draw : ℕ → Tree) (cod
   pub put : ℕ → Tree
   pub solution : IsSolution names (equations_of names init draw code) put
   pub are : arrivals ≡ map put (atoms_of names (received_from code (length init)))
+
+-- the terms of a table in the places of its registers
+abbrev pub assigned : ℕ → List Tree → ℕ → Tree
+assigned names table n = if nat_lt n names then leaf n else unwrap_or (slice_get table (n - names)) (leaf 0)

@@ -1,7 +1,7 @@
 pub mod Putting
 pub mod Seeing
-mod Observing
+pub mod Observing
 mod Played
 mod SeenPlans
-mod Begun
-mod SeenPlays
+pub mod Begun
+pub mod SeenPlays

@@ -215,7 +215,7 @@ done_follows ss n count =
     let none : nat_lt (length ss) n ≡ false = grind (arith, nat_tests, count) in
     ap (λ b. cond b (replayed.Differs (length ss + 1) Over) replayed.Follows) none
 
-values : (bs : List (List ℕ)) → AllByRecursion IsBytes bs → All (λ b. IsTrue (is_bytes b)) bs
+pub values : (bs : List (List ℕ)) → AllByRecursion IsBytes bs → All (λ b. IsTrue (is_bytes b)) bs
 values bs all = All-from_recursion (λ b. IsTrue (is_bytes b)) bs (tests bs all)
 
 -- the run of a code that sees a role is the play of who sees it

@@ -61,7 +61,7 @@ pub fn judge(
 }
 
 /// Of each message of a plan, in order: whether the role says it.
-fn sides(alloc: Global, events: &[Event]) -> Result<Vec<bool>, NoMemory>
+pub fn sides(alloc: Global, events: &[Event]) -> Result<Vec<bool>, NoMemory>
     ensures { IfOk result (λ said. said.items ≡ sides (map event_of (map plan_event events.now))) }
 {
     let mut said = Vec::new(alloc);
@@ -183,7 +183,7 @@ fn due_at(alloc: Global, sides: &[bool], event: u32) -> Due
 }
 
 /// Whether the role says the message of this event, of which the first has the number 1.
-fn is_said(sides: &[bool], event: u32) -> bool
+pub fn is_said(sides: &[bool], event: u32) -> bool
     ensures { result ≡ is_said sides.now event }
 {
     let Some(before) = event.checked_sub(1) else {

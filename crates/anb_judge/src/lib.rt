@@ -11,5 +11,5 @@ mod judging;
 mod laws;
 mod watching;
 
-pub use judging::judge;
+pub use judging::{is_said, judge, sides};
 pub use laws::{conversations_are_observed, observed_are_conversations, one_judgement};

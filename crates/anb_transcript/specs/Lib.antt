@@ -1,4 +1,5 @@
 pub mod Replays
 pub mod Texts
--- for proofs alone
 pub mod Turns
+
+-- for proofs alone

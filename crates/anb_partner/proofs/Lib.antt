@@ -1,0 +1,8 @@
+mod Reaching
+mod Passing
+mod Going
+mod Planned
+mod Played
+mod Draining
+mod Whole
+mod Ranges

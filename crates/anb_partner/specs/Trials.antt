@@ -1,0 +1,31 @@
+-- What is told of the child of each case, and what each call changes.
+use Rattle.std.specs.Prelude.{◌≡◌, ◌≢◌, ℕ, Bool, List, Option}
+use Rattle.anb_base.specs.Wires.{WireState}
+use Rattle.anb_partner.specs.declared.trials.ChildEnd.{ChildEnd}
+
+-- What its output and its input tell, the words that were asked of it, each with a line feed, and how it
+-- ends: each may be untold. While it runs its pipes are told by itself, and here once it is finished. How
+-- often starting it or waiting for its end has failed, up to the last value of a u64, and whether it was
+-- silent for too long. Its phase is 0 before it was started, 1 once it was, and 2 once it was finished.
+pub record Trial : Type 0 where
+  pub pipes : WireState
+  pub asked : Option (List ℕ)
+  pub ends : Option ChildEnd
+  pub faults : ℕ
+  pub silent : Bool
+  pub phase : ℕ
+
+-- what a start that failed leaves
+pub record IsUnstarted (old new : Trial) : Type 0 where
+  pub pipes : new.pipes ≡ old.pipes
+  pub asked : new.asked ≡ old.asked
+  pub phase : new.phase ≡ old.phase
+
+-- what a finish leaves
+pub record KeptByFinish (old new : Trial) : Type 0 where
+  pub asked : new.asked ≡ old.asked
+  pub ends : new.ends ≡ old.ends
+
+-- the children of all other cases are as before
+abbrev pub OthersStay : ℕ → (old new : ℕ → Trial) → Type 0
+OthersStay case old new = (other : ℕ) → other ≢ case → new other ≡ old other

@@ -1,0 +1,72 @@
+//! Child programs, one for each case.
+
+ghost use Rattle.std.specs.Prelude.{◌≡◌, ◌≤◌, ℕ, IfOk, IfSome, OnOk, OnErr};
+ghost use Rattle.anb_base.specs.Moves.{Rose, Put};
+ghost use Rattle.anb_stage.specs.Children.{lines};
+ghost use Rattle.anb_partner.specs.Trials.{Trial, IsUnstarted, KeptByFinish, OthersStay};
+
+use anb_base::{Failed, Text, Wire};
+
+/// How a child ended: by itself, with a status, or by a signal.
+#[derive(Clone, Copy, Debug, PartialEq, Eq, Drop)]
+pub enum ChildEnd {
+    Status(u8),
+    Signal(u8),
+}
+
+/// Child programs, one for each case of a test suite. A child that runs is a wire of its own, which is
+/// its output and its input, and so what is read and written there touches no other child.
+pub trait Trials {
+    /// A child that runs.
+    type Child: Wire + Drop;
+
+    /// What is told of each case's child.
+    ghost trial: { Self → ℕ → Trial };
+
+    /// Starts the child of a case with these words.
+    fn start(&mut self, case: u32, words: &[Text]) -> Result<Self::Child, Failed>
+        requires unstarted { (trial self.old case).phase ≡ 0 }
+        ensures child { IfOk result (λ child.
+            Self.Child.state child ≡ (trial self.old case).pipes) }
+        ensures asked { OnOk result
+            (Put (trial self.old case).asked (trial self.new case).asked (lines words.now)) }
+        ensures started { OnOk result ((trial self.new case).phase ≡ 1) }
+        ensures failed { OnErr result (IsUnstarted (trial self.old case) (trial self.new case)) }
+        ensures cause { OnErr result
+            (Rose (trial self.old case).faults (trial self.new case).faults) }
+        ensures quiet { OnOk result
+            ((trial self.new case).faults ≡ (trial self.old case).faults) }
+        ensures never_falls { (trial self.old case).faults ≤ (trial self.new case).faults }
+        ensures ends { (trial self.new case).ends ≡ (trial self.old case).ends }
+        ensures others { OthersStay case (trial self.old) (trial self.new) };
+
+    /// Ends a child's input.
+    fn close(&mut self, child: &mut Self::Child)
+        ensures child { Self.Child.state child.new ≡ Self.Child.state child.old }
+        ensures trials { trial self.new ≡ trial self.old };
+
+    /// Ends the input of a case's child, waits for its end, and tells it. Whatever it answers, the child
+    /// doesn't run any more: one that is silent for too long is killed.
+    fn finish(&mut self, case: u32, child: Self::Child) -> Result<ChildEnd, Failed>
+        requires running { (trial self.old case).phase ≡ 1 }
+        ensures end { IfOk result (λ end.
+            IfSome (trial self.old case).ends (λ told. end ≡ told)) }
+        ensures finished { (trial self.new case).phase ≡ 2 }
+        ensures pipes { (trial self.new case).pipes ≡ Self.Child.state child }
+        ensures cause { OnErr result
+            (Rose (trial self.old case).faults (trial self.new case).faults) }
+        ensures quiet { OnOk result
+            ((trial self.new case).faults ≡ (trial self.old case).faults) }
+        ensures never_falls { (trial self.old case).faults ≤ (trial self.new case).faults }
+        ensures kept { KeptByFinish (trial self.old case) (trial self.new case) }
+        ensures others { OthersStay case (trial self.old) (trial self.new) };
+
+    /// From now on a call for a child that is started fails once the child was silent for so many
+    /// seconds: it gave no byte that was waited for, took none, or didn't end.
+    fn wait_at_most(&mut self, seconds: u32)
+        ensures { trial self.new ≡ trial self.old };
+
+    /// Whether the child of a case that was finished was silent for too long.
+    fn was_silent(&self, case: u32) -> bool
+        ensures { result ≡ (trial self.now case).silent };
+}

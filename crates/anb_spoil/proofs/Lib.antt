@@ -1,0 +1,11 @@
+pub mod Changing
+pub mod Digits
+pub mod Peeling
+pub mod Standing
+pub mod Refusing
+pub mod Near
+pub mod Listed
+pub mod FalseTags
+pub mod Halves
+pub mod Padding
+pub mod Written

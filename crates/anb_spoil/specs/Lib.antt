@@ -1,0 +1,5 @@
+pub mod Changes
+pub mod Rows
+pub mod Tags
+pub mod Words
+pub mod Laws

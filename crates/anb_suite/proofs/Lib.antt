@@ -1,0 +1,9 @@
+pub mod Stepping
+pub mod Turns
+pub mod Comparisons
+pub mod Narrated
+pub mod Lessening
+pub mod Messages
+pub mod Spared
+pub mod Honest
+pub mod Found

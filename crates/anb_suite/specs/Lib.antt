@@ -1,0 +1,4 @@
+pub mod Suites
+-- for proofs alone
+pub mod Walks
+pub mod Sparing

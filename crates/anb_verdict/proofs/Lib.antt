@@ -1,0 +1,5 @@
+mod Over
+mod Ahead
+mod Tests
+mod Exact
+mod Parts

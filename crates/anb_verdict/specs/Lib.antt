@@ -1,0 +1,5 @@
+pub mod Verdicts
+pub mod Laws
+pub mod Places
+pub mod Texts
+pub mod Others
