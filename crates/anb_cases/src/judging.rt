@@ -3,6 +3,7 @@
 use crate::case::{Case, No};
 use crate::running::Ran;
 use anb_base::{MemWire, read_full};
+use anb_store::MemStore;
 use std::alloc::{AllocError, Global};
 
 /// The faults of a wire: their statuses and their lines.
@@ -43,9 +44,43 @@ pub(crate) fn difference(
         let line = String::from_utf8_lossy(alloc, ran.err.written())?;
         return Ok(Some(format!(in alloc; "status {} with the line {line:?}", ran.number)?));
     }
+    if let Some(difference) = store_difference(alloc, case, &ran.store)? {
+        return Ok(Some(difference));
+    }
     match &mut ran.wire {
         Some(wire) => wire_difference(alloc, case, wire, fit),
         None => Ok(None),
+    }
+}
+
+/// The same of the files that are kept: the one that the last word names, where one is expected.
+fn store_difference(alloc: Global, case: Case, store: &MemStore) -> Result<Option<String>, No> {
+    let Some(content) = case.bytes(alloc, "kept")? else {
+        return Ok(kept_anyway(alloc, store)?);
+    };
+    let words = case.text(alloc, "words")?.unwrap_or(String::new(alloc));
+    let is_kept = match (store.kept(), words.split_whitespace().last()) {
+        ([(name, file)], Some(word)) => name.as_str() == word
+            && file.as_slice() == content.as_slice(),
+        _ => false,
+    };
+    if is_kept {
+        return Ok(None);
+    }
+    match kept_anyway(alloc, store)? {
+        None => Ok(Some(String::from_str(alloc, "no file is kept")?)),
+        kept => Ok(kept),
+    }
+}
+
+/// The last file that is kept, where there is one.
+pub(crate) fn kept_anyway(alloc: Global, store: &MemStore) -> Result<Option<String>, AllocError> {
+    match store.kept() {
+        [.., (name, file)] => {
+            let file = told(alloc, "kept", file.as_slice())?;
+            Ok(Some(format!(in alloc; "{}: {file}", name.as_str())?))
+        }
+        [] => Ok(None),
     }
 }
 

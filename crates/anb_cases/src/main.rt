@@ -6,6 +6,7 @@
 mod case;
 mod filling;
 mod judging;
+mod no_children;
 mod parts;
 mod running;
 mod theme;

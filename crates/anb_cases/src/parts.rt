@@ -8,15 +8,18 @@ const INDENT: &str = "    ";
 
 /// The keys of a group, a row or a case whose values are bytes: text, or with `hex` behind the key
 /// hexadecimal digits.
-const BYTES: [&str; 8] = ["n", "v", "t", "r", "input", "seed", "output", "left"];
+const BYTES: [&str; 9] = [
+    "n", "v", "t", "r", "input", "seed", "output", "left", "kept",
+];
 
 /// The other keys.
-const WORDS: [&str; 14] = [
+const WORDS: [&str; 15] = [
     "words",
     "piece",
     "room",
     "wire fails",
     "file fails",
+    "store fails",
     "sink fails",
     "each call fails",
     "unfailing wire",

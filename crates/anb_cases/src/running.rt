@@ -1,11 +1,13 @@
-//! One run of a case, over a shelf and a wire in memory.
+//! One run of a case, over a shelf, a store and a wire in memory.
 
 ghost use Rattle.std.specs.Prelude.{◌≡◌, IfOk};
 
 use crate::case::{Case, No};
+use crate::no_children::NoChildren;
 use crate::unfailing::run_unfailing;
 use anb_base::{Bytes, MemShelf, MemWire, NeverFails, NoMemory, Text};
-use anb_run::run;
+use anb_run::run_recording;
+use anb_store::MemStore;
 use hex::FromHex;
 use std::alloc::Global;
 
@@ -27,6 +29,7 @@ pub(crate) enum Turn {
 pub(crate) struct Ran {
     pub(crate) number: u8,
     pub(crate) wire: Option<MemWire>,
+    pub(crate) store: MemStore,
     pub(crate) err: MemWire,
 }
 
@@ -38,35 +41,42 @@ pub(crate) fn run_case(alloc: Global, case: Case, turn: Turn) -> Result<Ran, No>
     let mut shelf = shelf_of(alloc, case)?;
     let fails = case.numbers(alloc, "sink fails")?;
     let mut err = MemWire::new(alloc, none(alloc), PLENTY, PLENTY, fails)?;
+    let mut store = MemStore::new(alloc, case.numbers(alloc, "store fails")?);
     if case.is_set("unfailing wire")? {
         let mut wire = NeverFails::new(input);
         let number = unfailing_status(alloc, &words, &mut shelf, &mut wire, &mut err, seed);
         return Ok(Ran {
             number,
             wire: None,
+            store,
             err,
         });
     }
     let mut wire = wire_of(alloc, case, turn, input)?;
-    let number = status_of(alloc, &words, &mut shelf, &mut wire, &mut err, seed);
+    let number = status_of(
+        alloc, &words, &mut shelf, &mut store, &mut wire, &mut err, seed,
+    );
     Ok(Ran {
         number,
         wire: Some(wire),
+        store,
         err,
     })
 }
 
-/// The number of the status that comes of the words. A case needs nothing of what `run` promises, and
+/// The number of the status that comes of the words. A case needs nothing of what the call promises, and
 /// without a contract none of it stands in the way of other proofs.
 fn status_of(
     alloc: Global,
     words: &[Text],
     shelf: &mut MemShelf,
+    store: &mut MemStore,
     wire: &mut MemWire,
     err: &mut MemWire,
     seed: Option<[u8; 32]>,
 ) -> u8 {
-    run(alloc, words, shelf, wire, err, seed).number()
+    let mut children = NoChildren;
+    run_recording(alloc, words, shelf, &mut children, store, wire, err, seed).number()
 }
 
 /// The same over a wire that never fails.

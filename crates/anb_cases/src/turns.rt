@@ -2,7 +2,7 @@
 
 use crate::case::{Case, No, number_of};
 use crate::filling::Name;
-use crate::judging::{Fit, difference, has_output, is_fault, told};
+use crate::judging::{Fit, difference, has_output, is_fault, kept_anyway, told};
 use crate::parts::Entry;
 use crate::running::{Turn, run_case};
 use std::alloc::Global;
@@ -45,8 +45,8 @@ fn run_turn(alloc: Global, case: Case, turn: Turn, fit: Fit) -> Result<Option<St
     difference(alloc, case, &mut ran, fit)
 }
 
-/// Each call of the wire fails in turn, up to a run that meets no fault. A fault is told, and a part
-/// of the output is written.
+/// Each call of the wire fails in turn, up to a run that meets no fault. A fault is told, a part of the
+/// output is written, and no file is kept.
 fn each_call(alloc: Global, case: Case) -> Result<Option<String>, No> {
     for call in 1..CALLS {
         let mut ran = run_case(alloc, case, Turn::FailsAt(call))?;
@@ -61,6 +61,9 @@ fn each_call(alloc: Global, case: Case) -> Result<Option<String>, No> {
         {
             let output = told(alloc, "output", wire.written())?;
             return Ok(Some(format!(in alloc; "call {call}: {output}")?));
+        }
+        if let Some(kept) = kept_anyway(alloc, &ran.store)? {
+            return Ok(Some(format!(in alloc; "call {call}: {kept}")?));
         }
     }
     Ok(Some(String::from_str(alloc, "no run without a fault")?))
