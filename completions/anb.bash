@@ -30,7 +30,7 @@ _anb_options() {
         play | host | park | resume | enact) place='--dial --listen' ;;
         stage) place=--timeout ;;
     esac
-    [[ $command == park || $command == resume ]] && record=--record
+    case $command in play | enact | park | resume) record=--record ;; esac
     [[ $1 == --arm ]] && shift 2 && arm=''
     case $# in
         0) echo "$arm" "$place" "$record" ;;
@@ -116,7 +116,12 @@ _anb() {
                 --role) _anb_offer "$(_anb_roles "${words[2]}")" ;;
                 --arm) _anb_offer '1 2 3 4 5 6 7 8' ;;
                 --dial | --listen | --timeout) ;;
-                --record) _anb_files '' ;;
+                --record)
+                    case ${words[1]} in
+                        play | enact) compopt -o filenames 2>/dev/null; mapfile -t COMPREPLY < <(compgen -d -- "$(_anb_file "$word")") ;;
+                        *) _anb_files '' ;;
+                    esac
+                    ;;
                 *) _anb_offer "$(_anb_options "${words[1]}" "${words[@]:${#kinds[@]}+2:at-${#kinds[@]}-2}")" ;;
             esac
             ;;

@@ -207,14 +207,8 @@ def unify(one, other):
 KEYS = {"h": None, "mac": None, "scrypt": 1, "wrap": 2}
 
 
-def patterns(story, role):
-    """The messages that a role hears, with a variable in place of each part that isn't determined: made apart from
-    `anb`, of the narration alone. What the role has are pairs of a narrated term and what is known of it. All that can
-    be opened is opened, and each is compared with all that can be made in its place."""
-    heard = [message for _, receiver, message in story.actions if receiver == role]
-    arrivals = [Variable() for _ in heard]
-    own = [*story.knows.get(role, []), *story.fresh_names(role)]
-    has, opened = [*zip(own, own), *zip(heard, arrivals)], set()
+def composing(has):
+    """What makes a term of narrated terms, each with what is known of it; it gives None where the term can't be made."""
 
     def composed(term):
         for narrated, known in has:
@@ -223,18 +217,44 @@ def patterns(story, role):
         parts = [composed(part) for part in term[1:]] if isinstance(term, tuple) else [None]
         return None if None in parts else (term[0], *parts)
 
-    more = True
+    return composed
+
+
+def open_all(has, composed, opens):
+    """Opens all that can be opened, by a function of a narrated term, what is known of it and its keys, which gives the
+    parts. Says whether each gave some."""
+    opened, more = set(), True
     while more:
         more = False
         for at, (narrated, known) in enumerate(has):
             count = KEYS.get(narrated[0], 0) if isinstance(narrated, tuple) else None
             keys = [] if count is None else [composed(key) for key in narrated[1 : 1 + count]]
             if count is not None and at not in opened and None not in keys:
-                parts = [Variable() for _ in narrated[1 + count :]]
-                unify(known, (narrated[0], *keys, *parts))
+                parts = opens(narrated, known, keys)
+                if parts is None:
+                    return False
                 has += zip(narrated[1 + count :], parts)
                 opened.add(at)
                 more = True
+    return True
+
+
+def patterns(story, role):
+    """The messages that a role hears, with a variable in place of each part that isn't determined: made apart from
+    `anb`, of the narration alone. What the role has are pairs of a narrated term and what is known of it. All that can
+    be opened is opened, and each is compared with all that can be made in its place."""
+    heard = [message for _, receiver, message in story.actions if receiver == role]
+    arrivals = [Variable() for _ in heard]
+    own = [*story.knows.get(role, []), *story.fresh_names(role)]
+    has = [*zip(own, own), *zip(heard, arrivals)]
+    composed = composing(has)
+
+    def opens(narrated, known, keys):
+        parts = [Variable() for _ in narrated[1 + len(keys) :]]
+        unify(known, (narrated[0], *keys, *parts))
+        return parts
+
+    open_all(has, composed, opens)
     for narrated, known in has:
         for other, same in has:
             if narrated == other:
@@ -275,26 +295,15 @@ def goes_on(story, role, arrivals):
     in two ways must be one. Made apart from `anb`, by going through the terms that come."""
     heard = [message for _, receiver, message in story.actions if receiver == role]
     own = [*story.knows.get(role, []), *story.fresh_names(role)]
-    has, opened, more = [*zip(own, own), *zip(heard, arrivals)], set(), True
+    has = [*zip(own, own), *zip(heard, arrivals)]
+    composed = composing(has)
 
-    def composed(term):
-        for narrated, value in has:
-            if narrated == term:
-                return value
-        parts = [composed(part) for part in term[1:]] if isinstance(term, tuple) else [None]
-        return None if None in parts else (term[0], *parts)
+    def opens(narrated, value, keys):
+        is_such = isinstance(value, tuple) and value[: 1 + len(keys)] == (narrated[0], *keys)
+        return value[1 + len(keys) :] if is_such else None
 
-    while more:
-        more = False
-        for at, (narrated, value) in enumerate(has):
-            count = KEYS.get(narrated[0], 0) if isinstance(narrated, tuple) else None
-            keys = [] if count is None else [composed(key) for key in narrated[1 : 1 + count]]
-            if count is not None and at not in opened and None not in keys:
-                if not isinstance(value, tuple) or value[: 1 + count] != (narrated[0], *keys):
-                    return False
-                has += zip(narrated[1 + count :], value[1 + count :])
-                opened.add(at)
-                more = True
+    if not open_all(has, composed, opens):
+        return False
     for narrated, value in has:
         parts = [composed(part) for part in narrated[1:]] if isinstance(narrated, tuple) else [None]
         if None not in parts and value != (narrated[0], *parts) or value != composed(narrated):
