@@ -34,7 +34,6 @@ from edge_runs import (
     can_unshare,
     dial,
     free_address,
-    in_time,
     listener,
     read_all,
     want,
@@ -304,15 +303,14 @@ def parked_in_silence(program):
     made, at = listener()
 
     def dials(*words, says=b""):
-        def once():
-            run = program.start(*words, "--dial", at, "--timeout", "1")
-            peer = accept(made)
-            peer.sendall(says)
-            got, _ = read_all(peer)
-            peer.close()
-            return run, (got, run.end())
-
-        return in_time(words[0], 1 + LATE, once)
+        run = program.start(*words, "--dial", at, "--timeout", "1")
+        peer = accept(made)
+        peer.sendall(says)
+        got, _ = read_all(peer)
+        peer.close()
+        ended = run.end()
+        want_below(f"seconds of {words[0]}", run.seconds, 1 + LATE)
+        return got, ended
 
     parked = (29, b"", b"anb: parked at event 2\n")
     got, ended = dials("park", "ping.anb", "A", "ping.values", "key")

@@ -2,7 +2,7 @@
 
 _anb_kinds() {
     case $1 in
-        chart | fmt | why) echo narration ;;
+        check | chart | fmt | why) echo narration ;;
         explain | compile) echo narration role ;;
         play | branch | host) echo narration role values ;;
         park) echo narration role values file ;;
@@ -10,7 +10,7 @@ _anb_kinds() {
         replay | trace | judge) echo narration role values file ;;
         stage) echo narration folder ;;
         rehearse) echo narration values file ;;
-        check | values) echo narration role values ;;
+        values) echo narration role values ;;
         drill) echo number ;;
         enact) echo file values ;;
         certify) echo narration role file ;;

@@ -3,11 +3,11 @@
 # How many words a command takes before its options.
 function __anb_count
     switch "$argv[1]"
-        case chart fmt why drill
+        case check chart fmt why drill
             echo 1
         case explain compile stage enact
             echo 2
-        case play branch host rehearse certify values check
+        case play branch host rehearse certify values
             echo 3
         case park resume replay trace judge
             echo 4
@@ -103,10 +103,10 @@ complete -c anb -n __anb_first -l help -d 'Say what the commands are for'
 complete -c anb -n __anb_first -l version -d 'Write the version'
 complete -c anb -n '__anb_at 1 help' -a 'check chart explain fmt why play values branch park resume host replay trace stage rehearse drill compile enact certify help' -d Command
 
-set -l with_role check explain compile play values branch host park resume replay trace judge certify
-complete -c anb -n "__anb_at 1 chart fmt why stage rehearse $with_role" -k -a '(__fish_complete_suffix .anb)'
+set -l with_role explain compile play values branch host park resume replay trace judge certify
+complete -c anb -n "__anb_at 1 check chart fmt why stage rehearse $with_role" -k -a '(__fish_complete_suffix .anb)'
 complete -c anb -n "__anb_at 2 $with_role" -a '(__anb_roles)' -d Role
-complete -c anb -n '__anb_at 3 check play values branch host park replay trace judge' -k -a '(__fish_complete_suffix .values)'
+complete -c anb -n '__anb_at 3 play values branch host park replay trace judge' -k -a '(__fish_complete_suffix .values)'
 complete -c anb -n '__anb_at 2 rehearse enact' -k -a '(__fish_complete_suffix .values)'
 complete -c anb -n '__anb_at 1 enact' -F
 complete -c anb -n '__anb_at 3 rehearse certify resume' -F

@@ -1,4 +1,3 @@
 pub mod Checked
 pub mod Verdicts
 pub mod Lacks
-pub mod Values

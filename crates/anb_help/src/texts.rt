@@ -40,12 +40,10 @@ pub const VERSION: &str = "anb 1.0.0\n";
 
 /// The page on `check`.
 pub const CHECK: &str = concat!(
-    "anb check <narration> [<role> <values>]\n",
+    "anb check <narration>\n",
     "Says where and why the narration is refused, and what would mend it; or what each role\n",
-    "opens, checks and learns, and which messages it takes. With a role and a values file: what is\n",
-    "wrong in that file, with the status that `play` has; nothing where it has all values.\n",
-    "Statuses: 0; 4 it is refused; 5 no such role; 6 a role can't send; 7 the values; 2, 3 a file;\n",
-    "9, 15 the output; 99.\n",
+    "opens, checks and learns, and which messages it takes.\n",
+    "Statuses: 0; 4 it is refused; 6 a role can't send; 2, 3 the file; 9, 15 the output; 99.\n",
     "Example: anb check examples/mutual/mutual.anb\n",
 );
 

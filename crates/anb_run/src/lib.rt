@@ -34,7 +34,7 @@ use anb_base::{Shelf, Sink, Text, Wire};
 use anb_branch_commands::{arms_are_played, branch};
 use anb_certify_commands::{certify, why};
 use anb_chart_commands::{chart, chart_for};
-use anb_check_commands::{check, check_values};
+use anb_check_commands::check;
 use anb_command::{Command, tell};
 pub use anb_command::{Due, Halt, NarrationNo, Status};
 use anb_file_laws::{certified_files_play, compiled_files_play, enacted_messages_are_narrow};
@@ -124,13 +124,6 @@ pub fn run<F: Shelf, W: Wire, E: Sink>(
         }
         Some(Command::Trace(words)) => trace(alloc, shelf, wire, words, seed),
         Some(Command::Check { narration }) => check(alloc, shelf, wire, narration),
-        Some(
-            Command::CheckValues {
-                narration,
-                role,
-                values,
-            },
-        ) => check_values(alloc, shelf, wire, narration, role, values),
         Some(Command::Values { narration }) => values(alloc, shelf, wire, narration, seed),
         Some(
             Command::RoleValues {

@@ -104,7 +104,7 @@ help_text =
     ++ codes "anb resume <narration> <role> <record> <key> [place] [--record <file>]\n"
     ++ codes "anb stage <narration> <folder> [--timeout <seconds>]\n"
     ++ codes "anb chart <narration> [--role <name>]\n"
-    ++ codes "anb check <narration> [<role> <values>]\n"
+    ++ codes "anb check <narration>\n"
     ++ codes "anb trace <narration> <role> <values> <transcript>\n"
     ++ codes "anb values <narration> [<role> <values>]\n"
     ++ codes "anb judge <narration> <role> <values> <transcript>\n"

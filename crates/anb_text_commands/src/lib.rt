@@ -55,7 +55,7 @@ const HELP: &str = concat!(
     "anb resume <narration> <role> <record> <key> [place] [--record <file>]\n",
     "anb stage <narration> <folder> [--timeout <seconds>]\n",
     "anb chart <narration> [--role <name>]\n",
-    "anb check <narration> [<role> <values>]\n",
+    "anb check <narration>\n",
     "anb trace <narration> <role> <values> <transcript>\n",
     "anb values <narration> [<role> <values>]\n",
     "anb judge <narration> <role> <values> <transcript>\n",

@@ -1,5 +1,0 @@
-pub mod Classes
-pub mod Diagnosis
-pub mod Mistakes
-pub mod Reading
-pub mod Wording
