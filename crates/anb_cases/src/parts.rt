@@ -8,12 +8,12 @@ const INDENT: &str = "    ";
 
 /// The keys of a group, a row or a case whose values are bytes: text, or with `hex` behind the key
 /// hexadecimal digits.
-const BYTES: [&str; 9] = [
-    "n", "v", "t", "r", "input", "seed", "output", "left", "kept",
+const BYTES: [&str; 10] = [
+    "n", "v", "t", "r", "input", "seed", "output", "left", "kept", "heard",
 ];
 
 /// The other keys.
-const WORDS: [&str; 15] = [
+const WORDS: [&str; 18] = [
     "words",
     "piece",
     "room",
@@ -29,6 +29,9 @@ const WORDS: [&str; 15] = [
     "line begins",
     "keep",
     "reached",
+    "children",
+    "children fail",
+    "asked",
 ];
 
 /// A value under a key.

@@ -6,4 +6,3 @@ mod Played
 mod Draining
 mod Whole
 mod Ranges
-mod Formed

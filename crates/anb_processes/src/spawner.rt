@@ -43,9 +43,10 @@ impl ChildProgram {
     }
 }
 
-/// A child with the name of its role.
+/// A role's child, with the role's name.
 #[derive(Drop)]
 struct Named {
+    role: u32,
     name: Text,
     running: Running,
 }
@@ -147,8 +148,12 @@ fn start(
 ) -> io::Result<()> {
     let name = name_of(rt.alloc(), words)?;
     let limit = limit.map(|seconds| Duration::from_secs(u64::from(seconds)));
-    let running = Running::start(rt, program.path()?, role, limit, words)?;
-    match children.push(Named { name, running }) {
+    let running = Running::start(rt, program.path()?, limit, words)?;
+    match children.push(Named {
+        role,
+        name,
+        running,
+    }) {
         Ok(()) => Ok(()),
         Err(failed) => {
             let mut child = failed.value;
@@ -204,7 +209,7 @@ fn no_child() -> io::Error {
 
 /// The child of a role.
 fn child_in(children: &mut [Named], role: u32) -> Option<&mut Named> {
-    children.iter_mut().find(|child| child.running.role == role)
+    children.iter_mut().find(|child| child.role == role)
 }
 
 impl Spawner for RealSpawner {
@@ -263,7 +268,7 @@ impl Spawner for RealSpawner {
     fn finish(&mut self, role: u32) -> Result<u8, Failed> {
         let status = match child_in(&mut self.children, role) {
             Some(child) => {
-                let status = child.running.finish(&self.rt);
+                let status = child.running.finish_with_status(&self.rt);
                 // One that was silent still runs.
                 if !matches!(&status, Err(error) if is_silence(error)) {
                     let _ = unwatch(&self.rt, &mut self.watcher, child);

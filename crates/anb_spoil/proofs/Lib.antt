@@ -9,4 +9,3 @@ pub mod FalseTags
 pub mod Halves
 pub mod Padding
 pub mod Written
-pub mod Respoilt

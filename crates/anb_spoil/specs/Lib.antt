@@ -2,5 +2,4 @@ pub mod Changes
 pub mod Rows
 pub mod Tags
 pub mod Words
-pub mod Wrongs
 pub mod Laws

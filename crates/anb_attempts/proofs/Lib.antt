@@ -1,4 +1,0 @@
-pub mod Tests
-pub mod Turns
-pub mod Adding
-pub mod Standing

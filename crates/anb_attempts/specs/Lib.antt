@@ -1,4 +1,0 @@
-pub mod Attempts
--- for proofs alone
-pub mod Parts
-pub mod Differing
