@@ -57,7 +57,7 @@ GATE = ROOT / "crates" / "anb_examples"
 # What names each command of the program.
 LISTS = ["README.md", "docs/REFERENCE.md", "anb.1", "completions/anb.bash", "completions/_anb", "completions/anb.fish"]
 # The words of commands that stand for no file.
-NO_FILES = {"role", "name", "n", "folder", "place", "seconds", "file", "program", "word"}
+NO_FILES = {"role", "name", "n", "folder", "place", "seconds", "file"}
 # What the program takes beside the words that `help` lists.
 ASKS = ["anb help <command>", "anb --help", "anb --version"]
 # What makes the files of the pages' examples.

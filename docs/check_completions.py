@@ -39,7 +39,6 @@ Actions:
 ROLES = "A B S"
 ARMS = "1 2 3 4 5 6 7 8"
 PLAY, PARK, BRANCH = "anb play m.anb A A.values", "anb park m.anb A A.values key", "anb branch m.anb A A.values"
-PROBE = "anb probe m.anb A all.values"
 # The line up to the word to complete, and what is offered there.
 TABLE = [
     ("anb --help", ""),
@@ -72,12 +71,6 @@ TABLE = [
     ("anb stage m.anb .", "--timeout"),
     ("anb stage m.anb . --timeout 5", ""),
     ("anb replay m.anb A A.values a.transcript", ""),
-    ("anb probe m.anb", ROLES),
-    (PROBE, "--all --case --timeout --"),
-    (f"{PROBE} --all", "--case --timeout --"),
-    (f"{PROBE} --all --case 3", "--timeout --"),
-    (f"{PROBE} --case", ""),
-    (f"{PROBE} --timeout 5", "--"),
 ]
 
 

@@ -146,7 +146,7 @@ def unlisted():
 
 def lost_rows():
     """The rows of docs/EDGE.md that bench/edge.py doesn't have."""
-    said = "".join((ROOT / "bench" / name).read_text() for name in ("edge.py", "edge_records.py", "edge_stages.py", "edge_probes.py"))
+    said = "".join((ROOT / "bench" / name).read_text() for name in ("edge.py", "edge_records.py", "edge_stages.py"))
     for line in (ROOT / "docs" / "EDGE.md").read_text().splitlines():
         for name in re.findall(r"`(\w+)`", line.rpartition(" | ")[2]) if line.startswith("| ") else []:
             if f"def {name}(" not in said:

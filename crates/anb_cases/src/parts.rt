@@ -8,12 +8,12 @@ const INDENT: &str = "    ";
 
 /// The keys of a group, a row or a case whose values are bytes: text, or with `hex` behind the key
 /// hexadecimal digits.
-const BYTES: [&str; 10] = [
-    "n", "v", "t", "r", "input", "seed", "output", "left", "kept", "heard",
+const BYTES: [&str; 9] = [
+    "n", "v", "t", "r", "input", "seed", "output", "left", "kept",
 ];
 
 /// The other keys.
-const WORDS: [&str; 18] = [
+const WORDS: [&str; 15] = [
     "words",
     "piece",
     "room",
@@ -29,9 +29,6 @@ const WORDS: [&str; 18] = [
     "line begins",
     "keep",
     "reached",
-    "children",
-    "children fail",
-    "asked",
 ];
 
 /// A value under a key.

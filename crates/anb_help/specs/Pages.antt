@@ -1,7 +1,7 @@
 -- What the program says of itself. The texts are constants, in src/texts.rt.
 use Rattle.std.specs.Prelude.{ℕ, List, codes, bytes_eq, Option, Some, None, if◌then◌else◌}
 use Rattle.anb_help.specs.declared.pages.Page.{Page}
-use Rattle.anb_help.specs.declared.pages.Page.TheVariants.{Overview, Version, Check, Chart, Explain, Fmt, Why, Play, Probe, Values, Branch, Park, Resume, Host, Replay, Judge, Trace, Stage, Rehearse, Drill, Compile, Enact, Certify, Help}
+use Rattle.anb_help.specs.declared.pages.Page.TheVariants.{Overview, Version, Check, Chart, Explain, Fmt, Why, Play, Values, Branch, Park, Resume, Host, Replay, Judge, Trace, Stage, Rehearse, Drill, Compile, Enact, Certify, Help}
 use Rattle.anb_help.specs.declared.texts.TheConstants as texts
 
 -- the page on the command of this name
@@ -13,7 +13,6 @@ page_of command =
     else if bytes_eq command (codes "fmt") then Some Fmt
     else if bytes_eq command (codes "why") then Some Why
     else if bytes_eq command (codes "play") then Some Play
-    else if bytes_eq command (codes "probe") then Some Probe
     else if bytes_eq command (codes "values") then Some Values
     else if bytes_eq command (codes "branch") then Some Branch
     else if bytes_eq command (codes "park") then Some Park
@@ -41,7 +40,6 @@ text_of Explain = texts.EXPLAIN.now
 text_of Fmt = texts.FMT.now
 text_of Why = texts.WHY.now
 text_of Play = texts.PLAY.now
-text_of Probe = texts.PROBE.now
 text_of Values = texts.VALUES.now
 text_of Branch = texts.BRANCH.now
 text_of Park = texts.PARK.now

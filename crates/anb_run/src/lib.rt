@@ -4,8 +4,7 @@
 //! error sink why it didn't. What it does and when it completes are relations by what is asked for,
 //! with a case for each command; the other clauses hold of every command. [`run_all`] does the same
 //! where child programs may be started, for the one command that does so, [`run_with_store`] where
-//! records may go to files, [`run_recording`] where plays may be recorded, and [`run_with_program`] where a
-//! program may be tested too.
+//! records may go to files, and [`run_recording`] where plays may be recorded too.
 #![tactic(auto)]
 
 ghost use Rattle.std.specs.Prelude.{◌≡◌, ◌↔◌, None};
@@ -27,7 +26,6 @@ ghost use Rattle.anb_file_laws.specs.Narrow.{EnactedMessagesAreNarrow};
 ghost use Rattle.anb_park_commands.specs.Splits.{SplitPlaysAreWhole};
 
 mod all;
-mod programs;
 mod recording;
 mod storing;
 
@@ -48,7 +46,6 @@ use anb_role_commands::{enact, play, replay};
 use anb_text_commands::{describe, fmt, help, page};
 use anb_trace_commands::trace;
 use anb_values_commands::{role_values, values};
-pub use programs::run_with_program;
 pub use recording::run_recording;
 use std::alloc::Global;
 pub use storing::run_with_store;

@@ -108,7 +108,6 @@ help_text =
     ++ codes "anb trace <narration> <role> <values> <transcript>\n"
     ++ codes "anb values <narration> [<role> <values>]\n"
     ++ codes "anb judge <narration> <role> <values> <transcript>\n"
-    ++ codes "anb probe <narration> <role> <values> [--all] [--case <n>] [--timeout <seconds>] -- <program> <word>..\n"
 
 abbrev pub HelpText : Answer (List ℕ) → Type 0
 HelpText answer = answer ≡ given help_text

@@ -59,7 +59,6 @@ const HELP: &str = concat!(
     "anb trace <narration> <role> <values> <transcript>\n",
     "anb values <narration> [<role> <values>]\n",
     "anb judge <narration> <role> <values> <transcript>\n",
-    "anb probe <narration> <role> <values> [--all] [--case <n>] [--timeout <seconds>] -- <program> <word>..\n",
 );
 
 /// The canonical text of the narration in the file.
