@@ -1,7 +1,7 @@
 #!/usr/bin/env python3
 """Proves and builds the program, several crates side by side.
 
-    python3 build.py [--jobs N] [--write] [--for-checks]
+    python3 build.py [--jobs N] [--write]
 
 Builds what the crate anb stands on by crates.txt, and no crate of tests, cases or examples: as many crates side by
 side as there are processors and memory, the longest chain of crates first. Each is proved from nothing in a folder of
@@ -11,8 +11,7 @@ small part of it. Crates that were proved are kept, so an interrupted build goes
 crate fails, the build goes on with all that doesn't stand on it, and what was said of each that failed is shown at the
 end. The program is replaced only by one that was built. What a crate was made from is told by contents, and not by times.
 
-With --for-checks each library is built by `rt lib` (out/rlib), with its proofs and with what makes the next check of the
-same crate short. It takes twice as long, and is for whoever changes crates: `rt check` begins with such libraries.
+At the end the libraries are lent to `rt check` (out/rlib), so whoever changes a crate begins to check it at once.
 
 Progress stands on standard error: the minutes gone, and those left by the times that bench/minutes.tsv has. With --write
 what the crates took this time stands there after. The status is 0 where the program was built, else 125, and what failed
@@ -43,9 +42,8 @@ ROOM = 3_500_000
 EACH = {True: 1, False: 30}
 # The folders of a crate that it is made from.
 SOURCES = ("src", "specs", "proofs")
-# The folder in out/ that a library is built in, and for checks the ones that `rt lib` keeps, the library's first.
-STATEMENTS = ("statements",)
-FOR_CHECKS = ("rlib", "incremental")
+# The folder in out/ that a library is kept in, and the one where `rt` looks for it.
+KEPT, LENT = "statements", "rlib"
 # The most processors that one check makes use of.
 JOBS = 4
 
@@ -126,8 +124,8 @@ def move(one, other):
 class Lane:
     """A folder in which one crate is proved, with the sources of all that it stands on."""
 
-    def __init__(self, crates, name, jobs, kept):
-        self.name, self.kept, self.begun = name, kept, time.time()
+    def __init__(self, crates, name, jobs):
+        self.name, self.begun = name, time.time()
         self.top = LANES / name
         self.folder = self.top / "crates" / name
         shutil.rmtree(self.top, ignore_errors=True)
@@ -140,10 +138,6 @@ class Lane:
         if (ROOT / "HANDLES").exists():
             shutil.copy(ROOT / "HANDLES", self.top)
         words = [sys.executable, ROOT / "build.py", "--crate", name, "--jobs", str(jobs)]
-        if kept == FOR_CHECKS:
-            words = ["rt", "run", "--", "help"] if name == PROGRAM else ["rt", "lib", "--jobs", str(jobs)]
-            for part in kept:
-                move(CRATES / name / "out" / part, self.folder / "out" / part)
         with open(self.top / "log", "w") as log:
             self.process = subprocess.Popen(
                 words, cwd=self.folder, stdin=subprocess.DEVNULL, stdout=log, stderr=log, start_new_session=True
@@ -157,7 +151,7 @@ class Lane:
             if (here / part).is_dir():
                 shutil.copytree(here / part, there / part)
         if name != self.name:
-            shutil.copytree(here / "out" / self.kept[0], there / "out" / "rlib", copy_function=os.link)
+            shutil.copytree(here / "out" / KEPT, there / "out" / LENT, copy_function=os.link)
 
     def has_ended(self):
         """Whether the check has ended; then what it took of one processor is noted, in seconds."""
@@ -182,22 +176,35 @@ class Lane:
         said = (self.top / "log").read_text(errors="replace")
         is_program = self.name == PROGRAM
         is_well = self.process.returncode == 0 and (program.is_file() or not is_program)
-        if is_well or self.kept == FOR_CHECKS:
-            move(self.folder / "out" / "rlib", out / self.kept[0])
-            move(self.folder / "out" / "incremental", out / "incremental")
         if is_well:
+            move(self.folder / "out" / LENT, out / KEPT)
             if is_program:
                 out.mkdir(parents=True, exist_ok=True)
                 os.replace(program, out / PROGRAM)
-            made_file(self.name, self.kept).write_text(made)
+            made_file(self.name).write_text(made)
         shutil.rmtree(self.top, ignore_errors=True)
         return is_well, said
 
 
-def made_file(name, kept):
+def made_file(name):
     """Where it stands what a library or the program was made from."""
     out = CRATES / name / "out"
-    return out / "made" if name == PROGRAM else out / kept[0] / "made"
+    return out / "made" if name == PROGRAM else out / KEPT / "made"
+
+
+def lend(names):
+    """Puts these crates' libraries where `rt check` looks for them, with the sum by which it knows them."""
+    rt = toolchain()
+    # So each crate's sources are read once.
+    rt.STAMPS.seen = {}
+    for crate in rt.rtlib.crates_below(str(ROOT)):
+        if crate.name not in names or not crate.makes_rlib() or crate.is_built():
+            continue
+        there = CRATES / crate.name / "out" / LENT
+        shutil.rmtree(there, ignore_errors=True)
+        shutil.copytree(CRATES / crate.name / "out" / KEPT, there, copy_function=os.link)
+        (there / "made").unlink()
+        (there / "stamp").write_text(crate.stamp())
 
 
 def toolchain():
@@ -231,28 +238,20 @@ def prove(name, jobs):
 class Build:
     """The crates that are to be built, and how far that is."""
 
-    def __init__(self, jobs, kept):
-        self.crates, self.jobs, self.kept, self.known = listed(), jobs, kept, {}
+    def __init__(self, jobs):
+        self.crates, self.jobs, self.known = listed(), jobs, {}
         self.order = standing_on(self.crates, PROGRAM)
         self.minutes = minutes_of(self.crates)
         self.chain = chains(self.crates, self.order, self.minutes)
-        self.take_back()
+        for top in LANES.glob("*/"):
+            shutil.rmtree(top, ignore_errors=True)
         self.left = [it for it in self.order if not self.is_made(it)]
         self.running, self.failed, self.seconds = {}, {}, {}
         self.begun, self.done, self.told = time.time(), 0.0, 0.0
         self.is_terminal = sys.stderr.isatty()
 
-    def take_back(self):
-        """Keeps what a build for checks that was killed left in its folders."""
-        for top in LANES.glob("*"):
-            for part in FOR_CHECKS[1:]:
-                there = CRATES / top.name / "out" / part
-                if not there.exists():
-                    move(top / "crates" / top.name / "out" / part, there)
-            shutil.rmtree(top, ignore_errors=True)
-
     def is_made(self, name):
-        made = made_file(name, self.kept)
+        made = made_file(name)
         is_there = name != PROGRAM or (CRATES / name / "out" / PROGRAM).is_file()
         return is_there and made.is_file() and made.read_text() == contents(self.crates, name, self.known)
 
@@ -269,7 +268,7 @@ class Build:
             name = ready.pop(0)
             idle = self.jobs - len(self.running)
             self.left.remove(name)
-            self.running[name] = Lane(self.crates, name, max(1, min(JOBS, idle // (len(ready) + 1))), self.kept)
+            self.running[name] = Lane(self.crates, name, max(1, min(JOBS, idle // (len(ready) + 1))))
 
     def close_ended(self):
         """Closes what has ended. Nothing that stands on a crate that failed is begun."""
@@ -317,10 +316,10 @@ class Build:
         return not self.failed
 
     def stop(self):
-        """Ends what runs, and keeps what it has proved."""
+        """Ends what runs."""
         for lane in self.running.values():
             lane.end()
-            lane.close("")
+            shutil.rmtree(lane.top, ignore_errors=True)
         self.running = {}
 
 
@@ -345,7 +344,7 @@ def main():
     LANES.mkdir(exist_ok=True)
     with open(LANES / "lock", "w") as lock:
         fcntl.flock(lock, fcntl.LOCK_EX)
-        build = Build(jobs, FOR_CHECKS if "--for-checks" in words else STATEMENTS)
+        build = Build(jobs)
         signal.signal(signal.SIGTERM, lambda *_: sys.exit(125))
         signal.signal(signal.SIGHUP, lambda *_: sys.exit(125))
         try:
@@ -357,6 +356,7 @@ def main():
             print(f"\nanb: stopped after {gone} minutes; what is proved so far is kept", file=sys.stderr)
             return 125
         finally:
+            lend({it for it in build.order if it != PROGRAM and build.is_made(it)})
             if "--write" in words:
                 write_minutes(build.seconds)
     (CRATES / PROGRAM / "out" / "crates").write_text("\n".join(build.order) + "\n")
