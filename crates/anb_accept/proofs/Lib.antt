@@ -8,3 +8,4 @@ pub mod OfPlans
 pub mod Freeing
 pub mod Renaming
 pub mod Unique
+pub mod Conversing

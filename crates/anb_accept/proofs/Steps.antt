@@ -1,5 +1,5 @@
 -- One more item of a list that is gone through.
-use Rattle.std.proofs.Common.{◌≡◌, ℕ, zero, suc, ◌+◌, ◌≤◌, List, [], ◌∷◌, ◌++◌, length, map, Bool, true, false, cond, Some, refl, sym, ap, ◌∙◌, subst, arith, append_assoc}
+use Rattle.std.proofs.Common.{◌≡◌, ℕ, zero, suc, ◌+◌, ◌<◌, ◌≤◌, List, [], ◌∷◌, ◌++◌, length, map, take, get_or, Bool, true, false, cond, Some, refl, sym, ap, ◌∙◌, subst, arith, append_assoc}
 use Rattle.std.specs.Prelude.{slice_get}
 use Rattle.anb_term.proofs.Lists.{map-append}
 use Rattle.anb_term.specs.Tree.{Tree, trees_of, tree_size, trees_size}
@@ -8,6 +8,7 @@ use Rattle.anb_close.specs.MadeView.{made_tree}
 use Rattle.anb_term.specs.View.{tree_of}
 use Rattle.anb_plays.specs.Plans.{Event, know, fresh, send, recv, known}
 use Rattle.anb_close.specs.declared.entry.Entry.{Entry}
+use Rattle.anb_unify.proofs.Steps.{map_map, mapped_next}
 use Rattle.anb_accept.specs.Taking.{later}
 use Rattle.anb_accept.specs.Equations.{is_own, is_heard, own_equations, heard_entries, later_heard}
 
@@ -63,3 +64,10 @@ pub one_made : (xs : List Made) (i : ℕ) (x : Made) → slice_get xs i ≡ Some
 one_made [] i x e = cc
 one_made (y ∷ xs) zero x e = let s : y ≡ x = cc in subst (λ z. tree_size (made_tree z) ≤ trees_size (trees_of (map made_tree (y ∷ xs)))) s (omega arith)
 one_made (y ∷ xs) (suc i) x e = omega (arith, one_made xs i x e)
+
+-- one more item of what two maps give, one after the other
+pub both_mapped_next : {A B C : Type 0} (f : B → C) (g : A → B) (xs : List A) (i : ℕ) (x : A) (out out' : List C) (y : C) → out ≡ map f (map g (take i xs)) → i < length xs → x ≡ get_or xs i x → out' ≡ out ++ y ∷ [] → y ≡ f (g x)
+    → out' ≡ map f (map g (take (i + 1) xs))
+both_mapped_next f g xs i x out out' y is within at grown s =
+    let h = mapped_next (λ z. f (g z)) xs i x [] out out' y (is ∙ map_map f g (take i xs)) within at grown s in
+    h ∙ sym (map_map f g (take (i + 1) xs))

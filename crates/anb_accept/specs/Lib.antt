@@ -3,6 +3,7 @@ pub mod Patterns
 pub mod Numbering
 pub mod Parts
 pub mod Roles
+pub mod Conversations
 pub mod Laws
 pub mod Events
 -- for proofs alone

@@ -9,14 +9,18 @@
 //! The time is near-linear in the nodes of the labels' terms: the closure's, and then the solver's.
 #![tactic(auto)]
 
+mod conversations;
 mod equation;
 mod frame;
 mod laws;
 mod numbering;
 mod patterns;
 mod roles;
+mod sizes;
 mod taken;
 
+pub use conversations::conversation_in;
 pub use laws::{free_is_unchecked, instances_go_on, patterns_are_one, patterns_are_unique};
 pub use roles::{patterns_in, patterns_of};
+pub use sizes::{left_after, left_after_all};
 pub use taken::taken_by;

@@ -13,4 +13,4 @@ mod said;
 
 pub use laws::recordings_go_on;
 pub use recording::{Recording, recording_of};
-pub use said::said_of;
+pub use said::{put_name, put_number, receives, said_of};

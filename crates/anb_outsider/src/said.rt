@@ -53,7 +53,7 @@ fn put_line(out: &mut Vec<u8>, protocol: &Protocol, recording: &Recording) -> Re
 }
 
 /// Whether a role receives something.
-fn receives(actions: &[Action], role: u32) -> bool
+pub fn receives(actions: &[Action], role: u32) -> bool
     ensures { result ≡ list_any (is_received role) (map action_value actions.now) }
 {
     for action in actions {
@@ -93,7 +93,8 @@ fn put_stop(out: &mut Vec<u8>, protocol: &Protocol, event: usize, name: u32) -> 
     Ok(())
 }
 
-fn put_number(out: &mut Vec<u8>, n: usize) -> Result<(), NoMemory>
+/// Appends a number in decimal digits.
+pub fn put_number(out: &mut Vec<u8>, n: usize) -> Result<(), NoMemory>
     ensures { OnOk result (out.new.items ≡ out.old.items ++ decimal n) }
 {
     let mut buffer = Buffer::new();
@@ -102,7 +103,7 @@ fn put_number(out: &mut Vec<u8>, n: usize) -> Result<(), NoMemory>
 }
 
 /// Appends a name by its number.
-fn put_name(out: &mut Vec<u8>, protocol: &Protocol, name: u32) -> Result<(), NoMemory>
+pub fn put_name(out: &mut Vec<u8>, protocol: &Protocol, name: u32) -> Result<(), NoMemory>
     ensures { OnOk result (out.new.items ≡ out.old.items ++ atom_name protocol.now name) }
 {
     if let Some(atom) = protocol.declared().get(name as usize) {

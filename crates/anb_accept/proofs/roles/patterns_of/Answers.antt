@@ -1,12 +1,12 @@
 -- All events of the plan.
-use Rattle.std.proofs.Common.{◌≡◌, List, length, map, take, Result, Ok, Err, IfOk, sym, ap, ◌∙◌, subst, arith}
+use Rattle.std.proofs.Common.{◌≡◌, List, length, map, IfOk, sym, ap, ◌∙◌, subst, arith}
 use Rattle.std.proofs.lemmas.List.{take_all}
 use Rattle.anb_term.specs.View.{tree_of}
 use Rattle.anb_plays.specs.Plans.{Event}
 use Rattle.anb_protocol.specs.Plans.{plan_of}
 use Rattle.anb_protocol.specs.Plays.{event_of, events_of}
 use Rattle.anb_protocol.specs.Views.{plan_event}
-use Rattle.anb_accept.specs.Roles.{ArePatternsIn, ArePatternsOf}
+use Rattle.anb_accept.specs.Roles.{ArePatternsIn}
 use Rattle.anb_accept.specs.Events.{event_value}
 use Rattle.anb_unify.proofs.Steps.{map_map}
 use Rattle.anb_accept.proofs.roles.patterns_of.Goals as goal
