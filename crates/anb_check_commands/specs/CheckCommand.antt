@@ -8,7 +8,7 @@ use Rattle.anb_protocol.specs.Protocols.{ProtocolValue, protocol_of}
 use Rattle.anb_code.specs.CodeValue.{CodeValue}
 use Rattle.anb_compile.specs.Fitting.{FitRoles}
 use Rattle.anb_pattern.specs.Taken.{TakenValue}
-use Rattle.anb_outsider.specs.Texts.{IsSaidOf}
+use Rattle.anb_stranger.specs.Texts.{IsAllSaidOf}
 use Rattle.anb_lack.specs.Lacking.{IsLackText}
 use Rattle.anb_mistakes.specs.Unread.{IsUnreadText}
 use Rattle.anb_mistakes.specs.Unresolved.{IsUnresolvedText}
@@ -37,11 +37,11 @@ SaidOf name x (BadNarration (Resolve why)) said =
 SaidOf name x (CannotSend action role) said = (n : Narration) × Text n x × IsLackText (protocol_of n) said
 SaidOf name x status said = ⊥
 
--- what is said of each role in order, by the patterns whose instances are exactly what it takes, and by what comes of a
--- recording of another run
+-- what is said of each role in order, by the patterns whose instances are exactly what it takes, by what comes of a
+-- recording of another run, and by what somebody can send who knows only the agents' names
 pub record AreTaken (p : ProtocolValue) (taken : List TakenValue) : Type 0 where
   pub count : length taken ≡ length p.roles
-  pub each : (role : ℕ) (t : TakenValue) → slice_get taken role ≡ Some t → IsSaidOf p role t
+  pub each : (role : ℕ) (t : TakenValue) → slice_get taken role ≡ Some t → IsAllSaidOf p role t
 
 -- the report on all roles, by a code for each that fits it, and by what each takes
 pub record IsReport (p : ProtocolValue) (said : List ℕ) : Type 0 where

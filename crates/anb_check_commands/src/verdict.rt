@@ -16,12 +16,12 @@ use anb_command::{NarrationNo, Status, ill_formed};
 use anb_compile::{CompileNo, compile_all};
 use anb_lack::lack_text;
 use anb_mistakes::{unread_text, unresolved_text};
-use anb_outsider::said_of;
 use anb_pattern::Taken;
 use anb_protocol::{Protocol, ResolveNo, protocols_hold};
 use anb_read::{ReadNo, read};
 use anb_report::report;
 use anb_resolve::{resolve, small_is_countable};
+use anb_stranger::all_said_of;
 use anb_syntax::Narration;
 use anb_visible::visible;
 use itoa::Buffer;
@@ -137,7 +137,7 @@ fn report_on(alloc: Global, protocol: &Protocol, codes: &[RoleCode]) -> Result<B
     report(alloc, protocol, codes, &taken)
 }
 
-/// What each role takes, and what comes of a recording of another run.
+/// What is said of each role: what it takes, and what others can play to it.
 fn taken_by_all(alloc: Global, protocol: &Protocol) -> Result<Vec<Taken>, NoMemory>
     ensures { IfOk result (λ taken. AreTaken protocol.now taken.items) }
 {
@@ -145,7 +145,7 @@ fn taken_by_all(alloc: Global, protocol: &Protocol) -> Result<Vec<Taken>, NoMemo
     let _ = protocol.name();
     let mut out = Vec::new(alloc);
     for role in 0..protocol.roles().len() {
-        let taken = said_of(alloc, protocol, role as u32)?;
+        let taken = all_said_of(alloc, protocol, role as u32)?;
         out.push(taken)?;
     }
     Ok(out)
