@@ -7,14 +7,13 @@ use Rattle.std.proofs.Math.Seq.{take-append_seam, drop-append_seam}
 use Rattle.anb_lemmas.proofs.Each.{each_in_both}
 use Rattle.anb_base.specs.Wires.{WireState}
 use Rattle.anb_plays.specs.Plays.{Run}
-use Rattle.anb_spoil.specs.declared.changes.Change.{Change}
 use Rattle.anb_transcript.specs.declared.transcript.TranscriptLine.{TranscriptLine}
 use Rattle.anb_transcript.specs.declared.transcript.TranscriptLine.TheVariants.{In, Out}
 use Rattle.anb_transcript.specs.Replays.{AreDue, due_after}
 use Rattle.anb_partner.specs.declared.conversation.TalkEnd.{TalkEnd}
 use Rattle.anb_partner.specs.declared.talking.Stop.{Stop}
 use Rattle.anb_partner.specs.declared.talking.Stop.TheVariants.{Over, NoMemory}
-use Rattle.anb_partner.specs.Talks.{Ends, Hooked, IsShort, Passed, Still, Talks, flipped, own_lines}
+use Rattle.anb_partner.specs.Talks.{Corruption, Ends, Hooked, IsShort, Passed, Still, Talks, flipped, own_lines}
 use Rattle.anb_partner.specs.Steps.{Reaches, GoesOn, GoesOnBy, Stops, Closes, IsOver, IsChanged, IsTalk}
 use Rattle.anb_partner.proofs.Reaching.{due_behind, due_joined, reaches_here, reaches_joined}
 use Rattle.anb_partner.proofs.Passing.{passed_nothing, passed_joined}
@@ -66,10 +65,10 @@ pub grown : (n : ℕ) (R N : Run) (before after : List TranscriptLine) (s t : Wi
 grown n R N before after s t on = omega (arith, ap length on.1.lines, length-append before on.0, on.2)
 
 -- it is over behind some lines
-pub over_behind : (R N : Run) (a b c : List TranscriptLine) (s t u : WireState) (more : List TranscriptLine) (change : Change) (stop : Stop)
-    → GoesOn R N a b s t more → c ≡ b → Stops change (due_after N []) t u stop → IsOver R a c s u change stop
-over_behind R N a b c s t u more change NoMemory on same stops = tt
-over_behind R N a b c s t u more change (Over end) on same stops = record {
+pub over_behind : (R N : Run) (a b c : List TranscriptLine) (s t u : WireState) (more : List TranscriptLine) (corrupt : Corruption) (stop : Stop)
+    → GoesOn R N a b s t more → c ≡ b → Stops corrupt (due_after N []) t u stop → IsOver R a c s u corrupt stop
+over_behind R N a b c s t u more corrupt NoMemory on same stops = tt
+over_behind R N a b c s t u more corrupt (Over end) on same stops = record {
   more = more;
   N = N;
   t = t;
@@ -83,10 +82,10 @@ due_there : (R N : Run) (own : List TranscriptLine) → Reaches R N own → due_
 due_there R N own reaches = ap (due_after R) (sym (append-nil own)) ∙ due_behind R N own [] reaches
 
 -- no value was changed
-pub plain_talk : (R : Run) (lines : List TranscriptLine) (s u : WireState) (at : Option ℕ) (change : Change) (stop : Stop)
-    → IfSome at (λ n. length lines ≤ n) → length lines < 2 ^ 32 → IsOver R [] lines s u change stop → IsTalk R at change s u lines stop
-plain_talk R lines s u at change NoMemory most few over = tt
-plain_talk R lines s u at change (Over end) most few over =
+pub plain_talk : (R : Run) (lines : List TranscriptLine) (s u : WireState) (at : Option ℕ) (corrupt : Corruption) (stop : Stop)
+    → IfSome at (λ n. length lines ≤ n) → length lines < 2 ^ 32 → IsOver R [] lines s u corrupt stop → IsTalk R at corrupt s u lines stop
+plain_talk R lines s u at corrupt NoMemory most few over = tt
+plain_talk R lines s u at corrupt (Over end) most few over =
     let on : GoesOn R over.N [] lines s over.t lines = subst (GoesOn R over.N [] lines s over.t) (sym over.on.lines) over.on in
     record {
       hooked = None;
@@ -94,14 +93,14 @@ plain_talk R lines s u at change (Over end) most few over =
       due = on.reaches.due;
       mid = over.t;
       passed = on.passed;
-      ends = subst (λ d. Ends change d over.t u end) (sym (due_there R over.N (map flipped lines) on.reaches)) over.ends;
+      ends = subst (λ d. Ends corrupt d over.t u end) (sym (due_there R over.N (map flipped lines) on.reaches)) over.ends;
       short = on.short;
       few = few;
     }
 
 -- a value was changed behind the first lines
-module _ (R N M : Run) (first lines : List TranscriptLine) (s t u : WireState) (n : ℕ) (change : Change) (one : GoesOnBy n R N [] first s t) (changed : IsChanged change N M) (few : length lines < 2 ^ 32) where
-  pub hooked_talk : (stop : Stop) → IsOver M first lines t u change stop → IsTalk R (Some n) change s u lines stop
+module _ (R N M : Run) (first lines : List TranscriptLine) (s t u : WireState) (n : ℕ) (corrupt : Corruption) (one : GoesOnBy n R N [] first s t) (changed : IsChanged corrupt N M) (few : length lines < 2 ^ 32) where
+  pub hooked_talk : (stop : Stop) → IsOver M first lines t u corrupt stop → IsTalk R (Some n) corrupt s u lines stop
   hooked_talk NoMemory over = tt
   hooked_talk (Over end) over =
       let h : Hooked = record { at = length first; right = changed.0; wrong = changed.1 } in
@@ -125,17 +124,17 @@ module _ (R N M : Run) (first lines : List TranscriptLine) (s t u : WireState) (
         due = subst (AreDue R) (sym is_own) reaches.due;
         mid = over.t;
         passed = subst (Passed s over.t) (sym whole) (passed_joined s t over.t first later begun.passed over.on.passed);
-        ends = subst (λ l. Ends change (due_after R l) over.t u end) (sym is_own) (subst (λ d. Ends change d over.t u end) (sym (due_there R over.N own reaches)) over.ends);
+        ends = subst (λ l. Ends corrupt (due_after R l) over.t u end) (sym is_own) (subst (λ d. Ends corrupt d over.t u end) (sym (due_there R over.N own reaches)) over.ends);
         short = subst (AllByRecursion IsShort) (sym whole) (each_in_both IsShort first later begun.short over.on.short);
         few = few;
       }
 
 -- it is over where a value is to be changed
-pub talk_at_hook : (R N : Run) (lines : List TranscriptLine) (s t : WireState) (n : ℕ) (change : Change) (stop : Stop)
-    → GoesOnBy n R N [] lines s t → length lines < 2 ^ 32 → Stops change (due_after N []) t t stop → IsTalk R (Some n) change s t lines stop
-talk_at_hook R N lines s t n change stop on few stops =
-    plain_talk R lines s t (Some n) change stop (omega (arith, ap length on.1.lines, on.2)) few
-    (over_behind R N [] lines lines s t t on.0 change stop on.1 refl stops)
+pub talk_at_hook : (R N : Run) (lines : List TranscriptLine) (s t : WireState) (n : ℕ) (corrupt : Corruption) (stop : Stop)
+    → GoesOnBy n R N [] lines s t → length lines < 2 ^ 32 → Stops corrupt (due_after N []) t t stop → IsTalk R (Some n) corrupt s t lines stop
+talk_at_hook R N lines s t n corrupt stop on few stops =
+    plain_talk R lines s t (Some n) corrupt stop (omega (arith, ap length on.1.lines, on.2)) few
+    (over_behind R N [] lines lines s t t on.0 corrupt stop on.1 refl stops)
 
 -- ---- behind what was handed in
 
@@ -144,9 +143,9 @@ own_is handed None lines = refl
 own_is handed (Some h) lines =
     append_assoc (map In handed) (map flipped (take h.at lines)) (Out h.right ∷ In h.wrong ∷ map flipped (drop h.at lines))
 
-pub handed_talk : (R N : Run) (handed : List (List ℕ)) (at : Option ℕ) (change : Change) (s u : WireState) (lines : List TranscriptLine) (end : TalkEnd)
-    → Reaches R N (map In handed) → Talks N [] at change s u lines end → Talks R handed at change s u lines end
-handed_talk R N handed at change s u lines end reaches talks =
+pub handed_talk : (R N : Run) (handed : List (List ℕ)) (at : Option ℕ) (corrupt : Corruption) (s u : WireState) (lines : List TranscriptLine) (end : TalkEnd)
+    → Reaches R N (map In handed) → Talks N [] at corrupt s u lines end → Talks R handed at corrupt s u lines end
+handed_talk R N handed at corrupt s u lines end reaches talks =
     let own = own_lines [] talks.hooked lines in
     let is : own_lines handed talks.hooked lines ≡ map In handed ++ own = own_is handed talks.hooked lines in
     record {
@@ -155,7 +154,7 @@ handed_talk R N handed at change s u lines end reaches talks =
       due = subst (AreDue R) (sym is) (due_joined R N (map In handed) own reaches talks.due);
       mid = talks.mid;
       passed = talks.passed;
-      ends = subst (λ d. Ends change d talks.mid u end) (sym (ap (due_after R) is ∙ due_behind R N (map In handed) own reaches)) talks.ends;
+      ends = subst (λ d. Ends corrupt d talks.mid u end) (sym (ap (due_after R) is ∙ due_behind R N (map In handed) own reaches)) talks.ends;
       short = talks.short;
       few = talks.few;
     }

@@ -6,3 +6,4 @@ mod Played
 mod Draining
 mod Whole
 mod Ranges
+mod Formed

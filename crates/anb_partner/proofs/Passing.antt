@@ -14,13 +14,12 @@ use Rattle.anb_frame.specs.declared.Taken.{Taken}
 use Rattle.anb_frame.specs.declared.Taken.TheVariants as taken
 use Rattle.anb_frame.specs.declared.FrameNo.{FrameNo}
 use Rattle.anb_frame.specs.declared.FrameNo.TheVariants.{Truncated, TooLarge, Failed}
-use Rattle.anb_spoil.specs.declared.changes.Change.{Change}
 use Rattle.anb_transcript.specs.declared.transcript.TranscriptLine.{TranscriptLine}
 use Rattle.anb_transcript.specs.declared.transcript.TranscriptLine.TheVariants.{In, Out}
 use Rattle.anb_transcript.specs.declared.following.Due.TheVariants.{Receive}
 use Rattle.anb_transcript.specs.Replays.{arrivals_of, messages_of}
 use Rattle.anb_partner.specs.declared.conversation.TalkEnd.TheVariants.{Missing, Cut, Long, ReadFault}
-use Rattle.anb_partner.specs.Talks.{Ends, Heard, Passed, stamps}
+use Rattle.anb_partner.specs.Talks.{Corruption, Ends, Heard, Passed, stamps}
 use Rattle.anb_partner.proofs.Reaching.{arrivals_of-append, messages_of-append}
 
 stamps-append : (n : ℕ) (xs ys : List TranscriptLine) → stamps n (xs ++ ys) ≡ stamps n xs ++ stamps (n + length (frames (arrivals_of xs))) ys
@@ -93,22 +92,22 @@ module _ (s t : WireState) (room n : ℕ) (buf : List ℕ) (is : room ≡ ARRIVA
       let (fits, (took, stamped)) = subst Took_so e takes in
       passed_out s t (take k buf) took same (told (length (frame (take k buf))) stamped)
 
-  pub heard_end : (change : Change) (r : Result Taken FrameNo) → r ≡ Ok taken.End → Took_so r → Ends change (Ok Receive) s t Missing
-  heard_end change r e takes =
+  pub heard_end : (corrupt : Corruption) (r : Result Taken FrameNo) → r ≡ Ok taken.End → Took_so r → Ends corrupt (Ok Receive) s t Missing
+  heard_end corrupt r e takes =
       let (left, taken_at, at) = subst Took_so e takes in
       (refl, record { took = record { left = left; taken_at = taken_at }; written = same }, at)
 
-  pub heard_part : (change : Change) (have need : ℕ) (r : Result Taken FrameNo) → r ≡ Err (Truncated have need) → Took_so r → Ends change (Ok Receive) s t (Cut have need)
-  heard_part change have need r e takes =
+  pub heard_part : (corrupt : Corruption) (have need : ℕ) (r : Result Taken FrameNo) → r ≡ Err (Truncated have need) → Took_so r → Ends corrupt (Ok Receive) s t (Cut have need)
+  heard_part corrupt have need r e takes =
       let (z, took, at, ends) = subst Took_so e takes in
       (refl, (z, heard_so z took, subst (λ (limit : ℕ). cuts.Ends limit z (Short have need)) is ends), at)
 
-  pub heard_long : (change : Change) (len : ℕ) (r : Result Taken FrameNo) → r ≡ Err (TooLarge len) → Took_so r → Ends change (Ok Receive) s t (Long len)
-  heard_long change len r e takes =
+  pub heard_long : (corrupt : Corruption) (len : ℕ) (r : Result Taken FrameNo) → r ≡ Err (TooLarge len) → Took_so r → Ends corrupt (Ok Receive) s t (Long len)
+  heard_long corrupt len r e takes =
       let (above, small, took) = subst Took_so e takes in
       (refl, heard_so (length_bytes len) took, omega (arith, above, is))
 
-  pub heard_fault : (change : Change) (r : Result Taken FrameNo) → r ≡ Err Failed → Took_so r → Rose s.read_faults t.read_faults → Ends change (Ok Receive) s t ReadFault
-  heard_fault change r e takes rose =
+  pub heard_fault : (corrupt : Corruption) (r : Result Taken FrameNo) → r ≡ Err Failed → Took_so r → Rose s.read_faults t.read_faults → Ends corrupt (Ok Receive) s t ReadFault
+  heard_fault corrupt r e takes rose =
       let (z, need, took, part) = subst Took_so e takes in
       (refl, (z, need, heard_so z took, subst (λ (limit : ℕ). IsPart limit z need) is part), rose)

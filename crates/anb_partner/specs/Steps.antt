@@ -4,8 +4,6 @@ use Rattle.std.specs.List.{AllByRecursion}
 use Rattle.anb_base.specs.Wires.{WireState}
 use Rattle.anb_machine.specs.declared.turn.Halt.{Halt}
 use Rattle.anb_plays.specs.Plays.{Run, SendsFirst}
-use Rattle.anb_spoil.specs.declared.changes.Change.{Change}
-use Rattle.anb_spoil.specs.Changes.{changed_by}
 use Rattle.anb_transcript.specs.declared.transcript.TranscriptLine.{TranscriptLine}
 use Rattle.anb_transcript.specs.declared.transcript.TranscriptLine.TheVariants.{In, Out}
 use Rattle.anb_transcript.specs.declared.following.Due.{Due}
@@ -14,7 +12,7 @@ use Rattle.anb_partner.specs.declared.conversation.Conversation.{Conversation}
 use Rattle.anb_partner.specs.declared.conversation.TalkEnd.{TalkEnd}
 use Rattle.anb_partner.specs.declared.talking.Stop.{Stop}
 use Rattle.anb_partner.specs.declared.talking.Stop.TheVariants.{Over, NoMemory}
-use Rattle.anb_partner.specs.Talks.{flipped, Drained, Ends, IsShort, Passed, Talks}
+use Rattle.anb_partner.specs.Talks.{Corruption, flipped, Drained, Ends, IsShort, Passed, Talks}
 use Rattle.anb_partner.specs.Trials.{Trial}
 
 -- each of these lines is due in the run R, which goes on as N behind them
@@ -34,38 +32,38 @@ GoesOnBy count R N before after s t =
     (more : List TranscriptLine) × GoesOn R N before after s t more × (length more ≡ count)
 
 -- it is over at once, where this is due; want of memory says nothing
-abbrev pub Stops : Change → Result Due Halt → (s t : WireState) → Stop → Type 0
-Stops change due s t (Over end) = Ends change due s t end
-Stops change due s t NoMemory = Unit {0}
+abbrev pub Stops : Corruption → Result Due Halt → (s t : WireState) → Stop → Type 0
+Stops corrupt due s t (Over end) = Ends corrupt due s t end
+Stops corrupt due s t NoMemory = Unit {0}
 
 -- it goes on by some lines, and is over then
-pub record Closes (R : Run) (before after : List TranscriptLine) (s u : WireState) (change : Change) (end : TalkEnd) : Type 0 where
+pub record Closes (R : Run) (before after : List TranscriptLine) (s u : WireState) (corrupt : Corruption) (end : TalkEnd) : Type 0 where
   pub more : List TranscriptLine
   pub N : Run
   pub t : WireState
   pub on : GoesOn R N before after s t more
-  pub ends : Ends change (due_after N []) t u end
+  pub ends : Ends corrupt (due_after N []) t u end
 
-abbrev pub IsOver : (R : Run) (before after : List TranscriptLine) (s u : WireState) (change : Change) → Stop → Type 0
-IsOver R before after s u change (Over end) = Closes R before after s u change end
-IsOver R before after s u change NoMemory = Unit {0}
+abbrev pub IsOver : (R : Run) (before after : List TranscriptLine) (s u : WireState) (corrupt : Corruption) → Stop → Type 0
+IsOver R before after s u corrupt (Over end) = Closes R before after s u corrupt end
+IsOver R before after s u corrupt NoMemory = Unit {0}
 
 -- a value was changed
-abbrev pub IsChanged : Change → (R N : Run) → Type 0
-IsChanged change R N =
-    (right wrong : List ℕ) × (changed_by change right ≡ Some wrong)
+abbrev pub IsChanged : Corruption → (R N : Run) → Type 0
+IsChanged corrupt R N =
+    (right wrong : List ℕ) × (corrupt right ≡ Some wrong)
     × Reaches R N (Out right ∷ In wrong ∷ [])
 
 -- the whole talk
-abbrev pub IsTalk : Run → Option ℕ → Change → (s u : WireState) → (lines : List TranscriptLine) → Stop → Type 0
-IsTalk R at change s u lines (Over end) = Talks R [] at change s u lines end
-IsTalk R at change s u lines NoMemory = Unit {0}
+abbrev pub IsTalk : Run → Option ℕ → Corruption → (s u : WireState) → (lines : List TranscriptLine) → Stop → Type 0
+IsTalk R at corrupt s u lines (Over end) = Talks R [] at corrupt s u lines end
+IsTalk R at corrupt s u lines NoMemory = Unit {0}
 
 -- a child that was started was talked with, drained and finished
-pub record HasTalked (N : Run) (at : Option ℕ) (change : Change) (pipes : WireState) (old new : Trial) (c : Conversation)
+pub record HasTalked (N : Run) (at : Option ℕ) (corrupt : Corruption) (pipes : WireState) (old new : Trial) (c : Conversation)
     : Type 0 where
   pub mid : WireState
-  pub talks : Talks N [] at change pipes mid c.lines c.end
+  pub talks : Talks N [] at corrupt pipes mid c.lines c.end
   pub drained : Drained mid new.pipes c.end c.behind c.loose
   pub child : IfSome c.child (λ end. IfSome old.ends (λ told. end ≡ told))
   pub silent : c.silent ≡ new.silent

@@ -9,8 +9,6 @@ use Rattle.anb_frame.specs.Cuts.{Short}
 use Rattle.anb_frame.specs.Cuts as cuts
 use Rattle.anb_plays.specs.Plays.{Run}
 use Rattle.anb_machine.specs.declared.turn.Halt.{Halt}
-use Rattle.anb_spoil.specs.declared.changes.Change.{Change}
-use Rattle.anb_spoil.specs.Changes.{changed_by}
 use Rattle.anb_stage.specs.Children.{lines}
 use Rattle.anb_transcript.specs.declared.transcript.TranscriptLine.{TranscriptLine}
 use Rattle.anb_transcript.specs.declared.transcript.TranscriptLine.TheVariants.{In, Out}
@@ -30,6 +28,10 @@ abbrev pub flipped : TranscriptLine → TranscriptLine
 flipped (In arrival) = Out arrival
 flipped (Out message) = In message
 
+-- what makes a right value a wrong one, where it can be made one
+abbrev pub Corruption : Type 0
+Corruption = List ℕ → Option (List ℕ)
+
 -- a change: behind so many lines this right value became that wrong one
 pub record Hooked : Type 0 where
   pub at : ℕ
@@ -44,10 +46,10 @@ own_lines handed (Some h) lines =
     map In handed ++ map flipped (take h.at lines) ++ Out h.right ∷ In h.wrong ∷ map flipped (drop h.at lines)
 
 -- where a value is to be changed behind so many lines: it was, where there are more of them
-abbrev pub IsHooked : Option ℕ → Change → List TranscriptLine → Option Hooked → Type 0
-IsHooked at change lines None = IfSome at (λ n. length lines ≤ n)
-IsHooked at change lines (Some h) =
-    (at ≡ Some h.at) × (h.at ≤ length lines) × (changed_by change h.right ≡ Some h.wrong)
+abbrev pub IsHooked : Option ℕ → Corruption → List TranscriptLine → Option Hooked → Type 0
+IsHooked at corrupt lines None = IfSome at (λ n. length lines ≤ n)
+IsHooked at corrupt lines (Some h) =
+    (at ≡ Some h.at) × (h.at ≤ length lines) × (corrupt h.right ≡ Some h.wrong)
 
 -- ---- the child's pipes
 
@@ -85,29 +87,29 @@ module _ (old new : WireState) where
 -- ---- how a talk ends
 
 -- a value that has no such change, or too long a one
-abbrev pub IsUnchanged : Change → List ℕ → Type 0
-IsUnchanged change right = IfSome (changed_by change right) (λ wrong. ARRIVAL < length wrong)
+abbrev pub IsUnchanged : Corruption → List ℕ → Type 0
+IsUnchanged corrupt right = IfSome (corrupt right) (λ wrong. ARRIVAL < length wrong)
 
 -- what is taken and written at the end, where this is due in the partner's play
-abbrev pub Ends : Change → Result Due Halt → (old new : WireState) → TalkEnd → Type 0
-Ends change due old new Done = (due ≡ Ok End) × Still old new
-Ends change due old new Refused = ((halt : Halt) × (due ≡ Err halt)) × Still old new
-Ends change due old new Missing = (due ≡ Ok Receive) × Still old new × AtEnd old.left
-Ends change due old new (Cut have need) =
+abbrev pub Ends : Corruption → Result Due Halt → (old new : WireState) → TalkEnd → Type 0
+Ends corrupt due old new Done = (due ≡ Ok End) × Still old new
+Ends corrupt due old new Refused = ((halt : Halt) × (due ≡ Err halt)) × Still old new
+Ends corrupt due old new Missing = (due ≡ Ok Receive) × Still old new × AtEnd old.left
+Ends corrupt due old new (Cut have need) =
     (due ≡ Ok Receive) × ((part : List ℕ) × Heard old new part × cuts.Ends ARRIVAL part (Short have need))
     × AtEnd new.left
-Ends change due old new (Long len) =
+Ends corrupt due old new (Long len) =
     (due ≡ Ok Receive) × Heard old new (length_bytes len) × (ARRIVAL < len)
-Ends change due old new ReadFault =
+Ends corrupt due old new ReadFault =
     (due ≡ Ok Receive) × ((part : List ℕ) × (need : ℕ) × Heard old new part × IsPart ARRIVAL part need)
     × Rose old.read_faults new.read_faults
-Ends change due old new WriteFault =
+Ends corrupt due old new WriteFault =
     ((message : List ℕ) × (due ≡ Ok (Send message)) × PutPrefix old.written new.written (frame message))
     × TookNothing old new × Rose old.write_faults new.write_faults
-Ends change due old new TooLong =
+Ends corrupt due old new TooLong =
     ((message : List ℕ) × (due ≡ Ok (Send message)) × (ARRIVAL < length message)) × Still old new
-Ends change due old new Unchanged =
-    ((right : List ℕ) × (due ≡ Ok (Send right)) × IsUnchanged change right) × Still old new
+Ends corrupt due old new Unchanged =
+    ((right : List ℕ) × (due ≡ Ok (Send right)) × IsUnchanged corrupt right) × Still old new
 
 -- a line is no longer than an arrival may be
 abbrev pub IsShort : TranscriptLine → Type 0
@@ -116,14 +118,14 @@ IsShort (Out message) = length message ≤ ARRIVAL
 
 -- The lines are those of the run of the partner, which was handed these values, over what came of the
 -- child and the change; and they alone went over the pipes, up to the end.
-pub record Talks (R : Run) (handed : List (List ℕ)) (at : Option ℕ) (change : Change) (old new : WireState)
+pub record Talks (R : Run) (handed : List (List ℕ)) (at : Option ℕ) (corrupt : Corruption) (old new : WireState)
     (lines : List TranscriptLine) (end : TalkEnd) : Type 0 where
   pub hooked : Option Hooked
-  pub is_hooked : IsHooked at change lines hooked
+  pub is_hooked : IsHooked at corrupt lines hooked
   pub due : AreDue R (own_lines handed hooked lines)
   pub mid : WireState
   pub passed : Passed old mid lines
-  pub ends : Ends change (due_after R (own_lines handed hooked lines)) mid new end
+  pub ends : Ends corrupt (due_after R (own_lines handed hooked lines)) mid new end
   pub short : AllByRecursion IsShort lines
   pub few : length lines < 2 ^ 32
 
@@ -147,12 +149,12 @@ pub record Drained (old new : WireState) (end : TalkEnd) (behind : ℕ) (is_loos
   pub all : is_loose ≡ false
       → ((rest ≡ []) × AtEnd new.left) ⊎ (BEHIND ≤ behind) ⊎ Rose old.read_faults new.read_faults ⊎ (end ≡ ReadFault)
 
-module _ (R : Run) (handed : List (List ℕ)) (at : Option ℕ) (change : Change) (words : List (List ℕ))
+module _ (R : Run) (handed : List (List ℕ)) (at : Option ℕ) (corrupt : Corruption) (words : List (List ℕ))
     (old new : Trial) where
   -- The child was started once with these words, talked with, drained, and finished.
   pub record Converses (c : Conversation) : Type 0 where
     pub mid : WireState
-    pub talks : Talks R handed at change old.pipes mid c.lines c.end
+    pub talks : Talks R handed at corrupt old.pipes mid c.lines c.end
     pub drained : Drained mid new.pipes c.end c.behind c.loose
     pub asked : Put old.asked new.asked (lines words)
     pub finished : new.phase ≡ 2

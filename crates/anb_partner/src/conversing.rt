@@ -3,6 +3,7 @@ ghost use Rattle.std.specs.Prelude.{◌≡◌, ◌≢◌, ◌≤◌, ℕ, List, 
 ghost use Rattle.anb_base.specs.Moves.{Rose};
 ghost use Rattle.anb_base.specs.declared.TheConstants.{ARRIVAL};
 ghost use Rattle.anb_code.specs.Taking.{take_texts};
+ghost use Rattle.anb_spoil.specs.Wrongs.{wrong_by};
 ghost use Rattle.anb_machine.specs.ByteRuns.{run_bytes};
 ghost use Rattle.anb_machine.specs.Machines.{gives};
 ghost use Rattle.anb_partner.specs.Talks.{Converses, Drained};
@@ -12,8 +13,9 @@ ghost use Rattle.anb_partner.specs.Steps.{HasTalked};
 use crate::talking::{Left, drain, hand_in, talk};
 use crate::{Conversation, ConverseNo, Partner, TalkEnd, Trials, Values};
 use anb_base::{ARRIVAL, NoMemory, Text, Wire};
+use anb_format::Format;
 use anb_machine::Machine;
-use anb_spoil::Change;
+use anb_spoil::Wrong;
 use anb_transcript::Transcript;
 use std::alloc::Global;
 
@@ -28,7 +30,7 @@ pub fn converse<T: Trials>(
     words: &[Text],
     partner: &Partner,
     values: &Values,
-    change: Change,
+    wrong: Wrong,
 ) -> Result<Conversation, ConverseNo>
     requires unstarted { (T.trial trials.old case).phase ≡ 0 }
     requires count { length values.now.initial.items
@@ -37,8 +39,8 @@ pub fn converse<T: Trials>(
     requires handed { All (λ value. length value ≤ ARRIVAL) values.now.handed.items }
     ensures converses { IfOk result (Converses
         (run_bytes partner.now.code values.now.initial.items (replicate 32 0) 0)
-        values.now.handed.items partner.now.hook change words.now
-        (T.trial trials.old case) (T.trial trials.new case)) }
+        values.now.handed.items partner.now.hook (wrong_by partner.now.code.formats wrong)
+        words.now (T.trial trials.old case) (T.trial trials.new case)) }
     ensures not_started { IfErr result (λ no. no ≡ ConverseNo.NotStarted
         → IsUnstarted (T.trial trials.old case) (T.trial trials.new case)
         × Rose (T.trial trials.old case).faults (T.trial trials.new case).faults) }
@@ -55,7 +57,8 @@ pub fn converse<T: Trials>(
             case,
             &mut machine,
             partner.hook,
-            change,
+            partner.code.formats(),
+            wrong,
             child,
             &mut buffer,
         ),
@@ -70,13 +73,15 @@ fn talk_with<T: Trials>(
     case: u32,
     machine: &mut Machine<'_>,
     hook: Option<u32>,
-    change: Change,
+    formats: &[Format],
+    wrong: Wrong,
     child: T::Child,
     buffer: &mut [u8],
 ) -> Result<Conversation, ConverseNo>
     requires running { (T.trial trials.old case).phase ≡ 1 }
     requires room { length buffer.old ≡ ARRIVAL }
-    ensures talked { IfOk result (HasTalked (gives machine.old) hook change (T.Child.state child)
+    ensures talked { IfOk result (HasTalked (gives machine.old) hook
+        (wrong_by formats.now wrong) (T.Child.state child)
         (T.trial trials.old case) (T.trial trials.new case)) }
     ensures no { IfErr result (λ no. no ≡ ConverseNo.NoMemory) }
     ensures finished { (T.trial trials.new case).phase ≡ 2 }
@@ -85,7 +90,9 @@ fn talk_with<T: Trials>(
 {
     let mut child = child;
     let mut lines = Vec::new(alloc);
-    let talked = talk(alloc, machine, hook, change, &mut lines, &mut child, buffer);
+    let talked = talk(
+        alloc, machine, hook, formats, wrong, &mut lines, &mut child, buffer,
+    );
     trials.close(&mut child);
     let left = drain_behind(&talked, &mut child, buffer);
     let finished = trials.finish(case, child);

@@ -11,6 +11,7 @@ mod conversing;
 mod laws;
 mod memory;
 mod planning;
+mod standing;
 mod talking;
 mod trials;
 mod valuing;
@@ -20,6 +21,7 @@ pub use conversing::converse;
 pub use laws::partners_play;
 pub use memory::MemTrials;
 pub use planning::{Narrated, Partner, PartnerNo, narrated_terms, partner_for};
+pub use standing::may_stand;
 pub use trials::{ChildEnd, Trials};
 pub use valuing::{Values, values_for};
 

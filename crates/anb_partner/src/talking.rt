@@ -4,22 +4,22 @@ ghost use Rattle.anb_base.specs.Wires.{WireState};
 ghost use Rattle.anb_base.specs.declared.TheConstants.{ARRIVAL};
 ghost use Rattle.anb_machine.specs.Machines.{gives, left, waits};
 ghost use Rattle.anb_machine.specs.declared.turn.Halt.{Halt};
-ghost use Rattle.anb_spoil.specs.Changes.{changed_by};
-ghost use Rattle.anb_spoil.specs.declared.changes.Change.{Change};
+ghost use Rattle.anb_spoil.specs.Wrongs.{wrong_by};
 ghost use Rattle.anb_transcript.specs.declared.transcript.TranscriptLine.TheVariants.{In, Out};
 ghost use Rattle.anb_transcript.specs.declared.following.Due.{Due};
 ghost use Rattle.anb_transcript.specs.declared.following.Due.TheVariants.{Send, Receive};
 ghost use Rattle.anb_transcript.specs.Replays.{due_after};
-ghost use Rattle.anb_partner.specs.Talks.{Drained, Passed, Talks};
+ghost use Rattle.anb_partner.specs.Talks.{Corruption, Drained, Passed, Talks};
 ghost use Rattle.anb_partner.specs.Steps.{GoesOnBy, IsChanged, IsOver, IsTalk, Reaches, Stops};
 ghost use Rattle.anb_partner.specs.declared.conversation.TalkEnd.{TalkEnd};
 ghost use Rattle.anb_partner.specs.declared.talking.Stop.TheVariants as stops;
 
 use crate::{BEHIND, TalkEnd};
 use anb_base::{ARRIVAL, Bytes, NoMemory, Wire};
+use anb_format::Format;
 use anb_frame::{FrameNo, Taken, put, take};
 use anb_machine::{Machine, Turn};
-use anb_spoil::{Change, changed};
+use anb_spoil::{Wrong, wrong_for};
 use anb_transcript::TranscriptLine;
 use std::alloc::{AllocError, AllocFailed, Global};
 
@@ -88,18 +88,19 @@ pub(crate) fn talk<W: Wire>(
     alloc: Global,
     machine: &mut Machine<'_>,
     hook: Option<u32>,
-    change: Change,
+    formats: &[Format],
+    wrong: Wrong,
     lines: &mut Vec<TranscriptLine>,
     child: &mut W,
     buffer: &mut [u8],
 ) -> Result<TalkEnd, NoMemory>
     requires room { length buffer.old ≡ ARRIVAL }
     requires none { lines.old.items ≡ [] }
-    ensures talks { IfOk result (Talks (gives machine.old) [] hook change
-        (W.state child.old) (W.state child.new) lines.new.items) }
+    ensures talks { IfOk result (Talks (gives machine.old) [] hook
+        (wrong_by formats.now wrong) (W.state child.old) (W.state child.new) lines.new.items) }
     ensures room { length buffer.new ≡ ARRIVAL }
 {
-    match stop_of_talk(alloc, machine, hook, change, lines, child, buffer) {
+    match stop_of_talk(alloc, machine, hook, formats, wrong, lines, child, buffer) {
         Stop::Over(end) => Ok(end),
         Stop::NoMemory => Err(NoMemory),
     }
@@ -110,20 +111,23 @@ fn stop_of_talk<W: Wire>(
     alloc: Global,
     machine: &mut Machine<'_>,
     hook: Option<u32>,
-    change: Change,
+    formats: &[Format],
+    wrong: Wrong,
     lines: &mut Vec<TranscriptLine>,
     child: &mut W,
     buffer: &mut [u8],
 ) -> Stop
     requires room { length buffer.old ≡ ARRIVAL }
     requires none { lines.old.items ≡ [] }
-    ensures talk { IsTalk (gives machine.old) hook change
+    ensures talk { IsTalk (gives machine.old) hook (wrong_by formats.now wrong)
         (W.state child.old) (W.state child.new) lines.new.items result }
     ensures room { length buffer.new ≡ ARRIVAL }
 {
     match hook {
         None => go_to_end(alloc, machine, lines, child, buffer),
-        Some(before) => stop_of_change(alloc, machine, before, change, lines, child, buffer),
+        Some(before) => stop_of_change(
+            alloc, machine, before, formats, wrong, lines, child, buffer,
+        ),
     }
 }
 
@@ -132,19 +136,20 @@ fn stop_of_change<W: Wire>(
     alloc: Global,
     machine: &mut Machine<'_>,
     before: u32,
-    change: Change,
+    formats: &[Format],
+    wrong: Wrong,
     lines: &mut Vec<TranscriptLine>,
     child: &mut W,
     buffer: &mut [u8],
 ) -> Stop
     requires room { length buffer.old ≡ ARRIVAL }
     requires none { lines.old.items ≡ [] }
-    ensures talk { IsTalk (gives machine.old) (Some before) change
+    ensures talk { IsTalk (gives machine.old) (Some before) (wrong_by formats.now wrong)
         (W.state child.old) (W.state child.new) lines.new.items result }
     ensures room { length buffer.new ≡ ARRIVAL }
 {
     match go_on(alloc, machine, before, lines, child, buffer) {
-        Ok(()) => match change_value(alloc, machine, change) {
+        Ok(()) => match change_value(alloc, machine, formats, wrong) {
             Ok(()) => go_to_end(alloc, machine, lines, child, buffer),
             Err(stop) => stop,
         },
@@ -165,8 +170,8 @@ fn go_on<W: Wire>(
     requires few { length lines.old.items < 2 ^ 32 }
     ensures goes_on { OnOk result (GoesOnBy count (gives machine.old) (gives machine.new)
         lines.old.items lines.new.items (W.state child.old) (W.state child.new)) }
-    ensures over { IfErr result (λ stop. (change : Change) → IsOver (gives machine.old)
-        lines.old.items lines.new.items (W.state child.old) (W.state child.new) change stop) }
+    ensures over { IfErr result (λ stop. (corrupt : Corruption) → IsOver (gives machine.old)
+        lines.old.items lines.new.items (W.state child.old) (W.state child.new) corrupt stop) }
     ensures most { length lines.new.items ≤ length lines.old.items + count }
     ensures few { length lines.new.items < 2 ^ 32 }
     ensures room { length buffer.new ≡ ARRIVAL }
@@ -189,8 +194,8 @@ fn go_to_end<W: Wire>(
 ) -> Stop
     requires room { length buffer.old ≡ ARRIVAL }
     requires few { length lines.old.items < 2 ^ 32 }
-    ensures over { (change : Change) → IsOver (gives machine.old) lines.old.items lines.new.items
-        (W.state child.old) (W.state child.new) change result }
+    ensures over { (corrupt : Corruption) → IsOver (gives machine.old) lines.old.items lines.new.items
+        (W.state child.old) (W.state child.new) corrupt result }
     ensures few { length lines.new.items < 2 ^ 32 }
     ensures room { length buffer.new ≡ ARRIVAL }
 {
@@ -214,8 +219,8 @@ fn turn<W: Wire>(
     ensures goes_on { OnOk result (GoesOnBy 1 (gives machine.old) (gives machine.new)
         lines.old.items lines.new.items (W.state child.old) (W.state child.new)) }
     ensures further { OnOk result (left machine.new < left machine.old) }
-    ensures over { IfErr result (λ stop. (change : Change)
-        → Stops change (due_after (gives machine.old) []) (W.state child.old) (W.state child.new) stop) }
+    ensures over { IfErr result (λ stop. (corrupt : Corruption)
+        → Stops corrupt (due_after (gives machine.old) []) (W.state child.old) (W.state child.new) stop) }
     ensures no_line { IfErr result (λ stop. lines.new.items ≡ lines.old.items) }
     ensures few { length lines.new.items < 2 ^ 32 }
     ensures room { length buffer.new ≡ ARRIVAL }
@@ -276,14 +281,20 @@ fn take_in(
 /// More lines than any code has sends and receives.
 const MOST_LINES: usize = 4_294_967_296;
 
-/// Takes the right value of the machine, and hands it what the change makes of it.
-fn change_value(alloc: Global, machine: &mut Machine<'_>, change: Change) -> Result<(), Stop>
-    ensures changed { OnOk result (IsChanged change (gives machine.old) (gives machine.new)) }
+/// Takes the right value of the machine, and hands it the wrong one that is made of it.
+fn change_value(
+    alloc: Global,
+    machine: &mut Machine<'_>,
+    formats: &[Format],
+    wrong: Wrong,
+) -> Result<(), Stop>
+    ensures changed { OnOk result (IsChanged (wrong_by formats.now wrong)
+        (gives machine.old) (gives machine.new)) }
     ensures over { IfErr result (λ stop. (s : WireState)
-        → Stops change (due_after (gives machine.old) []) s s stop) }
+        → Stops (wrong_by formats.now wrong) (due_after (gives machine.old) []) s s stop) }
 {
     match machine.advance(alloc) {
-        Turn::Message(right) => hand_wrong(alloc, machine, change, right.as_slice()),
+        Turn::Message(right) => hand_wrong(alloc, machine, formats, wrong, right.as_slice()),
         Turn::Done => Err(Stop::Over(TalkEnd::Done)),
         Turn::Stopped(_) => Err(Stop::Over(TalkEnd::Refused)),
         // Of a partner's plan the value comes here.
@@ -292,24 +303,25 @@ fn change_value(alloc: Global, machine: &mut Machine<'_>, change: Change) -> Res
     }
 }
 
-/// Hands the machine what the change makes of this value.
+/// Hands the machine the wrong value that is made of this one.
 fn hand_wrong(
     alloc: Global,
     machine: &mut Machine<'_>,
-    change: Change,
+    formats: &[Format],
+    wrong: Wrong,
     right: &[u8],
 ) -> Result<(), Stop>
-    ensures handed { OnOk result ((wrong : List ℕ) × (changed_by change right.now ≡ Some wrong)
-        × Reaches (gives machine.old) (gives machine.new) (In wrong ∷ [])) }
+    ensures handed { OnOk result ((bytes : List ℕ) × (wrong_by formats.now wrong right.now ≡ Some bytes)
+        × Reaches (gives machine.old) (gives machine.new) (In bytes ∷ [])) }
     ensures over { IfErr result (λ stop. (s : WireState)
-        → Stops change (Ok (Send right.now)) s s stop) }
+        → Stops (wrong_by formats.now wrong) (Ok (Send right.now)) s s stop) }
 {
-    match changed(alloc, change, right) {
-        Ok(Some(wrong)) => {
-            if wrong.as_slice().len() > ARRIVAL as usize {
+    match wrong_for(alloc, formats, wrong, right) {
+        Ok(Some(bytes)) => {
+            if bytes.as_slice().len() > ARRIVAL as usize {
                 return Err(Stop::Over(TalkEnd::Unchanged));
             }
-            match hand(alloc, machine, &wrong) {
+            match hand(alloc, machine, &bytes) {
                 Ok(()) => Ok(()),
                 Err(NoMemory) => Err(Stop::NoMemory),
             }
@@ -324,7 +336,7 @@ fn say<W: Wire>(child: &mut W, message: &[u8]) -> Result<(), Stop>
     ensures passed { OnOk result
         (Passed (W.state child.old) (W.state child.new) (In message.now ∷ [])) }
     ensures short { OnOk result (length message.now ≤ ARRIVAL) }
-    ensures over { IfErr result (λ stop. (change : Change) → Stops change (Ok (Send message.now))
+    ensures over { IfErr result (λ stop. (corrupt : Corruption) → Stops corrupt (Ok (Send message.now))
         (W.state child.old) (W.state child.new) stop) }
 {
     if message.len() > ARRIVAL as usize {
@@ -342,7 +354,7 @@ fn hear<W: Wire>(alloc: Global, child: &mut W, buffer: &mut [u8]) -> Result<Byte
     ensures passed { IfOk result (λ message.
         Passed (W.state child.old) (W.state child.new) (Out message ∷ [])) }
     ensures short { IfOk result (λ message. length message ≤ ARRIVAL) }
-    ensures over { IfErr result (λ stop. (change : Change) → Stops change (Ok Receive)
+    ensures over { IfErr result (λ stop. (corrupt : Corruption) → Stops corrupt (Ok Receive)
         (W.state child.old) (W.state child.new) stop) }
     ensures room { length buffer.new ≡ ARRIVAL }
 {

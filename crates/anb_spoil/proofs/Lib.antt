@@ -9,3 +9,4 @@ pub mod FalseTags
 pub mod Halves
 pub mod Padding
 pub mod Written
+pub mod Respoilt

@@ -3,17 +3,19 @@ use Rattle.std.specs.Prelude.{◌≡◌, ◌≢◌, ℕ, List, length, take, dro
 use Rattle.std.specs.List.{AllByRecursion}
 use Rattle.anb_base.specs.Bytes.{IsBytes}
 use Rattle.anb_base.specs.declared.content.Suite.{Suite}
-use Rattle.anb_format.specs.Formats.{IsParts, IsSound, field_count}
+use Rattle.anb_format.specs.Formats.{FormatValue, IsParts, IsSound, field_count}
 use Rattle.anb_format.specs.Reading.{arguments_at}
 use Rattle.anb_format.specs.declared.pieces.Piece.{Piece}
 use Rattle.anb_seal.specs.Primitives.{key_for, masked, unsealed, unwrapped}
 use Rattle.anb_spoil.specs.Changes.{changed_by}
 use Rattle.anb_spoil.specs.Rows.{rows_of, spoilt}
 use Rattle.anb_spoil.specs.Tags.{falsely_sealed, falsely_wrapped}
+use Rattle.anb_spoil.specs.Wrongs.{respoilt, wrong_by}
 use Rattle.anb_spoil.specs.declared.changes.Change.{Change}
 use Rattle.anb_spoil.specs.declared.rows.Row.{Row}
 use Rattle.anb_spoil.specs.declared.rows.Row.TheVariants.{At}
 use Rattle.anb_spoil.specs.declared.rows.Spoiling.TheVariants.{Semicolon, Comma}
+use Rattle.anb_spoil.specs.declared.wrongs.Wrong.{Wrong}
 
 -- what a change makes of bytes differs from them
 abbrev pub ChangesDiffer : Type 0
@@ -42,6 +44,16 @@ abbrev pub RowsAreNear : Type 0
 RowsAreNear = (pieces : List Piece) → IsSound pieces → (row : Row) (arguments : List (List ℕ)) → length arguments ≡ field_count pieces
     → AllByRecursion IsBytes arguments → (bytes : List ℕ) → spoilt pieces row arguments ≡ Some bytes
     → hides_an_end row ≡ false → arguments_at pieces bytes ≡ arguments
+
+-- bytes of a format that are spoilt in the way of a row are built of no arguments
+abbrev pub SpoiltIsRefused : Type 0
+SpoiltIsRefused = (pieces : List Piece) → IsSound pieces → (row : Row) (right wrong : List ℕ) → respoilt pieces row right ≡ Some wrong
+    → (others : List (List ℕ)) → IsParts pieces wrong others → ⊥
+
+-- what a right value is made differs from it
+abbrev pub WrongsDiffer : Type 0
+WrongsDiffer = (formats : List FormatValue) → AllByRecursion (λ (format : FormatValue). IsSound format.pieces) formats
+    → (wrong : Wrong) (right made : List ℕ) → wrong_by formats wrong right ≡ Some made → made ≢ right
 
 -- false tags aren't opened, under the very key; but whoever doesn't compare tags has the message
 pub record FalseTagsStayShut : Type 0 where

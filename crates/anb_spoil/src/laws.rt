@@ -1,5 +1,5 @@
 //! Laws of spoilt bytes, each a function that does nothing.
-ghost use Rattle.anb_spoil.specs.Laws.{ChangesDiffer, FalseTagsHoldTheMessage, FalseTagsStayShut, RowsAreAll, RowsAreNear, RowsAreRefused};
+ghost use Rattle.anb_spoil.specs.Laws.{ChangesDiffer, FalseTagsHoldTheMessage, FalseTagsStayShut, RowsAreAll, RowsAreNear, RowsAreRefused, SpoiltIsRefused, WrongsDiffer};
 
 /// A law: what a change makes of bytes differs from them.
 pub fn changes_differ()
@@ -34,4 +34,14 @@ pub fn false_tags_stay_shut()
 /// message.
 pub fn false_tags_hold_the_message()
     ensures { FalseTagsHoldTheMessage }
+{}
+
+/// A law: bytes of a format that are spoilt in the way of a row are no bytes of that format.
+pub fn spoilt_is_refused()
+    ensures { SpoiltIsRefused }
+{}
+
+/// A law: what a right value is made differs from it.
+pub fn wrongs_differ()
+    ensures { WrongsDiffer }
 {}

@@ -19,7 +19,7 @@ returns-in-Ok-clause-converses g c =
     let handed = subst (λ (l : List (List ℕ)). Reaches (gives machine) N (map In l)) c.deref-2.ensures.value c.in_ok-hand_in.ensures in
     let reaches = subst (λ (S : Run). Reaches S N (map In c.args.values.now.handed.items)) begun handed in
     if_ok c.talk_with.result _ _ c.talk_with.ensures.talked (λ conversation talked.
-    converses R N _ _ _ _ _ _ _ _ conversation reaches c.in-Ok.ensures.child c.in-Ok.ensures.asked c.start-2.ensures.ends talked c.talk_with.ensures.kept c.talk_with.ensures.finished)
+    converses R N _ _ _ _ _ _ _ _ conversation reaches c.in-Ok.ensures.child c.in-Ok.ensures.asked c.start-2.ensures.ends (rw c.formats.ensures.formats at talked) c.talk_with.ensures.kept c.talk_with.ensures.finished)
 
 pub returns-in-Ok-clause-not_started : goal.returns-in-Ok-clause-not_started
 returns-in-Ok-clause-not_started g c = if_err c.talk_with.result _ _ c.talk_with.ensures.no (λ no memory is. absurd (cc))

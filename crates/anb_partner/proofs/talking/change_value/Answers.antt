@@ -1,9 +1,11 @@
-use Rattle.std.proofs.Common.{ℕ, List, [], ◌∷◌, sym, ap, ◌∙◌}
+use Rattle.std.proofs.Common.{ℕ, List, [], ◌∷◌, sym, ap, subst, ◌∙◌}
 use Rattle.anb_machine.specs.Machines.{gives}
 use Rattle.anb_plays.specs.Plays.{says}
 use Rattle.anb_transcript.specs.declared.transcript.TranscriptLine.TheVariants.{In, Out}
-use Rattle.anb_partner.proofs.Reaching.{is_done, is_stopped, reaches_joined, says_line}
-use Rattle.anb_partner.proofs.Going.{on_ok, still}
+use Rattle.anb_spoil.specs.Wrongs.{wrong_by}
+use Rattle.anb_partner.specs.Steps.{Stops}
+use Rattle.anb_partner.proofs.Reaching.{is_done, is_stopped, reaches_joined, says_first, says_line}
+use Rattle.anb_partner.proofs.Going.{if_err, on_ok, still}
 use Rattle.anb_partner.proofs.talking.change_value.Goals as goal
 
 pub returns-in-Done-clause-over : goal.returns-in-Done-clause-over
@@ -21,3 +23,12 @@ returns-in-Message-clause-changed c =
     let so = λ (xs : List (List ℕ)). c.in-Message.ensures.turned.0 xs ∙ ap (λ m. says m (M xs)) (sym c.as_slice.ensures) in
     on_ok c.hand_wrong.result _ _ c.hand_wrong.ensures.handed (λ h.
     (b, h.0, h.1, reaches_joined R M N (Out b ∷ []) (In h.0 ∷ []) (says_line R M b so) h.2))
+
+pub returns-in-Message-clause-over : goal.returns-in-Message-clause-over
+returns-in-Message-clause-over c =
+    let R = gives c.args.machine.now in
+    let M = gives c.advance.new.self in
+    let b = c.as_slice.result.now in
+    let so = λ (xs : List (List ℕ)). c.in-Message.ensures.turned.0 xs ∙ ap (λ m. says m (M xs)) (sym c.as_slice.ensures) in
+    if_err c.hand_wrong.result _ _ c.hand_wrong.ensures.over (λ stop h s.
+    subst (λ d. Stops (wrong_by c.args.formats.now c.args.wrong) d s s stop) (sym (says_first R M b so)) (h s))

@@ -19,10 +19,10 @@ loop-preserved g c = record {
 }
 
 pub returns-in-Err-clause-over : goal.returns-in-Err-clause-over
-returns-in-Err-clause-over g c = λ change.
+returns-in-Err-clause-over g c = λ corrupt.
     let old = c.loop.invariant.goes_on in
     over_behind (gives c.args.machine.now) (gives c.loop.machine) c.args.lines.now.items c.loop.lines.items c.turn.new.lines.items
-    (g.W.Wire.state c.args.child.now) (g.W.Wire.state c.loop.child) (g.W.Wire.state c.turn.new.child) old.0 change c.in-Err.stop old.1 c.in-Err.ensures.no_line (c.in-Err.ensures.over change)
+    (g.W.Wire.state c.args.child.now) (g.W.Wire.state c.loop.child) (g.W.Wire.state c.turn.new.child) old.0 corrupt c.in-Err.stop old.1 c.in-Err.ensures.no_line (c.in-Err.ensures.over corrupt)
 
 pub returns-in-Err-clause-most : goal.returns-in-Err-clause-most
 returns-in-Err-clause-most g c =

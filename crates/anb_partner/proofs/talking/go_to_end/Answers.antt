@@ -25,7 +25,7 @@ loop-stop-preserved g c =
     }
 
 pub returns-in-Err-clause-over : goal.returns-in-Err-clause-over
-returns-in-Err-clause-over g c = λ change.
+returns-in-Err-clause-over g c = λ corrupt.
     let old = c.loop-stop.invariant.goes_on in
     over_behind (gives c.args.machine.now) (gives c.loop-stop.machine) c.args.lines.now.items c.loop-stop.lines.items c.turn.new.lines.items
-    (g.W.Wire.state c.args.child.now) (g.W.Wire.state c.loop-stop.child) (g.W.Wire.state c.turn.new.child) old.0 change c.in-Err.stop old.1 c.in-Err.ensures.no_line (c.in-Err.ensures.over change)
+    (g.W.Wire.state c.args.child.now) (g.W.Wire.state c.loop-stop.child) (g.W.Wire.state c.turn.new.child) old.0 corrupt c.in-Err.stop old.1 c.in-Err.ensures.no_line (c.in-Err.ensures.over corrupt)

@@ -11,7 +11,7 @@ returns-in-Ok-clause-passed g c =
     (passed_in _ _ c.args.message.now left taken_at c.in-Ok.ensures.put)
 
 pub returns-in-Err-clause-over : goal.returns-in-Err-clause-over
-returns-in-Err-clause-over g c = λ change.
+returns-in-Err-clause-over g c = λ corrupt.
     let left = kept_first _ _ _ _ _ _ _ _ c.put.ensures.kept (g.met.W.Wire.beside_sink c.args.child.now) (g.met.W.Wire.beside_sink c.put.new.snk) in
     let taken_at = kept_third _ _ _ _ _ _ _ _ _ _ c.put.ensures.kept (g.met.W.Wire.beside_sink c.args.child.now) (g.met.W.Wire.beside_sink c.put.new.snk) in
     rw (g.met.W.Wire.state_tells c.args.child.now, g.met.W.Wire.state_tells c.put.new.snk)

@@ -31,21 +31,21 @@ pub returns-in-Ok-take_in-clause-further : goal.returns-in-Ok-take_in-clause-fur
 returns-in-Ok-take_in-clause-further g c = omega (arith, c.in-Ok-take_in.ensures.further, c.in-Wants.ensures.turned.3)
 
 pub returns-in-Done-clause-over : goal.returns-in-Done-clause-over
-returns-in-Done-clause-over g c = λ change. (is_done (gives c.args.machine.now) c.in-Done.ensures.turned.1, still (g.W.Wire.state c.args.child.now))
+returns-in-Done-clause-over g c = λ corrupt. (is_done (gives c.args.machine.now) c.in-Done.ensures.turned.1, still (g.W.Wire.state c.args.child.now))
 
 pub returns-in-Stopped-clause-over : goal.returns-in-Stopped-clause-over
-returns-in-Stopped-clause-over g c = λ change. ((c.in-Stopped.field-0, is_stopped (gives c.args.machine.now) c.in-Stopped.field-0 c.in-Stopped.ensures.turned.1), still (g.W.Wire.state c.args.child.now))
+returns-in-Stopped-clause-over g c = λ corrupt. ((c.in-Stopped.field-0, is_stopped (gives c.args.machine.now) c.in-Stopped.field-0 c.in-Stopped.ensures.turned.1), still (g.W.Wire.state c.args.child.now))
 
 pub returns-in-Err-clause-over : goal.returns-in-Err-clause-over
-returns-in-Err-clause-over g c = λ change.
+returns-in-Err-clause-over g c = λ corrupt.
     let s = g.W.Wire.state c.args.child.now in
     let t = g.W.Wire.state c.say.new.child in
     let R' = gives c.advance.new.self in
     let so = λ (xs : List (List ℕ)). c.in-Message.ensures.turned.0 xs ∙ ap (λ m. says m (R' xs)) (sym c.as_slice.ensures) in
-    subst (λ d. Stops change d s t c.in-Err.stop) (sym (says_first (gives c.args.machine.now) R' c.as_slice.result.now so)) (c.in-Err.ensures.over change)
+    subst (λ d. Stops corrupt d s t c.in-Err.stop) (sym (says_first (gives c.args.machine.now) R' c.as_slice.result.now so)) (c.in-Err.ensures.over corrupt)
 
 pub returns-in-Err-hear-clause-over : goal.returns-in-Err-hear-clause-over
-returns-in-Err-hear-clause-over g c = λ change.
+returns-in-Err-hear-clause-over g c = λ corrupt.
     let s = g.W.Wire.state c.args.child.now in
     let t = g.W.Wire.state c.hear.new.child in
-    subst (λ d. Stops change d s t c.in-Err-hear.stop) (sym (waits_for (gives c.args.machine.now) (gives c.advance.new.self) _ c.in-Wants.ensures.turned.0 c.in-Wants.ensures.turned.1)) (c.in-Err-hear.ensures.over change)
+    subst (λ d. Stops corrupt d s t c.in-Err-hear.stop) (sym (waits_for (gives c.args.machine.now) (gives c.advance.new.self) _ c.in-Wants.ensures.turned.0 c.in-Wants.ensures.turned.1)) (c.in-Err-hear.ensures.over corrupt)
