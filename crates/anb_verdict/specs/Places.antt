@@ -1,11 +1,16 @@
 -- Places in what arrives, and how they are written: from the inside out.
-use Rattle.std.specs.Prelude.{◌≡◌, ℕ, zero, suc, ◌-◌, ◌==◌, ◌||◌, List, [], ◌∷◌, ◌++◌, Bool, true, false, codes, slice_get, Option, Some, None, if◌then◌else◌}
+use Rattle.std.specs.Prelude.{◌≡◌, ℕ, zero, suc, ◌+◌, ◌-◌, ◌==◌, ◌||◌, List, [], ◌∷◌, ◌++◌, reverse, take, drop, Bool, true, false, codes, slice_get, Option, Some, None, if◌then◌else◌}
+use Rattle.std.specs.Global.{Vec}
 use Rattle.std.specs.Option.{option_map_or}
 use Rattle.anb_term.specs.declared.term.Op.{Op}
 use Rattle.anb_term.specs.declared.term.Op.TheVariants.{Hash, Mac, Seal, Wrap, Format}
-use Rattle.anb_term.specs.Tree.{Tree, leaf, node, list_of}
+use Rattle.anb_term.specs.Operator.{keys}
+use Rattle.anb_term.specs.Tree.{Tree, Trees, leaf, node, none, more, list_of}
+use Rattle.anb_plays.specs.Plans.{Event}
+use Rattle.anb_protocol.specs.Plays.{events_of}
 use Rattle.anb_protocol.specs.Protocols.{ActionValue, ProtocolValue, role_name}
 use Rattle.anb_protocol.specs.Texts.{op_text, term_text}
+use Rattle.anb_judge.specs.Verdicts.{sides}
 use Rattle.anb_verdict.specs.declared.place.Place.{Place}
 
 -- the operand with a number, from 0
@@ -83,3 +88,45 @@ operator_text p (node o ts) = op_text p o
 
 abbrev pub head_text : ProtocolValue → (role : ℕ) → Place → List ℕ
 head_text p role place = option_map_or (operator_text p) (narrated_part p role place) []
+
+-- ---- where an atom stands: outside of keys where it can, and there the first time
+
+-- the first of these ways that is there, behind the number of its operand, where the first one has number i
+abbrev pub first_way : (i : ℕ) → List (Option (List ℕ)) → Option (List ℕ)
+first_way i [] = None
+first_way i (None ∷ ways) = first_way (i + 1) ways
+first_way i (Some path ∷ ways) = Some (i ∷ path)
+
+abbrev pub or_else : Option (List ℕ) → Option (List ℕ) → Option (List ℕ)
+or_else (Some path) way = Some path
+or_else None way = way
+
+-- that of an operator with so many keys
+abbrev pub outside_first : (keyed : ℕ) → List (Option (List ℕ)) → Option (List ℕ)
+outside_first keyed ways = or_else (first_way keyed (drop keyed ways)) (first_way 0 (take keyed ways))
+
+abbrev mutual
+  pub way_to : ℕ → Tree → Option (List ℕ)
+  way_to a (leaf n) = if n == a then Some [] else None
+  way_to a (node o ts) = outside_first (keys o) (ways_to a ts)
+
+  pub ways_to : ℕ → Trees → List (Option (List ℕ))
+  ways_to a none = []
+  ways_to a (more t ts) = way_to a t ∷ ways_to a ts
+
+-- The first arrival that has the atom: its event, and the way there. What comes next is at this event.
+abbrev pub place_from : (a event : ℕ) → List Bool → List Tree → Option (ℕ × List ℕ)
+place_from a event [] arrivals = None
+place_from a event (true ∷ sides) arrivals = place_from a (event + 1) sides arrivals
+place_from a event (false ∷ sides) [] = None
+place_from a event (false ∷ sides) (t ∷ arrivals) = option_map_or (λ path. Some (event, path)) (way_to a t) (place_from a (event + 1) sides arrivals)
+
+abbrev pub place_in_arrivals : ProtocolValue → (role : ℕ) → List Tree → (a : ℕ) → Option (ℕ × List ℕ)
+place_in_arrivals p role arrivals a = place_from a 1 (sides (events_of p role)) arrivals
+
+abbrev pub place_value : Place → ℕ × List ℕ
+place_value place = (place.event, place.path.items)
+
+-- a way from the inside out
+abbrev pub reversed : Vec ℕ → List ℕ
+reversed way = reverse way.items

@@ -3,8 +3,8 @@ use Rattle.anb_term.specs.Tree.{trees_of, tree_size, trees_size}
 use Rattle.anb_term.specs.View.{tree_of}
 use Rattle.anb_verdict.proofs.finding.+find.Given as goal
 
-abbrev pub decreases-find : goal.decreases-find
-decreases-find l = 2 * tree_size (tree_of l.t.now)
+abbrev pub decreases-way_out : goal.decreases-way_out
+decreases-way_out l = 2 * tree_size (tree_of l.t.now)
 
-abbrev pub decreases-find_among : goal.decreases-find_among
-decreases-find_among l = 2 * trees_size (trees_of (map tree_of l.operands.now)) + 1
+abbrev pub decreases-way_out_of : goal.decreases-way_out_of
+decreases-way_out_of l = 2 * trees_size (trees_of (map tree_of l.operands.now)) + 1
