@@ -1,0 +1,4 @@
+pub mod Tests
+pub mod Turns
+pub mod Adding
+pub mod Standing

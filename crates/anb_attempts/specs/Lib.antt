@@ -1,0 +1,4 @@
+pub mod Attempts
+-- for proofs alone
+pub mod Parts
+pub mod Differing
