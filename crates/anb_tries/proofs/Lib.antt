@@ -1,0 +1,9 @@
+mod Along
+mod Next
+mod Framed
+mod Placed
+mod Passing
+mod Telling
+mod Short
+mod Refusing
+mod Narrated

@@ -1,0 +1,295 @@
+-- A program that plays its role passes.
+use Rattle.std.proofs.Common.{◌≡◌, ◌≢◌, ℕ, ◌+◌, ◌≤◌, ◌||◌, List, [], ◌∷◌, ◌++◌, length, Bool, true, false, Option, Some, None, IfSome, Result, Ok, refl, sym, ap, ◌∙◌, subst, inl, inr, append_assoc, append-nil}
+use Rattle.std.specs.Prelude.{if◌then◌else◌}
+use Rattle.std.specs.List.{AllByRecursion}
+use Rattle.anb_base.specs.Bytes.{is_bytes-IsBytes}
+use Rattle.anb_base.specs.Moves.{AtEnd, Took}
+use Rattle.anb_base.specs.Wires.{WireState}
+use Rattle.anb_base.specs.declared.TheConstants.{ARRIVAL}
+use Rattle.anb_frame.specs.Frames.{frames, length_bytes}
+use Rattle.anb_frame.specs.Cuts.{Cut, End}
+use Rattle.anb_lemmas.proofs.Bools.{never_both}
+use Rattle.anb_machine.specs.declared.turn.Halt.{Halt}
+use Rattle.anb_plays.specs.Plans.{Event, know, fresh, send, recv, known}
+use Rattle.anb_plays.specs.Plays.{Played, Walk, Play}
+use Rattle.anb_protocol.specs.Plays.{meaning_of}
+use Rattle.anb_term.specs.Tree.{Tree}
+use Rattle.anb_term.specs.Value.{Meaning}
+use Rattle.anb_transcript.specs.declared.following.Due.{Due}
+use Rattle.anb_transcript.specs.declared.following.Due.TheVariants.{Send}
+use Rattle.anb_transcript.specs.declared.transcript.TranscriptLine.{TranscriptLine}
+use Rattle.anb_transcript.specs.declared.transcript.TranscriptLine.TheVariants.{In, Out}
+use Rattle.anb_transcript.specs.Replays.{arrivals_of, due_after, messages_of}
+use Rattle.anb_judge.specs.Verdicts.{own_plan, sides}
+use Rattle.anb_partner.specs.Laws.{PartnersPlay}
+use Rattle.anb_partner.specs.Talks.{Ends, IsLoose, IsShort}
+use Rattle.anb_partner.specs.declared.conversation.Conversation.{Conversation}
+use Rattle.anb_partner.specs.declared.conversation.TalkEnd.{TalkEnd}
+use Rattle.anb_partner.specs.declared.conversation.TalkEnd.TheVariants.{Done, Refused, Missing, Cut as WasCut, Long, ReadFault, WriteFault, TooLong, Unchanged}
+use Rattle.anb_partner.specs.declared.trials.ChildEnd.{ChildEnd}
+use Rattle.anb_partner.specs.declared.trials.ChildEnd.TheVariants as child
+use Rattle.anb_verdict.specs.declared.seen.Ended.TheVariants.{Status, Silent, Lost}
+use Rattle.anb_verdict.specs.Laws.{LinesAreExact}
+use Rattle.anb_verdict.specs.Verdicts.{IsKnown, IsRoles, IsVerdict, MayEnd, is_good}
+use Rattle.anb_tries.specs.Seen.{ended_by, ended_of, is_no_message, is_refused, is_unread}
+use Rattle.anb_tries.specs.Tries.{IsTriedVerdict}
+use Rattle.anb_tries.specs.Laws.{Attempt, DueIsKnown, IsAttempt, IsRead, KnowsStops, PlaysRole, judged, seen}
+use Rattle.anb_tries.proofs.Along.{Fits, next}
+use Rattle.anb_tries.proofs.Framed.{LeftOf, cut_behind, frames_no_length, frames_no_part, left_of, no_length, no_part, none_framed, none_left, whole_cut}
+use Rattle.anb_tries.proofs.Placed.{R, hears_next, over_next, own, placed, ss}
+
+abbrev Text : Type 0
+Text = List ℕ
+
+-- ---- the role's play over the lines
+
+never_empty : (xs rest : List Text) (x : Text) → [] ≡ xs ++ x ∷ rest → ⊥
+never_empty [] rest x is = cc
+never_empty (y ∷ xs) rest x is = cc
+
+sends_none : (p : Played Text) (xs rest : List Text) (x : Text) → p.sent ≡ [] → p.sent ≡ xs ++ x ∷ rest → ⊥
+sends_none p xs rest x none more = never_empty xs rest x (sym none ∙ more)
+
+module _ (m : Meaning Text) (draw : ℕ → Text) (x : Text) (rest : List Text) where
+  -- where it says more than the lines have, it is to say something next
+  says_next : (es : List Event) (F : List Tree) (vs : List Text) (k i : ℕ) (ls : List TranscriptLine) (p : Played Text) → Fits (sides es) ls
+      → Walk m draw es F vs k i (arrivals_of ls) p → p.sent ≡ messages_of ls ++ x ∷ rest → next (sides es) ls ≡ Some true
+  says_next [] F vs k i [] p fits walk more = absurd (sends_none p [] rest x (ap (λ (q : Played Text). q.sent) walk) more)
+  says_next [] F vs k i (l ∷ ls) p fits walk more = absurd (cc)
+  says_next (know t ∷ es) F vs k i ls p fits walk more = says_next es F vs k i ls p fits walk more
+  says_next (fresh t ∷ es) F vs k i ls p fits walk more = says_next es (F ++ t ∷ []) (vs ++ draw i ∷ []) k (i + 1) ls p fits walk more
+  says_next (send t ∷ es) F vs k i [] p fits walk more = refl
+  says_next (send t ∷ es) F vs k i (In b ∷ ls) p fits walk more = absurd (cc)
+  says_next (send t ∷ es) F vs k i (Out b ∷ ls) p fits walk more =
+      let q = walk.1 in
+      let first : p.sent ≡ walk.0 ∷ q.sent = ap (λ (q : Played Text). q.sent) walk.4 in
+      let later : q.sent ≡ messages_of ls ++ x ∷ rest = cc in
+      says_next es F vs (k + 1) i ls q (cc) walk.3 later
+  says_next (recv t ∷ es) F vs k i [] p fits walk more = absurd (sends_none p [] rest x (ap (λ (q : Played Text). q.sent) walk) more)
+  says_next (recv t ∷ es) F vs k i (Out b ∷ ls) p fits walk more = absurd (cc)
+  says_next (recv t ∷ es) F vs k i (In b ∷ ls) p fits (inl h) more = says_next es (F ++ t ∷ []) (vs ++ b ∷ []) (k + 1) i ls p (cc) h.1 more
+  says_next (recv t ∷ es) F vs k i (In b ∷ ls) p fits (inr h) more = absurd (sends_none p (messages_of ls) rest x (ap (λ (q : Played Text). q.sent) h.1) more)
+
+  play_says_next : (es : List Event) (init : List Text) (ls : List TranscriptLine) (p : Played Text) → Fits (sides es) ls
+      → Play m draw es init (arrivals_of ls) p → p.sent ≡ messages_of ls ++ x ∷ rest → next (sides es) ls ≡ Some true
+  play_says_next es init ls p fits (inl h) more = says_next es (known es) init 0 0 ls p fits h.1 more
+  play_says_next es init ls p fits (inr h) more = absurd (sends_none p (messages_of ls) rest x (ap (λ (q : Played Text). q.sent) h.1) more)
+
+short_messages : (ls : List TranscriptLine) → AllByRecursion IsShort ls → AllByRecursion (λ b. length b ≤ ARRIVAL) (messages_of ls)
+short_messages [] all = tt
+short_messages (In b ∷ ls) all = short_messages ls all.1
+short_messages (Out b ∷ ls) all = (all.0, short_messages ls all.1)
+
+-- ---- ends
+
+read_all : (end : TalkEnd) → end ≢ ReadFault → is_unread end ≡ false
+read_all Done read = refl
+read_all Refused read = refl
+read_all Missing read = refl
+read_all (WasCut have need) read = refl
+read_all (Long len) read = refl
+read_all ReadFault read = absurd (read refl)
+read_all WriteFault read = refl
+read_all TooLong read = refl
+read_all Unchanged read = refl
+
+was_refused : (end : TalkEnd) → is_refused end ≡ true → end ≡ Refused
+was_refused Refused is = refl
+was_refused Done is = absurd (cc)
+was_refused Missing is = absurd (cc)
+was_refused (WasCut have need) is = absurd (cc)
+was_refused (Long len) is = absurd (cc)
+was_refused ReadFault is = absurd (cc)
+was_refused WriteFault is = absurd (cc)
+was_refused TooLong is = absurd (cc)
+was_refused Unchanged is = absurd (cc)
+
+same_end : (o told : Option ChildEnd) (e f : ChildEnd) → IfSome o (λ end. IfSome told (λ t. end ≡ t)) → o ≡ Some e → told ≡ Some f → e ≡ f
+same_end None told e f is had was = absurd (cc)
+same_end (Some x) None e f is had was = absurd (cc)
+same_end (Some x) (Some y) e f is had was = cc
+
+ended_is : (silent unread : Bool) (o : Option ChildEnd) (n : ℕ) → silent ≡ false → unread ≡ false → o ≡ Some (child.Status n)
+    → (if silent then Silent else if unread then Lost else ended_by o) ≡ Status n
+ended_is true unread o n loud read is = absurd (never_both true refl loud)
+ended_is false true o n loud read is = absurd (never_both true refl read)
+ended_is false false o n loud read is = ap ended_by is
+
+first_none : (xs ys : Text) → [] ≡ xs ++ ys → [] ≡ xs
+first_none [] ys is = refl
+first_none (x ∷ xs) ys is = absurd (cc)
+
+not_both : None ≡ Some true → ⊥
+not_both e = cc
+
+not_said : Some false ≡ Some true → ⊥
+not_said e = cc
+
+false_or : (b c : Bool) → (b ≡ true → ⊥) → c ≡ false → (b || c) ≡ false
+false_or true c never is = absurd (never refl)
+false_or false c never is = is
+
+-- the child's pipes behind the lines, and behind the talk
+abbrev pub behind : (a : Attempt) → IsAttempt a → WireState
+behind a is = is.converses.talks.mid
+
+abbrev pub after : (a : Attempt) → IsAttempt a → WireState
+after a is = is.converses.mid
+
+pub left_behind : (a : Attempt) (is : IsAttempt a) (plays : PlaysRole a) → LeftOf (frames plays.played.sent) (behind a is).left (frames (messages_of a.conversation.lines))
+left_behind a is plays =
+    let said = messages_of a.conversation.lines in
+    left_of (frames plays.played.sent) (behind a is).left (frames said) (subst (λ o. Took o (behind a is).left (frames said)) plays.output is.converses.talks.passed.took)
+
+-- the lines have the first of what the role says, and all else is left
+pub first_lines : (a : Attempt) (is : IsAttempt a) (plays : PlaysRole a) → (rest : List Text) × (plays.played.sent ≡ messages_of a.conversation.lines ++ rest) × Cut ARRIVAL (left_behind a is plays).left rest End
+first_lines a is plays =
+    let l = left_behind a is plays in
+    cut_behind (messages_of a.conversation.lines) l.left plays.played.sent End (short_messages a.conversation.lines is.converses.talks.short)
+    (subst (λ x. Cut ARRIVAL x plays.played.sent End) l.all (whole_cut plays.played.sent plays.short))
+
+module _ (a : Attempt) (is : IsAttempt a) (law : PartnersPlay a.script.protocol) (read : IsRead a) (unrefused : a.conversation.end ≢ Refused) (plays : PlaysRole a) where
+  abbrev c : Conversation
+  c = a.conversation
+
+  abbrev sent : List Text
+  sent = plays.played.sent
+
+  abbrev said : List Text
+  said = messages_of c.lines
+
+  abbrev due : Result Due Halt
+  due = due_after (R a is law) (own a is law)
+
+  abbrev left : Text
+  left = (left_behind a is plays).left
+
+  behind_has : (behind a is).left ≡ Some left
+  behind_has = (left_behind a is plays).is
+
+  -- what was taken at the talk's end
+  taken_last : (part : Text) → Took (behind a is).left (after a is).left part → LeftOf left (after a is).left part
+  taken_last part took = left_of left (after a is).left part (subst (λ o. Took o (after a is).left part) behind_has took)
+
+  ended_at : (o : Option Text) (xs : Text) → o ≡ Some xs → AtEnd o → xs ≡ []
+  ended_at o xs is at = subst AtEnd is at
+
+  -- ---- nothing is left behind the lines
+
+  module _ (x : Text) (rest : List Text) (more : sent ≡ said ++ x ∷ rest) (here : Cut ARRIVAL left (x ∷ rest) End) where
+    is_next : next (ss a is law) c.lines ≡ Some true
+    is_next = play_says_next (meaning_of a.script.protocol) plays.draw x rest (own_plan (judged a)) a.initial c.lines plays.played (placed a is law) plays.play more
+
+    heard_next : (b : Text) → due ≡ Ok (Send b) → ⊥
+    heard_next b is_due = not_said (sym (hears_next a is law b is_due) ∙ is_next)
+
+    never : (end : TalkEnd) → c.end ≡ end → Ends a.wrong due (behind a is) (after a is) end → ⊥
+    never Done is_end e = not_both (sym (over_next a is law e.0) ∙ is_next)
+    never Refused is_end e = unrefused is_end
+    never Missing is_end e =
+        let none = ended_at (behind a is).left left behind_has e.2 in
+        let whole : [] ≡ frames (x ∷ rest) ++ here.0 = sym none ∙ here.1 in
+        let empty : x ∷ rest ≡ [] = (none_framed (x ∷ rest) here.0 whole).0 in absurd (cc)
+    never (WasCut have need) is_end e =
+        let l = taken_last e.1.0 e.1.1.took in
+        frames_no_part left e.1.0 l.left (x ∷ rest) have need here l.all (ended_at (after a is).left l.left l.is e.2) e.1.2
+    never (Long len) is_end e = (let l = taken_last (length_bytes len) e.1.took in frames_no_length left l.left (x ∷ rest) len here l.all e.2 (is.long len is_end))
+    never ReadFault is_end e = read.read is_end
+    never WriteFault is_end e = heard_next e.0.0 e.0.1
+    never TooLong is_end e = heard_next e.0.0 e.0.1
+    never Unchanged is_end e = heard_next e.0.0 e.0.1
+
+  none_more : (rest : List Text) → sent ≡ said ++ rest → Cut ARRIVAL left rest End → (sent ≡ said) × (left ≡ [])
+  none_more [] all here = (all ∙ append-nil said, none_left left here)
+  none_more (x ∷ rest) all here = absurd (never x rest all here c.end refl is.converses.talks.ends)
+
+  all_said : (sent ≡ said) × (left ≡ [])
+  all_said = (let l = first_lines a is plays in none_more l.0 l.1 l.2)
+
+  behind_is : (behind a is).left ≡ Some []
+  behind_is = behind_has ∙ ap Some all_said.1
+
+  -- nor behind the talk
+  after_talk : (end : TalkEnd) → c.end ≡ end → Ends a.wrong due (behind a is) (after a is) end → ((after a is).left ≡ Some []) × (is_no_message end ≡ false)
+  after_talk Done is_end e = (e.1.took.left ∙ behind_is, refl)
+  after_talk Refused is_end e = absurd (unrefused is_end)
+  after_talk Missing is_end e = (e.1.took.left ∙ behind_is, refl)
+  after_talk (WasCut have need) is_end e =
+      let l = taken_last e.1.0 e.1.1.took in
+      absurd (no_part e.1.0 have need e.1.2 (sym (first_none e.1.0 l.left (sym all_said.1 ∙ l.all))))
+  after_talk (Long len) is_end e = (let l = taken_last (length_bytes len) e.1.took in absurd (no_length len l.left (sym all_said.1 ∙ l.all)))
+  after_talk ReadFault is_end e = absurd (read.read is_end)
+  after_talk WriteFault is_end e = (e.1.left ∙ behind_is, refl)
+  after_talk TooLong is_end e = (e.1.took.left ∙ behind_is, refl)
+  after_talk Unchanged is_end e = (e.1.took.left ∙ behind_is, refl)
+
+  ends_here : ((after a is).left ≡ Some []) × (is_no_message c.end ≡ false)
+  ends_here = after_talk c.end refl is.converses.talks.ends
+
+  drained : LeftOf [] a.new.pipes.left (frames is.converses.drained.messages ++ is.converses.drained.rest)
+  drained = left_of [] a.new.pipes.left (frames is.converses.drained.messages ++ is.converses.drained.rest)
+      (subst (λ o. Took o a.new.pipes.left (frames is.converses.drained.messages ++ is.converses.drained.rest)) ends_here.0 is.converses.drained.took)
+
+  nothing_drained : (is.converses.drained.messages ≡ []) × ([] ≡ is.converses.drained.rest)
+  nothing_drained =
+      let d = is.converses.drained in
+      let none = none_framed d.messages (d.rest ++ drained.left) (drained.all ∙ append_assoc (frames d.messages) d.rest drained.left) in
+      (none.0, first_none d.rest drained.left (sym none.1))
+
+  no_more : c.behind ≡ 0
+  no_more = sym is.converses.drained.count ∙ ap length nothing_drained.0
+
+  never_loose : c.loose ≡ true → ⊥
+  never_loose loose = by (is.converses.drained.loose loose) where
+    by : IsLoose a.new.pipes is.converses.drained.rest → ⊥
+    by (inl h) = no_part is.converses.drained.rest h.0 h.1 h.2 (sym nothing_drained.1)
+    by (inr h) = no_length h.0 [] (nothing_drained.1 ∙ h.1 ∙ sym (append-nil (length_bytes h.0)))
+
+  whole : (c.loose || is_no_message c.end) ≡ false
+  whole = false_or c.loose (is_no_message c.end) never_loose ends_here.1
+
+  -- ---- so it is what the role does
+
+  ended : ended_of c ≡ Status plays.status
+  ended =
+      let same = same_end c.child a.old.ends read.end (child.Status plays.status) is.converses.child read.ended plays.ends in
+      ended_is c.silent (is_unread c.end) c.child plays.status read.loud (read_all c.end read.read) (read.ended ∙ ap Some same)
+
+  abbrev roles : IsRoles (judged a) (seen a)
+  roles = record {
+    draw = plays.draw;
+    drawn = λ i. is_bytes-IsBytes (plays.draw i) (plays.drawn i);
+    played = plays.played;
+    play = plays.play;
+    says = sym all_said.0;
+    no_more = no_more;
+    whole = λ over. whole;
+    ends = subst (λ e. MayEnd (sides (own_plan (judged a))) plays.played.end e) (sym ended) plays.may;
+  }
+
+  known_of : DueIsKnown a → IsKnown (judged a) (seen a)
+  known_of due = record {
+    values = is.values;
+    bytes = is.lines;
+    placed = placed a is law;
+    hears = due.hears;
+    stops = due.stops;
+    refuses = λ refused begun. unrefused (was_refused c.end refused);
+  }
+
+-- the verdict is good where that on the lines is, and where nothing was tried
+good_of : (a : Attempt) (end : TalkEnd) → IsTriedVerdict (judged a) (seen a) end a.verdict → (IsVerdict (judged a) (seen a) a.verdict → is_good a.verdict ≡ true) → is_good a.verdict ≡ true
+good_of a Unchanged is good = ap is_good is
+good_of a TooLong is good = ap is_good is
+good_of a Done is good = good is
+good_of a Refused is good = good is
+good_of a Missing is good = good is
+good_of a (WasCut have need) is good = good is
+good_of a (Long len) is good = good is
+good_of a ReadFault is good = good is
+good_of a WriteFault is good = good is
+
+pub right_passes : (a : Attempt) → PartnersPlay a.script.protocol → LinesAreExact a.script.protocol → IsAttempt a → DueIsKnown a → IsRead a → a.conversation.end ≢ Refused → (plays : PlaysRole a) → KnowsStops a plays → is_good a.verdict ≡ true
+right_passes a law exact is due read unrefused plays stops =
+    good_of a a.conversation.end is.verdict (λ v. (exact (judged a) (seen a) a.verdict refl (known_of a is law read unrefused plays due) v).0
+    (roles a is law read unrefused plays) stops)
