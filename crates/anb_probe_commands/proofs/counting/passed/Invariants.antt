@@ -1,0 +1,10 @@
+use Rattle.std.proofs.Common.{◌≡◌, ◌≤◌, ◌+◌, drop}
+use Rattle.std.specs.Prelude.{count_by}
+use Rattle.anb_probe_commands.specs.Reports.{is_passed}
+use Rattle.anb_probe_commands.proofs.counting.passed.Given as goal
+
+abbrev pub invariant-loop-verdict : goal.invariant-loop-verdict
+invariant-loop-verdict l = record {
+  counted : l.count + count_by is_passed (drop l.verdict-index l.verdicts) ≡ count_by is_passed l.verdicts;
+  most : l.count ≤ l.verdict-index;
+}

@@ -1,0 +1,84 @@
+use Rattle.std.proofs.Common.{refl}
+use Rattle.anb_base.specs.declared.place.Place.TheVariants.{Stdio}
+use Rattle.anb_command.proofs.Causes.{early_cause, early_reaches}
+use Rattle.anb_command.proofs.Failing.{IsFailure-map}
+use Rattle.anb_command.proofs.OverWire.{untouched}
+use Rattle.anb_command.proofs.Reported.{told_before, told_behind}
+use Rattle.anb_probe_commands.specs.Asking.{probing}
+use Rattle.anb_probe_commands.specs.ProbeCommand.{probe_files}
+use Rattle.anb_probe_commands.specs.Tasks.{probing_by}
+use Rattle.anb_probe_commands.proofs.Outcomes.{completes, does_refused, does_task, early_probe, early_phase, only_memory, task_cause}
+use Rattle.anb_probe_commands.proofs.Played.{none_left_at_first}
+use Rattle.anb_probe_commands.proofs.Reading.{probing_one}
+use Rattle.anb_probe_commands.proofs.probing.probe.Goals as goal
+
+pub returns-in-Ok-clause-does : goal.returns-in-Ok-clause-does
+returns-in-Ok-clause-does g c =
+    let words = c.args.words in
+    let t = c.in-Ok.task in
+    does_task (probing words) c.args.host_seed
+    (probing_one words.narration.now words.name.now words.values.now c.args.host_seed c.narrations_are_unique.ensures c.refusals_are_unique.ensures c.none_is_both.ensures c.one_fit.ensures)
+    (g.F.Shelf.files c.args.shelf.now) (probing_by t.protocol t.role t.values t.seed) (g.T.Trials.trial c.args.trials.now) (g.T.Trials.trial c.probe_task.new.trials) (g.W.Wire.state c.args.wire.now) (g.W.Wire.state c.probe_task.new.wire)
+    c.probe_task.result c.in-Ok.ensures.given c.probe_task.ensures.comes
+
+pub returns-in-Ok-clause-faults : goal.returns-in-Ok-clause-faults
+returns-in-Ok-clause-faults g c =
+    task_cause (probe_files (probing c.args.words)) (g.F.Shelf.faults c.args.shelf.now) (g.F.Shelf.faults c.task_in_files.new.shelf) (g.T.Trials.trial c.args.trials.now) (g.T.Trials.trial c.probe_task.new.trials)
+    (g.W.Wire.state c.args.wire.now) (g.W.Wire.state c.probe_task.new.wire) c.probe_task.result c.probe_task.ensures.over
+
+pub returns-in-Ok-clause-completes : goal.returns-in-Ok-clause-completes
+returns-in-Ok-clause-completes g c = λ none calm.
+    let words = c.args.words in
+    completes (probing words) c.args.host_seed
+    (probing_one words.narration.now words.name.now words.values.now c.args.host_seed c.narrations_are_unique.ensures c.refusals_are_unique.ensures c.none_is_both.ensures c.one_fit.ensures)
+    (g.F.Shelf.files c.args.shelf.now) (g.T.Trials.trial c.args.trials.now) (g.T.Trials.trial c.probe_task.new.trials) (g.W.Wire.state c.args.wire.now) (g.W.Wire.state c.probe_task.new.wire) c.probe_task.result
+    (only_memory (probe_files (probing words)) (g.F.Shelf.faults c.args.shelf.now) (g.F.Shelf.faults c.task_in_files.new.shelf) (g.T.Trials.trial c.args.trials.now) (g.T.Trials.trial c.probe_task.new.trials)
+    (g.W.Wire.state c.args.wire.now) (g.W.Wire.state c.probe_task.new.wire) none calm c.probe_task.result (returns-in-Ok-clause-faults g c))
+    (returns-in-Ok-clause-does g c)
+
+pub returns-in-Ok-clause-reached : goal.returns-in-Ok-clause-reached
+returns-in-Ok-clause-reached g c = c.probe_task.ensures.over.reached
+
+pub returns-in-Ok-clause-touches : goal.returns-in-Ok-clause-touches
+returns-in-Ok-clause-touches g c = c.probe_task.ensures.over.touches
+
+pub returns-in-Ok-clause-reported : goal.returns-in-Ok-clause-reported
+returns-in-Ok-clause-reported g c = told_behind _ _ _ _ _ (c.in-Ok.ensures.told refl) c.probe_task.ensures.over.told
+
+pub returns-in-Err-clause-does : goal.returns-in-Err-clause-does
+returns-in-Err-clause-does g c =
+    let words = c.args.words in
+    does_refused (probing words) c.args.host_seed
+    (probing_one words.narration.now words.name.now words.values.now c.args.host_seed c.narrations_are_unique.ensures c.refusals_are_unique.ensures c.none_is_both.ensures c.one_fit.ensures)
+    (g.F.Shelf.files c.args.shelf.now) (g.T.Trials.trial c.args.trials.now) (g.W.Wire.state c.args.wire.now) c.in-Err.status c.in-Err.ensures.early
+    (IsFailure-map c.in-Err.status _ _ _ _ (λ file at. at.2) (λ is. is) c.in-Err.ensures.refused)
+
+pub returns-in-Err-clause-faults : goal.returns-in-Err-clause-faults
+returns-in-Err-clause-faults g c =
+    let names = probe_files (probing c.args.words) in
+    let S = g.W.Wire.state c.args.wire.now in
+    early_probe names (g.F.Shelf.faults c.args.shelf.now) (g.F.Shelf.faults c.task_in_files.new.shelf) (g.T.Trials.trial c.args.trials.now) (g.T.Trials.trial c.args.trials.now) S S c.in-Err.status c.in-Err.ensures.early
+    (early_cause names Stdio (g.F.Shelf.faults c.args.shelf.now) (g.F.Shelf.faults c.task_in_files.new.shelf) S S c.in-Err.status _ c.in-Err.ensures.early
+    (IsFailure-map c.in-Err.status _ _ _ _ (λ file at. (at.0, at.1)) (λ is. is) c.in-Err.ensures.refused))
+
+pub returns-in-Err-clause-completes : goal.returns-in-Err-clause-completes
+returns-in-Err-clause-completes g c = λ none calm.
+    let words = c.args.words in
+    let S = g.W.Wire.state c.args.wire.now in
+    completes (probing words) c.args.host_seed
+    (probing_one words.narration.now words.name.now words.values.now c.args.host_seed c.narrations_are_unique.ensures c.refusals_are_unique.ensures c.none_is_both.ensures c.one_fit.ensures)
+    (g.F.Shelf.files c.args.shelf.now) (g.T.Trials.trial c.args.trials.now) (g.T.Trials.trial c.args.trials.now) S S c.in-Err.status
+    (only_memory (probe_files (probing words)) (g.F.Shelf.faults c.args.shelf.now) (g.F.Shelf.faults c.task_in_files.new.shelf) (g.T.Trials.trial c.args.trials.now) (g.T.Trials.trial c.args.trials.now) S S none calm c.in-Err.status
+    (returns-in-Err-clause-faults g c)) (returns-in-Err-clause-does g c)
+
+pub returns-in-Err-clause-reached : goal.returns-in-Err-clause-reached
+returns-in-Err-clause-reached g c = rw (early_phase c.in-Err.status c.in-Err.ensures.early) (early_reaches Stdio c.in-Err.status (g.W.Wire.state c.args.wire.now).reached c.in-Err.ensures.early)
+
+pub returns-in-Err-clause-touches : goal.returns-in-Err-clause-touches
+returns-in-Err-clause-touches g c = untouched _ _ _
+
+pub returns-in-Err-clause-reported : goal.returns-in-Err-clause-reported
+returns-in-Err-clause-reported g c = told_before _ _ _ _ c.in-Err.ensures.told
+
+pub returns-in-Err-clause-none_left : goal.returns-in-Err-clause-none_left
+returns-in-Err-clause-none_left g c = none_left_at_first (g.T.Trials.trial c.args.trials.now) c.requires.untried

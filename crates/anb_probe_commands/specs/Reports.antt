@@ -1,0 +1,74 @@
+-- The report on a program, by the verdicts on the cases that were tried.
+use Rattle.std.specs.Prelude.{ℕ, ◌+◌, ◌==◌, not, List, [], ◌∷◌, ◌++◌, length, count_by, Bool, true, false, if◌then◌else◌}
+use Rattle.std.specs.List.{concat}
+use Rattle.std.specs.Option.{option_map_or}
+use Rattle.anb_protocol.specs.Protocols.{ProtocolValue}
+use Rattle.anb_verdict.specs.declared.verdict.Verdict.{Verdict}
+use Rattle.anb_verdict.specs.declared.verdict.Verdict.TheVariants as says
+use Rattle.anb_verdict.specs.Texts.{case_lines, first_lines, last_line, missing_line}
+use Rattle.anb_verdict.specs.Verdicts.{is_good}
+use Rattle.anb_attempts.specs.declared.attempts.Attempt.{Attempt}
+use Rattle.anb_status.specs.declared.status.Status.{Status}
+use Rattle.anb_status.specs.declared.status.Status.TheVariants.{CasesNotOk, Done}
+use Rattle.anb_probe_commands.specs.Cases.{joined_once}
+
+-- ---- counts
+
+-- something was tried, and nothing is said against the program
+abbrev pub is_passed : Verdict → Bool
+is_passed says.Good = true
+is_passed verdict = false
+
+-- nothing is said against it, as nothing could be tried
+abbrev pub is_skipped : Verdict → Bool
+is_skipped says.Skipped = true
+is_skipped says.Unchanged = true
+is_skipped says.TooLong = true
+is_skipped verdict = false
+
+abbrev pub is_failed : Verdict → Bool
+is_failed verdict = not (is_good verdict)
+
+-- the program went on where it must stop
+abbrev pub is_lax : Verdict → Bool
+is_lax (says.LaxMessage event stop) = true
+is_lax (says.LaxUnnarrated stop) = true
+is_lax (says.LaxEnd stop) = true
+is_lax verdict = false
+
+-- done, where no case failed
+abbrev pub status_for : List Verdict → Status
+status_for verdicts =
+    if count_by is_failed verdicts == 0 then Done else CasesNotOk (count_by is_failed verdicts) (length verdicts)
+
+-- ---- lines
+
+module _ (p : ProtocolValue) (role : ℕ) where
+  -- the lines of cases with these verdicts, numbered from here
+  abbrev pub played_lines : (number : ℕ) → List Attempt → List Verdict → List ℕ
+  played_lines number [] verdicts = []
+  played_lines number (a ∷ rest) [] = []
+  played_lines number (a ∷ rest) (v ∷ vs) = case_lines p role number a.title v ++ played_lines (number + 1) rest vs
+
+  -- what the program lacks that went on in a case
+  abbrev pub lacking_lines : Attempt → Verdict → List (List ℕ)
+  lacking_lines a v = if is_lax v then option_map_or (λ m. missing_line p role m ∷ []) a.lacks [] else []
+
+  abbrev pub all_lacking : List Attempt → List Verdict → List (List ℕ)
+  all_lacking [] verdicts = []
+  all_lacking (a ∷ rest) [] = []
+  all_lacking (a ∷ rest) (v ∷ vs) = lacking_lines a v ++ all_lacking rest vs
+
+  -- behind the cases: what it lacks, each once, in the order of the first case that shows it; what wasn't tried; and the
+  -- counts
+  abbrev pub notes : List Attempt → (untried : List (List ℕ)) → List Verdict → List ℕ
+  notes cases untried verdicts =
+      concat (joined_once [] (all_lacking cases verdicts)) ++ concat untried
+      ++ last_line (count_by is_passed verdicts) (length verdicts) (count_by is_skipped verdicts)
+
+  -- the report up to the last of these verdicts
+  abbrev pub report_so_far : List Attempt → List Verdict → List ℕ
+  report_so_far cases verdicts = first_lines (length cases) ++ played_lines 1 cases verdicts
+
+  abbrev pub report : List Attempt → (untried : List (List ℕ)) → List Verdict → List ℕ
+  report cases untried verdicts = report_so_far cases verdicts ++ notes cases untried verdicts

@@ -1,0 +1,74 @@
+-- The words of `probe`.
+use Rattle.std.specs.Prelude.{ℕ, Bool, true, false, ◌&&◌, nat_le, List, [], ◌∷◌, codes, bytes_eq, Option, Some, None, if◌then◌else◌}
+use Rattle.std.specs.Option.{option_map}
+use Rattle.anb_words.specs.Words.{is_operand, seconds_in}
+
+-- whether all cases are tried, the number of the one that is asked for, for how many seconds a program
+-- may be silent, where these are said; and the words of the program
+pub record Trying : Type 0 where
+  pub all : Bool
+  pub case : Option ℕ
+  pub limit : Option ℕ
+  pub program : List (List ℕ)
+
+-- the names of the narration's file, of the role and of the values file, and how it is tried
+pub record Probed : Type 0 where
+  pub narration : List ℕ
+  pub role : List ℕ
+  pub values : List ℕ
+  pub trying : Trying
+
+abbrev pub trying : Bool → (case limit : Option ℕ) → List (List ℕ) → Trying
+trying all case limit program = record { all = all; case = case; limit = limit; program = program }
+
+abbrev pub probed : (narration role values : List ℕ) → Trying → Probed
+probed narration role values trying = record { narration = narration; role = role; values = values; trying = trying }
+
+-- a case has a number from 1 to 4,096, which is written as seconds are
+abbrev pub case_of : Option ℕ → Option ℕ
+case_of None = None
+case_of (Some n) = if nat_le n 4096 then Some n else None
+
+-- last stand `--` and the words of the program, of which there is one at least; nothing is asked of them
+abbrev pub marked_in : Bool → (case limit : Option ℕ) → List (List ℕ) → Option Trying
+marked_in all case limit (mark ∷ name ∷ words) =
+    if bytes_eq mark (codes "--") then Some (trying all case limit (name ∷ words)) else None
+marked_in all case limit words = None
+
+abbrev pub limited_in : Bool → (case limit : Option ℕ) → List (List ℕ) → Option Trying
+limited_in all case None words = None
+limited_in all case (Some seconds) words = marked_in all case (Some seconds) words
+
+-- before them may stand `--timeout` and seconds
+abbrev pub timed_in : Bool → (case : Option ℕ) → List (List ℕ) → Option Trying
+timed_in all case (flag ∷ seconds ∷ words) =
+    if bytes_eq flag (codes "--timeout") then limited_in all case (seconds_in seconds) words
+    else marked_in all case None (flag ∷ seconds ∷ words)
+timed_in all case words = marked_in all case None words
+
+abbrev pub cased_in : Bool → (case : Option ℕ) → List (List ℕ) → Option Trying
+cased_in all None words = None
+cased_in all (Some n) words = timed_in all (Some n) words
+
+-- before these may stand `--case` and a number
+abbrev pub numbered_in : Bool → List (List ℕ) → Option Trying
+numbered_in all (flag ∷ number ∷ words) =
+    if bytes_eq flag (codes "--case") then cased_in all (case_of (seconds_in number)) words
+    else timed_in all None (flag ∷ number ∷ words)
+numbered_in all words = timed_in all None words
+
+-- and before these `--all`
+abbrev pub trying_in : List (List ℕ) → Option Trying
+trying_in (flag ∷ words) =
+    if bytes_eq flag (codes "--all") then numbered_in true words else numbered_in false (flag ∷ words)
+trying_in words = numbered_in false words
+
+abbrev pub probed_in : List (List ℕ) → Option Probed
+probed_in (narration ∷ role ∷ values ∷ words) =
+    if is_operand narration && is_operand role && is_operand values
+    then option_map (probed narration role values) (trying_in words) else None
+probed_in words = None
+
+abbrev pub probed_of : List (List ℕ) → Option Probed
+probed_of [] = None
+probed_of (command ∷ words) = if bytes_eq command (codes "probe") then probed_in words else None

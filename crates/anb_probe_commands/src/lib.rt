@@ -1,0 +1,18 @@
+//! The command that tries a program as a role of a narration: everybody else is played against it, each
+//! time with one deviation that the role must stop at, and a report says what it takes and refuses.
+#![tactic(auto)]
+
+mod cases;
+mod counting;
+mod files;
+mod partners;
+mod playing;
+mod probing;
+mod report;
+mod reporting;
+mod untried;
+mod words;
+mod writing;
+
+pub use probing::probe;
+pub use words::{ProbeWords, TryWords};

@@ -1,0 +1,173 @@
+//! The report on a program over a wire that was reached, as the cases go on.
+ghost use Rattle.std.specs.Prelude.{◌≡◌, ◌≢◌, ◌≤◌, ℕ, length, IfOk, IfErr, OnOk};
+ghost use Rattle.anb_attempts.specs.declared.attempts.TheConstants.{MOST};
+ghost use Rattle.anb_verdict.specs.Texts.{first_lines, no_such_case};
+ghost use Rattle.anb_probe_commands.specs.Asking.{trying_by};
+ghost use Rattle.anb_probe_commands.specs.Cases.{is_beyond};
+ghost use Rattle.anb_probe_commands.specs.Playing.{Broke, BrokeIn, CanPlay, EndsLate, PlaysAll, PlaysLess, Wrote, status_of};
+ghost use Rattle.anb_probe_commands.specs.ProbeCommand.{ComesTo};
+ghost use Rattle.anb_probe_commands.specs.Reports.{notes};
+ghost use Rattle.anb_probe_commands.specs.Tasks.{agenda_by, probing_by};
+
+use crate::cases::Prepared;
+use crate::counting::status_for;
+use crate::files::Task;
+use crate::playing::play_cases;
+use crate::report::notes;
+use crate::words::TryWords;
+use crate::writing::{PlayNo, write_lines};
+use anb_base::{Text, Wire};
+use anb_command::Status;
+use anb_partner::Trials;
+use anb_verdict::{Verdict, first_lines, no_such_case};
+use std::alloc::Global;
+
+/// Tries the program, where there is what is asked for.
+pub(crate) fn probe_reached<T: Trials, W: Wire>(
+    alloc: Global,
+    trials: &mut T,
+    wire: &mut W,
+    task: &Task,
+    prepared: &Prepared,
+    trying: TryWords,
+    name: Text,
+) -> Status
+    requires can { CanPlay (probing_by task.now.protocol task.now.role task.now.values task.now.seed)
+        prepared.now }
+    requires untried { (case : ℕ) → (T.trial trials.old case).phase ≡ 0 }
+    ensures comes { ComesTo (probing_by task.now.protocol task.now.role task.now.values
+        task.now.seed) (trying_by trying.entry) (agenda_by prepared.now) name
+        (T.trial trials.old) (T.trial trials.new)
+        (W.state wire.old).written (W.state wire.new).written result }
+    ensures ends { EndsLate (T.trial trials.old) (T.trial trials.new)
+        (W.state wire.old) (W.state wire.new) result }
+    ensures none_left { (case : ℕ) → (T.trial trials.new case).phase ≢ 1 }
+{
+    if is_beyond(trying.case, prepared.count) {
+        return match write_none(alloc, wire, prepared.count) {
+            Ok(()) => Status::Done,
+            Err(no) => status_of(no, name),
+        };
+    }
+    wait_at_most(trials, trying.limit);
+    match play_all(alloc, trials, wire, task, prepared, trying.program) {
+        Ok(verdicts) => status_for(&verdicts),
+        Err(no) => status_of(no, name),
+    }
+}
+
+/// Whether there is no case with this number.
+fn is_beyond(case: Option<u32>, count: u32) -> bool
+    ensures { result ≡ is_beyond case count }
+{
+    match case {
+        Some(number) => count < number,
+        None => false,
+    }
+}
+
+/// Sets how long a program may be silent, where that is said.
+fn wait_at_most<T: Trials>(trials: &mut T, limit: Option<u32>)
+    ensures { T.trial trials.new ≡ T.trial trials.old }
+{
+    if let Some(seconds) = limit {
+        trials.wait_at_most(seconds);
+    }
+}
+
+/// Writes that there are so many cases.
+fn write_none<W: Wire>(alloc: Global, wire: &mut W, count: u32) -> Result<(), PlayNo>
+    ensures wrote { OnOk result
+        (Wrote (W.state wire.old) (W.state wire.new) (no_such_case count)) }
+    ensures broke { IfErr result
+        (BrokeIn (no_such_case count) (W.state wire.old) (W.state wire.new)) }
+{
+    write_lines(wire, no_such_case(alloc, count))
+}
+
+/// Tries the program in all cases, and writes the report.
+fn play_all<T: Trials, W: Wire>(
+    alloc: Global,
+    trials: &mut T,
+    wire: &mut W,
+    task: &Task,
+    prepared: &Prepared,
+    program: &[Text],
+) -> Result<Vec<Verdict>, PlayNo>
+    requires can { CanPlay (probing_by task.now.protocol task.now.role task.now.values task.now.seed)
+        prepared.now }
+    requires untried { (case : ℕ) → (T.trial trials.old case).phase ≡ 0 }
+    ensures all { IfOk result (λ verdicts. PlaysAll
+        (probing_by task.now.protocol task.now.role task.now.values task.now.seed)
+        (agenda_by prepared.now) program.now (T.trial trials.old) (T.trial trials.new)
+        (W.state wire.old) (W.state wire.new) verdicts.items) }
+    ensures cut { IfErr result (PlaysLess
+        (probing_by task.now.protocol task.now.role task.now.values task.now.seed)
+        (agenda_by prepared.now) program.now (T.trial trials.old) (T.trial trials.new)
+        (W.state wire.old).written (W.state wire.new).written) }
+    ensures broke { IfErr result (Broke (W.state wire.old) (W.state wire.new)) }
+    ensures none_left { (case : ℕ) → (T.trial trials.new case).phase ≢ 1 }
+{
+    match write_first(alloc, wire, prepared) {
+        Ok(()) => {}
+        Err(no) => return Err(no),
+    }
+    let verdicts = match play_cases(alloc, trials, wire, task, prepared, program) {
+        Ok(verdicts) => verdicts,
+        Err(no) => return Err(no),
+    };
+    match write_notes(alloc, wire, task, prepared, &verdicts) {
+        Ok(()) => Ok(verdicts),
+        Err(no) => Err(no),
+    }
+}
+
+/// Writes the first lines.
+fn write_first<W: Wire>(alloc: Global, wire: &mut W, prepared: &Prepared) -> Result<(), PlayNo>
+    requires { length prepared.now.cases.items ≤ MOST }
+    ensures wrote { OnOk result (Wrote (W.state wire.old) (W.state wire.new)
+        (first_lines (length prepared.now.cases.items))) }
+    ensures broke { IfErr result (BrokeIn (first_lines (length prepared.now.cases.items))
+        (W.state wire.old) (W.state wire.new)) }
+{
+    let lines = first_lines(alloc, prepared.cases.len() as u32);
+    write_lines(wire, lines)
+}
+
+/// Writes what stands behind the cases.
+fn write_notes<W: Wire>(
+    alloc: Global,
+    wire: &mut W,
+    task: &Task,
+    prepared: &Prepared,
+    verdicts: &[Verdict],
+) -> Result<(), PlayNo>
+    requires { length verdicts.now ≤ MOST }
+    ensures wrote { OnOk result (Wrote (W.state wire.old) (W.state wire.new)
+        (notes task.now.protocol task.now.role prepared.now.cases.items
+        prepared.now.untried.items verdicts.now)) }
+    ensures broke { IfErr result (BrokeIn (notes task.now.protocol task.now.role
+        prepared.now.cases.items prepared.now.untried.items verdicts.now)
+        (W.state wire.old) (W.state wire.new)) }
+{
+    let lines = notes(
+        alloc,
+        &task.protocol,
+        task.role,
+        &prepared.cases,
+        &prepared.untried,
+        verdicts,
+    );
+    write_lines(wire, lines)
+}
+
+/// The status where not all cases were played, of a role with this name.
+fn status_of(no: PlayNo, name: Text) -> Status
+    ensures { result ≡ status_of no name }
+{
+    match no {
+        PlayNo::NotStarted => Status::ChildFault(name),
+        PlayNo::Failed => Status::WriteFault,
+        PlayNo::NoMemory => Status::NoMemory,
+    }
+}
