@@ -12,3 +12,4 @@ pub mod Cutting
 pub mod Seeing
 pub mod Choosing
 pub mod Deciding
+pub mod Recorded

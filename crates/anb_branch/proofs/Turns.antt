@@ -1,5 +1,5 @@
 -- What a turn before the choice comes to, from what its calls did.
-use Rattle.std.proofs.Common.{◌≡◌, ◌≤◌, ◌<◌, ℕ, List, [], ◌∷◌, ◌++◌, length, Option, sym, ap, ◌∙◌, subst}
+use Rattle.std.proofs.Common.{◌≡◌, ◌≤◌, ◌<◌, ◌⊎◌, ℕ, List, [], ◌∷◌, ◌++◌, length, Option, refl, sym, ap, ◌∙◌, subst, inl, inr}
 use Rattle.anb_base.specs.Moves.{Put}
 use Rattle.anb_base.specs.Bytes.{IsBytes}
 use Rattle.anb_base.specs.Wires.{WireState}
@@ -13,11 +13,12 @@ use Rattle.anb_machine.specs.declared.turn.Halt.{Halt}
 use Rattle.anb_session.specs.declared.PlayEnd.{PlayEnd}
 use Rattle.anb_session.specs.declared.PlayEnd.TheVariants.{Done, Stopped, Waiting, Truncated, TooLarge, ReadFault, WriteFault, NoMemory}
 use Rattle.anb_session.specs.Sessions.{Runs}
+use Rattle.anb_session.specs.Standing.{ComesOf}
 use Rattle.anb_session.specs.Turns.{EndsSending, EndsWaiting, WaitsPromptly, SendsPromptly, TookNothing, Passes, Closes, Hears}
 use Rattle.anb_session.proofs.Continued.{is_stopped}
 use Rattle.anb_session.proofs.Prompt.{prompt_nothing, prompt_still, prompt_as}
 use Rattle.anb_session.proofs.Turning.{passes_saying, closes_wanting}
-use Rattle.anb_branch.specs.Stems.{AreBytes, AreShort, StandsBehind, behind, GoesOn, IsOver}
+use Rattle.anb_branch.specs.Stems.{AreBytes, AreShort, StandsBehind, behind, GoesOn, IsOver, no_halt}
 use Rattle.anb_branch.proofs.Behind.{stands_saying, stands_hearing, behind_saying, behind_waiting, behind_over, behind_hearing}
 
 -- ---- the turns before the choice
@@ -128,3 +129,23 @@ closes_as R R' s t end same closes = record {
   ends = λ arrivals tail cut. runs_as R R' same arrivals tail s.left t.left s.written t.written end (closes.ends arrivals tail cut);
   prompt = prompt_as R R' s t same closes.prompt;
 }
+
+-- ---- an end without the instruction of its stop
+
+pub untold_off : (end : PlayEnd) → (end ≡ WriteFault) ⊎ (end ≡ NoMemory) → end ≡ no_halt end
+untold_off end (inl is) = rw is refl
+untold_off end (inr is) = rw is refl
+
+pub untold_of : (event : ℕ) (end : PlayEnd) → ComesOf event end → end ≡ no_halt end
+untold_of event Done comes = refl
+untold_of event (Stopped halt) comes = absurd comes
+untold_of event (Waiting e) comes = refl
+untold_of event (Truncated have need) comes = refl
+untold_of event (TooLarge len) comes = refl
+untold_of event ReadFault comes = refl
+untold_of event WriteFault comes = refl
+untold_of event NoMemory comes = refl
+
+pub untold_stop : (halt told : Halt) → told.event ≡ halt.event → told.at ≡ 0 → Stopped told ≡ no_halt (Stopped halt)
+untold_stop halt told e a =
+    ap (λ (n : ℕ). Stopped (record { event = n; at = told.at })) e ∙ ap (λ (n : ℕ). Stopped (record { event = halt.event; at = n })) a

@@ -1,17 +1,20 @@
--- For proofs alone: a run that passes from one machine to another behind some arrivals.
-use Rattle.std.specs.Prelude.{◌≡◌, ◌≤◌, ◌<◌, ℕ, List, [], ◌∷◌, ◌++◌, length, drop, true}
+-- A run that passes from one machine to another behind some arrivals.
+use Rattle.std.specs.Prelude.{◌≡◌, ◌≢◌, ◌≤◌, ◌<◌, ℕ, List, [], ◌∷◌, ◌++◌, length, drop, true}
 use Rattle.std.specs.List.{AllByRecursion}
 use Rattle.anb_base.specs.Bytes.{IsBytes}
 use Rattle.anb_base.specs.Wires.{WireState}
 use Rattle.anb_base.specs.declared.TheConstants.{ARRIVAL}
+use Rattle.anb_frame.specs.Cuts.{CutLeft, Tail}
 use Rattle.anb_plays.specs.Plays.{Played, waiting, ends, Run}
 use Rattle.anb_plays.specs.Runs.{without_place}
 use Rattle.anb_plays.specs.Statements.{Grows}
 use Rattle.anb_machine.specs.Machines.{MachineValue, gives, left, waits}
 use Rattle.anb_session.specs.declared.PlayEnd.{PlayEnd}
-use Rattle.anb_session.specs.declared.PlayEnd.TheVariants.{Stopped}
+use Rattle.anb_session.specs.declared.PlayEnd.TheVariants.{NoMemory, Stopped}
 use Rattle.anb_session.specs.Faults.{IsQuiet, TellsEnd}
-use Rattle.anb_session.specs.Turns.{Passes, Closes, Hears}
+use Rattle.anb_session.specs.Sessions.{waits_at}
+use Rattle.anb_session.specs.Standing.{StandsAt}
+use Rattle.anb_session.specs.Turns.{AwaitsNow, Closes, Hears, Passes, Receives}
 use Rattle.anb_branch.specs.declared.stem.Step.{Step}
 use Rattle.anb_branch.specs.declared.stem.Step.TheVariants.{On, Arrived, Over}
 
@@ -84,6 +87,8 @@ TellsStep s t step = IsQuiet s t
 module _ (n : ℕ) (old new : MachineValue) (s t : WireState) where
   pub record Chooses (past : List (List ℕ)) (b : List ℕ) : Type 0 where
     pub waits : waits new ≡ true
+    pub event : ℕ
+    pub next : gives new [] ≡ ends (waiting event) []
     pub fits : length b ≤ ARRIVAL
     pub bytes : IsBytes b
     pub all : length past ≡ n
@@ -118,3 +123,49 @@ pub record WaitsAt (F : Run) (past : List (List ℕ)) : Type 0 where
 abbrev pub no_halt : PlayEnd → PlayEnd
 no_halt (Stopped halt) = Stopped (record { event = halt.event; at = 0 })
 no_halt end = end
+
+-- ---- what is true of what is played
+
+module _ {A : Type 0} (Follows : A → List (List ℕ) → A → Type 0) (x y : A) where
+  -- It went on by these arrivals, and by the first of those that were left, to this end, but for the
+  -- instruction of a stop.
+  pub record CameBy (machine : MachineValue) (before : List (List ℕ)) (old : WireState) (end : PlayEnd) : Type 0 where
+    pub stop : PlayEnd
+    pub is : end ≡ no_halt stop
+    pub used : List (List ℕ)
+    pub follows : Follows x (before ++ used) y
+    pub first : (arrivals : List (List ℕ)) (tail : Tail) → CutLeft ARRIVAL old.left arrivals tail
+        → (rest : List (List ℕ)) × (arrivals ≡ used ++ rest)
+    pub stands : StandsAt machine stop
+    pub awaits : waits_at stop ≡ true → AwaitsNow machine
+
+  -- it went on by these arrivals, the first of those that were left, and the next one is this
+  pub record HeardUpTo (past : List (List ℕ)) (b : List ℕ) (old new : WireState) : Type 0 where
+    pub follows : Follows x past y
+    pub first : (arrivals : List (List ℕ)) (tail : Tail) → CutLeft ARRIVAL old.left arrivals tail
+        → (rest : List (List ℕ)) × (arrivals ≡ past ++ b ∷ rest) × CutLeft ARRIVAL new.left rest tail
+
+  -- it went on by these arrivals, the first of those that were left
+  pub record WentBy (used : List (List ℕ)) (old new : WireState) : Type 0 where
+    pub follows : Follows x used y
+    pub first : (arrivals : List (List ℕ)) (tail : Tail) → CutLeft ARRIVAL old.left arrivals tail
+        → (rest : List (List ℕ)) × (arrivals ≡ used ++ rest) × CutLeft ARRIVAL new.left rest tail
+
+  -- by what a step comes to, before and after which these arrivals are kept
+  module _ (machine : MachineValue) (past past' : List (List ℕ)) (s t : WireState) where
+    -- at this end nothing more is heard
+    pub record StopsAt (end : PlayEnd) : Type 0 where
+      pub stop : PlayEnd
+      pub is : end ≡ no_halt stop
+      pub follows : Follows x [] y
+      pub stands : StandsAt machine stop
+      pub awaits : waits_at stop ≡ true → AwaitsNow machine
+
+    abbrev pub GoesAlong : Step → Type 0
+    GoesAlong On = (used : List (List ℕ)) × WentBy used s t × (past' ≡ past ++ used)
+    GoesAlong (Arrived b) = Follows x [] y × Receives b s.left t.left
+    GoesAlong (Over end) = end ≢ NoMemory → StopsAt end
+
+-- by so many arrivals at most
+abbrev pub CameWithin : {A : Type 0} → ℕ → (Follows : A → List (List ℕ) → A → Type 0) → (x y : A) → MachineValue → WireState → PlayEnd → Type 0
+CameWithin n Follows x y machine old end = (came : CameBy Follows x y machine [] old end) × (length came.used ≤ n)

@@ -4,6 +4,7 @@
 mod compiling;
 mod laws;
 mod playing;
+mod recording;
 mod signs;
 mod stem;
 
@@ -11,3 +12,4 @@ pub use anb_choice::{BranchNo, Branched, split};
 pub use compiling::{ArmNo, compile_arms};
 pub use laws::{arms_know_alike, arms_play_alike, fitting_arms_play};
 pub use playing::branch_play;
+pub use recording::branch_record;

@@ -1,11 +1,10 @@
 -- What `branch` does is what `play` does of the arm that is taken.
-use Rattle.std.proofs.Common.{◌≡◌, ◌↔◌, ℕ, zero, suc, List, [], ◌∷◌, Option, Some, None, refl, ap, sym, ◌∙◌, subst, inl, inr}
+use Rattle.std.proofs.Common.{◌≡◌, ℕ, zero, suc, List, [], ◌∷◌, Option, Some, refl, subst, inl, inr}
 use Rattle.std.specs.Prelude.{slice_get}
 use Rattle.std.specs.List.{AllZip}
 use Rattle.anb_frame.specs.Cuts.{Tail}
 use Rattle.anb_read.specs.Laws.{NarrationsAreUnique, NoneIsBoth as NoTextIsBoth, RefusalsAreUnique as TextRefusalsAreUnique}
-use Rattle.anb_protocol.specs.Plays.{IsPlay}
-use Rattle.anb_protocol.specs.Protocols.{ProtocolValue, role_number}
+use Rattle.anb_protocol.specs.Protocols.{ProtocolValue}
 use Rattle.anb_choice.specs.Branching.{BranchedText, Tells, straights}
 use Rattle.anb_choice.specs.Laws.{ChoicesAreUnique, NoneIsBoth, RefusalsAreUnique}
 use Rattle.anb_branch.specs.Taken.{place_taken}

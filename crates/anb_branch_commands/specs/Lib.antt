@@ -1,5 +1,4 @@
 pub mod BranchCommand
 pub mod BranchJobs
 pub mod Laws
--- for proofs alone
 pub mod Arming

@@ -33,10 +33,10 @@ use std::alloc::Global;
 
 /// What a role of a branched text is played with, from the files of its words.
 #[derive(Drop)]
-struct Prepared {
-    branched: Branched,
-    codes: Vec<RoleCode>,
-    means: Means,
+pub struct Prepared {
+    pub branched: Branched,
+    pub codes: Vec<RoleCode>,
+    pub means: Means,
 }
 
 /// Plays the role over the wire, in the arm that is taken.
@@ -78,7 +78,7 @@ pub fn branch<F: Shelf, W: Wire>(
 }
 
 /// Plays the role over the wire, which it reaches at the place of the words.
-fn branch_over<W: Wire>(
+pub fn branch_over<W: Wire>(
     alloc: Global,
     wire: &mut W,
     words: BranchWords,
@@ -168,7 +168,7 @@ fn branch_now<W: Wire>(
 }
 
 /// Reads the files of the words.
-fn prepare<F: Shelf>(
+pub fn prepare<F: Shelf>(
     alloc: Global,
     shelf: &mut F,
     words: BranchWords,

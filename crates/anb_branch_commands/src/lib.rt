@@ -9,5 +9,6 @@ mod laws;
 mod seating;
 mod valuing;
 
-pub use branching::branch;
+pub use branching::{Prepared, branch, branch_over, prepare};
 pub use laws::{arms_are_narrations, arms_are_played};
+pub use valuing::{Means, texts_known};

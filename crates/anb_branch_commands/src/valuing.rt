@@ -25,9 +25,9 @@ use std::alloc::Global;
 
 /// The initial values of a role, which serve in all arms, and the seed of its draws.
 #[derive(Drop)]
-pub(crate) struct Means {
-    pub(crate) initial: ValueList,
-    pub(crate) seed: [u8; 32],
+pub struct Means {
+    pub initial: ValueList,
+    pub seed: [u8; 32],
 }
 
 /// What the role of the words is played with, from the values in their file.
@@ -82,7 +82,7 @@ pub(crate) fn means_in_file<F: Shelf>(
 }
 
 /// The texts of what the role knows. Those of arm 1 are those of each arm.
-fn texts_known(alloc: Global, b: &Branched, role: &Text) -> Result<Vec<Text>, NoMemory>
+pub fn texts_known(alloc: Global, b: &Branched, role: &Text) -> Result<Vec<Text>, NoMemory>
     requires { among (roles_in (branched_of b.now)) role.now ≡ true }
     ensures texts { IfOk result (λ names. names.items ≡ known_in (branched_of b.now) role.now) }
     ensures differ { IfOk result (λ names.

@@ -16,7 +16,7 @@ use Rattle.anb_transcript.proofs.Reached.{Reached, due_there, reached_further, r
 use Rattle.anb_recording.specs.Following.{CoversAll}
 use Rattle.anb_recording.specs.Recordings.{ReplaysAs}
 
-reached_behind : (R S T : Run) (before lines : List TranscriptLine) → Reached R S before → CoversAll S T lines → Reached R T (before ++ lines)
+pub reached_behind : (R S T : Run) (before lines : List TranscriptLine) → Reached R S before → CoversAll S T lines → Reached R T (before ++ lines)
 reached_behind R S T before [] reached same =
     let one : S ≡ T = λ i xs. same xs i in
     subst (Reached R T) (sym (append-nil before)) (subst (λ (Q : Run). Reached R Q before) one reached)

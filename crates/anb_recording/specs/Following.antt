@@ -1,4 +1,4 @@
--- How a recording goes on, turn by turn. For proofs alone.
+-- How a recording goes on, turn by turn.
 use Rattle.std.specs.Prelude.{◌≡◌, ℕ, List, [], ◌∷◌}
 use Rattle.std.specs.List.{AllByRecursion}
 use Rattle.anb_plays.specs.Plays.{Run}

@@ -1,4 +1,4 @@
--- A recording that went on, and then went on further. For proofs alone.
+-- A recording that went on, and then went on further.
 use Rattle.std.specs.Prelude.{◌≡◌, ◌≢◌, ◌⊎◌, ℕ, List, [], ◌∷◌, ◌++◌}
 use Rattle.std.specs.List.{AllByRecursion}
 use Rattle.std.proofs.Common.{arith, ap, refl, sym, subst, ◌∙◌, inl, inr}
@@ -18,12 +18,12 @@ use Rattle.anb_recording.specs.declared.recording.Kept.TheVariants.{Whole, Unwri
 
 -- ---- lines
 
-arrivals_joined : (xs ys : List TranscriptLine) → arrivals_of (xs ++ ys) ≡ arrivals_of xs ++ arrivals_of ys
+pub arrivals_joined : (xs ys : List TranscriptLine) → arrivals_of (xs ++ ys) ≡ arrivals_of xs ++ arrivals_of ys
 arrivals_joined [] ys = refl
 arrivals_joined (In b ∷ xs) ys = ap (λ t. b ∷ t) (arrivals_joined xs ys)
 arrivals_joined (Out b ∷ xs) ys = arrivals_joined xs ys
 
-plain_joined : (xs ys : List TranscriptLine) → AllByRecursion IsPlain xs → AllByRecursion IsPlain ys → AllByRecursion IsPlain (xs ++ ys)
+pub plain_joined : (xs ys : List TranscriptLine) → AllByRecursion IsPlain xs → AllByRecursion IsPlain ys → AllByRecursion IsPlain (xs ++ ys)
 plain_joined [] ys one two = two
 plain_joined (x ∷ xs) ys one two = (one.0, plain_joined xs ys one.1 two)
 
@@ -95,6 +95,13 @@ abbrev pub FollowsOn : (Played : Type 0) (R R' : Run) (name name_now : ℕ) (fil
     (used : List (List ℕ)) → Type 0
 FollowsOn Played R R' name name_now file file_now old new before after used =
     (name_now ≡ name) × (file_now ≡ file) × RecordsOn Played R R' file old new before after used
+
+-- what is played stands behind the same reference
+pub still_there : {Played : Type 0} → Played → (name : ℕ) → (name ≡ name) × Played
+still_there played name = (refl, played)
+
+pub there_further : {A B C : Type 0} → (A → B → C) → (x y z : ℕ) → (y ≡ x) × A → (z ≡ y) × B → (z ≡ x) × C
+there_further both x y z one two = (two.0 ∙ one.0, both one.1 two.1)
 
 pub follows_still : {Played : Type 0} → Played → (R : Run) (name : ℕ) (file : List ℕ) (store : StoreState) (kept : Kept)
     → FollowsOn Played R R name name file file store store kept kept []

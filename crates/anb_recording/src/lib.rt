@@ -12,4 +12,4 @@ mod recording;
 
 pub use journal::{BeginNo, Journal};
 pub use laws::written_lines_are_read;
-pub use recording::{Kept, Recorded, record_play};
+pub use recording::{Kept, Recorded, Recording, record_play};

@@ -40,12 +40,12 @@ pub struct Recorded {
 }
 
 /// What is played, and where its transcript goes. Once a line is missing no more are appended.
-struct Recording<'p, 'j, 'f, P: Playable, J: Journal> {
-    alloc: Global,
-    played: &'p mut P,
-    journal: &'j mut J,
-    file: &'f Text,
-    kept: Kept,
+pub struct Recording<'p, 'j, 'f, P: Playable, J: Journal> {
+    pub alloc: Global,
+    pub played: &'p mut P,
+    pub journal: &'j mut J,
+    pub file: &'f Text,
+    pub kept: Kept,
 }
 
 impl<P: Playable, J: Journal> Recording<'_, '_, '_, P, J> {
@@ -53,6 +53,7 @@ impl<P: Playable, J: Journal> Recording<'_, '_, '_, P, J> {
     fn note(&mut self, sign: u8, bytes: &[u8])
         ensures same_reference { self.new.journal.ghost_name ≡ self.old.journal.ghost_name }
         ensures same_played { self.new.played.now ≡ self.old.played.now }
+        ensures same_place { self.new.played.ghost_name ≡ self.old.played.ghost_name }
         ensures same_file { self.new.file.now ≡ self.old.file.now }
         ensures bytes { IsBytes bytes.now }
         ensures notes { (line : TranscriptLine) → line_text line ≡ spelled sign bytes.now
@@ -88,20 +89,22 @@ fn append_line<J: Journal>(
 }
 
 impl<P: Playable, J: Journal> Playable for Recording<'_, '_, '_, P, J> {
-    ghost use Rattle.anb_recording.specs.Joining.{FollowsOn, follows_further, follows_still};
+    ghost use Rattle.anb_recording.specs.Joining.{FollowsOn, follows_further, follows_still, still_there, there_further};
 
     ghost machine = { λ recording. P.machine recording.played.now };
 
-    ghost Follows = { λ x used y. FollowsOn (P.Follows x.played.now used y.played.now)
+    ghost Follows = { λ x used y. FollowsOn
+        ((y.played.ghost_name ≡ x.played.ghost_name) × P.Follows x.played.now used y.played.now)
         (gives (P.machine x.played.now)) (gives (P.machine y.played.now))
         x.journal.ghost_name y.journal.ghost_name x.file.now y.file.now
         (J.state x.journal.now) (J.state y.journal.now) x.kept y.kept used };
 
-    ghost stays = { λ x. follows_still (P.stays x.played.now) (gives (P.machine x.played.now))
+    ghost stays = { λ x. follows_still (still_there (P.stays x.played.now) x.played.ghost_name) (gives (P.machine x.played.now))
         x.journal.ghost_name x.file.now (J.state x.journal.now) x.kept };
 
     ghost joined = { λ x y z some more one two.
-        follows_further (P.joined x.played.now y.played.now z.played.now some more)
+        follows_further (there_further (P.joined x.played.now y.played.now z.played.now some more)
+        x.played.ghost_name y.played.ghost_name z.played.ghost_name)
         (gives (P.machine x.played.now)) (gives (P.machine y.played.now)) (gives (P.machine z.played.now))
         x.journal.ghost_name y.journal.ghost_name z.journal.ghost_name
         x.file.now y.file.now z.file.now

@@ -25,3 +25,6 @@ returns-in_default-clause-faults g c = wants_memory (g.W.Wire.state c.args.wire.
 
 pub returns-in-Err-clause-faults : goal.returns-in-Err-clause-faults
 returns-in-Err-clause-faults g c = wants_memory (g.W.Wire.state c.args.wire.now)
+
+pub play_on-requires-clause-next : goal.play_on-requires-clause-next
+play_on-requires-clause-next g c = (c.in-Ok-run_again.ensures.event, c.in-Ok-run_again.ensures.next)

@@ -60,7 +60,7 @@ play_again-requires-clause-waits g c =
     let within : place < length codes = omega (arith, c.place_begun-place.ensures role d.signs_are, chosen_within (begins_arm b.stem role c.as_slice.result.now) b.arms c.requires.some, c.requires.codes) in
     let at_first = item_at codes 0 first (omega (arith, c.requires.some, c.requires.codes)) c.index-codes-0.is in
     let at_other = item_at codes place other within c.index-codes-place.is in
-    waits_there b role init seed codes d.free _ first c.in-Ok.machine c.play_to_choice.new.machine s t t choice.past.items choice.arrival (receives_so b role c.args.signs.now no_sign d.signs_are c.requires.some)
+    waits_there b role init seed codes d.free _ first c.in-Ok.machine c.play_to_choice.new.played s t t choice.past.items choice.arrival (receives_so b role c.args.signs.now no_sign d.signs_are c.requires.some)
     (d.each 0 first at_first) c.in-Ok.ensures.run c.in-Ok-play_to_choice.ensures.chooses place other (d.each place other at_other)
 
 pub returns-then-place-eq0-clause-closes : goal.returns-then-place-eq0-clause-closes
@@ -76,7 +76,7 @@ returns-then-place-eq0-clause-closes g c = λ role d.
     let choice = c.in-Ok-play_to_choice.choice in
     let at_first = item_at codes 0 first (omega (arith, c.requires.some, c.requires.codes)) c.index-codes-0.is in
     let begun : c.place_begun-place.result ≡ place_begun b role choice.arrival = c.place_begun-place.ensures role d.signs_are ∙ ap (place_begun b role) c.as_slice.ensures in
-    goes_on_here b role init seed codes d.free _ first c.in-Ok.machine c.play_to_choice.new.machine s t u choice.past.items choice.arrival (receives_so b role c.args.signs.now no_sign d.signs_are c.requires.some)
+    goes_on_here b role init seed codes d.free _ first c.in-Ok.machine c.play_to_choice.new.played s t u choice.past.items choice.arrival (receives_so b role c.args.signs.now no_sign d.signs_are c.requires.some)
     (d.each 0 first at_first) c.in-Ok.ensures.run c.in-Ok-play_to_choice.ensures.chooses c.play_on.result (omega (arith, begun, c.if-place-eq0.true)) at_first c.play_on.ensures.closes
 
 pub returns-else-place-eq0-clause-closes : goal.returns-else-place-eq0-clause-closes
@@ -96,7 +96,7 @@ returns-else-place-eq0-clause-closes g c = λ role d.
     let at_first = item_at codes 0 first (omega (arith, c.requires.some, c.requires.codes)) c.index-codes-0.is in
     let at_other = item_at codes place other within c.index-codes-place.is in
     let begun : place ≡ place_begun b role choice.arrival = c.place_begun-place.ensures role d.signs_are ∙ ap (place_begun b role) c.as_slice.ensures in
-    goes_on_there b role init seed codes d.free _ first c.in-Ok.machine c.play_to_choice.new.machine s t u choice.past.items choice.arrival (receives_so b role c.args.signs.now no_sign d.signs_are c.requires.some)
+    goes_on_there b role init seed codes d.free _ first c.in-Ok.machine c.play_to_choice.new.played s t u choice.past.items choice.arrival (receives_so b role c.args.signs.now no_sign d.signs_are c.requires.some)
     (d.each 0 first at_first) c.in-Ok.ensures.run c.in-Ok-play_to_choice.ensures.chooses c.play_again.result place other begun at_other (d.each place other at_other) c.play_again.ensures.closes
 
 pub returns-in-Err-clause-closes : goal.returns-in-Err-clause-closes
@@ -105,7 +105,7 @@ returns-in-Err-clause-closes g c = λ role d.
     let codes = c.args.codes.now in
     let first = c.index-codes-0.result in
     let at_first = item_at codes 0 first (omega (arith, c.requires.some, c.requires.codes)) c.index-codes-0.is in
-    ends_there b role c.args.init.now c.args.seed.now codes d.free _ first c.in-Ok.machine c.play_to_choice.new.machine (g.W.Wire.state c.args.wire.now) (g.W.Wire.state c.play_to_choice.new.wire) c.in-Err.end
+    ends_there b role c.args.init.now c.args.seed.now codes d.free _ first c.in-Ok.machine c.play_to_choice.new.played (g.W.Wire.state c.args.wire.now) (g.W.Wire.state c.play_to_choice.new.wire) c.in-Err.end
     (receives_so b role c.args.signs.now no_sign d.signs_are c.requires.some) (d.each 0 first at_first) c.in-Ok.ensures.run c.in-Err.ensures.ends
 
 pub returns-in_default-clause-faults : goal.returns-in_default-clause-faults
@@ -120,3 +120,6 @@ pub returns-else-place-eq0-clause-faults : goal.returns-else-place-eq0-clause-fa
 returns-else-place-eq0-clause-faults g c =
     ends_later (g.W.Wire.state c.args.wire.now) (g.W.Wire.state c.play_to_choice.new.wire) (g.W.Wire.state c.play_again.new.wire) c.play_again.result
     c.in-Ok-play_to_choice.ensures.quiet c.play_again.ensures.faults
+
+pub play_on-requires-clause-next : goal.play_on-requires-clause-next
+play_on-requires-clause-next g c = (c.in-Ok-play_to_choice.ensures.chooses.event, c.in-Ok-play_to_choice.ensures.chooses.next)

@@ -2,7 +2,7 @@ use Rattle.std.proofs.Common.{◌≡◌, ◌≤◌, length}
 use Rattle.anb_base.specs.declared.TheConstants.{ARRIVAL}
 use Rattle.anb_machine.specs.Machines.{left}
 use Rattle.anb_session.specs.Faults.{IsQuiet}
-use Rattle.anb_branch.specs.Stems.{AreBytes, AreShort}
+use Rattle.anb_branch.specs.Stems.{AreBytes, AreShort, WentBy}
 use Rattle.anb_branch.proofs.Stems.{Along}
 use Rattle.anb_branch.proofs.stem.play_to_choice.Given as goal
 
@@ -12,9 +12,10 @@ invariant-loop-arrival g l = record {
   few : length l.past.items ≤ l.receives;
   bytes : AreBytes l.past.items;
   short : AreShort l.past.items;
-  along : Along l.receives l.fn.machine l.machine l.past.items (g.W.Wire.state l.fn.wire) (g.W.Wire.state l.wire);
+  along : Along l.receives (g.P.Playable.machine l.fn.played) (g.P.Playable.machine l.played) l.past.items (g.W.Wire.state l.fn.wire) (g.W.Wire.state l.wire);
+  by : WentBy g.P.Playable.Follows l.fn.played l.played l.past.items (g.W.Wire.state l.fn.wire) (g.W.Wire.state l.wire);
   quiet : IsQuiet (g.W.Wire.state l.fn.wire) (g.W.Wire.state l.wire);
 }
 
 abbrev pub decreases-loop-arrival : goal.decreases-loop-arrival
-decreases-loop-arrival g l = left l.machine
+decreases-loop-arrival g l = left (g.P.Playable.machine l.played)

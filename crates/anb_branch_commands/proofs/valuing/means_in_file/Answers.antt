@@ -24,10 +24,11 @@ pub returns-in-Ok-seed_of-clause-armed : goal.returns-in-Ok-seed_of-clause-armed
 returns-in-Ok-seed_of-clause-armed g c =
     let b = branched_of c.args.b.now in
     let fitted = c.in-Ok-values_in_file.fitted in
+    let known = c.in-Ok-values_in_file.ensures.each ∙ ap length (c.deref.ensures.value ∙ c.in-Ok.ensures.texts) in
     record {
       seated = c.requires;
-      count = takes_all c.arms_know_alike.ensures b c.args.words.play.name.now c.args.codes.now fitted.values c.requires.lawful c.requires.is_role c.requires.fit
-          (c.in-Ok-values_in_file.ensures.each ∙ ap length (c.deref.ensures.value ∙ c.in-Ok.ensures.texts));
+      known = known;
+      count = takes_all c.arms_know_alike.ensures b c.args.words.play.name.now c.args.codes.now fitted.values c.requires.lawful c.requires.is_role c.requires.fit known;
       short = c.in-Ok-values_in_file.ensures.short;
     }
 
