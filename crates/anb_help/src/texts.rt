@@ -109,13 +109,13 @@ pub const VALUES: &str = concat!(
 
 /// The page on `branch`.
 pub const BRANCH: &str = concat!(
-    "anb branch <narration> <role> <values> [--arm <n>] [place]\n",
+    "anb branch <narration> <role> <values> [--arm <n>] [place] [--record <folder>]\n",
     "Plays the role of a text with a choice at its end. The role that chooses is told the arm,\n",
-    "from 1 to 8; another role hears it from its first message after the choice. For places see\n",
-    "play.\n",
+    "from 1 to 8; another role hears it from its first message after the choice. For places and\n",
+    "the folder see play.\n",
     "Statuses: 0; 25 the text is refused; 5 no such role; 26 a role can't send in an arm; 27 the\n",
     "arm doesn't fit; 7 the values; 8 no seed; 10 it stopped; 11 it waits; 12, 13 a frame is cut\n",
-    "or too long; 2, 3 a file; 9, 14, 15 the place; 99.\n",
+    "or too long; 2, 3 a file; 9, 14, 15 the place; 38 the folder; 99.\n",
     "Example: anb branch examples/offer/choice.anb B examples/offer/B.values --arm 1\n",
 );
 

@@ -5,13 +5,16 @@ use Rattle.anb_base.specs.Bytes.{IsBytes}
 use Rattle.anb_plays.specs.Plays.{Run}
 use Rattle.anb_recording.specs.Laws.{WrittenLinesAreRead}
 use Rattle.anb_recording.specs.Lines.{IsPlain, lines_text}
+use Rattle.anb_recording.specs.Recordings.{ReplaysAs}
+use Rattle.anb_session.specs.declared.PlayEnd.{PlayEnd}
+use Rattle.anb_session.specs.declared.PlayEnd.TheVariants as ended
 use Rattle.anb_status.specs.declared.status.Status.{Status}
-use Rattle.anb_status.specs.declared.status.Status.TheVariants.{Done, ReadFault, Short, Stopped, TooLarge, Truncated, Waiting}
-use Rattle.anb_transcript.specs.Replays.{Replays}
+use Rattle.anb_transcript.specs.Replays.{Replays, last_arrival}
 use Rattle.anb_transcript.specs.declared.following.ReplayEnd.{ReplayEnd}
 use Rattle.anb_transcript.specs.declared.following.ReplayEnd.TheVariants as replayed
 use Rattle.anb_transcript.specs.declared.transcript.TranscriptLine.{TranscriptLine}
 use Rattle.anb_command.specs.Fetches.{Files}
+use Rattle.anb_command.specs.Prepared as prepared
 use Rattle.anb_syntax.specs.Grammar.{Narration}
 use Rattle.anb_protocol.specs.Protocols.{ProtocolValue}
 use Rattle.anb_command.specs.Files.{FileIs, NarrationInFile, NarrationIs, ProtocolInFile, ProtocolIs}
@@ -22,9 +25,15 @@ use Rattle.anb_command.proofs.Ones.{not_both, same_given}
 use Rattle.anb_role_commands.specs.Jobs.{Job, JobIs, JobOf}
 use Rattle.anb_role_commands.specs.PlayCommand.{PlayOf}
 use Rattle.anb_role_commands.specs.ReplayCommand.{Comparison, ComparisonIs, Compares, ReplayOutcome, status_of}
-use Rattle.anb_record_commands.specs.Laws.{RecordedPlaysReplay, replayed_as}
+use Rattle.anb_branch.specs.Laws.{ArmsKnowAlike}
+use Rattle.anb_branch_commands.specs.BranchCommand.{job_in}
+use Rattle.anb_branch_commands.specs.Laws.{ArmsAreNarrations}
+use Rattle.anb_branch_commands.proofs.Preparing.{job_seated}
+use Rattle.anb_branch_commands.proofs.Seats.{known_at}
+use Rattle.anb_record_commands.specs.BranchInto.{arm_values}
+use Rattle.anb_record_commands.specs.Laws.{RecordedArmsReplay, RecordedPlaysReplay, replayed_as}
 use Rattle.anb_record_commands.specs.Names.{transcript_in, values_in}
-use Rattle.anb_record_commands.specs.Outcomes.{IsReadAgain, ReplaysAs, text_of}
+use Rattle.anb_record_commands.specs.Outcomes.{IsReadAgain, ReplaysTo, Valued, text_of}
 use Rattle.anb_record_commands.specs.PlayInto.{job_values}
 
 -- ---- files that are as they were
@@ -89,14 +98,19 @@ module _ (job : Job) (run : Run) (are : (arrivals : List (List ℕ)) → AllByRe
   some_one : (one other : Status) → Some one ≡ Some other → other ≡ one
   some_one one other is = cc
 
-  compares_as : (end due : Status) → ReplaysAs run lines end → replayed_as (length lines) end ≡ Some due → Compares (record { job = job; lines = lines }) due
-  compares_as Done due replays is = compares replayed.Follows due (λ no. cc) replays (some_one _ due is)
-  compares_as (Stopped halt) due replays is = compares (replayed.Stopped halt replays.0) due (λ no. cc) replays.1 (some_one _ due is)
-  compares_as (Waiting e) due replays is = compares (replayed.Short (length lines + 1)) due (λ no. cc) replays.0 (some_one _ due is)
-  compares_as (Truncated have need) due replays is = compares (replayed.Short (length lines + 1)) due (λ no. cc) replays (some_one _ due is)
-  compares_as (TooLarge len) due replays is = compares (replayed.Short (length lines + 1)) due (λ no. cc) replays (some_one _ due is)
-  compares_as ReadFault due replays is = compares (replayed.Short (length lines + 1)) due (λ no. cc) replays (some_one _ due is)
-  compares_as _ due replays is = absurd (cc)
+  compares_end : (end : PlayEnd) (due : Status) → ReplaysAs run lines end → replayed_as (length lines) (prepared.status_of end) ≡ Some due → Compares (record { job = job; lines = lines }) due
+  compares_end ended.Done due replays is = compares replayed.Follows due (λ no. cc) replays (some_one _ due is)
+  compares_end (ended.Stopped halt) due replays is = compares (replayed.Stopped halt (last_arrival lines)) due (λ no. cc) replays (some_one _ due is)
+  compares_end (ended.Waiting e) due replays is = compares (replayed.Short (length lines + 1)) due (λ no. cc) replays.0 (some_one _ due is)
+  compares_end (ended.Truncated have need) due replays is = compares (replayed.Short (length lines + 1)) due (λ no. cc) replays (some_one _ due is)
+  compares_end (ended.TooLarge len) due replays is = compares (replayed.Short (length lines + 1)) due (λ no. cc) replays (some_one _ due is)
+  compares_end ended.ReadFault due replays is = compares (replayed.Short (length lines + 1)) due (λ no. cc) replays (some_one _ due is)
+  compares_end ended.WriteFault due replays is = absurd (cc)
+  compares_end ended.NoMemory due replays is = absurd (cc)
+
+  compares_as : (end due : Status) → ReplaysTo run lines end → replayed_as (length lines) end ≡ Some due → Compares (record { job = job; lines = lines }) due
+  compares_as end due (inl (how, is_end, replays)) is = compares_end how due replays (ap (replayed_as (length lines)) (sym is_end) ∙ is)
+  compares_as end due (inr (place, is_end, none)) is = absurd (let never : None ≡ Some due = ap (replayed_as (length lines)) (sym is_end) ∙ is in cc)
 
 pub recorded_replays : WrittenLinesAreRead → RecordedPlaysReplay
 recorded_replays read files later narration name values folder host_seed other_seed job run lines end due asks are plain replays reads same values_there values_short lines_there lines_short is =
@@ -109,3 +123,15 @@ recorded_replays read files later narration name values folder host_seed other_s
       ),
       compares_as job run are lines end due replays is,
     )
+
+-- in an arm
+pub arms_replay : WrittenLinesAreRead → ArmsAreNarrations → ArmsKnowAlike → RecordedArmsReplay
+arms_replay read narrations alike files later branched role values folder name told host_seed other_seed job text tells place arm straight run lines end due asks arm_at straight_at has are plain replays reads same values_there values_short lines_there lines_short is =
+    let seat = job_seated files branched role values told host_seed job asks in
+    let one = job_in job arm in
+    let values_are : arm_values job ≡ job_values one =
+    ap (λ (labels : List (List ℕ)). record { labels = labels; initial = job.initial; seed = job.seed }) (known_at alike job.branched job.role seat.lawful seat.is_role place arm arm_at) in
+    recorded_replays read files later name role values folder host_seed other_seed one run lines end due
+    (narrations files branched role values told host_seed job asks text tells place arm straight arm_at straight_at name has) are plain replays
+    (subst IsReadAgain values_are reads) same (subst (λ (g : Valued). later (values_in folder) ≡ Some (text_of g)) values_are values_there) (subst (λ (g : Valued). length (text_of g) ≤ VALUES_LIMIT) values_are values_short)
+    lines_there lines_short is

@@ -19,7 +19,7 @@ use Rattle.anb_record_commands.specs.Outcomes.{HasRecordCause, IsMissing, IsOfFo
 use Rattle.anb_record_commands.specs.declared.ended.Missing.{Missing}
 use Rattle.anb_record_commands.specs.declared.ended.Missing.TheVariants as missing
 
-calm_memory : (s : Status) → is_fault s ≡ false → s ≢ NoMemory
+pub calm_memory : (s : Status) → is_fault s ≡ false → s ≢ NoMemory
 calm_memory s calm is = let never : true ≡ false = ap is_fault (sym is) ∙ calm in cc
 
 calm_file : (s : Status) → is_fault s ≡ false → is_file_fault s ≡ false

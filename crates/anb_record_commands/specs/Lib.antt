@@ -3,6 +3,7 @@ pub mod Names
 pub mod Outcomes
 pub mod PlayInto
 pub mod EnactInto
+pub mod BranchInto
 pub mod Laws
 pub mod Asking
 -- for proofs alone

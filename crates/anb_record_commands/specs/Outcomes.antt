@@ -1,5 +1,5 @@
 -- What comes of a play that is recorded: its status, and what is in the folder.
-use Rattle.std.specs.Prelude.{◌≡◌, ◌≢◌, ◌⊎◌, ◌+◌, ℕ, Bool, List, [], ◌++◌, length, Option, Some, Ok, if◌then◌else◌}
+use Rattle.std.specs.Prelude.{◌≡◌, ◌≢◌, ◌⊎◌, ℕ, Bool, List, [], ◌++◌, Option, Some, Ok, if◌then◌else◌}
 use Rattle.std.specs.List.{AllByRecursion}
 use Rattle.anb_base.specs.Bytes.{IsBytes}
 use Rattle.anb_base.specs.Moves.{Rose}
@@ -7,21 +7,21 @@ use Rattle.anb_base.specs.Wires.{WireState}
 use Rattle.anb_base.specs.declared.TheConstants.{ARRIVAL}
 use Rattle.anb_base.specs.declared.place.Place.{Place}
 use Rattle.anb_frame.specs.Cuts.{Tail, CutLeft}
-use Rattle.anb_plays.specs.Plays.{Played, Run, waiting}
+use Rattle.anb_plays.specs.Plays.{Played, Run}
 use Rattle.anb_recording.specs.Journals.{Files, IsEither, IsThere, OthersStay}
 use Rattle.anb_recording.specs.Lines.{IsPlain, lines_text}
+use Rattle.anb_recording.specs.Recordings.{ReplaysAs}
+use Rattle.anb_session.specs.declared.PlayEnd.{PlayEnd}
 use Rattle.anb_store.specs.Stores.{StoreState}
-use Rattle.anb_status.specs.Statuses.{Phase, at_any_time, is_fault, phase_of}
+use Rattle.anb_status.specs.Statuses.{Phase, at_any_time, before_reach, is_fault, phase_of}
 use Rattle.anb_status.specs.declared.status.Status.{Status}
-use Rattle.anb_status.specs.declared.status.Status.TheVariants.{Unreached, Unwritten, WriteFault, NoMemory}
-use Rattle.anb_status.specs.declared.status.Status.TheVariants as status
-use Rattle.anb_transcript.specs.Replays.{AreDue, Replays, arrivals_of}
-use Rattle.anb_transcript.specs.declared.following.ReplayEnd.{ReplayEnd}
-use Rattle.anb_transcript.specs.declared.following.ReplayEnd.TheVariants as replayed
+use Rattle.anb_status.specs.declared.status.Status.TheVariants.{Unreached, Unwritten, NoMemory}
+use Rattle.anb_transcript.specs.Replays.{arrivals_of}
 use Rattle.anb_transcript.specs.declared.transcript.TranscriptLine.{TranscriptLine}
 use Rattle.anb_values.specs.Fit.{Fit}
 use Rattle.anb_values_text.specs.Texts.{values_text}
 use Rattle.anb_command.specs.Causes.{HasCause}
+use Rattle.anb_command.specs.Prepared.{status_of}
 use Rattle.anb_command.specs.Steps.{Answer, given}
 use Rattle.anb_record_commands.specs.Names.{transcript_in, values_in}
 use Rattle.anb_record_commands.specs.declared.ended.Missing.{Missing}
@@ -66,18 +66,12 @@ module _ (folder : List ℕ) (store store_now : StoreState) where
       → (now : Files) × (store_now.files ≡ Some now) × (now (values_in folder) ≡ Some values) × (now (transcript_in folder) ≡ Some transcript)
       × ((name : List ℕ) → (IsOfFolder folder name → ⊥) → now name ≡ files name)
 
--- What a replay of these lines comes to where the play ended so: it ends as the play did, and where that
--- waited it is as a transcript that ends before the next event, at which the run over its arrivals waits.
-abbrev pub ReplaysAs : Run → List TranscriptLine → Status → Type 0
-ReplaysAs R lines status.Done = Replays R lines replayed.Follows
-ReplaysAs R lines (status.Stopped halt) = (n : ℕ) × Replays R lines (replayed.Stopped halt n)
-ReplaysAs R lines (status.Waiting e) = Replays R lines (replayed.Short (length lines + 1)) × ((R (arrivals_of lines)).end ≡ waiting e)
-ReplaysAs R lines (status.Truncated have need) = Replays R lines (replayed.Short (length lines + 1))
-ReplaysAs R lines (status.TooLarge len) = Replays R lines (replayed.Short (length lines + 1))
-ReplaysAs R lines status.ReadFault = Replays R lines (replayed.Short (length lines + 1))
-ReplaysAs R lines WriteFault = AreDue R lines
-ReplaysAs R lines (Unreached place) = lines ≡ []
-ReplaysAs R lines s = Unit {0}
+-- What a replay of these lines comes to where the play ended so: it ends as the play did. Where the place
+-- wasn't reached there are no lines.
+abbrev pub ReplaysTo : Run → List TranscriptLine → Status → Type 0
+ReplaysTo R lines status =
+    ((end : PlayEnd) × (status ≡ status_of end) × ReplaysAs R lines end)
+    ⊎ ((place : Place) × (status ≡ Unreached place) × (lines ≡ []))
 
 -- the values that a run was given, by their labels, and the seed of its draws
 pub record Valued : Type 0 where
@@ -100,7 +94,7 @@ pub record HasTranscript (R : Run) (folder : List ℕ) (store store_now : StoreS
   pub plain : AllByRecursion IsPlain lines
   pub heard : (arrivals : List (List ℕ)) (tail : Tail) → CutLeft ARRIVAL left arrivals tail
       → (rest : List (List ℕ)) × (arrivals ≡ arrivals_of lines ++ rest)
-  pub replays : ReplaysAs R lines end
+  pub replays : ReplaysTo R lines end
   pub reads : IsReadAgain valued
   pub holds : HoldsIn folder store store_now (text_of valued) (lines_text lines)
 
@@ -112,3 +106,35 @@ pub record HasRecord {A : Type 0} (IsRunOf : A → List (List ℕ) → Played (L
   pub run : Run
   pub comes : (arrivals : List (List ℕ)) → AllByRecursion IsBytes arrivals → IsRunOf asked arrivals (run arrivals)
   pub transcript : HasTranscript run folder store store_now (valued_of asked) left end
+
+-- ---- a command that is recorded
+
+module _ (old new : WireState) (folder : List ℕ) (store store_now : StoreState) (status : Status) where
+  -- one of the folder's files is there already: this is told, and nothing else is done
+  abbrev pub IsTaken : Type 0
+  IsTaken =
+      (name : List ℕ) × (status ≡ Unwritten name) × IsOfFolder folder name × IsThere store name × (new ≡ old) × (store_now ≡ store)
+
+  -- by an end, what the command does without a folder, and what the folder has then
+  module _ (Does Has : Status → Type 0) where
+    -- Over the wire it goes on as without a folder, to an end of its own. What is told is that end, unless
+    -- something is missing of the recording. Where nothing is, and the wire was tried, it is all there.
+    pub record DoesInFolder : Type 0 where
+      pub end : Status
+      pub missed : Missing
+      pub does : Does end
+      pub told_so : status ≡ told_as end missed
+      pub why_missed : IsMissing folder store store_now old new end missed
+      -- a refusal leaves the store
+      pub early : phase_of end ≡ before_reach → store_now ≡ store
+      pub recorded : (phase_of end ≡ before_reach → ⊥) → end ≢ NoMemory → missed ≡ missing.Nothing → Has end
+
+    -- it ends and completes as without a folder, or memory was wanting, and the recording is all there
+    pub record IsWhole (Completes : Status → Type 0) : Type 0 where
+      pub ends : Does status ⊎ (status ≡ NoMemory)
+      pub completes : Completes status
+      pub recorded : (phase_of status ≡ before_reach → ⊥) → status ≢ NoMemory → Has status
+
+    -- where nothing failed, the store neither
+    abbrev pub CompletesInFolder : (Completes : Status → Type 0) → Type 0
+    CompletesInFolder Completes = IsTaken ⊎ IsWhole Completes

@@ -1,10 +1,16 @@
 -- What comes of a code's run that is recorded in a file. For proofs alone.
-use Rattle.std.specs.Prelude.{◌≡◌, ◌≢◌, ℕ, List, ◌++◌, Option}
+use Rattle.std.specs.Prelude.{◌≡◌, ◌≢◌, ℕ, List, ◌++◌, Option, Some, slice_get}
 use Rattle.std.specs.List.{AllByRecursion}
+use Rattle.anb_base.specs.Bytes.{IsBytes}
 use Rattle.anb_base.specs.Moves.{Rose}
 use Rattle.anb_base.specs.declared.TheConstants.{ARRIVAL}
 use Rattle.anb_frame.specs.Cuts.{Tail, CutLeft}
 use Rattle.anb_plays.specs.Plays.{Run}
+use Rattle.anb_protocol.specs.Plays.{IsPlay}
+use Rattle.anb_protocol.specs.Protocols.{ProtocolValue, role_number}
+use Rattle.anb_choice.specs.Lawful.{BranchedValue}
+use Rattle.anb_branch.specs.Taken.{place_taken}
+use Rattle.anb_recording.specs.Journals.{IsThere, begun}
 use Rattle.anb_recording.specs.Lines.{IsPlain}
 use Rattle.anb_recording.specs.Recordings.{all_appended}
 use Rattle.anb_recording.specs.declared.recording.Kept.{Kept}
@@ -14,9 +20,12 @@ use Rattle.anb_status.specs.declared.status.Status.{Status}
 use Rattle.anb_status.specs.declared.status.Status.TheVariants.{NoMemory}
 use Rattle.anb_transcript.specs.Replays.{arrivals_of}
 use Rattle.anb_transcript.specs.declared.transcript.TranscriptLine.{TranscriptLine}
-use Rattle.anb_record_commands.specs.Outcomes.{ReplaysAs}
+use Rattle.anb_record_commands.specs.Names.{transcript_in, values_in}
+use Rattle.anb_record_commands.specs.Outcomes.{IsOfFolder, ReplaysTo}
 use Rattle.anb_record_commands.specs.declared.ended.Missing.{Missing}
 use Rattle.anb_record_commands.specs.declared.ended.Missing.TheVariants as missing
+use Rattle.anb_record_commands.specs.declared.opening.Opened.{Opened}
+use Rattle.anb_record_commands.specs.declared.opening.Opened.TheVariants as opened
 
 abbrev pub missing_of : Kept → (transcript : List ℕ) → Missing
 missing_of kept.Whole transcript = missing.Nothing
@@ -37,5 +46,22 @@ pub record RecordsRun (R : Run) (file : List ℕ) (old new : StoreState) (left :
   pub plain : AllByRecursion IsPlain lines
   pub heard : (arrivals : List (List ℕ)) (tail : Tail) → CutLeft ARRIVAL left arrivals tail
       → (rest : List (List ℕ)) × (arrivals ≡ arrivals_of lines ++ rest)
-  pub replays : ReplaysAs R lines end
+  pub replays : ReplaysTo R lines end
   pub store : new ≡ all_appended file old lines
+
+-- what came of making the files of a recording, the values with this text
+module _ (folder text : List ℕ) (old new : StoreState) where
+  abbrev pub IsOpened : Opened → Type 0
+  IsOpened (opened.Ready transcript) = (transcript ≡ transcript_in folder) × (new ≡ begun old (values_in folder) text (transcript_in folder))
+  IsOpened (opened.There name) = IsOfFolder folder name × IsThere old name × (new ≡ old)
+  IsOpened (opened.Failed name) = IsOfFolder folder name × Rose old.faults new.faults
+  IsOpened opened.NoMemory = Unit {0}
+
+-- the transcript of the arm that is taken was appended to the file
+pub record RecordsArm (b : BranchedValue) (role : List ℕ) (told : Option ℕ) (initial : List (List ℕ)) (seed : List ℕ)
+    (file : List ℕ) (old new : StoreState) (left : Option (List ℕ)) (end : Status) : Type 0 where
+  pub arm : ProtocolValue
+  pub run : Run
+  pub comes : (arrivals : List (List ℕ)) → AllByRecursion IsBytes arrivals → IsPlay arm (role_number arm.roles role) initial seed 0 arrivals (run arrivals)
+  pub records : RecordsRun run file old new left end
+  pub taken : slice_get b.arms (place_taken b role told (arrivals_of records.lines)) ≡ Some arm

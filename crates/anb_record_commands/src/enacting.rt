@@ -1,16 +1,16 @@
 //! The run of a role file's code over a wire, which is recorded.
 ghost use Rattle.std.specs.Prelude.{◌≡◌, ◌≢◌, [], ◌∷◌, Some, true};
-ghost use Rattle.anb_command.specs.Causes.{HasCause};
+ghost use Rattle.anb_command.specs.Causes.{DidNotRise, HasCause, NoneRose};
 ghost use Rattle.anb_words.specs.Commands.{place_by};
-ghost use Rattle.anb_command.specs.Fetches.{Fetches, IfTold};
+ghost use Rattle.anb_command.specs.Fetches.{Fetches};
 ghost use Rattle.anb_command.specs.Reaches.{Reaches};
 ghost use Rattle.anb_command.specs.Reported.{TellsFaults};
 ghost use Rattle.anb_command.specs.Touches.{Touches};
 ghost use Rattle.anb_status.specs.Statuses.{before_reach, phase_of};
 ghost use Rattle.anb_status.specs.declared.status.Status.TheVariants as status;
-ghost use Rattle.anb_role_commands.specs.EnactCommand.{DoesEnact, ErrandIs, RunOf};
-ghost use Rattle.anb_record_commands.specs.Outcomes.{HasRecord, HasRecordCause, IsMissing, recorded_phase};
-ghost use Rattle.anb_record_commands.specs.EnactInto.{DoesEnactInto, errand_values};
+ghost use Rattle.anb_role_commands.specs.EnactCommand.{CompletesEnact, DoesEnact};
+ghost use Rattle.anb_record_commands.specs.Outcomes.{HasRecordCause, IsMissing, recorded_phase};
+ghost use Rattle.anb_record_commands.specs.EnactInto.{CompletesEnactInto, DoesEnactInto, RecordsEnact};
 ghost use Rattle.anb_record_commands.specs.declared.ended.Missing.TheVariants as missing;
 
 use crate::ended::{Ended, Missing};
@@ -34,6 +34,12 @@ pub fn enact_into<F: Shelf, W: Wire, J: Journal>(
     host_seed: Option<[u8; 32]>,
 ) -> Status
     ensures does { DoesEnactInto words.entry.code.now words.entry.values.now
+        (F.files shelf.old) host_seed (W.state wire.old) (W.state wire.new)
+        folder.now (J.state journal.old) (J.state journal.new) result }
+    ensures completes { NoneRose (words.entry.code.now ∷ words.entry.values.now ∷ [])
+        (F.faults shelf.old) (F.faults shelf.new) (W.state wire.old) (W.state wire.new)
+        → DidNotRise (J.state journal.old).faults (J.state journal.new).faults
+        → CompletesEnactInto words.entry.code.now words.entry.values.now
         (F.files shelf.old) host_seed (W.state wire.old) (W.state wire.new)
         folder.now (J.state journal.old) (J.state journal.new) result }
     ensures faults { HasRecordCause folder.now (J.state journal.old) (J.state journal.new)
@@ -63,16 +69,19 @@ fn enact_recorded<F: Shelf, W: Wire, J: Journal>(
 ) -> Ended
     ensures does { DoesEnact words.entry.code.now words.entry.values.now
         (F.files shelf.old) host_seed (W.state wire.old) (W.state wire.new) result.status }
+    ensures completes { NoneRose (words.entry.code.now ∷ words.entry.values.now ∷ [])
+        (F.faults shelf.old) (F.faults shelf.new) (W.state wire.old) (W.state wire.new)
+        → CompletesEnact words.entry.code.now words.entry.values.now
+        (F.files shelf.old) host_seed (W.state wire.old) (W.state wire.new) result.status }
     ensures why_missed { IsMissing folder.now (J.state journal.old) (J.state journal.new)
         (W.state wire.old) (W.state wire.new) result.status result.missing }
     ensures early { phase_of result.status ≡ before_reach
         → J.state journal.new ≡ J.state journal.old }
     ensures recorded { (phase_of result.status ≡ before_reach → ⊥)
         → result.status ≢ status.NoMemory → result.missing ≡ missing.Nothing
-        → IfTold (F.files shelf.old) (λ files. HasRecord RunOf errand_values
-        (ErrandIs files words.entry.code.now words.entry.values.now host_seed)
-        folder.now (J.state journal.old) (J.state journal.new) (W.state wire.old).left
-        result.status) }
+        → RecordsEnact words.entry.code.now words.entry.values.now
+        (F.files shelf.old) host_seed (W.state wire.old) (W.state wire.new)
+        folder.now (J.state journal.old) (J.state journal.new) result.status }
     ensures faults { HasCause (words.entry.code.now ∷ words.entry.values.now ∷ [])
         (Some (place_by words.entry.endpoint)) (F.faults shelf.old) (F.faults shelf.new)
         (W.state wire.old) (W.state wire.new) result.status }

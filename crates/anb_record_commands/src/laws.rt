@@ -1,6 +1,8 @@
 //! A law of recorded plays.
-ghost use Rattle.anb_record_commands.specs.Laws.{RecordedPlaysReplay};
+ghost use Rattle.anb_record_commands.specs.Laws.{RecordedArmsReplay, RecordedPlaysReplay};
 
+use anb_branch::arms_know_alike;
+use anb_branch_commands::arms_are_narrations;
 use anb_recording::written_lines_are_read;
 
 /// Law: `replay` of what was recorded of a play ends as the play did.
@@ -8,4 +10,14 @@ pub fn recorded_plays_replay()
     ensures { RecordedPlaysReplay }
 {
     written_lines_are_read();
+}
+
+/// Law: `replay` of what was recorded of `branch`, with the narration of the arm that was taken, ends as
+/// the play did.
+pub fn recorded_arms_replay()
+    ensures { RecordedArmsReplay }
+{
+    written_lines_are_read();
+    arms_are_narrations();
+    arms_know_alike();
 }

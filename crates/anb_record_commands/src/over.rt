@@ -1,6 +1,5 @@
 //! A code's run over a wire, which is recorded.
-ghost use Rattle.std.specs.Prelude.{◌≡◌, ◌≢◌, ◌⊎◌, ◌≤◌, All, IfOk, IsErrOf, OnOk, Some, true, length};
-ghost use Rattle.anb_base.specs.Moves.{Rose};
+ghost use Rattle.std.specs.Prelude.{◌≡◌, ◌≢◌, ◌⊎◌, ◌≤◌, All, IfOk, Some, true, length};
 ghost use Rattle.anb_base.specs.declared.TheConstants.{ARRIVAL};
 ghost use Rattle.anb_base.specs.declared.place.Place.{Place};
 ghost use Rattle.anb_code.specs.Taking.{take_texts};
@@ -15,20 +14,18 @@ ghost use Rattle.anb_command.specs.Reported.{TellsWireFaults};
 ghost use Rattle.anb_status.specs.Statuses.{after_reach, before_reach, phase_of};
 ghost use Rattle.anb_status.specs.declared.status.Status.TheVariants as status;
 ghost use Rattle.anb_values_text.specs.Texts.{IsTextOf};
-ghost use Rattle.anb_recording.specs.Journals.{IsThere, begun};
 ghost use Rattle.anb_values.specs.Lines.{IsLabel};
 ghost use Rattle.std.specs.List.{AllByRecursion};
 ghost use Rattle.anb_record_commands.specs.Outcomes.{HasTranscript, IsMissing};
-ghost use Rattle.anb_record_commands.specs.Names.{transcript_in, values_in};
 ghost use Rattle.anb_record_commands.specs.Running.{MissesLines, RecordsRun, missing_of};
 ghost use Rattle.anb_record_commands.specs.declared.ended.Missing.TheVariants as missing;
 
 use crate::ended::{Ended, Missing};
-use crate::names::{Names, names_in};
+use crate::opening::{Opened, open};
 use anb_base::{Bytes, Failed, NoMemory, Text, Wire};
 use anb_command::{Endpoint, Prepared, Status, reach, run_over, status_of, texts_of_takes};
 use anb_machine::Machine;
-use anb_recording::{BeginNo, Journal, Kept, record_play};
+use anb_recording::{Journal, Kept, record_play};
 use anb_values::is_label;
 use anb_values_text::values_text;
 use std::alloc::Global;
@@ -63,13 +60,6 @@ pub(crate) fn record_over<W: Wire, J: Journal>(
           seed = prepared.now.seed;
         }) (W.state wire.old).left result.status }
 {
-    let names = match names_in(alloc, folder) {
-        Ok(names) => names,
-        Err(NoMemory) => return Ended {
-            status: Status::NoMemory,
-            missing: Missing::Nothing,
-        },
-    };
     let text = match text_of(alloc, prepared) {
         Ok(text) => text,
         Err(NoMemory) => return Ended {
@@ -77,49 +67,23 @@ pub(crate) fn record_over<W: Wire, J: Journal>(
             missing: Missing::Nothing,
         },
     };
-    let Names { values, transcript } = names;
-    match make_both(alloc, journal, &values, &text, &transcript) {
-        Ok(()) => record_on(alloc, wire, journal, endpoint, prepared, transcript),
-        Err(BeginNo::Failed) => Ended {
+    match open(alloc, journal, folder, &text) {
+        Opened::Ready(transcript) => {
+            record_on(alloc, wire, journal, endpoint, prepared, transcript)
+        }
+        Opened::There(name) => Ended {
+            status: Status::NoMemory,
+            missing: Missing::There(name),
+        },
+        Opened::Failed(name) => Ended {
             status: run_over(alloc, wire, endpoint, prepared),
-            missing: Missing::Unwritten(values),
+            missing: Missing::Unwritten(name),
         },
-        Err(BeginNo::First) => Ended {
-            status: Status::NoMemory,
-            missing: Missing::There(values),
-        },
-        Err(BeginNo::Second) => Ended {
-            status: Status::NoMemory,
-            missing: Missing::There(transcript),
-        },
-        Err(BeginNo::NoMemory) => Ended {
+        Opened::NoMemory => Ended {
             status: Status::NoMemory,
             missing: Missing::Nothing,
         },
     }
-}
-
-/// Makes both files of a recording.
-fn make_both<J: Journal>(
-    alloc: Global,
-    journal: &mut J,
-    values: &Text,
-    text: &Bytes,
-    transcript: &Text,
-) -> Result<(), BeginNo>
-    requires differ { values.now ≢ transcript.now }
-    ensures begun { OnOk result (J.state journal.new
-        ≡ begun (J.state journal.old) values.now text.now transcript.now) }
-    ensures first_there { IsErrOf result BeginNo.First → IsThere (J.state journal.old) values.now }
-    ensures second_there { IsErrOf result BeginNo.Second
-        → IsThere (J.state journal.old) transcript.now }
-    ensures first_stays { IsErrOf result BeginNo.First → J.state journal.new ≡ J.state journal.old }
-    ensures second_stays { IsErrOf result BeginNo.Second
-        → J.state journal.new ≡ J.state journal.old }
-    ensures cause { IsErrOf result BeginNo.Failed
-        → Rose (J.state journal.old).faults (J.state journal.new).faults }
-{
-    journal.begin(alloc, values.as_str(), text.as_slice(), transcript.as_str())
 }
 
 /// The values file of what is run. No values file has a label that is none, so a code that takes a value
@@ -139,7 +103,7 @@ fn text_of(alloc: Global, prepared: &Prepared) -> Result<Bytes, NoMemory>
 }
 
 /// Whether these are label texts.
-fn are_labels(texts: &[Text]) -> bool
+pub(crate) fn are_labels(texts: &[Text]) -> bool
     ensures { result ≡ true → AllByRecursion IsLabel texts.now }
 {
     for text in texts {
@@ -229,7 +193,7 @@ fn record_now<W: Wire, J: Journal>(
 }
 
 /// What is missing where this is missing of the transcript in this file.
-fn missing_of(kept: Kept, transcript: Text) -> Missing
+pub(crate) fn missing_of(kept: Kept, transcript: Text) -> Missing
     ensures { result ≡ missing_of kept transcript }
 {
     match kept {

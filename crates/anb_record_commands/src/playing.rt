@@ -3,9 +3,9 @@ ghost use Rattle.std.specs.Prelude.{◌≡◌, ◌≢◌, ◌≤◌, [], ◌∷�
 ghost use Rattle.anb_base.specs.declared.TheConstants.{ARRIVAL};
 ghost use Rattle.anb_code.specs.Taking.{take_texts};
 ghost use Rattle.anb_session.specs.Sessions.{IsPrompt};
-ghost use Rattle.anb_command.specs.Causes.{HasCause};
+ghost use Rattle.anb_command.specs.Causes.{DidNotRise, HasCause, NoneRose};
 ghost use Rattle.anb_words.specs.Commands.{place_by};
-ghost use Rattle.anb_command.specs.Fetches.{Fetches, IfTold};
+ghost use Rattle.anb_command.specs.Fetches.{Fetches};
 ghost use Rattle.anb_command.specs.OverWire.{OverWire};
 ghost use Rattle.anb_command.specs.Prepared.{RunsOn};
 ghost use Rattle.anb_command.specs.Reaches.{Reaches};
@@ -13,17 +13,17 @@ ghost use Rattle.anb_command.specs.Reported.{TellsFaults};
 ghost use Rattle.anb_command.specs.Touches.{Touches};
 ghost use Rattle.anb_status.specs.Statuses.{before_reach, phase_of};
 ghost use Rattle.anb_status.specs.declared.status.Status.TheVariants as status;
-ghost use Rattle.anb_role_commands.specs.Jobs.{JobIs};
-ghost use Rattle.anb_role_commands.specs.PlayCommand.{DoesPlay, PlayOf};
+ghost use Rattle.anb_role_commands.specs.PlayCommand.{CompletesPlay, DoesPlay};
 ghost use Rattle.anb_role_commands.specs.Playing.{play_by};
-ghost use Rattle.anb_record_commands.specs.Outcomes.{HasRecord, HasRecordCause, HasTranscript, IsMissing, recorded_phase};
-ghost use Rattle.anb_record_commands.specs.PlayInto.{DoesPlayInto, job_values};
+ghost use Rattle.anb_record_commands.specs.Outcomes.{HasRecordCause, HasTranscript, IsMissing, recorded_phase};
+ghost use Rattle.anb_record_commands.specs.PlayInto.{CompletesPlayInto, DoesPlayInto, RecordsPlay};
 ghost use Rattle.anb_record_commands.specs.declared.ended.Missing.TheVariants as missing;
 
 use crate::ended::{Ended, Missing};
 use crate::over::record_over;
-use anb_base::{Shelf, Text, Wire};
+use anb_base::{ARRIVAL, Shelf, Text, Wire};
 use anb_command::{Endpoint, Halt, PlayWords, Prepared, Status};
+use anb_frame::one_cut;
 use anb_read::{narrations_are_unique, none_is_both, refusals_are_unique};
 use anb_recording::Journal;
 use anb_role_commands::prepare;
@@ -41,6 +41,12 @@ pub fn play_into<F: Shelf, W: Wire, J: Journal>(
     host_seed: Option<[u8; 32]>,
 ) -> Status
     ensures does { DoesPlayInto words.entry.narration.now words.entry.name.now
+        words.entry.values.now (F.files shelf.old) host_seed (W.state wire.old) (W.state wire.new)
+        folder.now (J.state journal.old) (J.state journal.new) result }
+    ensures completes { NoneRose (words.entry.narration.now ∷ words.entry.values.now ∷ [])
+        (F.faults shelf.old) (F.faults shelf.new) (W.state wire.old) (W.state wire.new)
+        → DidNotRise (J.state journal.old).faults (J.state journal.new).faults
+        → CompletesPlayInto words.entry.narration.now words.entry.name.now
         words.entry.values.now (F.files shelf.old) host_seed (W.state wire.old) (W.state wire.new)
         folder.now (J.state journal.old) (J.state journal.new) result }
     ensures faults { HasRecordCause folder.now (J.state journal.old) (J.state journal.new)
@@ -70,16 +76,19 @@ fn play_recorded<F: Shelf, W: Wire, J: Journal>(
 ) -> Ended
     ensures does { DoesPlay words.entry.narration.now words.entry.name.now words.entry.values.now
         (F.files shelf.old) host_seed (W.state wire.old) (W.state wire.new) result.status }
+    ensures completes { NoneRose (words.entry.narration.now ∷ words.entry.values.now ∷ [])
+        (F.faults shelf.old) (F.faults shelf.new) (W.state wire.old) (W.state wire.new)
+        → CompletesPlay words.entry.narration.now words.entry.name.now words.entry.values.now
+        (F.files shelf.old) host_seed (W.state wire.old) (W.state wire.new) result.status }
     ensures why_missed { IsMissing folder.now (J.state journal.old) (J.state journal.new)
         (W.state wire.old) (W.state wire.new) result.status result.missing }
     ensures early { phase_of result.status ≡ before_reach
         → J.state journal.new ≡ J.state journal.old }
     ensures recorded { (phase_of result.status ≡ before_reach → ⊥)
         → result.status ≢ status.NoMemory → result.missing ≡ missing.Nothing
-        → IfTold (F.files shelf.old) (λ files. HasRecord PlayOf job_values
-        (JobIs files words.entry.narration.now words.entry.name.now words.entry.values.now host_seed)
-        folder.now (J.state journal.old) (J.state journal.new) (W.state wire.old).left
-        result.status) }
+        → RecordsPlay words.entry.narration.now words.entry.name.now words.entry.values.now
+        (F.files shelf.old) host_seed (W.state wire.old) (W.state wire.new)
+        folder.now (J.state journal.old) (J.state journal.new) result.status }
     ensures faults { HasCause (words.entry.narration.now ∷ words.entry.values.now ∷ [])
         (Some (place_by words.entry.endpoint)) (F.faults shelf.old) (F.faults shelf.new)
         (W.state wire.old) (W.state wire.new) result.status }
@@ -96,6 +105,7 @@ fn play_recorded<F: Shelf, W: Wire, J: Journal>(
     refusals_are_unique();
     none_is_both();
     one_fit();
+    one_cut(ARRIVAL);
     match prepare(alloc, shelf, words, host_seed) {
         Ok(prepared) => play_over(alloc, wire, journal, words.endpoint, &prepared, folder),
         Err(status) => Ended {

@@ -1,13 +1,14 @@
-//! The words of `play` and `enact` where the play is recorded in a folder.
+//! The words of `play`, `enact` and `branch` where the play is recorded in a folder.
 
 use anb_base::Text;
-use anb_command::{Command, EnactWords, PlayWords, is_operand};
+use anb_command::{BranchWords, Command, EnactWords, PlayWords, is_operand};
 
-/// What is asked of `play` or `enact`, and the name of the folder.
+/// What is asked of `play`, `enact` or `branch`, and the name of the folder.
 #[derive(Clone, Copy)]
 pub enum RecordingWords<'w> {
     Play(PlayWords<'w>, &'w Text),
     Enact(EnactWords<'w>, &'w Text),
+    Branch(BranchWords<'w>, &'w Text),
 }
 
 impl<'w> RecordingWords<'w> {
@@ -38,6 +39,7 @@ impl<'w> RecordingWords<'w> {
             None => None,
             Some(Command::Play(words)) => Some(RecordingWords::Play(words, folder)),
             Some(Command::Enact(words)) => Some(RecordingWords::Enact(words, folder)),
+            Some(Command::Branch(words)) => Some(RecordingWords::Branch(words, folder)),
             Some(Command::Park(_other)) => None,
             Some(Command::Resume(_other)) => None,
             Some(Command::Replay(_other)) => None,
@@ -45,7 +47,6 @@ impl<'w> RecordingWords<'w> {
             Some(Command::Rehearse(_other)) => None,
             Some(Command::Drill(_other)) => None,
             Some(Command::Certify(_other)) => None,
-            Some(Command::Branch(_other)) => None,
             Some(Command::Trace(_other)) => None,
             Some(Command::Judge(_other)) => None,
             Some(Command::Page(_other)) => None,

@@ -51,3 +51,5 @@ usage_recording r kept staged asked faults faults_now old new store store_now st
       let never = subst (HasRecordCause folder store store_now (narration ∷ values ∷ []) (Some place) faults faults_now old new) is at in cc
   has_place (recording.enact code values place folder) is at =
       let never = subst (HasRecordCause folder store store_now (code ∷ values ∷ []) (Some place) faults faults_now old new) is at in cc
+  has_place (recording.branch narration role values arm place folder) is at =
+      let never = subst (HasRecordCause folder store store_now (narration ∷ values ∷ []) (Some place) faults faults_now old new) is at in cc

@@ -1,4 +1,4 @@
--- What is done where a play may be recorded: `play` and `enact` with a folder, and all that is done
+-- What is done where a play may be recorded: `play`, `enact` and `branch` with a folder, and all that is done
 -- without one.
 use Rattle.std.specs.Prelude.{ℕ, Bool, true, List, Option, Some, None}
 use Rattle.anb_base.specs.Wires.{WireState}
@@ -7,15 +7,17 @@ use Rattle.anb_stage.specs.Children.{Child}
 use Rattle.anb_store.specs.Stores.{StoreState}
 use Rattle.anb_status.specs.declared.status.Status.{Status}
 use Rattle.anb_status.specs.Statuses.{Phase}
+use Rattle.anb_command.specs.Causes.{DidNotRise}
 use Rattle.anb_command.specs.Fetches.{Files}
 use Rattle.anb_words.specs.Words.{Asked, files_of, place_of}
 use Rattle.anb_park_commands.specs.Words.{Recorded}
-use Rattle.anb_record_commands.specs.EnactInto.{DoesEnactInto}
+use Rattle.anb_record_commands.specs.BranchInto.{CompletesBranchInto, DoesBranchInto}
+use Rattle.anb_record_commands.specs.EnactInto.{CompletesEnactInto, DoesEnactInto}
 use Rattle.anb_record_commands.specs.Outcomes.{HasRecordCause, recorded_phase}
-use Rattle.anb_record_commands.specs.PlayInto.{DoesPlayInto}
-use Rattle.anb_record_commands.specs.Words.{Recording, enact, folder_of, play, without_folder}
+use Rattle.anb_record_commands.specs.PlayInto.{CompletesPlayInto, DoesPlayInto}
+use Rattle.anb_record_commands.specs.Words.{Recording, branch, enact, folder_of, play, without_folder}
 use Rattle.anb_stage_commands.specs.Words.{Staged}
-use Rattle.anb_run.specs.Stores.{DoesStoring, HasStoringCause, IsAskedStoring, storing_files, storing_phase, storing_places, storing_reading}
+use Rattle.anb_run.specs.Stores.{CompletesStoring, DoesStoring, HasStoringCause, IsAskedStoring, storing_files, storing_phase, storing_places, storing_reading}
 
 -- the words ask for something
 abbrev pub IsAskedRecording : Option Recording → Option Recorded → Option Staged → Option Asked → Type 0
@@ -46,12 +48,27 @@ DoesInto told seed old new store store_now status (play narration role values pl
     DoesPlayInto narration role values told seed old new folder store store_now status
 DoesInto told seed old new store store_now status (enact code values place folder) =
     DoesEnactInto code values told seed old new folder store store_now status
+DoesInto told seed old new store store_now status (branch narration role values arm place folder) =
+    DoesBranchInto narration role values arm told seed old new folder store store_now status
+
+-- where nothing failed
+abbrev pub CompletesInto : Option Files → Option (List ℕ) → (old new : WireState) → (store store_now : StoreState) → Status → Recording → Type 0
+CompletesInto told seed old new store store_now status (play narration role values place folder) =
+    CompletesPlayInto narration role values told seed old new folder store store_now status
+CompletesInto told seed old new store store_now status (enact code values place folder) =
+    CompletesEnactInto code values told seed old new folder store store_now status
+CompletesInto told seed old new store store_now status (branch narration role values arm place folder) =
+    CompletesBranchInto narration role values arm told seed old new folder store store_now status
 
 module _ (kept : Option Recorded) (staged : Option Staged) (asked : Option Asked) (told : Option Files) (seed : Option (List ℕ)) (children children_now : ℕ → Child)
     (old new : WireState) (store store_now : StoreState) (status : Status) where
   abbrev pub DoesRecording : Option Recording → Type 0
   DoesRecording (Some r) = DoesInto told seed old new store store_now status r
   DoesRecording None = DoesStoring staged asked told seed children children_now old new store store_now status kept
+
+  abbrev pub CompletesRecording : Option Recording → Type 0
+  CompletesRecording (Some r) = DidNotRise store.faults store_now.faults → CompletesInto told seed old new store store_now status r
+  CompletesRecording None = CompletesStoring staged asked told seed children children_now old new store store_now status kept
 
 -- why a fault is answered
 module _ (kept : Option Recorded) (staged : Option Staged) (asked : Option Asked) (faults faults_now : List ℕ → ℕ) (children children_now : ℕ → Child)

@@ -1,7 +1,7 @@
 //! All commands, with those whose play is recorded in a folder.
 ghost use Rattle.std.specs.Prelude.{◌≡◌, ◌↔◌, ◌<◌, ℕ, Some, None, true};
 ghost use Rattle.anb_stage.specs.declared.TheConstants.{ROLES};
-ghost use Rattle.anb_command.specs.Causes.{NoneRose};
+ghost use Rattle.anb_command.specs.Causes.{DidNotRise, NoneRose};
 ghost use Rattle.anb_command.specs.Fetches.{Fetches};
 ghost use Rattle.anb_status.specs.Lines.{Tells};
 ghost use Rattle.anb_command.specs.Reaches.{Reaches};
@@ -12,23 +12,24 @@ ghost use Rattle.anb_words.specs.Words.{asked_of, files_of, place_of};
 ghost use Rattle.anb_status.specs.declared.status.Status.TheVariants.{Usage};
 ghost use Rattle.anb_park_commands.specs.Words.{recorded_of};
 ghost use Rattle.anb_record_commands.specs.Asking.{recording};
-ghost use Rattle.anb_record_commands.specs.Laws.{RecordedPlaysReplay};
+ghost use Rattle.anb_record_commands.specs.Laws.{RecordedArmsReplay, RecordedPlaysReplay};
 ghost use Rattle.anb_record_commands.specs.Outcomes.{HasRecordCause, recorded_phase};
 ghost use Rattle.anb_record_commands.specs.Words.{folder_of, recording_of, without_folder};
 ghost use Rattle.anb_stage_commands.specs.Words.{staged_of};
-ghost use Rattle.anb_run.specs.Stores.{CompletesStoring, storing_files};
-ghost use Rattle.anb_run.specs.Recordings.{DoesInto, DoesRecording, HasRecordingCause, IsAskedRecording, recording_files, recording_phase, recording_places, recording_reading};
+ghost use Rattle.anb_run.specs.Recordings.{CompletesInto, CompletesRecording, DoesInto, DoesRecording, HasRecordingCause, IsAskedRecording, recording_files, recording_phase, recording_places, recording_reading};
 
 use crate::run_with_store;
 use anb_base::{Shelf, Sink, Text, Wire};
 use anb_command::{Status, tell};
-use anb_record_commands::{RecordingWords, enact_into, play_into, recorded_plays_replay};
+use anb_record_commands::{
+    RecordingWords, branch_into, enact_into, play_into, recorded_arms_replay, recorded_plays_replay,
+};
 use anb_recording::Journal;
 use anb_stage::Spawner;
 use std::alloc::Global;
 
 /// Does what the words ask for, as [`run_with_store`] does, where a play may be recorded too: that of
-/// `play` and of `enact`, where their words end with `--record` and the name of a folder.
+/// `play`, of `enact` and of `branch`, where their words end with `--record` and the name of a folder.
 pub fn run_recording<F: Shelf, P: Spawner, S: Journal, W: Wire, E: Sink>(
     alloc: Global,
     words: &[Text],
@@ -44,13 +45,15 @@ pub fn run_recording<F: Shelf, P: Spawner, S: Journal, W: Wire, E: Sink>(
         (F.files shelf.old) seed (P.child spawner.old) (P.child spawner.new)
         (W.state wire.old) (W.state wire.new) (S.state store.old) (S.state store.new) result
         (recording_of words.now) }
-    ensures completes { recording_of words.now ≡ None → NoneRose
-        (storing_files (recorded_of words.now) (staged_of words.now) (asked_of words.now))
+    ensures completes { NoneRose (recording_files (recording_of words.now)
+        (recorded_of words.now) (staged_of words.now) (asked_of words.now))
         (F.faults shelf.old) (F.faults shelf.new) (W.state wire.old) (W.state wire.new)
-        → CompletesStoring (staged_of words.now) (asked_of words.now) (F.files shelf.old) seed
-        (P.child spawner.old) (P.child spawner.new) (W.state wire.old) (W.state wire.new)
-        (S.state store.old) (S.state store.new) result (recorded_of words.now) }
+        → CompletesRecording (recorded_of words.now) (staged_of words.now) (asked_of words.now)
+        (F.files shelf.old) seed (P.child spawner.old) (P.child spawner.new)
+        (W.state wire.old) (W.state wire.new) (S.state store.old) (S.state store.new) result
+        (recording_of words.now) }
     ensures replayed { RecordedPlaysReplay }
+    ensures replayed_arms { RecordedArmsReplay }
     ensures usage { (result ≡ Usage) ↔ (IsAskedRecording (recording_of words.now)
         (recorded_of words.now) (staged_of words.now) (asked_of words.now) → ⊥) }
     ensures faults { HasRecordingCause (recorded_of words.now) (staged_of words.now)
@@ -82,6 +85,7 @@ pub fn run_recording<F: Shelf, P: Spawner, S: Journal, W: Wire, E: Sink>(
     ensures beside_line { E.kept err.new ≡ E.kept err.old }
 {
     recorded_plays_replay();
+    recorded_arms_replay();
     match RecordingWords::read(words) {
         None => run_with_store(alloc, words, shelf, spawner, store, wire, err, seed),
         Some(words) => {
@@ -103,6 +107,11 @@ fn record<F: Shelf, S: Journal, W: Wire>(
 ) -> Status
     ensures does { DoesInto (F.files shelf.old) seed (W.state wire.old) (W.state wire.new)
         (S.state store.old) (S.state store.new) result (recording words.entry) }
+    ensures completes { NoneRose (files_of (Some (without_folder (recording words.entry))))
+        (F.faults shelf.old) (F.faults shelf.new) (W.state wire.old) (W.state wire.new)
+        → DidNotRise (S.state store.old).faults (S.state store.new).faults
+        → CompletesInto (F.files shelf.old) seed (W.state wire.old) (W.state wire.new)
+        (S.state store.old) (S.state store.new) result (recording words.entry) }
     ensures faults { HasRecordCause (folder_of (recording words.entry))
         (S.state store.old) (S.state store.new)
         (files_of (Some (without_folder (recording words.entry))))
@@ -122,6 +131,9 @@ fn record<F: Shelf, S: Journal, W: Wire>(
         }
         RecordingWords::Enact(words, folder) => {
             enact_into(alloc, shelf, wire, store, words, folder, seed)
+        }
+        RecordingWords::Branch(words, folder) => {
+            branch_into(alloc, shelf, wire, store, words, folder, seed)
         }
     }
 }

@@ -97,7 +97,7 @@ help_text =
     ++ codes "anb host <narration> <role> <values> [place]\n"
     ++ codes "anb rehearse <narration> <values> <schedule>\n" ++ codes "anb drill <n>\n"
     ++ codes "anb help\n"
-    ++ codes "anb branch <narration> <role> <values> [--arm <n>] [place]\n"
+    ++ codes "anb branch <narration> <role> <values> [--arm <n>] [place] [--record <folder>]\n"
     ++ codes "anb certify <narration> <role> <rolefile>\n"
     ++ codes "anb why <narration>\n"
     ++ codes "anb park <narration> <role> <values> <key> [place] [--record <file>]\n"

@@ -48,7 +48,7 @@ const HELP: &str = concat!(
     "anb rehearse <narration> <values> <schedule>\n",
     "anb drill <n>\n",
     "anb help\n",
-    "anb branch <narration> <role> <values> [--arm <n>] [place]\n",
+    "anb branch <narration> <role> <values> [--arm <n>] [place] [--record <folder>]\n",
     "anb certify <narration> <role> <rolefile>\n",
     "anb why <narration>\n",
     "anb park <narration> <role> <values> <key> [place] [--record <file>]\n",

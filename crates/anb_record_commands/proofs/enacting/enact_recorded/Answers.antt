@@ -2,11 +2,11 @@ use Rattle.std.proofs.Common.{[], ◌∷◌, refl}
 use Rattle.anb_machine.specs.ByteRuns.{run_bytes}
 use Rattle.anb_words.specs.Commands.{place_by}
 use Rattle.anb_command.proofs.Answering.{refuses_over, runs_over}
-use Rattle.anb_command.proofs.Causes.{early_cause, early_reaches, wire_cause}
+use Rattle.anb_command.proofs.Causes.{early_cause, early_reaches, only_memory, wire_cause}
 use Rattle.anb_command.proofs.Failing.{IsFailure-map}
 use Rattle.anb_command.proofs.OverWire.{untouched}
 use Rattle.anb_role_commands.specs.EnactCommand.{ErrandIs, IsReadFor, RunOf}
-use Rattle.anb_role_commands.proofs.Enacting.{errand_ready}
+use Rattle.anb_role_commands.proofs.Enacting.{completes_enact, errand_ready}
 use Rattle.anb_role_commands.proofs.Tasks.{errand_one, errand_quiet}
 use Rattle.anb_command.proofs.Reported.{told_before, told_behind}
 use Rattle.anb_record_commands.proofs.Asked.{errand_recorded, not_early}
@@ -71,3 +71,19 @@ returns-in-Ok-clause-recorded g c = λ late some whole.
 
 pub returns-in-Err-clause-recorded : goal.returns-in-Err-clause-recorded
 returns-in-Err-clause-recorded g c = λ late some whole. absurd (not_early c.in-Err.status c.in-Err.ensures.early late some)
+
+pub returns-in-Ok-clause-completes : goal.returns-in-Ok-clause-completes
+returns-in-Ok-clause-completes g c = λ none.
+    let words = c.args.words in
+    completes_enact words.code.now words.values.now c.args.host_seed
+    (λ files. errand_one c.files_are_unique.ensures c.codes_are_unique.ensures c.none_is_both.ensures c.faults_are_unique.ensures c.one_fit.ensures files words.code.now words.values.now c.args.host_seed)
+    (g.F.Shelf.files c.args.shelf.now) (g.W.Wire.state c.args.wire.now) (g.W.Wire.state c.record_over.new.wire) c.record_over.result.status (returns-in-Ok-clause-does g c)
+    (only_memory (words.code.now ∷ words.values.now ∷ []) (place_by words.endpoint) (g.F.Shelf.faults c.args.shelf.now) (g.F.Shelf.faults c.load_prepared.new.shelf) (g.W.Wire.state c.args.wire.now) (g.W.Wire.state c.record_over.new.wire) none c.record_over.result.status (returns-in-Ok-clause-faults g c))
+
+pub returns-in-Err-clause-completes : goal.returns-in-Err-clause-completes
+returns-in-Err-clause-completes g c = λ none.
+    let words = c.args.words in
+    completes_enact words.code.now words.values.now c.args.host_seed
+    (λ files. errand_one c.files_are_unique.ensures c.codes_are_unique.ensures c.none_is_both.ensures c.faults_are_unique.ensures c.one_fit.ensures files words.code.now words.values.now c.args.host_seed)
+    (g.F.Shelf.files c.args.shelf.now) (g.W.Wire.state c.args.wire.now) (g.W.Wire.state c.args.wire.now) c.in-Err.status (returns-in-Err-clause-does g c)
+    (only_memory (words.code.now ∷ words.values.now ∷ []) (place_by words.endpoint) (g.F.Shelf.faults c.args.shelf.now) (g.F.Shelf.faults c.load_prepared.new.shelf) (g.W.Wire.state c.args.wire.now) (g.W.Wire.state c.args.wire.now) none c.in-Err.status (returns-in-Err-clause-faults g c))

@@ -1,4 +1,4 @@
-use Rattle.std.proofs.Common.{List, ℕ, true, subst, ap, refl, ◌≡◌}
+use Rattle.std.proofs.Common.{List, ℕ, true, subst, ap, refl, inr, ◌≡◌}
 use Rattle.anb_base.specs.declared.place.Place.{Place}
 use Rattle.anb_base.specs.Wires.{WireState}
 use Rattle.anb_record_commands.proofs.Recorded.{records_as, records_nothing}
@@ -87,7 +87,7 @@ returns-in-Ok-reach-clause-recorded g c = λ some whole.
 pub returns-in-Err-reach-clause-recorded : goal.returns-in-Err-reach-clause-recorded
 returns-in-Err-reach-clause-recorded g c = λ some whole.
     let p = c.args.prepared.now in
-    records_nothing (run_bytes p.code p.initial p.seed 0) c.args.transcript (g.J.Store.state c.args.journal.now) (g.W.Wire.state c.args.wire.now).left (Unreached c.in-Ok.place) refl
+    records_nothing (run_bytes p.code p.initial p.seed 0) c.args.transcript (g.J.Store.state c.args.journal.now) (g.W.Wire.state c.args.wire.now).left (Unreached c.in-Ok.place) (inr (c.in-Ok.place, refl, refl))
 
 pub returns-in-Err-clause-recorded : goal.returns-in-Err-clause-recorded
 returns-in-Err-clause-recorded g c = λ some whole. absurd (some refl)

@@ -1,12 +1,13 @@
 use Rattle.std.proofs.Common.{[], ◌∷◌, refl}
 use Rattle.anb_words.specs.Commands.{place_by}
 use Rattle.anb_command.proofs.Answering.{refuses_over, runs_over}
-use Rattle.anb_command.proofs.Causes.{early_cause, early_reaches, wire_cause}
+use Rattle.anb_command.proofs.Causes.{early_cause, early_reaches, only_memory, wire_cause}
 use Rattle.anb_command.proofs.Failing.{IsFailure-map}
 use Rattle.anb_command.proofs.OverWire.{untouched}
 use Rattle.anb_role_commands.specs.Jobs.{IsRead, JobIs}
 use Rattle.anb_role_commands.specs.PlayCommand.{PlayOf}
 use Rattle.anb_role_commands.specs.Playing.{play_by}
+use Rattle.anb_role_commands.proofs.Completing.{completes_play}
 use Rattle.anb_role_commands.proofs.Tasks.{job_one, job_quiet}
 use Rattle.anb_command.proofs.Reported.{told_before, told_behind}
 use Rattle.anb_record_commands.proofs.Asked.{job_recorded, not_early}
@@ -71,3 +72,19 @@ returns-in-Ok-clause-recorded g c = λ late some whole.
 
 pub returns-in-Err-clause-recorded : goal.returns-in-Err-clause-recorded
 returns-in-Err-clause-recorded g c = λ late some whole. absurd (not_early c.in-Err.status c.in-Err.ensures.early late some)
+
+pub returns-in-Ok-clause-completes : goal.returns-in-Ok-clause-completes
+returns-in-Ok-clause-completes g c = λ none.
+    let words = c.args.words in
+    completes_play words.narration.now words.name.now words.values.now c.args.host_seed
+    (λ files. job_one c.narrations_are_unique.ensures c.refusals_are_unique.ensures c.none_is_both.ensures c.one_fit.ensures files words.narration.now words.name.now words.values.now c.args.host_seed)
+    c.one_cut.ensures.exists (g.F.Shelf.files c.args.shelf.now) (g.W.Wire.state c.args.wire.now) (g.W.Wire.state c.play_over.new.wire) c.play_over.result.status (returns-in-Ok-clause-does g c)
+    (only_memory (words.narration.now ∷ words.values.now ∷ []) (place_by words.endpoint) (g.F.Shelf.faults c.args.shelf.now) (g.F.Shelf.faults c.prepare.new.shelf) (g.W.Wire.state c.args.wire.now) (g.W.Wire.state c.play_over.new.wire) none c.play_over.result.status (returns-in-Ok-clause-faults g c))
+
+pub returns-in-Err-clause-completes : goal.returns-in-Err-clause-completes
+returns-in-Err-clause-completes g c = λ none.
+    let words = c.args.words in
+    completes_play words.narration.now words.name.now words.values.now c.args.host_seed
+    (λ files. job_one c.narrations_are_unique.ensures c.refusals_are_unique.ensures c.none_is_both.ensures c.one_fit.ensures files words.narration.now words.name.now words.values.now c.args.host_seed)
+    c.one_cut.ensures.exists (g.F.Shelf.files c.args.shelf.now) (g.W.Wire.state c.args.wire.now) (g.W.Wire.state c.args.wire.now) c.in-Err.status (returns-in-Err-clause-does g c)
+    (only_memory (words.narration.now ∷ words.values.now ∷ []) (place_by words.endpoint) (g.F.Shelf.faults c.args.shelf.now) (g.F.Shelf.faults c.prepare.new.shelf) (g.W.Wire.state c.args.wire.now) (g.W.Wire.state c.args.wire.now) none c.in-Err.status (returns-in-Err-clause-faults g c))

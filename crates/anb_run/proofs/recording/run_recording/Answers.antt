@@ -25,7 +25,7 @@ pub returns-in-None-clause-touches : goal.returns-in-None-clause-touches
 returns-in-None-clause-touches g c = rw (sym c.in-None.ensures) c.run_with_store.ensures.touches
 
 pub returns-in-None-clause-completes : goal.returns-in-None-clause-completes
-returns-in-None-clause-completes g c = λ none. c.run_with_store.ensures.completes
+returns-in-None-clause-completes g c = rw (sym c.in-None.ensures) c.run_with_store.ensures.completes
 
 pub returns-in-None-clause-unstored : goal.returns-in-None-clause-unstored
 returns-in-None-clause-unstored g c = λ none. c.run_with_store.ensures.unstored
@@ -49,7 +49,7 @@ pub returns-in-Some-clause-touches : goal.returns-in-Some-clause-touches
 returns-in-Some-clause-touches g c = rw (sym c.in-Some.ensures) c.record-status.ensures.touches
 
 pub returns-in-Some-clause-completes : goal.returns-in-Some-clause-completes
-returns-in-Some-clause-completes g c = λ none. absurd (let never = c.in-Some.ensures in cc)
+returns-in-Some-clause-completes g c = rw (sym c.in-Some.ensures) c.record-status.ensures.completes
 
 pub returns-in-Some-clause-unstored : goal.returns-in-Some-clause-unstored
 returns-in-Some-clause-unstored g c = λ none. absurd (let never = c.in-Some.ensures in cc)

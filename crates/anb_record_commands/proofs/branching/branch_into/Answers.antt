@@ -1,0 +1,69 @@
+use Rattle.std.proofs.Common.{[], ◌∷◌, refl}
+use Rattle.anb_words.specs.Commands.{place_by}
+use Rattle.anb_command.proofs.Causes.{only_memory}
+use Rattle.anb_branch_commands.specs.BranchCommand.{CompletesBranch, DoesBranch}
+use Rattle.anb_record_commands.specs.BranchInto.{RecordsBranch}
+use Rattle.anb_record_commands.proofs.Completing.{completes_in_folder, branch_wants}
+use Rattle.anb_record_commands.proofs.Telling.{told_cause, told_faults, told_reaches, told_touches}
+use Rattle.anb_record_commands.proofs.branching.branch_into.Goals as goal
+
+pub returns-clause-does : goal.returns-clause-does
+returns-clause-does g c =
+    let e = c.branch_recorded.ensures in
+    record {
+      end = c.branch_recorded.result.status;
+      missed = c.branch_recorded.result.missing;
+      does = e.does;
+      told_so = c.told.ensures;
+      why_missed = e.why_missed;
+      early = e.early;
+      recorded = e.recorded;
+    }
+
+pub returns-clause-faults : goal.returns-clause-faults
+returns-clause-faults g c =
+    let e = c.branch_recorded.ensures in
+    let r = c.branch_recorded.result in
+    rw c.told.ensures
+    (told_cause c.args.folder.now (g.J.Store.state c.args.journal.now) (g.J.Store.state c.branch_recorded.new.journal) (g.W.Wire.state c.args.wire.now) (g.W.Wire.state c.branch_recorded.new.wire) r.status r.missing e.why_missed
+    (c.args.words.play.narration.now ∷ c.args.words.play.values.now ∷ []) (place_by c.args.words.play.endpoint) (g.F.Shelf.faults c.args.shelf.now) (g.F.Shelf.faults c.branch_recorded.new.shelf) e.faults)
+
+pub returns-clause-reported : goal.returns-clause-reported
+returns-clause-reported g c =
+    let e = c.branch_recorded.ensures in
+    let r = c.branch_recorded.result in
+    rw c.told.ensures
+    (told_faults c.args.folder.now (g.J.Store.state c.args.journal.now) (g.J.Store.state c.branch_recorded.new.journal) (g.W.Wire.state c.args.wire.now) (g.W.Wire.state c.branch_recorded.new.wire) r.status r.missing e.why_missed
+    (c.args.words.play.narration.now ∷ c.args.words.play.values.now ∷ []) (place_by c.args.words.play.endpoint) (g.F.Shelf.faults c.args.shelf.now) (g.F.Shelf.faults c.branch_recorded.new.shelf) e.reported)
+
+pub returns-clause-reached : goal.returns-clause-reached
+returns-clause-reached g c =
+    let e = c.branch_recorded.ensures in
+    let r = c.branch_recorded.result in
+    rw c.told.ensures
+    (told_reaches c.args.folder.now (g.J.Store.state c.args.journal.now) (g.J.Store.state c.branch_recorded.new.journal) (g.W.Wire.state c.args.wire.now) (g.W.Wire.state c.branch_recorded.new.wire) r.status r.missing e.why_missed
+    (c.args.words.play.narration.now ∷ c.args.words.play.values.now ∷ []) (place_by c.args.words.play.endpoint) (g.F.Shelf.faults c.args.shelf.now) (g.F.Shelf.faults c.branch_recorded.new.shelf) e.reached)
+
+pub returns-clause-touches : goal.returns-clause-touches
+returns-clause-touches g c =
+    let e = c.branch_recorded.ensures in
+    let r = c.branch_recorded.result in
+    rw c.told.ensures
+    (told_touches c.args.folder.now (g.J.Store.state c.args.journal.now) (g.J.Store.state c.branch_recorded.new.journal) (g.W.Wire.state c.args.wire.now) (g.W.Wire.state c.branch_recorded.new.wire) r.status r.missing e.why_missed
+    (c.args.words.play.narration.now ∷ c.args.words.play.values.now ∷ []) (place_by c.args.words.play.endpoint) (g.F.Shelf.faults c.args.shelf.now) (g.F.Shelf.faults c.branch_recorded.new.shelf) e.touches)
+
+pub returns-clause-completes : goal.returns-clause-completes
+returns-clause-completes g c = λ none calm.
+    let words = c.args.words in
+    let e = c.branch_recorded.ensures in
+    let r = c.branch_recorded.result in
+    let told = g.F.Shelf.files c.args.shelf.now in
+    let S = g.W.Wire.state c.args.wire.now in
+    let T = g.W.Wire.state c.branch_recorded.new.wire in
+    let store = g.J.Store.state c.args.journal.now in
+    let store_now = g.J.Store.state c.branch_recorded.new.journal in
+    rw c.told.ensures
+    (completes_in_folder S T c.args.folder.now store store_now r.status r.missing e.why_missed calm
+    (only_memory (words.play.narration.now ∷ words.play.values.now ∷ []) (place_by words.play.endpoint) (g.F.Shelf.faults c.args.shelf.now) (g.F.Shelf.faults c.branch_recorded.new.shelf) S T none r.status e.faults)
+    (DoesBranch words.play.narration.now words.play.name.now words.play.values.now words.told told c.args.host_seed S T) (RecordsBranch words.play.narration.now words.play.name.now words.play.values.now words.told told c.args.host_seed S T c.args.folder.now store store_now) (CompletesBranch words.play.narration.now words.play.name.now words.play.values.now words.told told c.args.host_seed S T)
+    e.does e.recorded (e.completes none) (branch_wants words.play.narration.now words.play.name.now words.play.values.now words.told told c.args.host_seed S T))

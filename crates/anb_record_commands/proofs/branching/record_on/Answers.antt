@@ -1,0 +1,90 @@
+use Rattle.std.proofs.Common.{true, subst, ap, refl}
+use Rattle.anb_base.specs.Wires.{WireState}
+use Rattle.anb_base.specs.declared.place.Place.{Place}
+use Rattle.anb_choice.specs.Views.{branched_of}
+use Rattle.anb_branch.specs.Taken.{run_taken}
+use Rattle.anb_command.specs.OverWire.{OverWire}
+use Rattle.anb_status.specs.declared.status.Status.TheVariants.{Unreached}
+use Rattle.anb_command.proofs.OverWire.{left_unreached, no_memory, not_before, not_reached, ran, runs_after, runs_nowhere, taken_unreached, written_unreached}
+use Rattle.anb_command.proofs.Prompt.{prompt_after, prompt_nowhere}
+use Rattle.anb_record_commands.proofs.Arms.{arm_over}
+use Rattle.anb_record_commands.proofs.branching.record_on.Goals as goal
+
+pub returns-in-Ok-reach-clause-runs : goal.returns-in-Ok-reach-clause-runs
+returns-in-Ok-reach-clause-runs g c =
+    let p = c.args.prepared.now in
+    let R = run_taken (branched_of p.branched) c.args.words.play.name.now c.args.words.told p.means.initial p.means.seed p.codes.items in
+    runs_after c.in-Ok.place (g.W.Wire.state c.args.wire.now) (g.W.Wire.state c.reach.new.wire) c.in-Ok-reach.ensures.reached R R (λ arrivals. refl)
+    (g.W.Wire.state c.record_now.new.wire) c.record_now.result.status c.record_now.ensures.runs
+
+pub returns-in-Ok-reach-clause-prompt : goal.returns-in-Ok-reach-clause-prompt
+returns-in-Ok-reach-clause-prompt g c =
+    let p = c.args.prepared.now in
+    let R = run_taken (branched_of p.branched) c.args.words.play.name.now c.args.words.told p.means.initial p.means.seed p.codes.items in
+    prompt_after R c.in-Ok.place (g.W.Wire.state c.args.wire.now) (g.W.Wire.state c.reach.new.wire) (g.W.Wire.state c.record_now.new.wire) c.in-Ok-reach.ensures.reached c.record_now.ensures.prompt
+
+pub returns-in-Ok-reach-clause-wire : goal.returns-in-Ok-reach-clause-wire
+returns-in-Ok-reach-clause-wire g c =
+    subst (λ (place : Place). OverWire place true c.record_now.result.status (g.W.Wire.state c.args.wire.now) (g.W.Wire.state c.record_now.new.wire)) c.in-Ok.ensures
+    (ran c.in-Ok.place (g.W.Wire.state c.args.wire.now) (g.W.Wire.state c.reach.new.wire) c.in-Ok-reach.ensures.reached (g.W.Wire.state c.record_now.new.wire) c.record_now.ensures.reached
+    c.record_now.result.status c.record_now.ensures.after (c.record_now.ensures.cause c.in-Ok.place) c.record_now.ensures.told)
+
+pub returns-in-Ok-reach-clause-late : goal.returns-in-Ok-reach-clause-late
+returns-in-Ok-reach-clause-late g c =
+    not_before c.in-Ok.place (g.W.Wire.state c.args.wire.now) (g.W.Wire.state c.reach.new.wire) c.in-Ok-reach.ensures.reached (g.W.Wire.state c.record_now.new.wire) c.record_now.ensures.reached c.record_now.result.status c.record_now.ensures.after
+
+pub returns-in-Ok-reach-clause-plays : goal.returns-in-Ok-reach-clause-plays
+returns-in-Ok-reach-clause-plays g c = rw (c.as_slice-initial.ensures, c.deref.ensures.value) at c.fitting_arms_play.ensures
+
+pub returns-in-Ok-reach-clause-recorded : goal.returns-in-Ok-reach-clause-recorded
+returns-in-Ok-reach-clause-recorded g c = λ after whole.
+    let p = c.args.prepared.now in
+    let R = run_taken (branched_of p.branched) c.args.words.play.name.now c.args.words.told p.means.initial p.means.seed p.codes.items in
+    arm_over (branched_of p.branched) c.args.words.play.name.now c.args.words.told p.means.initial p.means.seed c.args.transcript (g.J.Store.state c.args.journal.now) (g.J.Store.state c.record_now.new.journal)
+    (g.W.Wire.state c.reach.new.wire).left (g.W.Wire.state c.args.wire.now).left c.record_now.result.status (ap (λ (w : WireState). w.left) c.in-Ok-reach.ensures.reached.same) after (λ some. c.record_now.ensures.recorded some whole)
+
+pub returns-in-Err-reach-clause-wire : goal.returns-in-Err-reach-clause-wire
+returns-in-Err-reach-clause-wire g c =
+    subst (λ (place : Place). OverWire place true (Unreached c.in-Ok.place) (g.W.Wire.state c.args.wire.now) (g.W.Wire.state c.reach.new.wire)) c.in-Ok.ensures
+    (not_reached c.in-Ok.place (g.W.Wire.state c.args.wire.now) (g.W.Wire.state c.reach.new.wire) c.in-Err-reach.ensures.failed true)
+
+pub returns-in-Err-reach-clause-runs : goal.returns-in-Err-reach-clause-runs
+returns-in-Err-reach-clause-runs g c = λ arrivals tail cut. (
+  left_unreached c.in-Ok.place (g.W.Wire.state c.args.wire.now) (g.W.Wire.state c.reach.new.wire) c.in-Err-reach.ensures.failed,
+  written_unreached c.in-Ok.place (g.W.Wire.state c.args.wire.now) (g.W.Wire.state c.reach.new.wire) c.in-Err-reach.ensures.failed,
+)
+
+pub returns-in-Err-reach-clause-prompt : goal.returns-in-Err-reach-clause-prompt
+returns-in-Err-reach-clause-prompt g c =
+    let p = c.args.prepared.now in
+    let R = run_taken (branched_of p.branched) c.args.words.play.name.now c.args.words.told p.means.initial p.means.seed p.codes.items in
+    prompt_nowhere R (g.W.Wire.state c.args.wire.now) (g.W.Wire.state c.reach.new.wire)
+    (left_unreached c.in-Ok.place (g.W.Wire.state c.args.wire.now) (g.W.Wire.state c.reach.new.wire) c.in-Err-reach.ensures.failed)
+    (taken_unreached c.in-Ok.place (g.W.Wire.state c.args.wire.now) (g.W.Wire.state c.reach.new.wire) c.in-Err-reach.ensures.failed)
+
+pub returns-in-Err-reach-clause-plays : goal.returns-in-Err-reach-clause-plays
+returns-in-Err-reach-clause-plays g c = rw (c.as_slice-initial.ensures, c.deref.ensures.value) at c.fitting_arms_play.ensures
+
+pub returns-in-Err-reach-clause-recorded : goal.returns-in-Err-reach-clause-recorded
+returns-in-Err-reach-clause-recorded g c = λ after whole. absurd (cc)
+
+pub returns-in-Err-clause-runs : goal.returns-in-Err-clause-runs
+returns-in-Err-clause-runs g c =
+    let p = c.args.prepared.now in
+    let R = run_taken (branched_of p.branched) c.args.words.play.name.now c.args.words.told p.means.initial p.means.seed p.codes.items in
+    runs_nowhere R (g.W.Wire.state c.args.wire.now)
+
+pub returns-in-Err-clause-prompt : goal.returns-in-Err-clause-prompt
+returns-in-Err-clause-prompt g c =
+    let p = c.args.prepared.now in
+    let R = run_taken (branched_of p.branched) c.args.words.play.name.now c.args.words.told p.means.initial p.means.seed p.codes.items in
+    prompt_nowhere R (g.W.Wire.state c.args.wire.now) (g.W.Wire.state c.args.wire.now) refl refl
+
+pub returns-in-Err-clause-wire : goal.returns-in-Err-clause-wire
+returns-in-Err-clause-wire g c = no_memory _ true (g.W.Wire.state c.args.wire.now)
+
+pub returns-in-Err-clause-plays : goal.returns-in-Err-clause-plays
+returns-in-Err-clause-plays g c = rw (c.as_slice-initial.ensures, c.deref.ensures.value) at c.fitting_arms_play.ensures
+
+pub returns-in-Err-clause-recorded : goal.returns-in-Err-clause-recorded
+returns-in-Err-clause-recorded g c = λ after whole. absurd (cc)

@@ -1,0 +1,10 @@
+use Rattle.anb_run.proofs.recording.record.Goals as goal
+
+pub returns-in-Play-clause-completes : goal.returns-in-Play-clause-completes
+returns-in-Play-clause-completes g c = rw c.in-Play.is c.play_into.ensures.completes
+
+pub returns-in-Enact-clause-completes : goal.returns-in-Enact-clause-completes
+returns-in-Enact-clause-completes g c = rw c.in-Enact.is c.enact_into.ensures.completes
+
+pub returns-in-Branch-clause-completes : goal.returns-in-Branch-clause-completes
+returns-in-Branch-clause-completes g c = rw c.in-Branch.is c.branch_into.ensures.completes
