@@ -2,7 +2,7 @@
 use crate::starting::code;
 use anb_base::{Bytes, MemWire, NoMemory};
 use anb_code::RoleCode;
-use anb_host::{Host, HostEnd, HostEvent, Notice, serve};
+use anb_host::{Host, HostEnd, serve};
 use std::alloc::Global;
 use std::process::Abort;
 use std::test::Fail;
@@ -48,31 +48,5 @@ fn a_budget_is_spent(rt: HostRuntime) -> Result<(), Fail> {
         spent(alloc, &mut host, 2)?.as_str(),
         "Spent(2) [0, 0, 0, 0, 0, 46, 46, 46, 46, 46]"
     );
-    Ok(())
-}
-
-/// What the host answers to a start. The caller is told nothing of it, as above.
-fn notices(alloc: Global, host: &mut Host<'_>, session: u32) -> Result<Vec<Notice>, NoMemory> {
-    host.event(alloc, HostEvent::Start(session))
-}
-
-/// How the host's answer to a start is told.
-fn answer(alloc: Global, host: &mut Host<'_>, session: u32) -> Result<String, NoMemory> {
-    let notices = notices(alloc, host, session)?;
-    Ok(format!(in alloc; "{notices:?}")?)
-}
-
-#[test]
-fn an_event_is_answered(rt: HostRuntime) -> Result<(), Fail> {
-    let alloc = rt.alloc();
-    let code = code(&rt, alloc, "code\nr0 = recv\n")?;
-    let mut host = host(&rt, alloc, &code)?;
-    for (session, words) in [
-        (1_023, "[]"),
-        (1_023, "[Refused(1023, Started)]"),
-        (1_024, "[Refused(1024, Range)]"),
-    ] {
-        assert_eq!(rt; answer(alloc, &mut host, session)?.as_str(), words);
-    }
     Ok(())
 }

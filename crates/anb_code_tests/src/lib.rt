@@ -1,9 +1,6 @@
-//! Worked examples of role codes: codes that are verified, machines, sessions, transcripts, hosts and
-//! parked sessions. The tests are the examples, of what no command shows.
+//! Worked examples of role codes: machines, sessions, hosts and parked sessions. The tests are the examples, of what no command shows.
 #![tactic(auto)]
 
-#[cfg(test)]
-mod codes;
 #[cfg(test)]
 mod hosts;
 #[cfg(test)]
@@ -14,5 +11,3 @@ mod parked;
 mod sessions;
 #[cfg(test)]
 mod starting;
-#[cfg(test)]
-mod transcripts;

@@ -60,37 +60,6 @@ fn is_refused(alloc: Global, code: &RoleCode, record: &[u8], no: ParkNo) -> bool
     }
 }
 
-#[test]
-fn a_record_with_another_bit_is_damaged(rt: HostRuntime) -> Result<(), Fail> {
-    let code = code(&rt, rt.alloc(), "code\nr0 = fresh\nr1 = recv\nsend r0\n")?;
-    let mut record = hex::decode(rt.alloc(), RECORD.as_bytes())?;
-    for bit in 0..824 {
-        if let Some(byte) = record.get_mut(bit / 8) {
-            *byte ^= 1 << (bit % 8);
-        }
-        assert!(rt;
-            is_refused(rt.alloc(), &code, &record, ParkNo::Damaged),
-            "{bit}"
-        );
-        if let Some(byte) = record.get_mut(bit / 8) {
-            *byte ^= 1 << (bit % 8);
-        }
-    }
-    assert!(rt; !is_refused(rt.alloc(), &code, &record, ParkNo::Damaged));
-    Ok(())
-}
-
-#[test]
-fn a_record_that_is_cut_is_damaged(rt: HostRuntime) -> Result<(), Fail> {
-    let code = code(&rt, rt.alloc(), "code\nr0 = fresh\nr1 = recv\nsend r0\n")?;
-    let mut record = hex::decode(rt.alloc(), RECORD.as_bytes())?;
-    for _cut in 0..103 {
-        let _ = record.pop();
-        assert!(rt; is_refused(rt.alloc(), &code, &record, ParkNo::Damaged));
-    }
-    Ok(())
-}
-
 /// The record under this key of these frames, under an identity of 32 such bytes.
 fn record_of(alloc: Global, key: &str, id: u8, frames: &str) -> Result<Bytes, Fail> {
     let mut body = Vec::from_slice(alloc, b"PK1")?;

@@ -1,4 +1,4 @@
-//! Worked examples of terms: recipes, pools, closures and checks. The tests are the examples.
+//! Worked examples of terms: closures and checks. The tests are the examples.
 #![tactic(auto)]
 
 #[cfg(test)]
@@ -7,7 +7,3 @@ mod checks;
 mod closures;
 #[cfg(test)]
 mod notation;
-#[cfg(test)]
-mod pools;
-#[cfg(test)]
-mod terms;
