@@ -55,6 +55,9 @@ pub(crate) fn difference(
 
 /// The same of the files that are kept: the one that the last word names, where one is expected.
 fn store_difference(alloc: Global, case: Case, store: &MemStore) -> Result<Option<String>, No> {
+    if let Some(transcript) = case.bytes(alloc, "kept transcript")? {
+        return folder_difference(alloc, case, store, &transcript);
+    }
     let Some(content) = case.bytes(alloc, "kept")? else {
         return Ok(kept_anyway(alloc, store)?);
     };
@@ -71,6 +74,41 @@ fn store_difference(alloc: Global, case: Case, store: &MemStore) -> Result<Optio
         None => Ok(Some(String::from_str(alloc, "no file is kept")?)),
         kept => Ok(kept),
     }
+}
+
+/// The same of the folder that the last word names: the transcript in it, and the values where these are
+/// said too.
+fn folder_difference(
+    alloc: Global,
+    case: Case,
+    store: &MemStore,
+    transcript: &[u8],
+) -> Result<Option<String>, No> {
+    let words = case.text(alloc, "words")?.unwrap_or(String::new(alloc));
+    let folder = words.split_whitespace().last().unwrap_or("");
+    let kept = last_kept(store, folder, "/transcript");
+    if kept != transcript {
+        return Ok(Some(told(alloc, "kept transcript", kept)?));
+    }
+    let Some(values) = case.bytes(alloc, "kept values")? else {
+        return Ok(None);
+    };
+    let kept = last_kept(store, folder, "/values");
+    if kept == values.as_slice() {
+        return Ok(None);
+    }
+    Ok(Some(told(alloc, "kept values", kept)?))
+}
+
+/// What the file of the folder holds in the end, or nothing.
+fn last_kept<'s>(store: &'s MemStore, folder: &str, file: &str) -> &'s [u8] {
+    let mut last: &[u8] = b"";
+    for (name, content) in store.kept() {
+        if name.as_str().strip_prefix(folder) == Some(file) {
+            last = content.as_slice();
+        }
+    }
+    last
 }
 
 /// The last file that is kept, where there is one.

@@ -6,7 +6,6 @@
 mod case;
 mod filling;
 mod judging;
-mod no_children;
 mod parts;
 mod running;
 mod theme;

@@ -8,8 +8,18 @@ const INDENT: &str = "    ";
 
 /// The keys of a group, a row or a case whose values are bytes: text, or with `hex` behind the key
 /// hexadecimal digits.
-const BYTES: [&str; 9] = [
-    "n", "v", "t", "r", "input", "seed", "output", "left", "kept",
+const BYTES: [&str; 11] = [
+    "n",
+    "v",
+    "t",
+    "r",
+    "input",
+    "seed",
+    "output",
+    "left",
+    "kept",
+    "kept values",
+    "kept transcript",
 ];
 
 /// The other keys.

@@ -3,10 +3,10 @@
 ghost use Rattle.std.specs.Prelude.{◌≡◌, IfOk};
 
 use crate::case::{Case, No};
-use crate::no_children::NoChildren;
 use crate::unfailing::run_unfailing;
 use anb_base::{Bytes, MemShelf, MemWire, NeverFails, NoMemory, Text};
 use anb_run::run_recording;
+use anb_stage::MemSpawner;
 use anb_store::MemStore;
 use hex::FromHex;
 use std::alloc::Global;
@@ -55,7 +55,7 @@ pub(crate) fn run_case(alloc: Global, case: Case, turn: Turn) -> Result<Ran, No>
     let mut wire = wire_of(alloc, case, turn, input)?;
     let number = status_of(
         alloc, &words, &mut shelf, &mut store, &mut wire, &mut err, seed,
-    );
+    )?;
     Ok(Ran {
         number,
         wire: Some(wire),
@@ -74,9 +74,11 @@ fn status_of(
     wire: &mut MemWire,
     err: &mut MemWire,
     seed: Option<[u8; 32]>,
-) -> u8 {
-    let mut children = NoChildren;
-    run_recording(alloc, words, shelf, &mut children, store, wire, err, seed).number()
+) -> Result<u8, NoMemory> {
+    // No role has a child that could be started.
+    let mut spawner = MemSpawner::new(alloc, Vec::new(alloc), Vec::new(alloc), 0, Vec::new(alloc))?;
+    let status = run_recording(alloc, words, shelf, &mut spawner, store, wire, err, seed);
+    Ok(status.number())
 }
 
 /// The same over a wire that never fails.
