@@ -34,6 +34,7 @@ from edge_runs import (
     can_unshare,
     dial,
     free_address,
+    in_time,
     listener,
     read_all,
     want,
@@ -210,7 +211,8 @@ def long_refusals(program):
         # 1.6 gigabytes are built here, a byte at a time.
         ("pieces.role", ["enact", "pieces.role", "no.values"], 0, PATIENCE),
     ):
-        run, (ended, _, line) = program.run(*words)
+        # The time of a processor is what counts: a busy machine takes several times as long.
+        run, (ended, _, line) = program.run(*words, within=10 * PATIENCE)
         want(f"the status of {file}, which says {line[:80]}", ended, status)
         want_below(f"seconds of a processor for {file}", run.processor, seconds)
         want_below(f"megabytes of {file}", run.memory, MOST_MEMORY)
@@ -303,14 +305,15 @@ def parked_in_silence(program):
     made, at = listener()
 
     def dials(*words, says=b""):
-        run = program.start(*words, "--dial", at, "--timeout", "1")
-        peer = accept(made)
-        peer.sendall(says)
-        got, _ = read_all(peer)
-        peer.close()
-        ended = run.end()
-        want_below(f"seconds of {words[0]}", run.seconds, 1 + LATE)
-        return got, ended
+        def once():
+            run = program.start(*words, "--dial", at, "--timeout", "1")
+            peer = accept(made)
+            peer.sendall(says)
+            got, _ = read_all(peer)
+            peer.close()
+            return run, (got, run.end())
+
+        return in_time(words[0], 1 + LATE, once)
 
     parked = (29, b"", b"anb: parked at event 2\n")
     got, ended = dials("park", "ping.anb", "A", "ping.values", "key")
@@ -527,11 +530,18 @@ def dropped_bytes(program):
         peer.setsockopt(socket.IPPROTO_TCP, socket.TCP_NODELAY, 1)
         peer.sendall(FRAME)
         time.sleep(0.05)
+        began = time.monotonic()
         try:
             for piece in pieces:
                 peer.sendall(piece)
                 os.sched_yield()
         except OSError as fault:
+            # The program hears them for two seconds. A machine that is too busy to send them by then shows nothing.
+            if time.monotonic() - began > 1.8:
+                found.append(f"not {what}: this machine sends them too slowly")
+                peer.close()
+                run.end()
+                continue
             raise Fault(f"{what}: {fault}") from None
         peer.shutdown(socket.SHUT_WR)
         want(f"what the peer got, {what}", read_all(peer), (FRAME, False))
@@ -647,8 +657,9 @@ def main():
     if not words:
         sys.exit(__doc__)
     is_quick = "--quick" in sys.argv
-    # What runs in the background may ignore it, and would hand that on.
+    # What runs in the background may ignore these, and would hand that on.
     signal.signal(signal.SIGINT, signal.default_int_handler)
+    signal.signal(signal.SIGHUP, signal.SIG_DFL)
     failed = 0
     for name in words[1:] or [row.__name__ for row in QUICK] + [row.__name__ for row in LONG if not is_quick]:
         with tempfile.TemporaryDirectory() as folder:

@@ -3,9 +3,10 @@ import contextlib
 import os
 import random
 import socket
+import subprocess
 import time
 
-from edge_runs import FRAME, LATE, accept, listener, read_all, want, want_below, write_ping
+from edge_runs import ARRIVAL, FRAME, LATE, accept, in_time, listener, read_all, want, write_ping
 
 ROLE = ("ping.anb", "A")
 PARKED = (29, b"", b"anb: parked at event 2\n")
@@ -54,31 +55,67 @@ def silent_records(program):
     """a role that waits for a silent peer is parked in its file, and the peer gets no record"""
     prepared(program)
     made, at = listener()
-    run = program.start("park", *ROLE, "ping.values", "key", "--dial", at, "--timeout", "1", "--record", "a.record")
-    peer = accept(made)
-    want("what the peer got", read_all(peer), (FRAME, False))
-    peer.close()
-    want("park, a silent peer", run.end(), PARKED)
-    want_below("seconds", run.seconds, 1 + LATE)
+
+    def parks():
+        run = program.start("park", *ROLE, "ping.values", "key", "--dial", at, "--timeout", "1", "--record", "a.record")
+        peer = accept(made)
+        got = read_all(peer)
+        peer.close()
+        return run, (got, run.end())
+
+    want("what the peer got, and park's end", in_time("park", 1 + LATE, parks), ((FRAME, False), PARKED))
     want("going on", resumes(program, "a.record"), True)
     return "parked in silence; the peer got the message alone"
 
 
+BIG = """Protocol: Big;
+Types: Agent A, B; Number N, K, L, M;
+Knowledge: A: N, K, L, M; B: N;
+Actions: A -> B: N; B -> A: N;
+"""
+
+
 def killed_records(program):
     """a program that is killed while it keeps a record leaves the old one or the new one"""
-    prepared(program)
-    words = ("park", *ROLE, "ping.values", "key", "--record", "a.record")
-    run, _ = program.run(*words)
-    kills = 0
-    for _ in range(4 * program.times):
-        started = program.start(*words)
-        time.sleep(random.uniform(0, 1.2 * run.seconds))
-        started.kill()
+    program.write("big.anb", BIG)
+    # What takes a while to write.
+    program.write("big.values", 'N = "ab"\n' + "".join(f'{name} = "{"a" * ARRIVAL}"\n' for name in "KLM"))
+    program.write("key", "a key of its own")
+    words = ("park", "big.anb", "A", "big.values", "key", "--record", "a.record")
+    first, _ = program.run(*words)
+    kills = left = 0
+    for turn in range(4 * program.times):
+        # The record alone, or all in its folder.
+        watched = "a.record" if turn % 2 else ""
+        before = seen(program, watched)
+        run = program.start(*words, stdin=subprocess.DEVNULL)
+        if turn % 4 == 0:
+            time.sleep(random.uniform(0, 1.2 * first.seconds))
+        else:
+            while seen(program, watched) == before and run.state() not in "ZX":
+                pass
+        run.kill()
         with contextlib.suppress(BrokenPipeError):
-            kills += started.end()[0] < 0
-        want("going on after a kill", resumes(program, "a.record"), True)
-    left = [name for name in os.listdir(program.folder) if name.startswith("a.record.")]
-    return f"{kills} kills, {len(left)} files left beside the record"
+            kills += run.end()[0] < 0
+        goes_on = program.run("resume", "big.anb", "A", "a.record", "key", given=FRAME)[1]
+        want(f"going on after {turn + 1} kills", goes_on, (0, b"", b""))
+        for name in os.listdir(program.folder):
+            if name.startswith("a.record."):
+                os.remove(os.path.join(program.folder, name))
+                left += 1
+    return f"{kills} kills, {left} files left beside the record"
+
+
+def seen(program, name):
+    """What is seen of the file of this name, or of all in the folder where there is no name."""
+    found = []
+    with os.scandir(program.folder) as all_files:
+        for file in all_files:
+            # One that is gone by now isn't seen.
+            with contextlib.suppress(FileNotFoundError):
+                if name in ("", file.name):
+                    found.append((file.name, file.stat().st_ino, file.stat().st_size, file.stat().st_mtime_ns))
+    return sorted(found)
 
 
 def recorded_plays(program):

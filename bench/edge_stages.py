@@ -297,12 +297,12 @@ def stopped_children(program):
         run = start_stage(program)
         wait_until("two children", lambda: len(pids(program)) == 2)
         for _ in range(10):
-            for pid in (run.child.pid, *map(int, pids(program))):
-                os.kill(pid, signal.SIGSTOP)
-            time.sleep(0.01)
-            for pid in (run.child.pid, *map(int, pids(program))):
-                os.kill(pid, signal.SIGCONT)
-            time.sleep(0.01)
+            for kind in (signal.SIGSTOP, signal.SIGCONT):
+                for pid in (run.child.pid, *map(int, pids(program))):
+                    # Where one has ended already, the stage's end says so.
+                    with contextlib.suppress(ProcessLookupError):
+                        os.kill(pid, kind)
+                time.sleep(0.01)
         want("the stage", run.end(), ended(0))
     return "10 stops of a stage and its children"
 
