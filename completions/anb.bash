@@ -30,7 +30,7 @@ _anb_options() {
         play | host | park | resume | enact) place='--dial --listen' ;;
         stage) place=--timeout ;;
     esac
-    case $command in play | enact | park | resume) record=--record ;; esac
+    case $command in play | enact | branch | park | resume) record=--record ;; esac
     [[ $1 == --arm ]] && shift 2 && arm=''
     case $# in
         0) echo "$arm" "$place" "$record" ;;
@@ -118,7 +118,7 @@ _anb() {
                 --dial | --listen | --timeout) ;;
                 --record)
                     case ${words[1]} in
-                        play | enact) compopt -o filenames 2>/dev/null; mapfile -t COMPREPLY < <(compgen -d -- "$(_anb_file "$word")") ;;
+                        play | enact | branch) compopt -o filenames 2>/dev/null; mapfile -t COMPREPLY < <(compgen -d -- "$(_anb_file "$word")") ;;
                         *) _anb_files '' ;;
                     esac
                     ;;

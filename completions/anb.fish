@@ -121,4 +121,4 @@ complete -c anb -n "__anb_option place $with_place" -x -l listen -d 'Wait for a 
 complete -c anb -n '__anb_option silence stage' -x -l timeout -d 'Seconds that a child may be silent'
 complete -c anb -n "__anb_option timeout $with_place" -x -l timeout -d 'Seconds to wait'
 complete -c anb -n '__anb_option record park resume' -r -F -l record -d 'The file of the record'
-complete -c anb -n '__anb_option record play enact' -x -l record -a '(__fish_complete_directories)' -d 'The folder of the recording'
+complete -c anb -n '__anb_option record play enact branch' -x -l record -a '(__fish_complete_directories)' -d 'The folder of the recording'

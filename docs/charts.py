@@ -25,6 +25,7 @@ WORDS = set("""
 UNCHECKED = "takes unchecked: "
 RESTING = "rests on arrivals alone: "
 RECORDING = "a recording of another run: "
+STRANGER = "whoever knows only "
 
 # The groups, each with a sentence and its examples in the order to read them in.
 GROUPS = [
@@ -52,7 +53,7 @@ A folder has the narration, `ROLE.values` for each role, `all.values` with a val
 
 **Where to begin**: `ping` and `mutual` are the smallest. `nssk` and `nssk-amended` show what a server adds, and what an amendment changes for B. `wpa2` derives its keys, `skey` and `ratchet` carry something from one message to the next. Within a group the examples stand in an order to read them in.
 
-Under each chart stands which messages a role takes, as `anb check` says it: the pattern of each arrival that isn't fixed, with `?1`, `?2`, .. where any term may come, one wherever the same must come. What it **takes unchecked** are the terms whose variable stands once: whatever comes there, the role goes on. A nonce of the partner is often among them, and rightly; a key or a ticket there deserves a thought. What **rests on arrivals alone** is compared with other arrivals, or is a key or an operand of one; who can make the arrival that holds it isn't said. What came out of a seal is still from someone who had the seal's key, and so is what a mac is of. The index has both. **A recording of another run** is what came in a run in which the role drew other names: the role stops at the first event that needs one of its new names, or takes all of it. Fewer unchecked parts are not more security: nothing here is a claim that a protocol is secure, and some of these are known not to be.
+Under each chart stands which messages a role takes, as `anb check` says it: the pattern of each arrival that isn't fixed, with `?1`, `?2`, .. where any term may come, one wherever the same must come. What it **takes unchecked** are the terms whose variable stands once: whatever comes there, the role goes on. A nonce of the partner is often among them, and rightly; a key or a ticket there deserves a thought. What **rests on arrivals alone** is compared with other arrivals, or is a key or an operand of one; who can make the arrival that holds it isn't said. What came out of a seal is still from someone who had the seal's key, and so is what a mac is of. The index has both. **A recording of another run** is what came in a run in which the role drew other names: the role stops at the first event that needs one of its new names, or takes all of it. **Whoever knows only** the agents' names, hears what the role sends and picks all else himself can send all that it takes, or as far as an event, where a line says so; where there is none, nothing is claimed. All this says which messages a role takes, and is no search for attacks. Fewer unchecked parts are not more security: nothing here is a claim that a protocol is secure, and some of these are known not to be.
 
 `peer/` has a role in Python, and one with mistakes, and `offer/` a text with a choice; the [tutorial](../docs/TUTORIAL.md) uses them.
 """
@@ -96,7 +97,7 @@ def reported(program, path):
             patterns[role].append(None)
         elif line.startswith("    ") and "accepts " in line:
             patterns[role][-1] = line.split("accepts ", 1)[1]
-        elif re.match(r"  (\?1 stands for|takes|rests|a recording) ", line):
+        elif re.match(r"  (\?1 stands for|takes|rests|a recording|whoever) ", line):
             lines[role].append(line.strip())
     return patterns, lines
 
@@ -118,10 +119,18 @@ def recording_lines(story, role):
     return [RECORDING + (f"stops at event {stop[0]}, since {stop[1]} is new" if stop else "is taken to the end")]
 
 
+def stranger_lines(story, role):
+    """The line on somebody without a key, where he can make something that the role takes."""
+    last, is_all = narration.stranger(story, role)
+    agents = ", ".join(name for name, sort in story.sorts.items() if sort == "Agent")
+    end = "" if is_all else f" up to event {last}"
+    return [f"{STRANGER}{agents} can send all that {role} takes{end}"] if last else []
+
+
 def taken(story, path, role, report):
     """What the role takes: the program's report says what is found apart from it."""
     found, meanings, once = narration.taken(story, role)
-    lines = end_lines(meanings, once) + recording_lines(story, role)
+    lines = end_lines(meanings, once) + recording_lines(story, role) + stranger_lines(story, role)
     if (report[0][role], report[1][role]) != (found, lines):
         raise ValueError(f"{path}: `check` says of {role} {report[0][role]}, {report[1][role]}, and not {found}, {lines}")
     return found, lines
@@ -131,6 +140,9 @@ def quoted(line):
     """A line with its terms and variables in the signs of code."""
     if line.startswith(RECORDING):
         return re.sub(r"since (\w+) is", r"since `\1` is", line)
+    if line.startswith(STRANGER):
+        names, can, rest = line.removeprefix(STRANGER).partition(" can ")
+        return f"{STRANGER}{', '.join(f'`{name}`' for name in names.split(', '))}{can}{rest}"
     words, colon, terms = line.partition(": ")
     if colon:
         return f"{words}: {', '.join(f'`{term}`' for term in terms.split(', '))}"

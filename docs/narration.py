@@ -240,9 +240,9 @@ def open_all(has, composed, opens):
 
 
 def patterns(story, role):
-    """The messages that a role hears, with a variable in place of each part that isn't determined: made apart from
-    `anb`, of the narration alone. What the role has are pairs of a narrated term and what is known of it. All that can
-    be opened is opened, and each is compared with all that can be made in its place."""
+    """The messages that a role hears, with a variable in place of each part that isn't determined, and what it sends
+    where these come: made apart from `anb`, of the narration alone. What the role has are pairs of a narrated term and
+    what is known of it. All that can be opened is opened, and each is compared with all that can be made in its place."""
     heard = [message for _, receiver, message in story.actions if receiver == role]
     arrivals = [Variable() for _ in heard]
     own = [*story.knows.get(role, []), *story.fresh_names(role)]
@@ -262,7 +262,8 @@ def patterns(story, role):
         parts = [composed(part) for part in narrated[1:]] if isinstance(narrated, tuple) else [None]
         if None not in parts:
             unify(known, (narrated[0], *parts))
-    return heard, [found(arrival) for arrival in arrivals]
+    said = [found(composed(message)) for sender, _, message in story.actions if sender == role]
+    return heard, [found(arrival) for arrival in arrivals], said
 
 
 def places(pattern, narrated):
@@ -276,7 +277,7 @@ def places(pattern, narrated):
 
 def taken(story, role):
     """What a role takes: its patterns as texts, what `?1`, `?2`, .. stand for, and which of these stand once."""
-    heard, arrivals = patterns(story, role)
+    heard, arrivals, _ = patterns(story, role)
     stand = [place for pattern, narrated in zip(arrivals, heard) for place in places(pattern, narrated)]
     variables = list(dict.fromkeys(variable for variable, _ in stand))
     meanings = [next(text_of(term) for variable, term in stand if variable is v) for v in variables]
@@ -332,3 +333,30 @@ def recording(story, role):
         if not goes(drawn):
             return event, next(name for name in drawn if not goes([name]))
     return None
+
+
+def makes(having, term):
+    """Whether a term can be made of others: all that can be opened is opened first."""
+    has = [(other, other) for other in having]
+    composed = composing(has)
+    open_all(has, composed, lambda narrated, known, keys: narrated[1 + len(keys) :])
+    return composed(term) is not None
+
+
+def stranger(story, role):
+    """How far somebody gets who knows only the agents' names, and picks all that the role takes from anybody: the number
+    of the last event whose message he can make, of what he has and what the role has sent by then; and whether that is
+    the last one that the role receives."""
+    own = [message for message in story.actions if role in message[:2]]
+    _, arrivals, said = patterns(story, role)
+    variables = [variable for arrival in arrivals for variable, _ in places(arrival, arrival)]
+    having = [name for name, sort in story.sorts.items() if sort == "Agent"] + variables
+    last = 0
+    for event, (sender, _, _) in enumerate(own, 1):
+        if sender == role:
+            having.append(said.pop(0))
+        elif makes(having, arrivals.pop(0)):
+            last = event
+        else:
+            return last, False
+    return last, True
