@@ -11,9 +11,9 @@ use Rattle.anb_mistakes.specs.Unresolved.{IsUnresolvedText}
 use Rattle.anb_status.specs.declared.status.NarrationNo.TheVariants.{Resolve}
 use Rattle.anb_status.specs.declared.status.Status.{Status}
 use Rattle.anb_status.specs.declared.status.Status.TheVariants.{BadNarration, Done}
-use Rattle.anb_command.specs.Phases.{told_phase}
+use Rattle.anb_command.specs.Phases.{told_phase, values_phase}
 use Rattle.anb_command.specs.Roles.{AllSend}
-use Rattle.anb_status.specs.Statuses.{after_reach, is_fault, why_ill_formed}
+use Rattle.anb_status.specs.Statuses.{after_reach, at_any_time, is_fault, why_ill_formed}
 use Rattle.anb_command.specs.Steps.{refused}
 use Rattle.anb_command.specs.Writing.{IsWritten}
 use Rattle.anb_check_commands.specs.CheckCommand.{IsReport}
@@ -22,6 +22,11 @@ use Rattle.anb_check_commands.specs.CheckCommand.{IsReport}
 pub record IsLast (status : Status) : Type 0 where
   pub calm : is_fault status ≡ false
   pub late : told_phase status ≡ after_reach
+
+-- the same of a values file
+pub record IsLastOfValues (status : Status) : Type 0 where
+  pub calm : is_fault status ≡ false
+  pub late : (values_phase status ≡ after_reach) ⊎ (values_phase status ≡ at_any_time)
 
 -- the status that comes of writing a text: this one, where all was written
 abbrev pub ended_by : Status → (writing : Status) → Status

@@ -1,3 +1,6 @@
-pub mod Lists
+mod Behind
+mod Casting
+mod Lists
+mod Scenes
 pub mod Outcomes
 pub mod Answering

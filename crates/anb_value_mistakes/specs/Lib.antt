@@ -1,0 +1,5 @@
+pub mod Classes
+pub mod Diagnosis
+pub mod Mistakes
+pub mod Reading
+pub mod Wording
