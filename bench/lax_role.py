@@ -2,9 +2,10 @@
 
     python3 bench/lax_role.py LAX FILE VALUES
 
-LAX is `none`, `equals` (no two values are compared), `tags` (sealed and wrapped bytes are opened without a look at the
-tag) or `formats` (of a message the lengths alone are read: literals, longer forms of a length and bytes at the end
-pass). What is drawn is the machine's. The status is 1 where a message is refused or is missing.
+LAX is `none`, `equals` (no two values are compared), `front` (of two values the first bytes are compared), `came` (two
+values are compared as far as both go), `tags` (sealed and wrapped bytes are opened without a look at the tag) or
+`formats` (of a message the lengths alone are read: literals, longer forms of a length and bytes at the end pass). What
+is drawn is the machine's. The status is 1 where a message is refused or is missing.
 """
 import os
 import pathlib
@@ -14,7 +15,7 @@ import sys
 sys.path.insert(0, str(pathlib.Path(__file__).resolve().parent.parent / "examples" / "peer"))
 import anbwire
 
-KINDS = ("none", "equals", "tags", "formats")
+KINDS = ("none", "equals", "front", "came", "tags", "formats")
 
 
 def literal(text):
@@ -68,6 +69,17 @@ def opened(role, lax, did, *values):
     return (anbwire.unseal if did == "unseal" else anbwire.unwrap)(role.suite, *values)
 
 
+def passes(lax, one, other):
+    """Whether these two are equal enough."""
+    if lax == "equals":
+        return True
+    if lax == "front":
+        return one[:1] == other[:1]
+    if lax == "came":
+        return all(a == b for a, b in zip(one, other))
+    return one == other
+
+
 def received(source):
     message = anbwire.take_frame(source)
     if message is None:
@@ -102,7 +114,7 @@ def play(role, lax, values, source, sink):
         if did == "send":
             anbwire.put_frame(sink, registers[read[0]])
         elif did == "equal":
-            if lax != "equals" and registers[read[0]] != registers[read[1]]:
+            if not passes(lax, registers[read[0]], registers[read[1]]):
                 raise anbwire.Refused(line)
         elif did == "parse":
             step(role, lax, values, source, line, registers)

@@ -7,7 +7,8 @@ For each role of each example, or of these folders of examples, the program is t
 
 - the role file that `compile` writes, played by `enact`: all must be ok;
 - the role file less one `equal` behind the first arrival; and with the one value used for the other in what follows;
-- the role file in Python, by bench/lax_role.py, that compares no tags, or reads formats by their lengths alone.
+- the role file in Python, by bench/lax_role.py, that compares first bytes alone, or values as far as both go; that
+  compares no tags, or reads formats by their lengths alone.
 
 A mutant is told where the status is 36. One that isn't has a reason: `certify` says that it is the same program, or a
 line `# not tried` says what has no case; for mutants in Python, that nothing of the kind is tried. Otherwise it is
@@ -33,7 +34,19 @@ MUTUAL = ROOT / "examples" / "mutual"
 Report = collections.namedtuple("Report", "status cases ok skipped missing untried text")
 
 # What a title has that only a program of this kind takes.
-ROWS = {"tags": r"with another tag", "formats": r"with another byte in|isn't minimal|beyond the end|after its end"}
+ROWS = {
+    "front": r"with its last byte changed",
+    "came": r"without its last byte",
+    "tags": r"with another tag",
+    "formats": r"with another byte in|isn't minimal|beyond the end|after its end",
+}
+
+NAMES = {
+    "front": "first bytes compared",
+    "came": "compared as far as it goes",
+    "tags": "tags ignored",
+    "formats": "formats ignored",
+}
 
 
 class Bench:
@@ -107,6 +120,8 @@ def mutants_of(code):
 def kinds_in(code):
     """The kinds of checks in Python that a role's code has."""
     behind = code.partition(" = recv\n")[2]
+    if checks_of(code):
+        yield from ("front", "came")
     if re.search(r" = (unseal|unwrap) ", behind):
         yield "tags"
     if re.search(r"(^| = )parse ", behind, re.M):
@@ -140,7 +155,7 @@ def check_role(bench, folder, role):
         found = bench.probe(narration, role, values, sys.executable, LAX, lax, file, own)
         untried = not re.search(ROWS[lax], right.text)
         outcome = "told" if found.status == 36 else "no case" if untried else "NOT TOLD"
-        yield f"{lax} ignored", found.cases, outcome, f"{name} in Python, {lax} ignored: status {found.status}\n{found.text}"
+        yield NAMES[lax], found.cases, outcome, f"{name} in Python, {NAMES[lax]}: status {found.status}\n{found.text}"
 
 
 def verdict_on(bench, narration, role, file, found):
@@ -174,7 +189,8 @@ def programs():
     yield "swapped", [sys.executable, wrong, "swapped", "-"], 36, "# wrong: its message of event 2 isn't scrypt(K,response(B,NA,NB))"
     yield "true", ["true"], 36, "# too strict: no message of event 2 came, it ended with 0"
     yield "false", ["false"], 36, "# too strict: no message of event 2 came, it ended with 1"
-    yield "says nothing", ["sh", "-c", "cat > /dev/null"], 36, "# too strict: no message of event 2 came, it ended with 0"
+    yield "says nothing", ["sh", "-c", "exec cat > /dev/null"], 36, "# too strict: no message of event 2 came, it ended with 0"
+    yield "says nothing and hears on", ["sh", "-c", "cat > /dev/null; exit 0"], 36, "# silent for too long"
     yield "cat", ["cat"], 36, "# wrong: its message of event 2 isn't scrypt(K,response(B,NA,NB))"
     yield "hangs", ["sleep", "100"], 36, "# silent for too long"
     yield "hangs and has closed its output", ["sh", "-c", "exec > /dev/null; exec sleep 100"], 36, "# silent for too long"
@@ -186,7 +202,7 @@ def programs():
 def check_programs(bench):
     faults = 0
     for name, words, status, line in programs():
-        limit = "1" if name.startswith("hangs") else "20"
+        limit = "1" if "silent" in line else "20"
         found = subprocess.run([bench.program, "probe", MUTUAL / "mutual.anb", "B", MUTUAL / "all.values", "--timeout", limit, "--", *words],
                                stdin=subprocess.DEVNULL, capture_output=True, timeout=600)
         report = read_report(found.returncode, found.stdout.decode())
@@ -208,10 +224,10 @@ def print_table(rows, roles, seconds):
     cases = [row[1] for row in right]
     print(f"{roles} roles, {sum(cases)} cases, {max(cases, default=0)} of one role at most, {seconds:.0f} s")
     print(f"right role files that are all ok: {sum(row[2] == 'ok' for row in right)} of {len(right)}")
-    print(f"{'mutants':24} {'all':>6} " + " ".join(f"{it:>17}" for it in outcomes))
+    print(f"{'mutants':27} {'all':>6} " + " ".join(f"{it:>17}" for it in outcomes))
     for kind in dict.fromkeys(row[0] for row in rows if row[0] != "right"):
         found = collections.Counter(row[2] for row in rows if row[0] == kind)
-        print(f"{kind:24} {sum(found.values()):6} " + " ".join(f"{found[it]:17}" for it in outcomes))
+        print(f"{kind:27} {sum(found.values()):6} " + " ".join(f"{found[it]:17}" for it in outcomes))
 
 
 def main():

@@ -29,11 +29,10 @@ _anb_options() {
     case $command in
         branch) arm=--arm place='--dial --listen' ;;
         play | host | park | resume | enact) place='--dial --listen' ;;
-        stage) place='--as --timeout' ;;
+        stage) place=--timeout ;;
     esac
     case $command in play | enact | branch | park | resume) record=--record ;; esac
     [[ $1 == --arm ]] && shift 2 && arm=''
-    while [[ $1 == --as ]] && (($# >= 3)); do shift 3; done
     case $# in
         0) echo "$arm" "$place" "$record" ;;
         2) [[ $1 == --dial || $1 == --listen ]] && echo --timeout "$record" ;;
@@ -128,9 +127,8 @@ _anb() {
                 [[ ${words[at - 1]} == -- ]] && mapfile -t -O ${#COMPREPLY[@]} COMPREPLY < <(compgen -c -- "$word")
                 return
             fi
-            [[ ${words[at - 2]} == --as ]] && _anb_files '' && return
             case ${words[at - 1]} in
-                --role | --as) _anb_offer "$(_anb_roles "${words[2]}")" ;;
+                --role) _anb_offer "$(_anb_roles "${words[2]}")" ;;
                 --arm) _anb_offer '1 2 3 4 5 6 7 8' ;;
                 --dial | --listen | --timeout | --case) ;;
                 --record)

@@ -37,12 +37,6 @@ function __anb_option
     or return 1
     set -l rest
     test (count $words) -gt $before; and set rest $words[(math $before + 1)..]
-    if test "$words[2]" = stage
-        while test (count $rest) -ge 3 -a "$rest[1]" = --as
-            set -e rest[1..3]
-        end
-        test "$argv[1]" = as -a \( "$rest" = --as -o (count $rest) -eq 0 \); and return
-    end
     if test "$argv[1]" = role -o "$argv[1]" = arm -o "$argv[1]" = silence
         test (count $rest) -eq 0 -o "$rest" = "--$argv[1]" -o "$argv[1]$rest" = silence--timeout
         return
@@ -63,12 +57,6 @@ function __anb_option
             end
             test (count $rest) -eq 0 -o "$rest" = --record
     end
-end
-
-# Whether the program of a role of a stage stands here.
-function __anb_cast
-    set -l words (commandline -opc)
-    test (count $words) -ge 6 -a "$words[2]" = stage -a "$words[-2]" = --as
 end
 
 # Whether this word of probe can stand here: before the program, in its order and once.
@@ -165,8 +153,6 @@ complete -c anb -n '__anb_option role chart' -x -l role -a '(__anb_roles)' -d 'T
 complete -c anb -n '__anb_option arm branch' -x -l arm -a '1 2 3 4 5 6 7 8' -d 'The arm that is taken'
 complete -c anb -n "__anb_option place $with_place" -x -l dial -d 'Connect to host:port'
 complete -c anb -n "__anb_option place $with_place" -x -l listen -d 'Wait for a connection at host:port'
-complete -c anb -n '__anb_option as stage' -x -l as -a '(__anb_roles)' -d 'The program that plays a role'
-complete -c anb -n __anb_cast -F
 complete -c anb -n '__anb_option silence stage' -x -l timeout -d 'Seconds that a child may be silent'
 complete -c anb -n "__anb_option timeout $with_place" -x -l timeout -d 'Seconds to wait'
 complete -c anb -n '__anb_option record park resume' -r -F -l record -d 'The file of the record'

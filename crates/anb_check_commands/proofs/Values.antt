@@ -1,21 +1,20 @@
 -- From a verdict on values to what `check` does with them.
-use Rattle.std.proofs.Common.{◌≡◌, ◌⊎◌, ◌<◌, ℕ, Bool, true, false, List, [], take, Option, Some, None, Result, Ok, Err, refl, ap, sym, ◌∙◌, subst, inl, inr}
-use Rattle.anb_base.specs.Moves.{Put}
+use Rattle.std.proofs.Common.{◌≡◌, ◌⊎◌, ◌≤◌, ℕ, Bool, true, false, List, [], ◌∷◌, take, Option, Some, None, Ok, Err, refl, ap, sym, ◌∙◌, subst, inl, inr}
+use Rattle.anb_base.specs.Moves.{Put, Rose}
 use Rattle.anb_base.specs.Places.{line_of}
 use Rattle.anb_base.specs.Wires.{WireState}
 use Rattle.anb_base.specs.declared.place.Place.TheVariants.{Stdio}
-use Rattle.anb_base.proofs.Moving.{put_nothing}
+use Rattle.anb_base.proofs.Moving.{Rose-later, put_nothing}
 use Rattle.anb_read.specs.Laws.{NarrationsAreUnique, RefusalsAreUnique, NoneIsBoth}
 use Rattle.anb_protocol.specs.Texts.{known_texts}
 use Rattle.anb_values.specs.Fit.{FitIsUnique, Outcome}
-use Rattle.anb_values.specs.declared.fitted.Fitted.{Fitted}
 use Rattle.anb_values.specs.declared.refusal.ValuesNo.{ValuesNo}
 use Rattle.anb_command.specs.declared.limits.TheConstants.{VALUES_LIMIT}
 use Rattle.anb_status.specs.declared.status.Status.{Status}
-use Rattle.anb_status.specs.declared.status.Status.TheVariants.{BadValues, Done, FileFault, Unreached, WriteFault, NoMemory}
-use Rattle.anb_status.specs.Statuses.{IsEarly, Phase, after_reach, at_any_time, at_reach, before_reach, is_fault}
-use Rattle.anb_command.specs.Fetches.{Files, IfTold}
-use Rattle.anb_command.specs.Files.{FileIs, HasFile, ValuesAre}
+use Rattle.anb_status.specs.declared.status.Status.TheVariants.{BadValues, Done, FileFault, FileLong, Unreached, WriteFault, NoMemory}
+use Rattle.anb_status.specs.Statuses.{IsEarly, Phase, after_reach, is_fault}
+use Rattle.anb_command.specs.Fetches.{Files, IfTold, IsOneOf}
+use Rattle.anb_command.specs.Files.{FileIs, HasFile, HasLonger}
 use Rattle.anb_command.specs.Phases.{values_phase}
 use Rattle.anb_command.specs.Reaches.{Reaches}
 use Rattle.anb_command.specs.Roles.{Part, PartInFile}
@@ -24,45 +23,24 @@ use Rattle.anb_command.specs.Touches.{Touches}
 use Rattle.anb_command.specs.Writing.{IsWritten}
 use Rattle.anb_command.proofs.Causes.{early_reaches}
 use Rattle.anb_command.proofs.Chains.{told_map}
+use Rattle.anb_command.proofs.Failing.{IsFailure-map}
 use Rattle.anb_command.proofs.Ones.{RefusesQuietly, file_one, file_quiet, is_one, is_quiet, not_both, part_one, part_quiet, same_given, same_refusal, then_one, then_quiet}
 use Rattle.anb_command.proofs.Preparing.{told_both}
 use Rattle.anb_command.proofs.Written.{faulty}
 use Rattle.anb_check_commands.specs.CheckValues.{CompletesCheckValues, Finds, HasStatus, IsFinding, IsReadToCheck, IsValuesVerdict, ValuesText, ValuesTextIs, values_text}
-use Rattle.anb_check_commands.specs.Telling.{IsLastOfValues, IsTold, ended_by}
+use Rattle.anb_check_commands.specs.Telling.{IsBeforeValues, IsLastOfValues, IsTold, ended_by}
 
 -- ---- when a status comes
 
-pub early_values : (s : Status) (r : Option (List ℕ)) → IsEarly s → Reaches (Some Stdio) (values_phase s) r r
-early_values (BadValues why) r early = inl refl
-early_values s r early = early_reaches Stdio s r early
+pub early_values : (s : Status) (r : Option (List ℕ)) → IsEarly s → IsBeforeValues s → Reaches (Some Stdio) (values_phase s) r r
+early_values (BadValues why) r early before = absurd before
+early_values s r early before = early_reaches Stdio s r early
 
 pub last_reaches : (s : Status) (old new : Option (List ℕ)) → IsLastOfValues s → Put old new (line_of Stdio) → Reaches (Some Stdio) (values_phase s) old new
-last_reaches s old new last put = elim last.late [
-  | inl is ↦ subst (λ (p : Phase). Reaches (Some Stdio) p old new) (sym is) put
-  | inr is ↦ subst (λ (p : Phase). Reaches (Some Stdio) p old new) (sym is) (inr put)
-]
-
-never_missed : (S T : WireState) → Touches false after_reach S T → S.reach_faults < T.reach_faults → ⊥
-never_missed S T touches rose = let never : after_reach ≡ at_reach = touches.missed rose in cc
-
-touched : (S T : WireState) → Touches false after_reach S T → Touches false at_any_time S T
-touched S T touches = record {
-  before = λ never. absurd (cc);
-  unreached = λ never. absurd (cc);
-  missed = λ rose. absurd (never_missed S T touches rose);
-  unread = touches.unread;
-  untaken = touches.untaken;
-  unread_faults = touches.unread_faults;
-  reads = touches.reads;
-  writes = touches.writes;
-  reaches = touches.reaches;
-}
+last_reaches s old new last put = subst (λ (p : Phase). Reaches (Some Stdio) p old new) (sym last.late) put
 
 pub last_touches : (s : Status) (S T : WireState) → IsLastOfValues s → Touches false after_reach S T → Touches false (values_phase s) S T
-last_touches s S T last touches = elim last.late [
-  | inl is ↦ subst (λ (p : Phase). Touches false p S T) (sym is) touches
-  | inr is ↦ subst (λ (p : Phase). Touches false p S T) (sym is) (touched S T touches)
-]
+last_touches s S T last touches = subst (λ (p : Phase). Touches false p S T) (sym last.late) touches
 
 -- ---- the steps
 
@@ -86,6 +64,22 @@ module _ (narration name values : List ℕ) (told : Option Files) where
     pub text_given : (text : List ℕ) → IfTold told (λ files. HasFile files values VALUES_LIMIT text)
         → IfTold told (λ files. ValuesTextIs files narration name values (given (values_text (known_texts part.protocol part.role) text)))
     text_given text next = told_both told (λ files f is. inr (part, f, inr (text, is, refl))) first next
+
+  -- ---- their refusals
+
+  module _ (faults faults_now : List ℕ → ℕ) where
+    abbrev Fails : Status → Type 0
+    Fails s = IsFailure s (λ file. IsOneOf (narration ∷ values ∷ []) file × Rose (faults file) (faults_now file) × IfTold told (λ files. IsReadToCheck files narration name values file))
+        (IfTold told (λ files. ValuesTextIs files narration name values (refused s)))
+
+    pub part_fails : (s : Status) → IsFailure s (λ file. (file ≡ narration) × Rose (faults file) (faults_now file)) (IfTold told (λ files. PartInFile files narration name (refused s))) → Fails s
+    part_fails s fails = IsFailure-map s _ _ _ _ (λ file at. (inl at.0, at.1, narration_read file at.0)) (λ due. part_refused s due) fails
+
+    pub text_fails : (between : List ℕ → ℕ) (part : Part) → IfTold told (λ files. PartInFile files narration name (given part)) → ((file : List ℕ) → faults file ≤ between file)
+        → (s : Status) → IsFailure s (λ file. (file ≡ values) × Rose (between file) (faults_now file)) ((s ≡ FileLong values) × IfTold told (λ files. HasLonger files values VALUES_LIMIT)) → Fails s
+    text_fails between part first later s fails =
+        IsFailure-map s _ _ _ _ (λ file at. (inr (inl at.0), Rose-later _ _ _ (later file) at.1, values_read part first file at.0))
+        (λ is. file_refused part first s (told_map told (λ files longer. (is.0, longer)) is.1)) fails
 
 -- ---- one status
 
@@ -166,4 +160,4 @@ pub completes_values : (narration name values : List ℕ) (told : Option Files) 
 completes_values narration name values told w now s does only_memory = told_map told (λ files finds. by files finds (is_fault s) refl) does where
   by : (files : Files) → IsFinding files narration name values s w now → (b : Bool) → is_fault s ≡ b → ((out : List ℕ) × Finds files narration name values s out) ⊎ (s ≡ NoMemory)
   by files finds true fault = inr (only_memory fault)
-  by files finds false calm = let is = finds.is calm in inl (is.0, is.1.0)
+  by files finds false calm = let is = finds.is calm in inl (is.0, is.1)

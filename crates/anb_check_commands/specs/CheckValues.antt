@@ -13,7 +13,7 @@ use Rattle.anb_command.specs.Roles.{Part, PartInFile}
 use Rattle.anb_command.specs.Steps.{Answer, refused, given, InTurn, AnswersWith}
 use Rattle.anb_status.specs.Statuses.{is_fault}
 use Rattle.anb_status.specs.declared.status.Status.{Status}
-use Rattle.anb_status.specs.declared.status.Status.TheVariants.{BadValues, Done, FileFault, Unreached, WriteFault, NoMemory}
+use Rattle.anb_status.specs.declared.status.Status.TheVariants.{Done, FileFault, Unreached, WriteFault, NoMemory}
 
 -- the text of a values file, and the names that a role knows
 pub record ValuesText : Type 0 where

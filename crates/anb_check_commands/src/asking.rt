@@ -7,11 +7,12 @@ ghost use Rattle.anb_command.specs.Reported.{TellsFileFaults};
 ghost use Rattle.anb_command.specs.Steps.{IsFailure, refused, given};
 ghost use Rattle.anb_status.specs.Statuses.{IsEarly};
 ghost use Rattle.anb_check_commands.specs.CheckValues.{HasStatus, IsReadToCheck, IsValuesVerdict, ValuesTextIs, values_text};
-ghost use Rattle.anb_check_commands.specs.Telling.{IsLastOfValues};
+ghost use Rattle.anb_check_commands.specs.Telling.{IsBeforeValues, IsLastOfValues};
 
+use crate::part::part_in_file;
 use crate::verdict::Verdict;
 use anb_base::{Bytes, NoMemory, Shelf, Text};
-use anb_command::{Playable, Status, VALUES_LIMIT, fetch_file, playable_in_file};
+use anb_command::{Playable, Status, VALUES_LIMIT, fetch_file};
 use anb_protocol::known_texts_differ;
 use anb_value_mistakes::mistakes_text;
 use anb_values::{ValuesNo, values};
@@ -47,11 +48,12 @@ pub(crate) fn asked_in_files<F: Shelf>(
         (IfTold (F.files shelf.old) (λ files.
         ValuesTextIs files narration.now name.now values.now (refused status)))) }
     ensures early { IfErr result IsEarly }
+    ensures before { IfErr result IsBeforeValues }
     ensures fetches { Fetches (narration.now ∷ values.now ∷ [])
         (F.files shelf.old) (F.files shelf.new) (F.faults shelf.old) (F.faults shelf.new) }
     ensures told { TellsFileFaults result (F.faults shelf.old) (F.faults shelf.new) }
 {
-    let playable = match playable_in_file(alloc, shelf, narration, name) {
+    let playable = match part_in_file(alloc, shelf, narration, name) {
         Ok(playable) => playable,
         Err(status) => return Err(status),
     };
@@ -65,6 +67,7 @@ pub(crate) fn asked_in_files<F: Shelf>(
         code: _,
     } = playable;
     known_texts_differ();
+    let _ = protocol.name();
     match protocol.known(alloc, role) {
         Ok(names) => Ok(Asked { names, text }),
         Err(NoMemory) => Err(Status::NoMemory),

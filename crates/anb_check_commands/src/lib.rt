@@ -6,6 +6,7 @@ mod asking;
 mod checking;
 mod finding;
 mod laws;
+mod part;
 mod verdict;
 
 pub use checking::check;

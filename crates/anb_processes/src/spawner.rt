@@ -4,13 +4,12 @@ ghost use Rattle.std.specs.Prelude.{◌≡◌, ◌<◌, ◌≤◌, ℕ, get_or};
 ghost use Rattle.anb_processes.specs.Children.{child_of};
 
 use crate::counts::Counts;
-use crate::folder::Folder;
-use crate::notes::{tell_end, tell_left, tell_no_program, tell_unstarted};
+use crate::notes::{tell_end, tell_left, tell_no_program};
 use crate::running::{Running, is_silence};
 use crate::watcher::Watcher;
-use anb_base::{Bytes, Failed, Text};
-use anb_stage::{ChildWords, Spawner};
-use std::alloc::{AllocError, Global};
+use anb_base::{Failed, Text};
+use anb_stage::Spawner;
+use std::alloc::Global;
 use std::io::ErrorKind;
 use std::marker::Model;
 use std::process::ExitStatus;
@@ -52,8 +51,8 @@ struct Named {
     running: Running,
 }
 
-/// Starts a program for each role as a child of this one, over pipes: the one that its words name, or one
-/// and the same. It tells nothing of the bytes, the words and the statuses. Each role's count rises by one with each fault, which
+/// Starts one program for all roles, each time as a child of this one, over pipes. It tells nothing
+/// of the bytes, the words and the statuses. Each role's count rises by one with each fault, which
 /// is also the answer for a child that a signal ended. What a child no longer takes is dropped, and is
 /// no fault. Dropping it closes all pipes and ends no child: `end` does.
 #[derive(Drop)]
@@ -61,8 +60,6 @@ pub struct RealSpawner {
     rt: HostRuntime,
     program: ChildProgram,
     children: Vec<Named>,
-    /// Where the values of children stand, once there are some.
-    folder: Option<Folder>,
     /// What kills the children where a signal ends this program. There is none without a shell.
     watcher: Option<Watcher>,
     /// The role whose output was last found at its end.
@@ -88,7 +85,6 @@ impl RealSpawner {
             rt,
             program,
             children: Vec::new(alloc),
-            folder: None,
             watcher: None,
             at_end: None,
             counts: Counts::new(),
@@ -103,7 +99,6 @@ impl RealSpawner {
             rt,
             program: _,
             mut children,
-            folder,
             watcher,
             at_end,
             counts: _,
@@ -118,10 +113,6 @@ impl RealSpawner {
         if let Some(watcher) = watcher {
             // One that fails has ended.
             let _ = watcher.end();
-        }
-        if let Some(folder) = folder {
-            // What can't be removed is left.
-            let _ = folder.remove(&rt);
         }
         // What can't be told isn't.
         if let Some((name, status)) = ended {
@@ -150,23 +141,14 @@ fn end_of(
 fn start(
     rt: &HostRuntime,
     program: &ChildProgram,
-    folder: &mut Option<Folder>,
     children: &mut Vec<Named>,
     role: u32,
     limit: Option<u32>,
-    own: &ChildWords,
+    words: &[Text],
 ) -> io::Result<()> {
-    let name = name_of(rt.alloc(), &own.words)?;
+    let name = name_of(rt.alloc(), words)?;
     let limit = limit.map(|seconds| Duration::from_secs(u64::from(seconds)));
-    let (program, words) = match &*own.program {
-        [] => (program.path()?, joined(rt.alloc(), &[], &own.words)?),
-        [first, more @ ..] => (first.as_str(), joined(rt.alloc(), more, &own.words)?),
-    };
-    let words = match &own.values {
-        Some(values) => with_file(rt, folder, &name, values, words)?,
-        None => words,
-    };
-    let running = Running::start(rt, program, limit, &words)?;
+    let running = Running::start(rt, program.path()?, limit, words)?;
     match children.push(Named {
         role,
         name,
@@ -190,53 +172,18 @@ fn name_of(alloc: Global, words: &[Text]) -> io::Result<Text> {
     Ok(Text::new(String::from_str(alloc, name)?))
 }
 
-/// These words, and then those.
-fn joined(alloc: Global, words: &[Text], more: &[Text]) -> Result<Vec<Text>, AllocError> {
-    let mut all = Vec::with_capacity(alloc, words.len().saturating_add(more.len()))?;
-    for word in words.iter().chain(more) {
-        all.push(Text::new(String::from_str(alloc, word.as_str())?))?;
-    }
-    Ok(all)
-}
-
-/// These words, and behind them the name of a file with a role's values.
-fn with_file(
-    rt: &HostRuntime,
-    folder: &mut Option<Folder>,
-    role: &Text,
-    values: &Bytes,
-    mut words: Vec<Text>,
-) -> io::Result<Vec<Text>> {
-    if folder.is_none() {
-        *folder = Some(Folder::make(rt)?);
-    }
-    if let Some(folder) = folder {
-        let file = folder.put(rt, role.as_str(), values.as_slice())?;
-        words.push(Text::new(file))?;
-    }
-    Ok(words)
-}
-
 /// Watches over the child that was started last. The first one brings the watcher with it.
-fn watch(
-    rt: &HostRuntime,
-    watcher: &mut Option<Watcher>,
-    folder: &Option<Folder>,
-    children: &[Named],
-) -> io::Result<()> {
+fn watch(rt: &HostRuntime, watcher: &mut Option<Watcher>, children: &[Named]) -> io::Result<()> {
     let Some(child) = children.last() else {
         return Ok(());
     };
     if children.len() == 1 {
         *watcher = Watcher::start(rt)?;
     }
-    let Some(watcher) = watcher else {
-        return Ok(());
-    };
-    if let Some(folder) = folder {
-        watcher.keep_clean(rt, folder.path())?;
+    match watcher {
+        Some(watcher) => watcher.add(rt, child.running.id()),
+        None => Ok(()),
     }
-    watcher.add(rt, child.running.id())
 }
 
 /// No longer watches over the child of a role, which has ended.
@@ -247,17 +194,12 @@ fn unwatch(rt: &HostRuntime, watcher: &mut Option<Watcher>, child: &Named) -> io
     }
 }
 
-/// Tells which program can't be started, where the words name one, or where this program itself can't be
-/// found.
-fn explain(rt: &HostRuntime, program: &ChildProgram, own: &ChildWords) {
-    match (own.program.first(), program) {
-        (Some(name), _) => {
-            let _ = tell_unstarted(rt, name);
-        }
-        (None, ChildProgram::Own) if fs::symlink_metadata(rt, OWN).is_err() => {
+/// Tells where this program itself can't be found.
+fn explain(rt: &HostRuntime, program: &ChildProgram) {
+    if let ChildProgram::Own = program {
+        if fs::symlink_metadata(rt, OWN).is_err() {
             let _ = tell_no_program(rt, OWN);
         }
-        _ => {}
     }
 }
 
@@ -273,24 +215,23 @@ fn child_in(children: &mut [Named], role: u32) -> Option<&mut Named> {
 impl Spawner for RealSpawner {
     ghost child = { child_of };
 
-    fn start(&mut self, role: u32, limit: Option<u32>, own: &ChildWords) -> Result<(), Failed> {
+    fn start(&mut self, role: u32, limit: Option<u32>, words: &[Text]) -> Result<(), Failed> {
         match start(
             &self.rt,
             &self.program,
-            &mut self.folder,
             &mut self.children,
             role,
             limit,
-            own,
+            words,
         ) {
             Ok(()) => {
                 // Without a watcher the children are as good.
-                let _ = watch(&self.rt, &mut self.watcher, &self.folder, &self.children);
+                let _ = watch(&self.rt, &mut self.watcher, &self.children);
                 self.counts.enter(role, 1);
                 Ok(())
             }
             Err(_) => {
-                explain(&self.rt, &self.program, own);
+                explain(&self.rt, &self.program);
                 Err(self.counts.fail(role, false))
             }
         }

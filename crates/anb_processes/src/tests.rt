@@ -4,33 +4,19 @@ ghost use Rattle.std.specs.Prelude.{◌≡◌, ◌≢◌, ◌<◌, ℕ, get_or, 
 ghost use Rattle.anb_stage.specs.declared.TheConstants.{ROLES};
 
 use crate::{ChildProgram, RealSpawner};
-use anb_base::{Bytes, Failed, Text};
-use anb_stage::{ChildWords, Spawner};
+use anb_base::{Failed, Text};
+use anb_stage::Spawner;
 use std::alloc::{AllocError, Global};
 use std::test::Fail;
 use std::{fs, str};
 
-/// These words.
-fn texts(alloc: Global, all: &[&str]) -> Result<Vec<Text>, AllocError> {
+/// The words of a shell that runs this line.
+fn words(alloc: Global, line: &str) -> Result<Vec<Text>, AllocError> {
     let mut words = Vec::new(alloc);
-    for word in all {
+    for word in ["-c", line] {
         words.push(Text::new(String::from_str(alloc, word)?))?;
     }
     Ok(words)
-}
-
-/// The words of a child of a program.
-fn child_words(alloc: Global, program: &[&str], words: &[&str]) -> Result<ChildWords, AllocError> {
-    Ok(ChildWords {
-        program: texts(alloc, program)?,
-        words: texts(alloc, words)?,
-        values: None,
-    })
-}
-
-/// The words of a shell that runs this line.
-fn words(alloc: Global, line: &str) -> Result<ChildWords, AllocError> {
-    child_words(alloc, &[], &["-c", line])
 }
 
 /// A spawner of this program.
@@ -41,13 +27,13 @@ fn spawner(rt: HostRuntime, program: &str) -> Result<RealSpawner, AllocError>
     Ok(RealSpawner::new(rt, ChildProgram::Named(Text::new(program))))
 }
 
-fn start(children: &mut RealSpawner, role: u32, own: &ChildWords) -> Result<(), Fail>
+fn start(children: &mut RealSpawner, role: u32, words: &[Text]) -> Result<(), Fail>
     requires { role < ROLES }
     ensures started { OnOk result (get_or children.new.phases role 0 ≡ 1) }
     ensures others { (other : ℕ) → other ≢ role
         → get_or children.new.phases other 0 ≡ get_or children.old.phases other 0 }
 {
-    match children.start(role, None, own) {
+    match children.start(role, None, words) {
         Ok(()) => Ok(()),
         Err(Failed) => Err("not started".into()),
     }
@@ -65,7 +51,7 @@ fn ends(rt: HostRuntime, line: &str) -> Result<Result<u8, Failed>, Fail> {
 #[test]
 fn children_say_back_what_they_hear(rt: HostRuntime) -> Result<(), Fail> {
     let mut cats = spawner(rt, "/bin/cat")?;
-    let none = child_words(rt.alloc(), &[], &[])?;
+    let none = Vec::new(rt.alloc());
     start(&mut cats, 0, &none)?;
     start(&mut cats, 1, &none)?;
     let mut buf = [0u8; 3];
@@ -83,30 +69,6 @@ fn a_child_ends_with_its_status(rt: HostRuntime) -> Result<(), Fail> {
     assert_eq!(rt; ends(rt, "exit 7")?, Ok(7));
     assert_eq!(rt; ends(rt, "cat; head -c 1000000 /dev/zero")?, Ok(0));
     assert_eq!(rt; ends(rt, "kill -9 $$")?, Err(Failed));
-    Ok(())
-}
-
-#[test]
-fn words_may_name_the_program(rt: HostRuntime) -> Result<(), Fail> {
-    let mut shells = spawner(rt, "/no/such/program")?;
-    let own = child_words(rt.alloc(), &["/bin/sh", "-c"], &["exit 7"])?;
-    start(&mut shells, 0, &own)?;
-    assert_eq!(rt; shells.finish(0), Ok(7));
-    shells.end();
-    Ok(())
-}
-
-#[test]
-fn values_stand_in_a_file(rt: HostRuntime) -> Result<(), Fail> {
-    let mut shells = spawner(rt, "/bin/sh")?;
-    let mut own = words(rt.alloc(), "cat \"$0\"")?;
-    own.values = Some(Bytes::new(Vec::from_slice(rt.alloc(), b"N = x00\n")?));
-    start(&mut shells, 0, &own)?;
-    let mut buf = [0u8; 8];
-    assert_eq!(rt; shells.read(0, &mut buf), Ok(8));
-    assert_eq!(rt; buf, *b"N = x00\n");
-    assert_eq!(rt; shells.finish(0), Ok(0));
-    shells.end();
     Ok(())
 }
 

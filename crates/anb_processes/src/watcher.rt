@@ -6,14 +6,13 @@ use std::process::{Child, ChildStdin, Command, Stdio};
 
 const SHELL: &str = "/bin/sh";
 
-/// It hears of each child that was started (`+`) and that ended (`-`), that nobody is left to be
-/// killed (`.`), and of a folder (`/`). At the end of its input, which comes with the end of this program,
-/// it kills who is left, and removes the folder. A signal to the whole group, as from a terminal, doesn't end it.
+/// It hears of each child that was started (`+`) and that ended (`-`), and that nobody is left to be
+/// killed (`.`). At the end of its input, which comes with the end of this program, it kills who is
+/// left. A signal to the whole group, as from a terminal, doesn't end it.
 const SCRIPT: &str = "trap '' HUP INT TERM
-left= folder=
+left=
 while read -r sign child; do
     case $sign in
-    /) folder=$child ;;
     +) left=\"$left $child\" ;;
     -) rest=
         for one in $left; do
@@ -23,8 +22,7 @@ while read -r sign child; do
     .) left= ;;
     esac
 done
-[ -z \"$left\" ] || kill -9 $left
-[ -z \"$folder\" ] || rm -rf -- \"$folder\"";
+[ -z \"$left\" ] || kill -9 $left";
 
 /// A shell that watches over children.
 #[derive(Drop)]
@@ -52,12 +50,6 @@ impl Watcher {
     /// Watches over this process too.
     pub(crate) fn add(&mut self, rt: &HostRuntime, process: u32) -> io::Result<()> {
         let line = format!(in rt.alloc(); "+ {process}\n")?;
-        self.input.write_all(line.as_bytes())
-    }
-
-    /// Removes this folder at the end.
-    pub(crate) fn keep_clean(&mut self, rt: &HostRuntime, folder: &str) -> io::Result<()> {
-        let line = format!(in rt.alloc(); "/ {folder}\n")?;
         self.input.write_all(line.as_bytes())
     }
 

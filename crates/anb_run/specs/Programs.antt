@@ -14,7 +14,7 @@ use Rattle.anb_words.specs.Words.{Asked}
 use Rattle.anb_park_commands.specs.Words.{Recorded}
 use Rattle.anb_record_commands.specs.Words.{Recording}
 use Rattle.anb_stage_commands.specs.Words.{Staged}
-use Rattle.anb_probe_commands.specs.ProbeCommand.{CompletesProbe, DoesProbe, HasProbeCause, NoTrialRose, probe_files, probe_phase}
+use Rattle.anb_probe_commands.specs.ProbeCommand.{CompletesProbe, DoesProbe, HasProbeCause, StartFailed, probe_files, probe_phase}
 use Rattle.anb_probe_commands.specs.Words.{Probed}
 use Rattle.anb_run.specs.Recordings.{CompletesRecording, DoesRecording, HasRecordingCause, IsAskedRecording, recording_files, recording_phase, recording_places, recording_reading}
 
@@ -52,7 +52,7 @@ module _ (recording : Option Recording) (kept : Option Recorded) (staged : Optio
       DoesRecording kept staged asked told seed children children_now old new store store_now status recording
 
   abbrev pub CompletesTesting : Option Probed → Type 0
-  CompletesTesting (Some p) = NoTrialRose trials trials_now → CompletesProbe p told seed trials trials_now old new status
+  CompletesTesting (Some p) = (StartFailed trials trials_now → ⊥) → CompletesProbe p told seed trials trials_now old new status
   CompletesTesting None =
       CompletesRecording kept staged asked told seed children children_now old new store store_now status recording
 

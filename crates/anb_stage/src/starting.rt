@@ -5,13 +5,14 @@ ghost use Rattle.anb_stage.specs.Words.{asked_lists};
 ghost use Rattle.anb_stage.specs.Steps.{Started, FailsStarting};
 ghost use Rattle.anb_stage.specs.declared.TheConstants.{ROLES};
 
-use crate::{ChildWords, RelayNo, Spawner};
+use crate::{RelayNo, Spawner};
+use anb_base::Text;
 
 /// Starts all children in order, each with its words and all with this limit.
 pub(crate) fn start_all<P: Spawner>(
     spawner: &mut P,
     limit: Option<u32>,
-    words: &[ChildWords],
+    words: &[Vec<Text>],
 ) -> Result<(), RelayNo>
     requires few { length words.now ≤ ROLES }
     requires new { (role : ℕ) → role < length words.now → (P.child spawner.old role).phase ≡ 0 }
@@ -22,7 +23,7 @@ pub(crate) fn start_all<P: Spawner>(
 {
     for (i, own) in words.iter().enumerate() {
         let role = i as u32;
-        if spawner.start(role, limit, own).is_err() {
+        if spawner.start(role, limit, own.as_slice()).is_err() {
             return Err(RelayNo::Fault(role));
         }
     }

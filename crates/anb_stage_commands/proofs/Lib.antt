@@ -1,6 +1,3 @@
-mod Behind
-mod Casting
-mod Lists
-mod Scenes
+pub mod Lists
 pub mod Outcomes
 pub mod Answering

@@ -1,6 +1,4 @@
 pub mod Words
-pub mod CastRoles
-pub mod Scenes
 pub mod Reports
 pub mod StageCommand
 pub mod Asking

@@ -1,9 +1,7 @@
 //! The command that relays among child programs.
 #![tactic(auto)]
 
-mod casts;
 mod report;
-mod scene;
 mod staging;
 mod words;
 

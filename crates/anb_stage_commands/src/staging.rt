@@ -10,8 +10,7 @@ ghost use Rattle.anb_command.specs.Reaches.{Reaches};
 ghost use Rattle.anb_command.specs.Reported.{TellsFaults, TellsFileFaults};
 ghost use Rattle.anb_status.specs.Statuses.{phase_of};
 ghost use Rattle.anb_command.specs.Touches.{Touches};
-ghost use Rattle.anb_stage_commands.specs.Asking.{scene_of, staged};
-ghost use Rattle.anb_stage_commands.specs.Words.{staged_files};
+ghost use Rattle.anb_stage_commands.specs.Asking.{staged};
 ghost use Rattle.anb_stage_commands.specs.StageCommand.{CompletesStage, DoesStage, HasStageCause, NoChildRose};
 ghost use Rattle.anb_stage_commands.specs.StageCommand.{fault_status, status_after};
 ghost use Rattle.anb_stage_commands.specs.Relaying.{FailsInFile, FailsRelaying, HasCauseBefore, HasChildCause, IsBefore, IsNamed, Relays, RelaysInFile};
@@ -19,13 +18,12 @@ ghost use Rattle.anb_status.specs.declared.status.Status.TheVariants as status;
 
 use crate::StageWords;
 use crate::report::report_text;
-use crate::scene::{Scene, scene_in_files};
+use crate::words::words_for;
 use anb_base::{NoMemory, Shelf, Text, Wire};
-use anb_command::{Status, write_text};
+use anb_command::{Status, sendable_in_file, write_text};
 use anb_protocol::{Protocol, protocols_hold};
 use anb_read::{narrations_are_unique, none_is_both, refusals_are_unique};
 use anb_stage::{RelayNo, Spawner, relay, relays_are_due};
-use anb_values::one_fit;
 use std::alloc::Global;
 
 /// Relays among the children of all roles of the narration in a file, and writes the report to the
@@ -40,16 +38,16 @@ pub fn stage<F: Shelf, P: Spawner, W: Wire>(
     requires new { (role : ℕ) → role < ROLES → (P.child spawner.old role).phase ≡ 0 }
     ensures does { DoesStage (staged words.entry) (P.child spawner.old) (P.child spawner.new)
         (W.state wire.old).written (W.state wire.new).written (F.files shelf.old) result }
-    ensures completes { NoneRose (staged_files (staged words.entry))
+    ensures completes { NoneRose (words.entry.narration.now ∷ [])
         (F.faults shelf.old) (F.faults shelf.new) (W.state wire.old) (W.state wire.new)
         → NoChildRose (P.child spawner.old) (P.child spawner.new)
         → CompletesStage (staged words.entry) (P.child spawner.old) (F.files shelf.old) result }
-    ensures faults { HasStageCause words.entry.limit (staged_files (staged words.entry))
+    ensures faults { HasStageCause words.entry.limit (words.entry.narration.now ∷ [])
         (F.faults shelf.old) (F.faults shelf.new) (P.child spawner.old) (P.child spawner.new)
         (W.state wire.old) (W.state wire.new) result }
     ensures reported { TellsFaults (F.faults shelf.old) (F.faults shelf.new)
         (W.state wire.old) (W.state wire.new) result }
-    ensures fetches { Fetches (staged_files (staged words.entry))
+    ensures fetches { Fetches (words.entry.narration.now ∷ [])
         (F.files shelf.old) (F.files shelf.new) (F.faults shelf.old) (F.faults shelf.new) }
     ensures reached { Reaches (Some place.Stdio) (phase_of result)
         (W.state wire.old).reached (W.state wire.new).reached }
@@ -58,7 +56,6 @@ pub fn stage<F: Shelf, P: Spawner, W: Wire>(
     narrations_are_unique();
     refusals_are_unique();
     none_is_both();
-    one_fit();
     relays_are_due();
     match relayed_in_file(alloc, shelf, spawner, words) {
         Ok(text) => write_text(wire, &text),
@@ -81,41 +78,41 @@ fn relayed_in_file<F: Shelf, P: Spawner>(
     ensures before { IfErr result IsBefore }
     ensures cause { IfErr result (HasCauseBefore (staged words.entry)
         (P.child spawner.old) (P.child spawner.new) (F.faults shelf.old) (F.faults shelf.new)) }
-    ensures fetches { Fetches (staged_files (staged words.entry))
+    ensures fetches { Fetches (words.entry.narration.now ∷ [])
         (F.files shelf.old) (F.files shelf.new) (F.faults shelf.old) (F.faults shelf.new) }
     ensures told { TellsFileFaults result (F.faults shelf.old) (F.faults shelf.new) }
 {
-    match scene_in_files(alloc, shelf, words) {
-        Ok(scene) => relayed(alloc, spawner, &scene, words),
+    match sendable_in_file(alloc, shelf, words.narration) {
+        Ok(protocol) => relayed(alloc, spawner, &protocol, words),
         Err(status) => Err(status),
     }
 }
 
-/// Relays among the children of all roles of a scene, and gives the report. The names of roles are copied
-/// before the first child is started, so a fault is told whatever memory there is.
+/// Relays among the children of all roles of a protocol, and gives the report. The names of roles are
+/// copied before the first child is started, so a fault is told whatever memory there is.
 fn relayed<P: Spawner>(
     alloc: Global,
     spawner: &mut P,
-    scene: &Scene,
+    protocol: &Protocol,
     words: StageWords,
 ) -> Result<Vec<u8>, Status>
     requires new { (role : ℕ) → role < ROLES → (P.child spawner.old role).phase ≡ 0 }
-    requires counts { length scene.now.words.items ≡ length scene.now.protocol.roles }
     ensures relayed { IfOk result (λ text. Relays (staged words.entry)
-        (P.child spawner.old) (P.child spawner.new)
-        (scene_of words.entry.limit scene.now) text.items) }
+        (P.child spawner.old) (P.child spawner.new) protocol.now text.items) }
     ensures failed { IfErr result (FailsRelaying (staged words.entry)
-        (P.child spawner.old) (P.child spawner.new) (scene_of words.entry.limit scene.now)) }
+        (P.child spawner.old) (P.child spawner.new) protocol.now) }
     ensures before { IfErr result IsBefore }
     ensures cause { IfErr result
         (HasChildCause words.entry.limit (P.child spawner.old) (P.child spawner.new)) }
 {
-    let protocol = &scene.protocol;
     has_few_roles(protocol);
     let Ok(names) = copied(alloc, protocol.roles()) else {
         return Err(Status::NoMemory);
     };
-    let sent = match relay(alloc, protocol, &scene.words, words.limit, spawner) {
+    let Ok(all) = words_for(alloc, words, protocol.roles()) else {
+        return Err(Status::NoMemory);
+    };
+    let sent = match relay(alloc, protocol, &all, words.limit, spawner) {
         Ok(sent) => sent,
         Err(no) => return Err(refusal(names, words.limit, spawner, no)),
     };
@@ -126,7 +123,7 @@ fn relayed<P: Spawner>(
 }
 
 /// A law: a protocol has at most so many roles.
-pub(crate) fn has_few_roles(protocol: &Protocol)
+fn has_few_roles(protocol: &Protocol)
     ensures { length protocol.now.roles ≤ ROLES }
 {
     protocols_hold();

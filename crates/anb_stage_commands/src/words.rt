@@ -1,23 +1,19 @@
 //! The words of `stage`, and those of the children that it starts.
-ghost use Rattle.std.specs.Prelude.{◌≡◌, [], ◌∷◌, codes, Some, None, IfOk};
-ghost use Rattle.anb_stage.specs.Words.{asked_by, asked_lists};
-ghost use Rattle.anb_stage_commands.specs.Asking.{behind_by, staged};
-ghost use Rattle.anb_stage_commands.specs.Words.{asked_for, limit_in, names_file, options_in, program_for, words_for};
+ghost use Rattle.std.specs.Prelude.{◌≡◌, ℕ, List, IfOk};
+ghost use Rattle.anb_stage.specs.Words.{asked_lists, words_of};
+ghost use Rattle.anb_stage_commands.specs.Asking.{staged};
+ghost use Rattle.anb_stage_commands.specs.Words.{child_words, limit_in, words_for};
 
-use crate::casts::{has_none_twice, is_cast, program_of, program_words};
-use anb_base::{Bytes, NoMemory, Text};
+use anb_base::{NoMemory, Text};
 use anb_command::{is_operand, read_seconds};
-use anb_stage::ChildWords;
 use std::alloc::Global;
 
-/// What is asked of `stage`: the names of the narration's file and of a folder with the values of its roles,
-/// or of a file with those of all, the programs of some roles, and for how many seconds a child may be
-/// silent, where that is said. Each program is three words: `--as`, the role's name, and the program.
+/// What is asked of `stage`: the names of the narration's file and of the folder with the values of
+/// its roles, and for how many seconds a child may be silent, where that is said.
 #[derive(Clone, Copy)]
 pub struct StageWords<'w> {
     pub narration: &'w Text,
-    pub values: &'w Text,
-    pub casts: &'w [Text],
+    pub folder: &'w Text,
     pub limit: Option<u32>,
 }
 
@@ -42,50 +38,19 @@ impl<'w> StageWords<'w> {
     fn read_files(words: &'w [Text]) -> Option<Self>
         ensures { staged_by result ≡ stage_in words.now }
     {
-        let [narration, values, words @ ..] = words else {
+        let [narration, folder, words @ ..] = words else {
             return None;
         };
-        if !(is_operand(narration) && is_operand(values)) {
+        if !(is_operand(narration) && is_operand(folder)) {
             return None;
         }
-        let behind = read_behind(words)?;
-        if !has_none_twice(behind.casts) {
-            return None;
-        }
+        let limit = read_limit(words)?;
         Some(StageWords {
             narration,
-            values,
-            casts: behind.casts,
-            limit: behind.limit,
+            folder,
+            limit,
         })
     }
-}
-
-/// What stands behind the names.
-#[derive(Clone, Copy)]
-struct Behind<'w> {
-    casts: &'w [Text],
-    limit: Option<u32>,
-}
-
-/// The programs of roles, and then the limit.
-fn read_behind(words: &[Text]) -> Option<Behind<'_>>
-    ensures { behind_by result ≡ options_in words.now }
-{
-    let mut count = 0;
-    let mut rest = words;
-    while let [flag, role, program, behind @ ..] = rest {
-        if !is_cast(flag, role, program) {
-            return None;
-        }
-        count += 3;
-        rest = behind;
-    }
-    let limit = read_limit(rest)?;
-    Some(Behind {
-        casts: &words[..count],
-        limit,
-    })
 }
 
 /// The most seconds for which a child may be silent, where the words say them.
@@ -99,80 +64,31 @@ fn read_limit(words: &[Text]) -> Option<Option<u32>>
     }
 }
 
-/// What the children of all roles are started with, where their values stand in a folder.
+/// The words of the children of all roles.
 pub(crate) fn words_for(
     alloc: Global,
     words: StageWords,
     roles: &[Text],
-) -> Result<Vec<ChildWords>, NoMemory>
-    ensures words { IfOk result (λ all. asked_lists words.entry.limit all.items
+) -> Result<Vec<Vec<Text>>, NoMemory>
+    ensures { IfOk result (λ all. asked_lists words.entry.limit all.items
         ≡ words_for (staged words.entry) roles.now) }
 {
     let mut all = Vec::new(alloc);
     for role in roles {
-        all.push(folder_words(alloc, words, role)?)?;
+        all.push(child_words(alloc, words, role)?)?;
     }
     Ok(all)
 }
 
-/// What one role's child is started with, where its values stand in a folder.
-fn folder_words(alloc: Global, words: StageWords, role: &Text) -> Result<ChildWords, NoMemory>
-    ensures { IfOk result (λ own. asked_by words.entry.limit own
-        ≡ asked_for (staged words.entry) None role.now) }
-{
-    let values = format!(in alloc; "{}/{}.values", words.values.as_str(), role.as_str())?;
-    let mut own = child_words(alloc, words, role)?;
-    own.push(Text::new(values))?;
-    Ok(ChildWords {
-        program: program_for(alloc, words, role)?,
-        words: own,
-        values: None,
-    })
-}
-
-/// What it is started with, where they stand in a file of its own.
-pub(crate) fn own_words(
-    alloc: Global,
-    words: StageWords,
-    role: &Text,
-    values: Bytes,
-) -> Result<ChildWords, NoMemory>
-    ensures { IfOk result (λ own. asked_by words.entry.limit own
-        ≡ asked_for (staged words.entry) (Some values) role.now) }
-{
-    Ok(ChildWords {
-        program: program_for(alloc, words, role)?,
-        words: child_words(alloc, words, role)?,
-        values: Some(values),
-    })
-}
-
-/// The words of its program; none where the role is `anb`'s.
-fn program_for(alloc: Global, words: StageWords, role: &Text) -> Result<Vec<Text>, NoMemory>
-    ensures { IfOk result (λ program. program.items
-        ≡ program_for (staged words.entry) role.now) }
-{
-    match program_of(words.casts, role) {
-        Some(program) => program_words(alloc, program),
-        None => Ok(Vec::new(alloc)),
-    }
-}
-
-/// The words behind them, up to the values.
+/// The words of the child of one role.
 fn child_words(alloc: Global, words: StageWords, role: &Text) -> Result<Vec<Text>, NoMemory>
-    ensures { IfOk result (λ own. own.items
-        ≡ codes "play" ∷ words.entry.narration.now ∷ role.now ∷ []) }
+    ensures { IfOk result (λ own. words_of own ≡ child_words (staged words.entry) role.now) }
 {
+    let values = format!(in alloc; "{}/{}.values", words.folder.as_str(), role.as_str())?;
     let mut own = Vec::with_capacity(alloc, 4)?;
     own.push(Text::new(String::from_str(alloc, "play")?))?;
     own.push(words.narration.copy(alloc)?)?;
     own.push(role.copy(alloc)?)?;
+    own.push(Text::new(values))?;
     Ok(own)
-}
-
-/// Whether a name is that of a file with values.
-pub(crate) fn names_file(name: &Text) -> bool
-    ensures { result ≡ names_file name.now }
-{
-    name.as_str().as_bytes().ends_with(b".values")
 }

@@ -3,7 +3,7 @@ use Rattle.std.specs.Prelude.{ℕ, zero, suc, ◌+◌, ◌-◌, nat_le, nat_lt, 
 use Rattle.std.specs.Str.{bytes_eq}
 use Rattle.anb_values.specs.Lines.{before_trailing, is_edge, seed_label}
 use Rattle.anb_value_mistakes.specs.Classes.{begins, count}
-use Rattle.anb_value_mistakes.specs.declared.classes.Class.TheVariants.{Edge, Space, Digit, Label, BeforeColon, BeforeEquals}
+use Rattle.anb_value_mistakes.specs.declared.classes.Class.TheVariants.{Edge, Space, Digit, Label, Front, BeforeEquals}
 use Rattle.anb_value_mistakes.specs.declared.wrong.Wrong.{Wrong}
 use Rattle.anb_value_mistakes.specs.declared.wrong.Wrong.TheVariants as wrong
 
@@ -50,11 +50,15 @@ in_quotes bytes = later (characters_len 0 bytes) (at_quote (drop (characters_len
 
 -- ---- values in digits
 
+-- what stands behind the digits
+abbrev pub behind_digits : List ℕ → ℕ × Wrong
+behind_digits rest = if begins 35 (unspaced rest) || nat_lt 0 (count Space rest) then after_value rest else (0, wrong.Digit)
+
 -- behind the `x`, of a seed or not
 abbrev pub in_digits : Bool → List ℕ → ℕ × Wrong
 in_digits is_seed bytes =
     if nat_lt (count Digit bytes) (length bytes)
-    then later (count Digit bytes) (if begins 35 (unspaced (drop (count Digit bytes) bytes)) then after_value (drop (count Digit bytes) bytes) else (0, wrong.Digit))
+    then later (count Digit bytes) (behind_digits (drop (count Digit bytes) bytes))
     else (count Digit bytes, if is_seed then wrong.SeedLength else wrong.Odd)
 
 -- ---- lines
@@ -63,15 +67,18 @@ abbrev pub in_value : Bool → List ℕ → ℕ × Wrong
 in_value is_seed bytes =
     if length bytes == 0 then (0, wrong.NoValue)
     else (if begins 120 bytes then later 1 (in_digits is_seed (drop 1 bytes))
-    else (if is_seed then (0, wrong.SeedLiteral)
+    else (if begins 48 bytes && begins 120 (drop 1 bytes) then (0, wrong.Prefix)
+    else (if is_seed then (0, wrong.SeedBare)
     else (if begins 34 bytes then later 1 (in_quotes (drop 1 bytes))
-    else (0, if begins 48 bytes && begins 120 (drop 1 bytes) then wrong.Prefix else wrong.Bare))))
+    else (0, if begins 39 bytes then wrong.Apostrophe else wrong.Bare)))))
+
+-- whether a colon stands behind what may be a label
+abbrev pub has_colon : List ℕ → Bool
+has_colon bytes = begins 58 (drop (count Front bytes) bytes)
 
 -- a line without `=`
 abbrev pub unequal : List ℕ → ℕ × Wrong
-unequal bytes =
-    if nat_lt (count BeforeColon bytes) (length bytes) then (count BeforeColon bytes, wrong.Colon)
-    else (length bytes, wrong.NoEquals)
+unequal bytes = (count Front bytes, if has_colon bytes then wrong.Colon else wrong.NoEquals)
 
 -- the seed's label with spaces behind it
 abbrev pub is_seed_label : List ℕ → Bool
@@ -80,9 +87,9 @@ is_seed_label label = bytes_eq (take 5 label) seed_label && count Space (drop 5 
 -- what stands before the first `=`, where it is no label
 abbrev pub in_label : List ℕ → ℕ × Wrong
 in_label label =
-    if nat_lt (count Label label) (length label)
-    then (count Label label, if begins 58 (drop (count Label label) label) then wrong.Colon else wrong.Name)
-    else (length label, wrong.NoName)
+    if length label == 0 then (0, wrong.NoName)
+    else (if has_colon label then (count Front label, wrong.Colon)
+    else (count Label label, wrong.Name))
 
 abbrev pub is_label_text : List ℕ → Bool
 is_label_text label = count Label label == length label && nat_lt (count Space label) (length label)
@@ -98,11 +105,21 @@ in_sides label bytes =
     else (if is_label_text label then later (length label + 1) (behind_equals false bytes)
     else in_label label)
 
-abbrev pub in_content : List ℕ → ℕ × Wrong
-in_content bytes =
+-- the three bytes with which some programs begin a file
+abbrev pub byte_order_mark : List ℕ
+byte_order_mark = 239 ∷ 187 ∷ 191 ∷ []
+
+abbrev pub has_mark : List ℕ → Bool
+has_mark bytes = bytes_eq (take 3 bytes) byte_order_mark
+
+abbrev pub in_named : List ℕ → ℕ × Wrong
+in_named bytes =
     if nat_lt (count BeforeEquals bytes) (length bytes)
     then in_sides (take (count BeforeEquals bytes) bytes) (drop (count BeforeEquals bytes + 1) bytes)
     else unequal bytes
+
+abbrev pub in_content : List ℕ → ℕ × Wrong
+in_content bytes = if has_mark bytes then (0, wrong.Mark) else in_named bytes
 
 -- a line without spaces and the byte 0D at its ends
 abbrev pub diagnosis : List ℕ → ℕ × Wrong

@@ -12,7 +12,7 @@ use Rattle.anb_value_mistakes.specs.Reading.{IsRead}
 use Rattle.anb_value_mistakes.specs.Wording.{mend, message}
 use Rattle.anb_value_mistakes.specs.declared.classes.Class.TheVariants.{Edge}
 use Rattle.anb_value_mistakes.specs.declared.reading.Saying.{Saying}
-use Rattle.anb_value_mistakes.specs.declared.reading.Saying.TheVariants.{Nothing, Label, Faulty}
+use Rattle.anb_value_mistakes.specs.declared.reading.Saying.TheVariants.{Label, Faulty}
 use Rattle.anb_value_mistakes.specs.declared.reading.ReadLine.{ReadLine}
 use Rattle.anb_value_mistakes.specs.declared.wrong.Wrong.{Wrong}
 

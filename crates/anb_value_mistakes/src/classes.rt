@@ -1,5 +1,6 @@
 //! Kinds of bytes in a values file.
 ghost use Rattle.std.specs.Prelude.{◌≡◌, ◌≤◌, drop, length, take};
+ghost use Rattle.anb_values.specs.Lines.{is_label_byte};
 ghost use Rattle.anb_value_mistakes.specs.Classes.{begins, count, is_of};
 
 /// A kind of bytes.
@@ -13,8 +14,8 @@ pub enum Class {
     Digit,
     /// Bytes of labels, and spaces.
     Label,
-    /// All but `:`.
-    BeforeColon,
+    /// Bytes of labels, spaces and `@`.
+    Front,
     /// All but `=`.
     BeforeEquals,
 }
@@ -27,15 +28,8 @@ pub(crate) fn is_of(class: Class, byte: u8) -> bool
         Class::Edge => is_space(byte) || byte == b'\r',
         Class::Space => is_space(byte),
         Class::Digit => byte.is_ascii_hexdigit(),
-        Class::Label => {
-            byte.is_ascii_alphanumeric()
-                || byte == b'_'
-                || byte == b'('
-                || byte == b')'
-                || byte == b','
-                || is_space(byte)
-        }
-        Class::BeforeColon => byte != b':',
+        Class::Label => is_label_byte(byte) || is_space(byte),
+        Class::Front => is_label_byte(byte) || is_space(byte) || byte == b'@',
         Class::BeforeEquals => byte != b'=',
     }
 }
@@ -44,6 +38,12 @@ fn is_space(byte: u8) -> bool
     ensures { result ≡ is_of Class.Space byte }
 {
     byte == b' ' || byte == b'\t'
+}
+
+fn is_label_byte(byte: u8) -> bool
+    ensures { result ≡ is_label_byte byte }
+{
+    byte.is_ascii_alphanumeric() || byte == b'_' || byte == b'(' || byte == b')' || byte == b','
 }
 
 /// How many bytes of this kind stand at the front.

@@ -2,7 +2,7 @@
 ghost use Rattle.std.specs.Prelude.{◌≡◌, ◌≤◌, ◌+◌, length};
 ghost use Rattle.anb_base.specs.declared.TheConstants.{SMALL_FILE};
 ghost use Rattle.anb_values.specs.Lines.{before_trailing, is_edge};
-ghost use Rattle.anb_value_mistakes.specs.Diagnosis.{behind_equals, diagnosis, in_content, in_digits, in_label, in_sides, in_value, is_label_text, is_seed_label, unequal};
+ghost use Rattle.anb_value_mistakes.specs.Diagnosis.{behind_digits, behind_equals, diagnosis, has_colon, has_mark, in_content, in_digits, in_label, in_named, in_sides, in_value, is_label_text, is_seed_label, unequal};
 
 use crate::classes::{Class, begins, behind, count, first, is_of};
 use crate::quoted::{after_value, in_quotes, unspaced};
@@ -38,6 +38,26 @@ fn in_content(bytes: &[u8]) -> (usize, Wrong)
     ensures wrong { result ≡ in_content bytes.now }
     ensures within { result.0 ≤ length bytes.now }
 {
+    if has_mark(bytes) {
+        (0, Wrong::Mark)
+    } else {
+        in_named(bytes)
+    }
+}
+
+/// Whether it begins as some programs begin a file.
+fn has_mark(bytes: &[u8]) -> bool
+    ensures { result ≡ has_mark bytes.now }
+{
+    first(3, bytes) == b"\xef\xbb\xbf".as_slice()
+}
+
+/// What is wrong with a line that begins with a name.
+fn in_named(bytes: &[u8]) -> (usize, Wrong)
+    requires { length bytes.now ≤ SMALL_FILE }
+    ensures wrong { result ≡ in_named bytes.now }
+    ensures within { result.0 ≤ length bytes.now }
+{
     let n = count(Class::BeforeEquals, bytes);
     if n < bytes.len() {
         in_sides(&bytes[..n], &bytes[n + 1..])
@@ -66,12 +86,19 @@ fn unequal(bytes: &[u8]) -> (usize, Wrong)
     ensures wrong { result ≡ unequal bytes.now }
     ensures within { result.0 ≤ length bytes.now }
 {
-    let n = count(Class::BeforeColon, bytes);
-    if n < bytes.len() {
-        (n, Wrong::Colon)
+    let wrong = if has_colon(bytes) {
+        Wrong::Colon
     } else {
-        (bytes.len(), Wrong::NoEquals)
-    }
+        Wrong::NoEquals
+    };
+    (count(Class::Front, bytes), wrong)
+}
+
+/// Whether a colon stands behind what may be a label.
+fn has_colon(bytes: &[u8]) -> bool
+    ensures { result ≡ has_colon bytes.now }
+{
+    begins(b':', behind(count(Class::Front, bytes), bytes))
 }
 
 fn is_seed_label(label: &[u8]) -> bool
@@ -92,13 +119,12 @@ fn in_label(label: &[u8]) -> (usize, Wrong)
     ensures wrong { result ≡ in_label label.now }
     ensures within { result.0 ≤ length label.now }
 {
-    let n = count(Class::Label, label);
-    if n == label.len() {
-        (n, Wrong::NoName)
-    } else if begins(b':', behind(n, label)) {
-        (n, Wrong::Colon)
+    if label.is_empty() {
+        (0, Wrong::NoName)
+    } else if has_colon(label) {
+        (count(Class::Front, label), Wrong::Colon)
     } else {
-        (n, Wrong::Name)
+        (count(Class::Label, label), Wrong::Name)
     }
 }
 
@@ -123,13 +149,15 @@ fn in_value(is_seed: bool, bytes: &[u8]) -> (usize, Wrong)
     } else if begins(b'x', bytes) {
         let (more, wrong) = in_digits(is_seed, behind(1, bytes));
         (1 + more, wrong)
+    } else if begins(b'0', bytes) && begins(b'x', behind(1, bytes)) {
+        (0, Wrong::Prefix)
     } else if is_seed {
-        (0, Wrong::SeedLiteral)
+        (0, Wrong::SeedBare)
     } else if begins(b'"', bytes) {
         let (more, wrong) = in_quotes(behind(1, bytes));
         (1 + more, wrong)
-    } else if begins(b'0', bytes) && begins(b'x', behind(1, bytes)) {
-        (0, Wrong::Prefix)
+    } else if begins(b'\'', bytes) {
+        (0, Wrong::Apostrophe)
     } else {
         (0, Wrong::Bare)
     }
@@ -142,7 +170,6 @@ fn in_digits(is_seed: bool, bytes: &[u8]) -> (usize, Wrong)
     ensures within { result.0 ≤ length bytes.now }
 {
     let n = count(Class::Digit, bytes);
-    let rest = behind(n, bytes);
     if n == bytes.len() {
         (
             n,
@@ -152,10 +179,20 @@ fn in_digits(is_seed: bool, bytes: &[u8]) -> (usize, Wrong)
                 Wrong::Odd
             },
         )
-    } else if begins(b'#', unspaced(rest)) {
-        let (more, wrong) = after_value(rest);
-        (n + more, wrong)
     } else {
-        (n, Wrong::Digit)
+        let (more, wrong) = behind_digits(behind(n, bytes));
+        (n + more, wrong)
+    }
+}
+
+/// What is wrong behind digits.
+fn behind_digits(rest: &[u8]) -> (usize, Wrong)
+    ensures wrong { result ≡ behind_digits rest.now }
+    ensures within { result.0 ≤ length rest.now }
+{
+    if begins(b'#', unspaced(rest)) || count(Class::Space, rest) > 0 {
+        after_value(rest)
+    } else {
+        (0, Wrong::Digit)
     }
 }

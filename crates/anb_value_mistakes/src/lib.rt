@@ -9,6 +9,7 @@ ghost use Rattle.anb_value_mistakes.specs.Mistakes.{IsMistakesText};
 mod classes;
 mod faults;
 mod labels;
+mod laws;
 mod names;
 mod quoted;
 mod reading;
@@ -17,6 +18,7 @@ mod wording;
 mod wrong;
 
 use anb_base::{Bytes, NoMemory, Text};
+pub use laws::{mistakes_are_faults, mistakes_texts_are_one};
 use reading::read_lines;
 use std::alloc::Global;
 use telling::mistakes;

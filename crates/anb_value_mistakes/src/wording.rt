@@ -8,14 +8,16 @@ pub(crate) fn message(wrong: Wrong) -> &'static str
     ensures { result.now ≡ message wrong }
 {
     match wrong {
+        Wrong::Mark => "a byte order mark",
         Wrong::Colon => "`:` in the place of `=`",
         Wrong::NoEquals => "no `=`",
         Wrong::Name => "this byte stands in no name",
         Wrong::NoName => "no name",
         Wrong::NoValue => "no value",
         Wrong::Prefix => "`0x` in the place of `x`",
+        Wrong::Apostrophe => "`'` in the place of `\"`",
         Wrong::Bare => "a value without quotes",
-        Wrong::SeedLiteral => "a seed that isn't in digits",
+        Wrong::SeedBare => "a seed without `x`",
         Wrong::SeedLength => "a seed that hasn't 64 digits",
         Wrong::Digit => "no hexadecimal digit",
         Wrong::Odd => "an odd number of digits",
@@ -31,14 +33,16 @@ pub(crate) fn mend(wrong: Wrong) -> &'static str
     ensures { result.now ≡ mend wrong }
 {
     match wrong {
+        Wrong::Mark => "save the file without it",
         Wrong::Colon => "a line is a name, `=` and a value",
         Wrong::NoEquals => "a line is a name, `=` and a value",
         Wrong::Name => "a name has letters, digits, `_`, `(`, `)` and `,`; the seed is `@seed`",
         Wrong::NoName => "a line is a name, `=` and a value",
         Wrong::NoValue => "a value is text in quotes, or `x` and two digits for each byte",
         Wrong::Prefix => "write `x` and two digits for each byte",
+        Wrong::Apostrophe => "text stands between two `\"`",
         Wrong::Bare => "a value is text in quotes, or `x` and two digits for each byte",
-        Wrong::SeedLiteral => "a seed is `x` and 64 digits",
+        Wrong::SeedBare => "a seed is `x` and 64 digits",
         Wrong::SeedLength => "a seed is `x` and 64 digits",
         Wrong::Digit => "write `x` and two digits for each byte",
         Wrong::Odd => "write `x` and two digits for each byte",

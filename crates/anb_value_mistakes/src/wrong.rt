@@ -3,6 +3,8 @@
 /// Why a line isn't of the grammar.
 #[derive(Clone, Copy, Drop)]
 pub enum Wrong {
+    /// The three bytes with which some programs begin a file.
+    Mark,
     /// A colon stands where `=` is due.
     Colon,
     /// There is no `=`.
@@ -15,10 +17,12 @@ pub enum Wrong {
     NoValue,
     /// Digits behind `0x`.
     Prefix,
+    /// A value between single quotes.
+    Apostrophe,
     /// A value without quotes and without `x`.
     Bare,
-    /// A seed that isn't in digits.
-    SeedLiteral,
+    /// A seed without `x`.
+    SeedBare,
     /// A seed with more or fewer than 64 digits.
     SeedLength,
     /// A byte that is no digit.

@@ -1,4 +1,4 @@
-use Rattle.std.proofs.Common.{◌≡◌, ◌≤◌, All, length, take}
+use Rattle.std.proofs.Common.{◌≤◌, All, length, take}
 use Rattle.std.specs.List.{AllZip}
 use Rattle.anb_base.specs.declared.TheConstants.{SMALL_FILE}
 use Rattle.anb_values.specs.Lines.{lines_of}
