@@ -1,2 +1,1 @@
 mod Rising
-mod Unstarted

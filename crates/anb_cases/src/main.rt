@@ -4,7 +4,6 @@
 #![tactic(auto)]
 
 mod case;
-mod children;
 mod filling;
 mod judging;
 mod parts;

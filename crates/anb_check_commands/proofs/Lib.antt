@@ -1,5 +1,3 @@
 pub mod Checked
 pub mod Verdicts
 pub mod Lacks
-mod Parts
-pub mod Values

@@ -10,12 +10,11 @@ use Rattle.anb_lack.specs.Lacking.{IsLackText}
 use Rattle.anb_mistakes.specs.Unresolved.{IsUnresolvedText}
 use Rattle.anb_status.specs.declared.status.NarrationNo.TheVariants.{Resolve}
 use Rattle.anb_status.specs.declared.status.Status.{Status}
-use Rattle.anb_status.specs.declared.status.Status.TheVariants.{BadNarration, BadValues, Done}
-use Rattle.anb_command.specs.Phases.{told_phase, values_phase}
-use Rattle.anb_command.specs.Files.{NarrationIs, ProtocolIs}
-use Rattle.anb_command.specs.Roles.{AllSend, Part, PartOf}
+use Rattle.anb_status.specs.declared.status.Status.TheVariants.{BadNarration, Done}
+use Rattle.anb_command.specs.Phases.{told_phase}
+use Rattle.anb_command.specs.Roles.{AllSend}
 use Rattle.anb_status.specs.Statuses.{after_reach, is_fault, why_ill_formed}
-use Rattle.anb_command.specs.Steps.{Answer, InTurn, refused}
+use Rattle.anb_command.specs.Steps.{refused}
 use Rattle.anb_command.specs.Writing.{IsWritten}
 use Rattle.anb_check_commands.specs.CheckCommand.{IsReport}
 
@@ -23,23 +22,6 @@ use Rattle.anb_check_commands.specs.CheckCommand.{IsReport}
 pub record IsLast (status : Status) : Type 0 where
   pub calm : is_fault status ≡ false
   pub late : told_phase status ≡ after_reach
-
--- the same of a values file
-pub record IsLastOfValues (status : Status) : Type 0 where
-  pub calm : is_fault status ≡ false
-  pub late : values_phase status ≡ after_reach
-
--- a refusal of the steps before the values
-abbrev pub IsBeforeValues : Status → Type 0
-IsBeforeValues (BadValues why) = ⊥
-IsBeforeValues status = Unit {0}
-
--- the role of this name in the protocol that a narration tells, and in that of a text
-abbrev pub PartOfNarration : Narration → (name : List ℕ) → Answer Part → Type 0
-PartOfNarration n name = InTurn (ProtocolIs n) (λ p. PartOf p name)
-
-abbrev pub PartOfText : (x name : List ℕ) → Answer Part → Type 0
-PartOfText x name = InTurn (NarrationIs x) (λ n. PartOfNarration n name)
 
 -- the status that comes of writing a text: this one, where all was written
 abbrev pub ended_by : Status → (writing : Status) → Status

@@ -63,8 +63,3 @@ pointed_at name x at place message mend =
 -- what would mend it.
 abbrev pub pointed : List ℕ → List ℕ → ℕ → List ℕ → List ℕ → List ℕ
 pointed name x at message mend = pointed_at name x at (place_at x at) message mend
-
--- A message on one line of the file of this name, which has this number, behind so many of its bytes.
-abbrev pub pointed_in : (name : List ℕ) → (number : ℕ) → (line : List ℕ) → (before : ℕ) → (message mend : List ℕ) → List ℕ
-pointed_in name number line before message mend =
-    heading name number (before + 1) message ++ (shown number (take before line) line ++ (mend ++ codes "\n"))

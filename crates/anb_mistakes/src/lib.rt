@@ -12,7 +12,5 @@ mod unread;
 mod unresolved;
 mod words;
 
-pub use near::{put_hint, put_near};
-pub use pointing::pointed_in;
 pub use unread::{unread_text, unread_texts_are_unique};
 pub use unresolved::{unresolved_text, unresolved_texts_are_unique};

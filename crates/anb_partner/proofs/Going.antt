@@ -83,7 +83,7 @@ due_there R N own reaches = ap (due_after R) (sym (append-nil own)) ∙ due_behi
 
 -- no value was changed
 pub plain_talk : (R : Run) (lines : List TranscriptLine) (s u : WireState) (at : Option ℕ) (corrupt : Corruption) (stop : Stop)
-    → IfSome at (λ n. length lines ≤ n) → length lines + 1 < 2 ^ 32 → IsOver R [] lines s u corrupt stop → IsTalk R at corrupt s u lines stop
+    → IfSome at (λ n. length lines ≤ n) → length lines < 2 ^ 32 → IsOver R [] lines s u corrupt stop → IsTalk R at corrupt s u lines stop
 plain_talk R lines s u at corrupt NoMemory most few over = tt
 plain_talk R lines s u at corrupt (Over end) most few over =
     let on : GoesOn R over.N [] lines s over.t lines = subst (GoesOn R over.N [] lines s over.t) (sym over.on.lines) over.on in
@@ -99,7 +99,7 @@ plain_talk R lines s u at corrupt (Over end) most few over =
     }
 
 -- a value was changed behind the first lines
-module _ (R N M : Run) (first lines : List TranscriptLine) (s t u : WireState) (n : ℕ) (corrupt : Corruption) (one : GoesOnBy n R N [] first s t) (changed : IsChanged corrupt N M) (few : length lines + 1 < 2 ^ 32) where
+module _ (R N M : Run) (first lines : List TranscriptLine) (s t u : WireState) (n : ℕ) (corrupt : Corruption) (one : GoesOnBy n R N [] first s t) (changed : IsChanged corrupt N M) (few : length lines < 2 ^ 32) where
   pub hooked_talk : (stop : Stop) → IsOver M first lines t u corrupt stop → IsTalk R (Some n) corrupt s u lines stop
   hooked_talk NoMemory over = tt
   hooked_talk (Over end) over =
@@ -131,7 +131,7 @@ module _ (R N M : Run) (first lines : List TranscriptLine) (s t u : WireState) (
 
 -- it is over where a value is to be changed
 pub talk_at_hook : (R N : Run) (lines : List TranscriptLine) (s t : WireState) (n : ℕ) (corrupt : Corruption) (stop : Stop)
-    → GoesOnBy n R N [] lines s t → length lines + 1 < 2 ^ 32 → Stops corrupt (due_after N []) t t stop → IsTalk R (Some n) corrupt s t lines stop
+    → GoesOnBy n R N [] lines s t → length lines < 2 ^ 32 → Stops corrupt (due_after N []) t t stop → IsTalk R (Some n) corrupt s t lines stop
 talk_at_hook R N lines s t n corrupt stop on few stops =
     plain_talk R lines s t (Some n) corrupt stop (omega (arith, ap length on.1.lines, on.2)) few
     (over_behind R N [] lines lines s t t on.0 corrupt stop on.1 refl stops)

@@ -127,7 +127,7 @@ pub record Talks (R : Run) (handed : List (List ℕ)) (at : Option ℕ) (corrupt
   pub passed : Passed old mid lines
   pub ends : Ends corrupt (due_after R (own_lines handed hooked lines)) mid new end
   pub short : AllByRecursion IsShort lines
-  pub few : length lines + 1 < 2 ^ 32
+  pub few : length lines < 2 ^ 32
 
 -- ---- the whole conversation
 

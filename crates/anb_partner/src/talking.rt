@@ -167,13 +167,13 @@ fn go_on<W: Wire>(
     buffer: &mut [u8],
 ) -> Result<(), Stop>
     requires room { length buffer.old ≡ ARRIVAL }
-    requires few { length lines.old.items + 1 < 2 ^ 32 }
+    requires few { length lines.old.items < 2 ^ 32 }
     ensures goes_on { OnOk result (GoesOnBy count (gives machine.old) (gives machine.new)
         lines.old.items lines.new.items (W.state child.old) (W.state child.new)) }
     ensures over { IfErr result (λ stop. (corrupt : Corruption) → IsOver (gives machine.old)
         lines.old.items lines.new.items (W.state child.old) (W.state child.new) corrupt stop) }
     ensures most { length lines.new.items ≤ length lines.old.items + count }
-    ensures few { length lines.new.items + 1 < 2 ^ 32 }
+    ensures few { length lines.new.items < 2 ^ 32 }
     ensures room { length buffer.new ≡ ARRIVAL }
 {
     for _ in 0..count {
@@ -193,10 +193,10 @@ fn go_to_end<W: Wire>(
     buffer: &mut [u8],
 ) -> Stop
     requires room { length buffer.old ≡ ARRIVAL }
-    requires few { length lines.old.items + 1 < 2 ^ 32 }
+    requires few { length lines.old.items < 2 ^ 32 }
     ensures over { (corrupt : Corruption) → IsOver (gives machine.old) lines.old.items lines.new.items
         (W.state child.old) (W.state child.new) corrupt result }
-    ensures few { length lines.new.items + 1 < 2 ^ 32 }
+    ensures few { length lines.new.items < 2 ^ 32 }
     ensures room { length buffer.new ≡ ARRIVAL }
 {
     loop {
@@ -215,14 +215,14 @@ fn turn<W: Wire>(
     buffer: &mut [u8],
 ) -> Result<(), Stop>
     requires room { length buffer.old ≡ ARRIVAL }
-    requires few { length lines.old.items + 1 < 2 ^ 32 }
+    requires few { length lines.old.items < 2 ^ 32 }
     ensures goes_on { OnOk result (GoesOnBy 1 (gives machine.old) (gives machine.new)
         lines.old.items lines.new.items (W.state child.old) (W.state child.new)) }
     ensures further { OnOk result (left machine.new < left machine.old) }
     ensures over { IfErr result (λ stop. (corrupt : Corruption)
         → Stops corrupt (due_after (gives machine.old) []) (W.state child.old) (W.state child.new) stop) }
     ensures no_line { IfErr result (λ stop. lines.new.items ≡ lines.old.items) }
-    ensures few { length lines.new.items + 1 < 2 ^ 32 }
+    ensures few { length lines.new.items < 2 ^ 32 }
     ensures room { length buffer.new ≡ ARRIVAL }
 {
     if lines.len() + 1 >= MOST_LINES {
@@ -279,7 +279,7 @@ fn take_in(
 }
 
 /// More lines than any code has sends and receives.
-const MOST_LINES: usize = 4_294_967_295;
+const MOST_LINES: usize = 4_294_967_296;
 
 /// Takes the right value of the machine, and hands it the wrong one that is made of it.
 fn change_value(

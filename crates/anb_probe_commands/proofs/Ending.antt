@@ -1,7 +1,6 @@
 -- What a report comes to, and what goes over the wire.
 use Rattle.std.proofs.Common.{◌≡◌, ◌≢◌, ◌≤◌, ◌⊎◌, ℕ, cond, List, [], ◌++◌, length, Bool, true, false, Option, Result, Ok, Err, IfOk, refl, ap, sym, ◌∙◌, subst, inl, inr, arith}
 use Rattle.std.specs.Prelude.{◌==◌, count_by}
-use Rattle.anb_attempts.specs.declared.attempts.TheConstants.{MOST}
 use Rattle.anb_base.specs.Moves.{PutPrefix, Rose}
 use Rattle.anb_base.specs.Wires.{WireState}
 use Rattle.anb_base.specs.declared.place.Place.TheVariants.{Stdio}
@@ -109,8 +108,8 @@ module _ (q : Probing) (x : Prepared) (program : List (List ℕ)) where
 
   -- not all cases were played
   pub cut_cases : (old new : ℕ → Trial) (S T U : WireState) (why : PlayNo) → Wrote S T (first_lines (length x.cases.items)) → IsCut q x program old new T.written U.written why → PlaysLess q g program old new S.written U.written why
-  cut_cases old new S T U NotStarted first (vs, part, within, next, put) =
-      (vs, record { reached = part.reached; played = part.played }, within, next, Put-joined S.written T.written U.written _ _ first.put put)
+  cut_cases old new S T U NotStarted first (vs, part, next, put) =
+      (vs, record { reached = part.reached; played = part.played }, next, Put-joined S.written T.written U.written _ _ first.put put)
   cut_cases old new S T U Failed first (vs, part, put) =
       (vs, record { reached = part.reached; played = part.played }, inl (put_further S.written T.written U.written _ _ first.put put))
   cut_cases old new S T U NoMemory first (vs, part, put) =
@@ -176,18 +175,16 @@ module _ (q : Probing) (trying : Trying) (g : Agenda) (name : List ℕ) (old new
     by false = record { only = all.wrote.only; cause = all.wrote.quiet }
 
   pub comes_less : (why : PlayNo) → PlaysLess q g trying.program old new S.written T.written why → ComesTo q trying g name old new S.written T.written (status_of why name)
-  comes_less NotStarted (vs, part, within, next, put) =
-      record { reached = part.reached; verdicts = vs; within = within; played = part.played; next = next; put = put; is = refl }
+  comes_less NotStarted (vs, part, next, put) = record { reached = part.reached; verdicts = vs; played = part.played; next = next; put = put; is = refl }
   comes_less Failed (vs, part, inl put) = record { reached = part.reached; verdicts = vs; played = part.played; writes = inl put }
   comes_less Failed (vs, part, inr put) = record { reached = part.reached; verdicts = vs; played = part.played; writes = inr (inl put) }
   comes_less NoMemory (vs, part, inl put) = record { reached = part.reached; verdicts = vs; played = part.played; writes = inl put }
   comes_less NoMemory (vs, part, inr put) = record { reached = part.reached; verdicts = vs; played = part.played; writes = inr (inl put) }
 
-  pub ends_less : length g.cases ≤ MOST → (why : PlayNo) → PlaysLess q g trying.program old new S.written T.written why → Broke S T why → EndsLate old new S T (status_of why name)
-  ends_less few NotStarted (vs, part, within, next, put) broke =
-      record { only = broke.only; cause = ((length vs, omega (arith, few, within), next), broke.quiet (λ e. absurd (cc))) }
-  ends_less few Failed less broke = record { only = broke.only; cause = broke.cause refl }
-  ends_less few NoMemory less broke = record { only = broke.only; cause = broke.quiet (λ e. absurd (cc)) }
+  pub ends_less : (why : PlayNo) → PlaysLess q g trying.program old new S.written T.written why → Broke S T why → EndsLate old new S T (status_of why name)
+  ends_less NotStarted (vs, part, next, put) broke = record { only = broke.only; cause = ((length vs, next.rose), broke.quiet (λ e. absurd (cc))) }
+  ends_less Failed less broke = record { only = broke.only; cause = broke.cause refl }
+  ends_less NoMemory less broke = record { only = broke.only; cause = broke.quiet (λ e. absurd (cc)) }
 
 -- there is no such case
 module _ (q : Probing) (trying : Trying) (g : Agenda) (name : List ℕ) (old : ℕ → Trial) (S T : WireState) where

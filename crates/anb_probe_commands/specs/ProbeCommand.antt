@@ -1,6 +1,6 @@
 -- What `probe` does: a program is tried in the cases of a role, and a report is written.
-use Rattle.std.specs.Prelude.{◌≡◌, ◌⊎◌, ◌<◌, ℕ, ◌+◌, List, [], ◌∷◌, length, map, slice_get, true, Option, Some, Result}
-use Rattle.anb_base.specs.Moves.{Put, PutPrefix}
+use Rattle.std.specs.Prelude.{◌≡◌, ◌⊎◌, ℕ, ◌+◌, List, [], ◌∷◌, length, map, slice_get, true, Option, Some, Result}
+use Rattle.anb_base.specs.Moves.{Put, PutPrefix, Rose}
 use Rattle.anb_base.specs.Wires.{WireState}
 use Rattle.anb_base.specs.declared.place.Place.TheVariants.{Stdio}
 use Rattle.anb_code.specs.CodeValue.{CodeValue}
@@ -19,7 +19,6 @@ use Rattle.anb_status.specs.Statuses.{Phase, after_reach, at_reach, before_reach
 use Rattle.anb_verdict.specs.Texts.{no_such_case}
 use Rattle.anb_verdict.specs.declared.verdict.Verdict.{Verdict}
 use Rattle.anb_attempts.specs.Attempts.{IsSuite}
-use Rattle.anb_attempts.specs.declared.attempts.TheConstants.{MOST}
 use Rattle.anb_attempts.specs.declared.attempts.Attempt.{Attempt}
 use Rattle.anb_attempts.specs.declared.attempts.Scene.{Scene}
 use Rattle.anb_attempts.specs.declared.attempts.Suite.{Suite}
@@ -129,7 +128,6 @@ module _ (q : Probing) (trying : Trying) (g : Agenda) (name : List ℕ) (old new
   pub record IsStuck (child : List ℕ) : Type 0 where
     pub reached : ℕ
     pub verdicts : List Verdict
-    pub within : length verdicts < length g.cases
     pub played : Plays (length verdicts + 1) reached verdicts
     pub next : IsNotStarted (old (length verdicts)) (new (length verdicts))
     pub put : Put written written_now (so_far verdicts)
@@ -198,15 +196,15 @@ module _ (asked : Probed) (told : Option Files) (host_seed : Option (List ℕ)) 
       ⊎ IsBeyond q asked.trying (agenda_of suit) asked.role old new S.written T.written status))
       ⊎ (status ≡ NoMemory))
 
--- Starting the program failed in a case. What comes of a child that was started is no such failure, nor that it was
--- silent for too long.
-abbrev pub StartFailed : (children children_now : ℕ → Trial) → Type 0
-StartFailed children children_now = (case : ℕ) × (case < MOST) × IsNotStarted (children case) (children_now case)
-
--- A program that can't be started is answered only where a start failed, and all else as by the other commands.
+-- A program that can't be started is answered only where the count of a case's child rose, and all else as by the other
+-- commands.
 abbrev pub HasProbeCause : (names : List (List ℕ)) → (faults faults_now : List ℕ → ℕ) → (children children_now : ℕ → Trial)
     → (old new : WireState) → Status → Type 0
 HasProbeCause names faults faults_now children children_now old new (ChildFault name) =
-    StartFailed children children_now
+    (case : ℕ) × Rose (children case).faults (children_now case).faults
 HasProbeCause names faults faults_now children children_now old new status =
     HasCause names (Some Stdio) faults faults_now old new status
+
+-- no count of a child rose
+abbrev pub NoTrialRose : (children children_now : ℕ → Trial) → Type 0
+NoTrialRose children children_now = (case : ℕ) → Rose (children case).faults (children_now case).faults → ⊥

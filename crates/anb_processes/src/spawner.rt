@@ -43,10 +43,9 @@ impl ChildProgram {
     }
 }
 
-/// A role's child, with the role's name.
+/// A child with the name of its role.
 #[derive(Drop)]
 struct Named {
-    role: u32,
     name: Text,
     running: Running,
 }
@@ -148,12 +147,8 @@ fn start(
 ) -> io::Result<()> {
     let name = name_of(rt.alloc(), words)?;
     let limit = limit.map(|seconds| Duration::from_secs(u64::from(seconds)));
-    let running = Running::start(rt, program.path()?, limit, words)?;
-    match children.push(Named {
-        role,
-        name,
-        running,
-    }) {
+    let running = Running::start(rt, program.path()?, role, limit, words)?;
+    match children.push(Named { name, running }) {
         Ok(()) => Ok(()),
         Err(failed) => {
             let mut child = failed.value;
@@ -209,7 +204,7 @@ fn no_child() -> io::Error {
 
 /// The child of a role.
 fn child_in(children: &mut [Named], role: u32) -> Option<&mut Named> {
-    children.iter_mut().find(|child| child.role == role)
+    children.iter_mut().find(|child| child.running.role == role)
 }
 
 impl Spawner for RealSpawner {
@@ -268,7 +263,7 @@ impl Spawner for RealSpawner {
     fn finish(&mut self, role: u32) -> Result<u8, Failed> {
         let status = match child_in(&mut self.children, role) {
             Some(child) => {
-                let status = child.running.finish_with_status(&self.rt);
+                let status = child.running.finish(&self.rt);
                 // One that was silent still runs.
                 if !matches!(&status, Err(error) if is_silence(error)) {
                     let _ = unwatch(&self.rt, &mut self.watcher, child);

@@ -1,3 +1,2 @@
 mod Usage
 mod Idle
-mod Testing

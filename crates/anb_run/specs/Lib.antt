@@ -2,4 +2,3 @@ pub mod Commands
 pub mod Stages
 pub mod Stores
 pub mod Recordings
-pub mod Programs

@@ -1,4 +1,0 @@
-mod Alone
-mod Lines
-mod Characters
-pub mod Exact
