@@ -1,5 +1,5 @@
 //! A transcript judged by somebody who sees the role.
-ghost use Rattle.std.specs.Prelude.{◌≡◌, ◌≢◌, ◌<◌, ◌≤◌, ◌^◌, ◌∷◌, [], ℕ, List, Bool, length, map, All, IfOk, IfSome, IfNone};
+ghost use Rattle.std.specs.Prelude.{◌≡◌, ◌≢◌, ◌+◌, ◌<◌, ◌≤◌, ◌^◌, ◌∷◌, [], ℕ, List, Bool, length, map, All, IfOk, IfSome, IfNone};
 ghost use Rattle.std.specs.List.{AllByRecursion};
 ghost use Rattle.anb_base.specs.Bytes.{IsBytes};
 ghost use Rattle.anb_base.specs.declared.TheConstants.{ARRIVAL};
@@ -35,7 +35,7 @@ pub fn judge(
     requires count { length initial.now ≡ length (known_by p.now role) }
     requires bytes { AllByRecursion IsBytes initial.now }
     requires short { All (λ value. length value ≤ ARRIVAL) initial.now }
-    requires few { length transcript.now < 2 ^ 32 }
+    requires few { length transcript.now + 1 < 2 ^ 32 }
     requires lines { All (λ line. length (line_bytes line) ≤ ARRIVAL) transcript.now }
     ensures { IfOk result (Judges (record {
       protocol = p.now;

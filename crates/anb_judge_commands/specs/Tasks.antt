@@ -1,5 +1,5 @@
 -- For proofs alone: a task that was read from files, and what is answered.
-use Rattle.std.specs.Prelude.{◌≡◌, ◌≢◌, ◌⊎◌, ◌<◌, ◌≤◌, ◌^◌, ℕ, List, length, All}
+use Rattle.std.specs.Prelude.{◌≡◌, ◌≢◌, ◌⊎◌, ◌+◌, ◌<◌, ◌≤◌, ◌^◌, ℕ, List, length, All}
 use Rattle.std.specs.List.{AllByRecursion}
 use Rattle.anb_base.specs.Bytes.{IsBytes}
 use Rattle.anb_base.specs.declared.TheConstants.{ARRIVAL}
@@ -23,7 +23,7 @@ pub record CanJudge (judged : Judged) : Type 0 where
   pub count : length judged.initial ≡ length (known_by judged.protocol judged.role)
   pub bytes : AllByRecursion IsBytes judged.initial
   pub short : All (λ value. length value ≤ ARRIVAL) judged.initial
-  pub few : length judged.lines < 2 ^ 32
+  pub few : length judged.lines + 1 < 2 ^ 32
   pub lines : All (λ line. length (line_bytes line) ≤ ARRIVAL) judged.lines
 
 -- the status of a judgement that ended so; want of memory says nothing

@@ -1,5 +1,5 @@
 //! What is judged, from the files of its words.
-ghost use Rattle.std.specs.Prelude.{◌≡◌, ◌⊎◌, ◌<◌, ◌≤◌, ◌^◌, [], ◌∷◌, length, All, IfOk, IfErr};
+ghost use Rattle.std.specs.Prelude.{◌≡◌, ◌⊎◌, ◌+◌, ◌<◌, ◌≤◌, ◌^◌, [], ◌∷◌, length, All, IfOk, IfErr};
 ghost use Rattle.std.specs.List.{AllByRecursion};
 ghost use Rattle.anb_base.specs.Bytes.{IsBytes};
 ghost use Rattle.anb_base.specs.Moves.{Rose};
@@ -170,7 +170,7 @@ fn byte_count(bytes: &[u8]) -> usize
 fn lines_in_file<F: Shelf>(alloc: Global, shelf: &mut F, name: &Text) -> Result<Transcript, Status>
     ensures given { IfOk result (λ lines. IfTold (F.files shelf.old) (λ files.
         LinesInFile files name.now (given lines))) }
-    ensures few { IfOk result (λ lines. length lines < 2 ^ 32) }
+    ensures few { IfOk result (λ lines. length lines + 1 < 2 ^ 32) }
     ensures lines { IfOk result (λ lines.
         All (λ line. length (line_bytes line) ≤ ARRIVAL) lines) }
     ensures refused { IfErr result (λ status. IsFailure status
@@ -193,7 +193,7 @@ fn lines_in_file<F: Shelf>(alloc: Global, shelf: &mut F, name: &Text) -> Result<
 
 /// The number of the first line that is longer than an arrival may be.
 fn long_line(transcript: &Transcript) -> Option<u32>
-    requires { length transcript.now < 2 ^ 32 }
+    requires { length transcript.now + 1 < 2 ^ 32 }
     ensures { result ≡ long_line transcript.now }
 {
     let lines = transcript.lines();

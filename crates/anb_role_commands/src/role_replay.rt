@@ -1,5 +1,5 @@
 //! A transcript compared with a role's play.
-ghost use Rattle.std.specs.Prelude.{◌≡◌, ◌<◌, ◌≤◌, ◌^◌, [], ◌∷◌, length, IfOk, IfErr, Some, false, All};
+ghost use Rattle.std.specs.Prelude.{◌≡◌, ◌+◌, ◌<◌, ◌≤◌, ◌^◌, [], ◌∷◌, length, IfOk, IfErr, Some, false, All};
 ghost use Rattle.anb_base.specs.Moves.{Rose};
 ghost use Rattle.anb_base.specs.declared.TheConstants.{ARRIVAL};
 ghost use Rattle.anb_base.specs.declared.place.Place.TheVariants as place;
@@ -91,7 +91,7 @@ fn prepare_comparison<F: Shelf>(
     ensures takes { IfOk result (λ c.
         length c.prepared.initial ≡ length (take_texts c.prepared.code.instrs)) }
     ensures short { IfOk result (λ c. All (λ value. length value ≤ ARRIVAL) c.prepared.initial) }
-    ensures few { IfOk result (λ c. length c.transcript < 2 ^ 32) }
+    ensures few { IfOk result (λ c. length c.transcript + 1 < 2 ^ 32) }
     ensures arrivals { IfOk result (λ c.
         All (λ arrival. length arrival ≤ ARRIVAL) (arrivals_of c.transcript)) }
     ensures refused { IfErr result (λ status. IsFailure status
@@ -134,7 +134,7 @@ fn compare_over<W: Wire>(alloc: Global, wire: &mut W, comparison: &Comparison) -
     requires count { length comparison.now.prepared.initial
         ≡ length (take_texts comparison.now.prepared.code.instrs) }
     requires short { All (λ value. length value ≤ ARRIVAL) comparison.now.prepared.initial }
-    requires few { length comparison.now.transcript < 2 ^ 32 }
+    requires few { length comparison.now.transcript + 1 < 2 ^ 32 }
     requires arrivals { All (λ arrival. length arrival ≤ ARRIVAL) (arrivals_of comparison.now.transcript) }
     ensures compared { IsCompared (play_by comparison.now.prepared.code
         comparison.now.prepared.initial comparison.now.prepared.seed)
@@ -152,7 +152,7 @@ fn compare_over<W: Wire>(alloc: Global, wire: &mut W, comparison: &Comparison) -
 pub fn compare(alloc: Global, prepared: &Prepared, transcript: &Transcript) -> Status
     requires count { length prepared.now.initial ≡ length (take_texts prepared.now.code.instrs) }
     requires short { All (λ value. length value ≤ ARRIVAL) prepared.now.initial }
-    requires few { length transcript.now < 2 ^ 32 }
+    requires few { length transcript.now + 1 < 2 ^ 32 }
     requires arrivals { All (λ arrival. length arrival ≤ ARRIVAL) (arrivals_of transcript.now) }
     ensures { IsReplayed (play_by prepared.now.code prepared.now.initial prepared.now.seed)
         transcript.now result }

@@ -1,5 +1,5 @@
 //! Transcripts against runs, line by line.
-ghost use Rattle.std.specs.Prelude.{◌≡◌, ◌<◌, ◌≤◌, ◌^◌, ℕ, [], length, All, OnOk, IfErr, IsTrue, Ok};
+ghost use Rattle.std.specs.Prelude.{◌≡◌, ◌+◌, ◌<◌, ◌≤◌, ◌^◌, ℕ, [], length, All, OnOk, IfErr, IsTrue, Ok};
 ghost use Rattle.anb_machine.specs.Machines.{gives, waits};
 ghost use Rattle.anb_transcript.specs.Replays.{IsDue, Replays, arrivals_of, due_after};
 ghost use Rattle.anb_transcript.specs.Turns.{Covers, EndsAt, EndsBehind, IsShort};
@@ -31,14 +31,14 @@ pub enum ReplayEnd {
     Short(u32),
     /// The run stops. The line is that of the last arrival before, or 0 where there is none.
     Stopped { halt: Halt, line: u32 },
-    /// No memory was left, or the lines end before event 4,294,967,296.
+    /// No memory was left.
     NoMemory,
 }
 
 /// Compares a transcript with what a machine does from where it stands, for a whole run a machine
 /// that was newly started.
 pub fn replay(alloc: Global, machine: &mut Machine<'_>, transcript: &Transcript) -> ReplayEnd
-    requires few { length transcript.now < 2 ^ 32 }
+    requires few { length transcript.now + 1 < 2 ^ 32 }
     requires arrivals { All (λ arrival. length arrival ≤ ARRIVAL) (arrivals_of transcript.now) }
     ensures { Replays (gives machine.old) transcript.now result }
 {
@@ -126,13 +126,11 @@ fn hear(
 
 /// How it ends behind so many lines, which were all.
 fn end_behind(alloc: Global, machine: &mut Machine<'_>, covered: u32, heard: u32) -> ReplayEnd
+    requires few { covered + 1 < 2 ^ 32 }
     ensures { EndsBehind (gives machine.old) covered heard result }
 {
     match machine.advance(alloc) {
-        Turn::Message(_) | Turn::Wants(_) => match covered.checked_add(1) {
-            Some(event) => ReplayEnd::Short(event),
-            None => ReplayEnd::NoMemory,
-        },
+        Turn::Message(_) | Turn::Wants(_) => ReplayEnd::Short(covered + 1),
         Turn::Done => ReplayEnd::Follows,
         Turn::Stopped(halt) => ReplayEnd::Stopped { halt, line: heard },
         Turn::NoMemory => ReplayEnd::NoMemory,
