@@ -1,7 +1,6 @@
-//! What the program says of itself: its commands, its version, and a page on each command.
+//! What can be asked of the program about itself: the overview, the version, and a page on each command.
 #![tactic(auto)]
 
 mod pages;
-mod texts;
 
-pub use pages::{Page, page_of, text_of};
+pub use pages::{Page, page_of};

@@ -1,8 +1,6 @@
-//! The pages, by what is asked for.
+//! What can be asked of the program about itself.
 ghost use Rattle.std.specs.Prelude.{◌≡◌};
-ghost use Rattle.anb_help.specs.Pages.{page_of, text_of};
-
-use crate::texts;
+ghost use Rattle.anb_help.specs.Pages.{page_of};
 
 /// What the program says of itself: the overview, the version, or a page on a command.
 #[derive(Clone, Copy, Debug, PartialEq, Eq, Drop)]
@@ -15,6 +13,7 @@ pub enum Page {
     Fmt,
     Why,
     Play,
+    Probe,
     Values,
     Branch,
     Park,
@@ -43,6 +42,7 @@ pub fn page_of(command: &str) -> Option<Page>
         "fmt" => Some(Page::Fmt),
         "why" => Some(Page::Why),
         "play" => Some(Page::Play),
+        "probe" => Some(Page::Probe),
         "values" => Some(Page::Values),
         "branch" => Some(Page::Branch),
         "park" => Some(Page::Park),
@@ -59,36 +59,5 @@ pub fn page_of(command: &str) -> Option<Page>
         "certify" => Some(Page::Certify),
         "help" => Some(Page::Help),
         _ => None,
-    }
-}
-
-/// The text of a page.
-pub fn text_of(page: Page) -> &'static str
-    ensures { result.now ≡ text_of page }
-{
-    match page {
-        Page::Overview => texts::OVERVIEW,
-        Page::Version => texts::VERSION,
-        Page::Check => texts::CHECK,
-        Page::Chart => texts::CHART,
-        Page::Explain => texts::EXPLAIN,
-        Page::Fmt => texts::FMT,
-        Page::Why => texts::WHY,
-        Page::Play => texts::PLAY,
-        Page::Values => texts::VALUES,
-        Page::Branch => texts::BRANCH,
-        Page::Park => texts::PARK,
-        Page::Resume => texts::RESUME,
-        Page::Host => texts::HOST,
-        Page::Replay => texts::REPLAY,
-        Page::Judge => texts::JUDGE,
-        Page::Trace => texts::TRACE,
-        Page::Stage => texts::STAGE,
-        Page::Rehearse => texts::REHEARSE,
-        Page::Drill => texts::DRILL,
-        Page::Compile => texts::COMPILE,
-        Page::Enact => texts::ENACT,
-        Page::Certify => texts::CERTIFY,
-        Page::Help => texts::HELP,
     }
 }

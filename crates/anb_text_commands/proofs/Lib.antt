@@ -1,3 +1,3 @@
 pub mod Lines
 pub mod Spelling
-pub mod Texts
+pub mod Written

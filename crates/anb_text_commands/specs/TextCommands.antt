@@ -21,7 +21,7 @@ use Rattle.anb_command.specs.Files.{NarrationInFile}
 use Rattle.anb_command.specs.Roles.{Part, PartInFile}
 use Rattle.anb_command.specs.Steps.{Answer, refused, given, AnswersWith, InTurn}
 use Rattle.anb_command.specs.Writing.{CompletesText, IsWriting, IsWritingOne, IsWritten}
-use Rattle.anb_help.specs.Pages.{text_of}
+use Rattle.anb_text_commands.specs.Pages.{text_of}
 use Rattle.anb_help.specs.declared.pages.Page.{Page}
 use Rattle.anb_words.specs.declared.words.RoleText.{RoleText}
 use Rattle.anb_words.specs.declared.words.RoleText.TheVariants.{RoleFile, Explanation}
@@ -102,12 +102,13 @@ help_text =
     ++ codes "anb why <narration>\n"
     ++ codes "anb park <narration> <role> <values> <key> [place] [--record <file>]\n"
     ++ codes "anb resume <narration> <role> <record> <key> [place] [--record <file>]\n"
-    ++ codes "anb stage <narration> <folder> [--timeout <seconds>]\n"
+    ++ codes "anb stage <narration> <folder> [--as <role> <program>].. [--timeout <seconds>]\n"
     ++ codes "anb chart <narration> [--role <name>]\n"
-    ++ codes "anb check <narration>\n"
+    ++ codes "anb check <narration> [<role> <values>]\n"
     ++ codes "anb trace <narration> <role> <values> <transcript>\n"
     ++ codes "anb values <narration> [<role> <values>]\n"
     ++ codes "anb judge <narration> <role> <values> <transcript>\n"
+    ++ codes "anb probe <narration> <role> <values> [--all] [--case <n>] [--timeout <seconds>] -- <program> <word>..\n"
 
 abbrev pub HelpText : Answer (List ℕ) → Type 0
 HelpText answer = answer ≡ given help_text

@@ -24,13 +24,17 @@ ghost use Rattle.anb_text_commands.specs.TextCommands.{DoesDescribe, DoesFmt, Do
 ghost use Rattle.anb_text_commands.specs.TextCommands.{CanBeTold, DescribedText, FmtText, IsTextOf, IsWrittenByLines, text_by};
 ghost use Rattle.anb_text.specs.Writing.{IsWritten};
 
+mod pages;
+mod texts;
+
+use crate::pages::text_of as text_on;
 use anb_base::{Bytes, Failed, NoMemory, Place, Shelf, Text, Wire};
 use anb_command::{
     Playable, RoleText, Status, narration_in_file, playable_in_file, reach_streams, write_text,
 };
 use anb_compile::fitting_codes_play;
 use anb_explain::{Explanation, explanation_of, write_explanation};
-use anb_help::{Page, text_of as text_on};
+use anb_help::Page;
 use anb_read::{narrations_are_unique, none_is_both, refusals_are_unique};
 use anb_syntax::text_of;
 use anb_text::{WriteNo, write_role_file};
@@ -53,12 +57,13 @@ const HELP: &str = concat!(
     "anb why <narration>\n",
     "anb park <narration> <role> <values> <key> [place] [--record <file>]\n",
     "anb resume <narration> <role> <record> <key> [place] [--record <file>]\n",
-    "anb stage <narration> <folder> [--timeout <seconds>]\n",
+    "anb stage <narration> <folder> [--as <role> <program>].. [--timeout <seconds>]\n",
     "anb chart <narration> [--role <name>]\n",
-    "anb check <narration>\n",
+    "anb check <narration> [<role> <values>]\n",
     "anb trace <narration> <role> <values> <transcript>\n",
     "anb values <narration> [<role> <values>]\n",
     "anb judge <narration> <role> <values> <transcript>\n",
+    "anb probe <narration> <role> <values> [--all] [--case <n>] [--timeout <seconds>] -- <program> <word>..\n",
 );
 
 /// The canonical text of the narration in the file.

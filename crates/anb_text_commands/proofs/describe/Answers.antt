@@ -3,7 +3,7 @@ use Rattle.anb_base.specs.declared.place.Place.TheVariants.{Stdio}
 use Rattle.anb_command.proofs.Causes.{early_cause, early_reaches, only_memory, wire_cause}
 use Rattle.anb_command.proofs.Failing.{IsFailure-map}
 use Rattle.anb_command.proofs.OverWire.{untouched}
-use Rattle.anb_text_commands.proofs.Texts.{completes_described, refuses_described, writes_by_lines}
+use Rattle.anb_text_commands.proofs.Written.{completes_described, refuses_described, writes_by_lines}
 use Rattle.anb_command.proofs.Reported.{told_before, told_behind}
 use Rattle.anb_text_commands.proofs.describe.Goals as goal
 

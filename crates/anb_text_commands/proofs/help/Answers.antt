@@ -1,6 +1,6 @@
 use Rattle.anb_command.proofs.Written.{completes_text}
 use Rattle.anb_text_commands.specs.TextCommands.{HelpText}
-use Rattle.anb_text_commands.proofs.Texts.{writes_help}
+use Rattle.anb_text_commands.proofs.Written.{writes_help}
 use Rattle.anb_text_commands.proofs.help.Goals as goal
 
 pub returns-clause-does : goal.returns-clause-does

@@ -1,7 +1,7 @@
 use Rattle.anb_command.proofs.Written.{completes_text}
 use Rattle.anb_text_commands.specs.TextCommands.{PageText}
-use Rattle.anb_help.specs.Pages.{text_of}
-use Rattle.anb_text_commands.proofs.Texts.{writes_text}
+use Rattle.anb_text_commands.specs.Pages.{text_of}
+use Rattle.anb_text_commands.proofs.Written.{writes_text}
 use Rattle.anb_text_commands.proofs.page.Goals as goal
 
 pub returns-clause-does : goal.returns-clause-does

@@ -13,6 +13,7 @@ pub const OVERVIEW: &str = concat!(
     "  why       lists what the sender of a message has, where it can't send it\n",
     "play\n",
     "  play      plays one role, over standard streams or TCP\n",
+    "  probe     tests an implementation of a role: does it make each check that it must?\n",
     "  values    writes values files: the bytes of what the roles know\n",
     "  branch    plays a role of a text with a choice\n",
     "  park      plays a role, and writes a record where it waits\n",
@@ -40,10 +41,12 @@ pub const VERSION: &str = "anb 1.0.0\n";
 
 /// The page on `check`.
 pub const CHECK: &str = concat!(
-    "anb check <narration>\n",
+    "anb check <narration> [<role> <values>]\n",
     "Says where and why the narration is refused, and what would mend it; or what each role\n",
-    "opens, checks and learns, and which messages it takes.\n",
-    "Statuses: 0; 4 it is refused; 6 a role can't send; 2, 3 the file; 9, 15 the output; 99.\n",
+    "opens, checks and learns, and which messages it takes. With a role and a values file: what is\n",
+    "wrong in that file, with the status that `play` has; nothing where it has all values.\n",
+    "Statuses: 0; 4 it is refused; 5 no such role; 6 a role can't send; 7 the values; 2, 3 a file;\n",
+    "9, 15 the output; 99.\n",
     "Example: anb check examples/mutual/mutual.anb\n",
 );
 
@@ -95,6 +98,18 @@ pub const PLAY: &str = concat!(
     "8 no seed; 10 it stopped; 11 it waits; 12, 13 a frame is cut or too long; 2, 3 a file;\n",
     "9, 14, 15 the place; 38 the folder; 99.\n",
     "Example: anb play examples/ping/ping.anb A examples/ping/A.values --dial 127.0.0.1:4070\n",
+);
+
+/// The page on `probe`.
+pub const PROBE: &str = concat!(
+    "anb probe <narration> <role> <values> [--all] [--case <n>] [--timeout <seconds>] -- <program> <word>..\n",
+    "Tests an implementation of the role: starts the program once a case and plays all other\n",
+    "roles against it, over its standard streams, each time with one thing that the role must\n",
+    "refuse or take. Writes TAP, and which checks are missing. The values are as for rehearse.\n",
+    "Statuses: 0; 36 cases aren't ok; 31 the program can't be started; 4 the narration is\n",
+    "refused; 5 no such role; 6 a role can't send; 7 the values; 8 no seed; 2, 3 a file; 9, 15\n",
+    "the output; 99.\n",
+    "Example: anb probe examples/mutual/mutual.anb B examples/mutual/all.values -- python3 examples/peer/responder.py -\n",
 );
 
 /// The page on `values`.
@@ -185,14 +200,15 @@ pub const TRACE: &str = concat!(
 
 /// The page on `stage`.
 pub const STAGE: &str = concat!(
-    "anb stage <narration> <folder> [--timeout <seconds>]\n",
+    "anb stage <narration> <folder> [--as <role> <program>].. [--timeout <seconds>]\n",
     "Starts a child for each role with the folder's file <role>.values, carries each message from\n",
     "its sender to its receiver, and writes a line for each. The children are anb play, or the\n",
-    "program that ANB_CHILD names. With a limit no child may be silent for longer.\n",
-    "Statuses: 0; 4 the narration is refused; 6 a role can't send; 31 a child failed; 32, 33, 34\n",
-    "its message is missing, cut or too long; 35 it ended badly; 37 it was silent; 2, 3 the\n",
-    "narration's file; 9, 15 the output; 99.\n",
-    "Example: anb stage examples/nssk/nssk.anb examples/nssk\n",
+    "program that --as says for the role, split at spaces, or that ANB_CHILD names for all. With\n",
+    "a limit no child may be silent for longer.\n",
+    "Statuses: 0; 4 the narration is refused; 5 no such role; 6 a role can't send; 31 a child\n",
+    "failed; 32, 33, 34 its message is missing, cut or too long; 35 it ended badly; 37 it was\n",
+    "silent; 2, 3 the narration's file; 9, 15 the output; 99.\n",
+    "Example: anb stage examples/nssk/nssk.anb examples/nssk --as B ./peer\n",
 );
 
 /// The page on `rehearse`.
