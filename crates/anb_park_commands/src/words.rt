@@ -79,6 +79,13 @@ impl<'w> RecordWords<'w> {
                 },
             ) => None,
             Some(
+                Command::CheckValues {
+                    narration: _narration,
+                    role: _role,
+                    values: _values,
+                },
+            ) => None,
+            Some(
                 Command::Check {
                     narration: _narration,
                 },

@@ -6,7 +6,7 @@ use Rattle.anb_words.specs.declared.words.Command.{Command}
 use Rattle.anb_words.specs.declared.words.Command.TheVariants as command
 use Rattle.anb_words.specs.declared.words.Endpoint.{Endpoint}
 use Rattle.anb_words.specs.declared.words.Endpoint.TheVariants as endpoint
-use Rattle.anb_words.specs.Words.{Asked, fmt, describe, play, enact, replay, host, rehearse, drill, help, page, certify, why, park, resume, chart, role_chart, branch, check, trace, all_values, role_values, judge}
+use Rattle.anb_words.specs.Words.{Asked, fmt, describe, play, enact, replay, host, rehearse, drill, help, page, certify, why, park, resume, chart, role_chart, branch, check, check_values, trace, all_values, role_values, judge}
 
 abbrev pub place_by : Endpoint → Place
 place_by endpoint.Stdio = place.Stdio
@@ -37,6 +37,7 @@ asked_by (Some (command.RoleChart narration role)) = Some (role_chart narration.
 asked_by (Some (command.Branch words)) =
     Some (branch words.play.narration.now words.play.name.now words.play.values.now words.told (place_by words.play.endpoint))
 asked_by (Some (command.Check narration)) = Some (check narration.now)
+asked_by (Some (command.CheckValues narration role values)) = Some (check_values narration.now role.now values.now)
 asked_by (Some (command.Trace words)) =
     Some (trace words.narration.now words.name.now words.values.now words.transcript.now)
 asked_by (Some (command.Values narration)) = Some (all_values narration.now)

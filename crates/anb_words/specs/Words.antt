@@ -30,6 +30,7 @@ pub data Asked : Type 0 where
   role_chart : (narration role : List ℕ) → Asked
   branch : (narration role values : List ℕ) → (told : Option ℕ) → Place → Asked
   check : (narration : List ℕ) → Asked
+  check_values : (narration role values : List ℕ) → Asked
   trace : (narration role values transcript : List ℕ) → Asked
   all_values : (narration : List ℕ) → Asked
   role_values : (narration role values : List ℕ) → Asked
@@ -163,6 +164,9 @@ branch_in words = None
 
 abbrev pub check_in : List (List ℕ) → Option Asked
 check_in (narration ∷ []) = if is_operand narration then Some (check narration) else None
+check_in (narration ∷ role ∷ values ∷ []) =
+    if is_operand narration && is_operand role && is_operand values
+    then Some (check_values narration role values) else None
 check_in words = None
 
 abbrev pub trace_in : List (List ℕ) → Option Asked
@@ -246,6 +250,7 @@ files_of (Some (chart narration)) = narration ∷ []
 files_of (Some (role_chart narration role)) = narration ∷ []
 files_of (Some (branch narration role values told place)) = narration ∷ values ∷ []
 files_of (Some (check narration)) = narration ∷ []
+files_of (Some (check_values narration role values)) = narration ∷ values ∷ []
 files_of (Some (trace narration role values transcript)) = narration ∷ values ∷ transcript ∷ []
 files_of (Some (all_values narration)) = narration ∷ []
 files_of (Some (role_values narration role values)) = narration ∷ values ∷ []
@@ -272,6 +277,7 @@ place_of (Some (chart narration)) = Some Stdio
 place_of (Some (role_chart narration role)) = Some Stdio
 place_of (Some (branch narration role values told place)) = Some place
 place_of (Some (check narration)) = Some Stdio
+place_of (Some (check_values narration role values)) = Some Stdio
 place_of (Some (trace narration role values transcript)) = Some Stdio
 place_of (Some (all_values narration)) = Some Stdio
 place_of (Some (role_values narration role values)) = Some Stdio

@@ -45,6 +45,11 @@ pub enum Command<'w> {
     Check {
         narration: &'w Text,
     },
+    CheckValues {
+        narration: &'w Text,
+        role: &'w Text,
+        values: &'w Text,
+    },
     Trace(ReplayWords<'w>),
     Values {
         narration: &'w Text,
@@ -434,6 +439,14 @@ impl<'w> Command<'w> {
     {
         match words {
             [narration] if is_operand(narration) => Some(Command::Check { narration }),
+            [narration, role, values]
+                if is_operand(narration) && is_operand(role) && is_operand(values) => {
+                Some(Command::CheckValues {
+                    narration,
+                    role,
+                    values,
+                })
+            }
             _ => None,
         }
     }
