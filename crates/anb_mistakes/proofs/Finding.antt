@@ -14,9 +14,10 @@ use Rattle.anb_syntax.specs.Grammar.{Narration}
 use Rattle.anb_protocol.specs.declared.refusals.ResolveNo.{ResolveNo}
 use Rattle.anb_read.proofs.Lexed.{lexed_end, lexed_bad}
 use Rattle.anb_mistakes.specs.Mends.{mend}
-use Rattle.anb_mistakes.specs.Pointing.{pointed}
+use Rattle.anb_mistakes.specs.Pointing.{located, pointed}
 use Rattle.anb_mistakes.specs.Spots.{HasTokens, is_spot, nth, spot}
 use Rattle.anb_mistakes.specs.Unresolved.{IsUnresolvedText, offset_in}
+use Rattle.anb_mistakes.specs.Unsent.{IsUnsentText, message}
 use Rattle.anb_mistakes.specs.declared.spots.Follower.{Follower}
 
 pub last_token : (x : List ℕ) (from : ℕ) (n : Next) → IsNext x from n → ((t : Token) → n ≢ next.Token t) → (last : Tok) × Lexes from (drop from x) (last ∷ [])
@@ -69,3 +70,8 @@ pub resolved_once : (name x : List ℕ) (n : Narration) (why : ResolveNo) (reaso
 resolved_once name x n why reason text other a b =
     let same = tokens_once x a.tokens b.tokens a.has b.has in
     a.is ∙ ap (λ (ts : List Tok). pointed name x (offset_in x (spot n why ts)) reason (mend n why (spot n why ts))) same ∙ sym b.is
+
+pub unsent_once : (name x : List ℕ) (action : ℕ) (line lines text other : List ℕ) → IsUnsentText name x action line lines text → IsUnsentText name x action line lines other → text ≡ other
+unsent_once name x action line lines text other a b =
+    let same = tokens_once x a.tokens b.tokens a.has b.has in
+    a.is ∙ ap (λ (ts : List Tok). located name x (offset_in x (message action ts)) line ++ lines) same ∙ sym b.is

@@ -7,4 +7,5 @@ pub mod Pointing
 pub mod Spots
 pub mod Unread
 pub mod Unresolved
+pub mod Unsent
 pub mod Words

@@ -1,5 +1,5 @@
 -- What would mend a narration that isn't well formed.
-use Rattle.std.specs.Prelude.{◌≡◌, ℕ, List, [], ◌∷◌, ◌++◌, ◌==◌, codes, decimal, Option, Some, None, if◌then◌else◌}
+use Rattle.std.specs.Prelude.{ℕ, List, [], ◌∷◌, ◌++◌, ◌==◌, codes, decimal, Option, Some, None, if◌then◌else◌}
 use Rattle.std.specs.List.{flat_map}
 use Rattle.anb_format.specs.Formats.{field_count}
 use Rattle.anb_format.specs.declared.pieces.FormatNo.{FormatNo}
@@ -7,7 +7,7 @@ use Rattle.anb_format.specs.declared.pieces.FormatNo.TheVariants.{NoHead, RestNo
 use Rattle.anb_format.specs.declared.pieces.Piece.{Piece}
 use Rattle.anb_format.specs.declared.pieces.Piece.TheVariants.{Lit, Field}
 use Rattle.anb_syntax.specs.Canon.{word_bytes}
-use Rattle.anb_syntax.specs.Grammar.{FormatItem, Narration, TypeItem}
+use Rattle.anb_syntax.specs.Grammar.{Narration}
 use Rattle.anb_syntax.specs.Words.{Tok, literal, sort_word, tail}
 use Rattle.anb_syntax.specs.declared.narration.Sort.{Sort}
 use Rattle.anb_protocol.specs.declared.refusals.Kind.{Kind}

@@ -54,12 +54,19 @@ shown line before source =
     shown_from (skipped (length (unreturned source)) (length before)) line before (unreturned source)
 
 -- a message at a line and a column of the text, whose offset this is
-abbrev pub pointed_at : List ℕ → List ℕ → ℕ → ℕ × ℕ → List ℕ → List ℕ → List ℕ
-pointed_at name x at place message mend =
-    heading name place.0 place.1 message
-    ++ (shown place.0 (before_at x at place.1) (line_at x at place.1) ++ (mend ++ codes "\n"))
+abbrev pub located_at : List ℕ → List ℕ → ℕ → ℕ × ℕ → List ℕ → List ℕ
+located_at name x at place message =
+    heading name place.0 place.1 message ++ shown place.0 (before_at x at place.1) (line_at x at place.1)
 
--- A message on the file of this name, whose text is x, at an offset: where and why, the source line, and
--- what would mend it.
+-- A message on the file of this name, whose text is x, at an offset: where and why, and the source line.
+abbrev pub located : List ℕ → List ℕ → ℕ → List ℕ → List ℕ
+located name x at message = located_at name x at (place_at x at) message
+
+-- the same, and what would mend it
 abbrev pub pointed : List ℕ → List ℕ → ℕ → List ℕ → List ℕ → List ℕ
-pointed name x at message mend = pointed_at name x at (place_at x at) message mend
+pointed name x at message mend = located name x at message ++ (mend ++ codes "\n")
+
+-- A message on one line of the file of this name, which has this number, behind so many of its bytes.
+abbrev pub pointed_in : (name : List ℕ) → (number : ℕ) → (line : List ℕ) → (before : ℕ) → (message mend : List ℕ) → List ℕ
+pointed_in name number line before message mend =
+    heading name number (before + 1) message ++ (shown number (take before line) line ++ (mend ++ codes "\n"))

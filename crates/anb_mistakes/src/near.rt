@@ -12,7 +12,7 @@ use anb_syntax::{Token, TokenKind};
 use std::alloc::Global;
 
 /// Appends the names that stand each behind a comma, where there are some.
-pub(crate) fn put_near(out: &mut Vec<u8>, names: &[u8]) -> Result<(), NoMemory>
+pub fn put_near(out: &mut Vec<u8>, names: &[u8]) -> Result<(), NoMemory>
     ensures { OnOk result (out.new.items ≡ out.old.items ++ near_text names.now) }
 {
     match names {
@@ -26,7 +26,7 @@ pub(crate) fn put_near(out: &mut Vec<u8>, names: &[u8]) -> Result<(), NoMemory>
 }
 
 /// Appends a name behind a comma, where it is near.
-pub(crate) fn put_hint(out: &mut Vec<u8>, name: &[u8], other: &[u8]) -> Result<(), NoMemory>
+pub fn put_hint(out: &mut Vec<u8>, name: &[u8], other: &[u8]) -> Result<(), NoMemory>
     ensures { OnOk result (out.new.items ≡ out.old.items ++ hint name.now other.now) }
 {
     if name.len() > 1 && other.len() > 1 && is_near(name, other) {

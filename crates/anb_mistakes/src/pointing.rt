@@ -2,7 +2,7 @@
 ghost use Rattle.std.specs.Prelude.{◌≡◌, ◌+◌, ◌-◌, ◌≤◌, ◌++◌, IfOk, OnOk, length, decimal, drop, replicate, take};
 ghost use Rattle.std.specs.List.{flat_map};
 ghost use Rattle.anb_base.specs.declared.TheConstants.{SMALL_FILE};
-ghost use Rattle.anb_mistakes.specs.Pointing.{below, blank, gap, heading, padded, part, pointed, shown, skipped, space, unreturned};
+ghost use Rattle.anb_mistakes.specs.Pointing.{below, blank, gap, heading, located, padded, part, pointed, pointed_in, shown, skipped, space, unreturned};
 
 use crate::placing::{first_line, place};
 use anb_base::NoMemory;
@@ -23,6 +23,24 @@ pub(crate) fn pointed(
     requires within { at ≤ length text.now }
     ensures { IfOk result (λ v. v.items ≡ pointed name.now text.now at message.now mend.now) }
 {
+    let mut out = located(alloc, name, text, at, message)?;
+    put(&mut out, mend)?;
+    put(&mut out, b"\n")?;
+    Ok(out)
+}
+
+/// A message at an offset of a file's text, with the source line.
+pub(crate) fn located(
+    alloc: Global,
+    name: &[u8],
+    text: &[u8],
+    at: usize,
+    message: &[u8],
+) -> Result<Vec<u8>, NoMemory>
+    requires size { length text.now ≤ SMALL_FILE }
+    requires within { at ≤ length text.now }
+    ensures { IfOk result (λ v. v.items ≡ located name.now text.now at message.now) }
+{
     let (line, column) = place(text, at);
     let start = at + 1 - column;
     let mut out = Vec::new(alloc);
@@ -34,6 +52,28 @@ pub(crate) fn pointed(
         &text[start..at],
         first_line(&text[start..]),
     )?;
+    Ok(out)
+}
+
+/// A message on one line of a file, which has this number, behind so many of its bytes, with what would
+/// mend it.
+pub fn pointed_in(
+    alloc: Global,
+    name: &[u8],
+    number: usize,
+    line: &[u8],
+    before: usize,
+    message: &[u8],
+    mend: &[u8],
+) -> Result<Vec<u8>, NoMemory>
+    requires size { length line.now ≤ SMALL_FILE }
+    requires within { before ≤ length line.now }
+    ensures { IfOk result (λ v.
+        v.items ≡ pointed_in name.now number line.now before message.now mend.now) }
+{
+    let mut out = Vec::new(alloc);
+    put_heading(&mut out, name, number, before + 1, message)?;
+    put_shown(alloc, &mut out, number, &line[..before], line)?;
     put(&mut out, mend)?;
     put(&mut out, b"\n")?;
     Ok(out)

@@ -279,7 +279,7 @@ fn second<'t>(name: &[u8], text: &[u8], tokens: &'t [Token]) -> &'t [Token]
 }
 
 /// The action of a number that counts from 1, by its sender.
-fn action<'t>(number: u32, text: &[u8], tokens: &'t [Token]) -> &'t [Token]
+pub(crate) fn action<'t>(number: u32, text: &[u8], tokens: &'t [Token]) -> &'t [Token]
     requires { length tokens.now ≤ SMALL_FILE }
     ensures tokens { map (tok_of text.now) result.now
         ≡ action_in number (map (tok_of text.now) tokens.now) }

@@ -37,7 +37,7 @@ pub fn unresolved_text(
 }
 
 /// Where the first of these tokens begins.
-fn offset(text: &[u8], tokens: &[Token]) -> usize
+pub(crate) fn offset(text: &[u8], tokens: &[Token]) -> usize
     ensures offset { result ≡ offset_in text.now (map (tok_of text.now) tokens.now) }
     ensures within { result ≤ length text.now }
 {

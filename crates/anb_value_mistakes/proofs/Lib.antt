@@ -1,0 +1,4 @@
+mod Alone
+mod Lines
+mod Characters
+pub mod Exact
