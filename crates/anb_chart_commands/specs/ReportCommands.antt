@@ -1,6 +1,7 @@
 -- Commands that show a protocol to a person.
 use Rattle.std.specs.Prelude.{◌≡◌, ℕ, List, Option, Some, None}
 use Rattle.anb_base.specs.Wires.{WireState}
+use Rattle.anb_base.specs.declared.TheConstants.{ARRIVAL, WIDE}
 use Rattle.anb_protocol.specs.Protocols.{ProtocolValue}
 use Rattle.anb_chart.specs.Charts.{chart}
 use Rattle.anb_status.specs.declared.status.Status.{Status}
@@ -10,6 +11,7 @@ use Rattle.anb_command.specs.Roles.{Part, PartInFile}
 use Rattle.anb_command.specs.Steps.{Answer, refused, given, AnswersWith, InTurn}
 use Rattle.anb_command.specs.Writing.{CompletesText, IsWriting, IsWritingOne}
 use Rattle.anb_code.specs.CodeValue.{CodeValue}
+use Rattle.anb_code.specs.Verified.{IsVerifiedCode}
 use Rattle.anb_compile.specs.Fitting.{FitsRole}
 use Rattle.anb_pattern.specs.Taken.{TakenValue}
 use Rattle.anb_accept.specs.Roles.{IsTakenBy}
@@ -32,10 +34,11 @@ module _ (narration : List ℕ) (told : Option Files) where
 
 -- ---- the chart for a role
 
--- the chart with the role's notes, by a code that fits the role, and by the patterns whose instances are exactly what
--- it takes
+-- the chart with the role's notes, by a code that is accepted and fits the role, and by the patterns whose instances
+-- are exactly what it takes
 pub record IsRoleChart (part : Part) (text : List ℕ) : Type 0 where
   pub code : CodeValue
+  pub accepted : IsVerifiedCode ARRIVAL WIDE code
   pub fits : FitsRole part.protocol part.role code
   pub taken : TakenValue
   pub takes : IsTakenBy part.protocol part.role taken

@@ -159,6 +159,7 @@ fn chart_of_role(
     ensures { IfOk result (λ text. IsRoleChart
         (record { protocol = protocol.now; role = role }) text) }
 {
+    let _verified = code.instrs();
     let taken = taken_by(alloc, protocol, role)?;
     role_chart(alloc, protocol, role, code, &taken)
 }

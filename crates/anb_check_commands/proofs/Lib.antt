@@ -1,3 +1,5 @@
 pub mod Checked
 pub mod Verdicts
 pub mod Lacks
+mod Parts
+pub mod Values

@@ -28,9 +28,9 @@ module _ (name x : List ℕ) where
     ill_formed s said why is status text =
         inl (inr (n, told, inl (s, (why, status, is), refl)), subst (λ (t : Status). SaidOf name x t said) (sym status) (n, told, text))
 
-    of_protocol : (s : Status) (said : List ℕ) → fault ARRIVAL WIDE n ≡ None → IsVerdictOnProtocol (protocol_of n) s said → IsVerdict name x s said
-    of_protocol s said well (inl ((role, action, sender, first, named, is), reason)) =
-        inl (inr (n, told, inr (protocol_of n, (well, refl), inl (s, (role, action, sender, first, named, is), refl))), subst (λ (t : Status). SaidOf name x t said) (sym is) (n, told, reason))
+    of_protocol : (s : Status) (said : List ℕ) → fault ARRIVAL WIDE n ≡ None → IsVerdictOnProtocol name x (protocol_of n) s said → IsVerdict name x s said
+    of_protocol s said well (inl (action, sender, is, refuses, reason)) =
+        inl (inr (n, told, inr (protocol_of n, (well, refl), inl (s, refuses, refl))), subst (λ (t : Status). SaidOf name x t said) (sym is) (n, told, reason))
     of_protocol s said well (inr (sendable, done, report)) =
         inr (protocol_of n, inr (n, told, inr (protocol_of n, (well, refl), inr (tt, sendable, refl))), done, report)
 
@@ -40,5 +40,5 @@ module _ (name x : List ℕ) where
     of_narration s said (inr (well, on)) = of_protocol s said well on
 
   -- and one whose protocol this is
-  pub well : (n : Narration) (p : ProtocolValue) (s : Status) (said : List ℕ) → fault ARRIVAL WIDE n ≡ None → p ≡ protocol_of n → IsVerdictOnProtocol p s said → IsVerdictOnNarration name x n s said
-  well n p s said formed is on = inr (formed, subst (λ (q : ProtocolValue). IsVerdictOnProtocol q s said) is on)
+  pub well : (n : Narration) (p : ProtocolValue) (s : Status) (said : List ℕ) → fault ARRIVAL WIDE n ≡ None → p ≡ protocol_of n → IsVerdictOnProtocol name x p s said → IsVerdictOnNarration name x n s said
+  well n p s said formed is on = inr (formed, subst (λ (q : ProtocolValue). IsVerdictOnProtocol name x q s said) is on)

@@ -1,17 +1,21 @@
 -- What `check` does: it says where and why a narration's text is refused, or reports on its roles.
 use Rattle.std.specs.Prelude.{◌≡◌, ◌⊎◌, ℕ, true, false, List, [], length, take, Option, Some, slice_get}
+use Rattle.std.specs.List.{AllByRecursion}
 use Rattle.anb_base.specs.Moves.{Put}
 use Rattle.anb_base.specs.Wires.{WireState}
+use Rattle.anb_base.specs.declared.TheConstants.{ARRIVAL, WIDE}
 use Rattle.anb_syntax.specs.Grammar.{Narration}
 use Rattle.anb_syntax.specs.Text.{Text}
 use Rattle.anb_protocol.specs.Protocols.{ProtocolValue, protocol_of}
 use Rattle.anb_code.specs.CodeValue.{CodeValue}
+use Rattle.anb_code.specs.Verified.{IsVerifiedCode}
 use Rattle.anb_compile.specs.Fitting.{FitRoles}
 use Rattle.anb_pattern.specs.Taken.{TakenValue}
 use Rattle.anb_stranger.specs.Texts.{IsAllSaidOf}
 use Rattle.anb_lack.specs.Lacking.{IsLackText}
 use Rattle.anb_mistakes.specs.Unread.{IsUnreadText}
 use Rattle.anb_mistakes.specs.Unresolved.{IsUnresolvedText}
+use Rattle.anb_mistakes.specs.Unsent.{IsUnsentText}
 use Rattle.anb_report.specs.Reporting.{report}
 use Rattle.anb_visible.specs.Visible.{IsClean, visible}
 use Rattle.anb_command.specs.declared.limits.TheConstants.{NARRATION_LIMIT}
@@ -28,13 +32,19 @@ use Rattle.anb_command.specs.Steps.{Answer, refused, given, InTurn}
 abbrev pub SendableOfText : List ℕ → Answer ProtocolValue → Type 0
 SendableOfText x = InTurn (NarrationIs x) (λ n. InTurn (ProtocolIs n) SendableOf)
 
+-- What is said of an action that its sender can't compose, of the protocol that a text tells: at its message, what the
+-- sender has and lacks.
+abbrev pub IsLackSaid : (name x : List ℕ) → ProtocolValue → (action : ℕ) → List ℕ → Type 0
+IsLackSaid name x p action said =
+    (line : List ℕ) × (lists : List ℕ) × IsLackText p line lists × IsUnsentText name x action line lists said
+
 -- What is said of a text, in a file of this name, that is refused with this status: the place and what
--- would mend it; and of a narration in which a role can't send, what it lacks.
+-- would mend it; and of a narration in which a role can't send, the place and what it lacks.
 abbrev pub SaidOf : (name x : List ℕ) → Status → List ℕ → Type 0
 SaidOf name x (BadNarration (Read why)) said = IsUnreadText name x why said
 SaidOf name x (BadNarration (Resolve why)) said =
     (n : Narration) × Text n x × IsUnresolvedText name x n why (why_ill_formed why) said
-SaidOf name x (CannotSend action role) said = (n : Narration) × Text n x × IsLackText (protocol_of n) said
+SaidOf name x (CannotSend action role) said = (n : Narration) × Text n x × IsLackSaid name x (protocol_of n) action said
 SaidOf name x status said = ⊥
 
 -- what is said of each role in order, by the patterns whose instances are exactly what it takes, by what comes of a
@@ -43,9 +53,10 @@ pub record AreTaken (p : ProtocolValue) (taken : List TakenValue) : Type 0 where
   pub count : length taken ≡ length p.roles
   pub each : (role : ℕ) (t : TakenValue) → slice_get taken role ≡ Some t → IsAllSaidOf p role t
 
--- the report on all roles, by a code for each that fits it, and by what each takes
+-- the report on all roles, by a code for each that is accepted and fits it, and by what each takes
 pub record IsReport (p : ProtocolValue) (said : List ℕ) : Type 0 where
   pub codes : List CodeValue
+  pub accepted : AllByRecursion (IsVerifiedCode ARRIVAL WIDE) codes
   pub fit : FitRoles p codes
   pub taken : List TakenValue
   pub takes : AreTaken p taken

@@ -2,9 +2,13 @@
 //! nothing from the wire.
 #![tactic(auto)]
 
+mod asking;
 mod checking;
+mod finding;
 mod laws;
+mod part;
 mod verdict;
 
 pub use checking::check;
+pub use finding::check_values;
 pub use laws::lack_texts_are_one;

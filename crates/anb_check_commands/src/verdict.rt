@@ -1,5 +1,8 @@
 //! The verdict on a narration's text: a status, and what is said of the text.
 ghost use Rattle.std.specs.Prelude.{◌≡◌, ◌≤◌, ◌++◌, length, IfOk};
+ghost use Rattle.std.specs.List.{AllByRecursion};
+ghost use Rattle.anb_base.specs.declared.TheConstants.{ARRIVAL, WIDE};
+ghost use Rattle.anb_code.specs.Verified.{IsVerifiedCode};
 ghost use Rattle.anb_syntax.specs.Grammar.{IsSpellable};
 ghost use Rattle.anb_syntax.specs.Sizes.{size};
 ghost use Rattle.anb_syntax.specs.Text.{Text as IsTextOf};
@@ -7,7 +10,8 @@ ghost use Rattle.anb_syntax.specs.Views.{narration_of};
 ghost use Rattle.anb_command.specs.declared.limits.TheConstants.{NARRATION_LIMIT};
 ghost use Rattle.anb_status.specs.Statuses.{why_ill_formed};
 ghost use Rattle.anb_compile.specs.Fitting.{FitRoles};
-ghost use Rattle.anb_check_commands.specs.CheckCommand.{AreTaken, IsReport, IsShownVerdict, IsVerdict};
+ghost use Rattle.anb_compile.specs.Unsent.{IsFirstUnsentOfAll};
+ghost use Rattle.anb_check_commands.specs.CheckCommand.{AreTaken, IsLackSaid, IsReport, IsShownVerdict, IsVerdict};
 ghost use Rattle.anb_check_commands.specs.Telling.{IsLast, IsVerdictOnNarration, IsVerdictOnProtocol};
 
 use anb_base::{Bytes, NoMemory, Text};
@@ -15,7 +19,7 @@ use anb_code::RoleCode;
 use anb_command::{NarrationNo, Status, ill_formed};
 use anb_compile::{CompileNo, compile_all};
 use anb_lack::lack_text;
-use anb_mistakes::{unread_text, unresolved_text};
+use anb_mistakes::{unread_text, unresolved_text, unsent_text};
 use anb_pattern::Taken;
 use anb_protocol::{Protocol, ResolveNo, protocols_hold};
 use anb_read::{ReadNo, read};
@@ -81,7 +85,7 @@ fn verdict_on_narration(
 {
     small_is_countable();
     match resolve(alloc, narration) {
-        Ok(protocol) => verdict_on_protocol(alloc, &protocol),
+        Ok(protocol) => verdict_on_protocol(alloc, name, text, &protocol),
         Err(ResolveNo::NoMemory) => Err(NoMemory),
         Err(why) => {
             let reason = reason_of(alloc, &why)?;
@@ -106,9 +110,16 @@ fn reason_of(alloc: Global, why: &ResolveNo) -> Result<Vec<u8>, NoMemory>
     Ok(out)
 }
 
-/// The verdict on a protocol: a report on its roles, or what one of them lacks that can't send.
-fn verdict_on_protocol(alloc: Global, protocol: &Protocol) -> Result<Verdict, NoMemory>
-    ensures is { IfOk result (λ v. IsVerdictOnProtocol protocol.now v.status v.said) }
+/// The verdict on the protocol of a text: a report on its roles, or what one of them lacks that can't send.
+fn verdict_on_protocol(
+    alloc: Global,
+    name: &Text,
+    text: &[u8],
+    protocol: &Protocol,
+) -> Result<Verdict, NoMemory>
+    requires within { length text.now ≤ NARRATION_LIMIT }
+    ensures is { IfOk result (λ v.
+        IsVerdictOnProtocol name.now text.now protocol.now v.status v.said) }
     ensures last { IfOk result (λ v. IsLast v.status) }
 {
     match compile_all(alloc, protocol) {
@@ -117,7 +128,7 @@ fn verdict_on_protocol(alloc: Global, protocol: &Protocol) -> Result<Verdict, No
             status: Status::Done,
         }),
         Err(CompileNo::CannotSend { action, role }) => {
-            let said = lack_text(alloc, protocol, role, action)?;
+            let said = lack_said(alloc, name, text, protocol, role, action)?;
             let role = protocol.roles()[role as usize].copy(alloc)?;
             Ok(Verdict {
                 said,
@@ -128,13 +139,48 @@ fn verdict_on_protocol(alloc: Global, protocol: &Protocol) -> Result<Verdict, No
     }
 }
 
+/// What is said of the first action that its sender can't compose.
+fn lack_said(
+    alloc: Global,
+    name: &Text,
+    text: &[u8],
+    protocol: &Protocol,
+    role: u32,
+    action: u32,
+) -> Result<Bytes, NoMemory>
+    requires within { length text.now ≤ NARRATION_LIMIT }
+    requires first { IsFirstUnsentOfAll protocol.now role action }
+    ensures { IfOk result (IsLackSaid name.now text.now protocol.now action) }
+{
+    let lack = lack_text(alloc, protocol, role, action)?;
+    let said = unsent_text(alloc, name, text, action, &lack.line, &lack.lists)?;
+    Ok(said)
+}
+
 /// The report on a protocol, by codes of its roles and by what these take.
 fn report_on(alloc: Global, protocol: &Protocol, codes: &[RoleCode]) -> Result<Bytes, NoMemory>
     requires { FitRoles protocol.now codes.now }
     ensures { IfOk result (λ said. IsReport protocol.now said) }
 {
+    are_accepted(codes);
     let taken = taken_by_all(alloc, protocol)?;
     report(alloc, protocol, codes, &taken)
+}
+
+/// A law: codes of roles are accepted.
+fn are_accepted(codes: &[RoleCode])
+    ensures { AllByRecursion (IsVerifiedCode ARRIVAL WIDE) codes.now }
+{
+    for code in codes {
+        is_accepted(code);
+    }
+}
+
+/// A law: the code of a role is accepted.
+fn is_accepted(code: &RoleCode)
+    ensures { IsVerifiedCode ARRIVAL WIDE code.now }
+{
+    let _ = code.instrs();
 }
 
 /// What is said of each role: what it takes, and what others can play to it.

@@ -1,7 +1,7 @@
 -- From which event on a role can have a term, by the entries that the term is composed from.
-use Rattle.std.proofs.Common.{◌≡◌, ℕ, zero, suc, ◌+◌, ◌<◌, ◌≤◌, ◌↔◌, List, [], ◌∷◌, ◌++◌, length, map, take, drop, get_or, Bool, true, Option, Some, None, refl, sym, ap, ◌∙◌, subst, arith, inl, inr, ◌⊎◌, ⊎_elim, option_map, length-append, length-take-le, take-append-drop}
-use Rattle.std.specs.Prelude.{slice_get, ◌==◌, replicate}
-use Rattle.std.specs.List.{AllByRecursion}
+use Rattle.std.proofs.Common.{◌≡◌, ℕ, zero, suc, ◌+◌, ◌<◌, ◌≤◌, ◌↔◌, List, [], ◌∷◌, ◌++◌, length, map, take, drop, get_or, Bool, true, false, Option, Some, None, refl, sym, ap, ◌∙◌, subst, arith, inl, inr, ◌⊎◌, ⊎_elim, option_map, length-append, length-take-le, take-append-drop}
+use Rattle.std.specs.Prelude.{slice_get, ◌==◌, cond, replicate}
+use Rattle.std.specs.List.{AllByRecursion, AllZip}
 use Rattle.std.proofs.lemmas.Bool.{cases_order}
 use Rattle.std.proofs.lemmas.List.{append-nil, length-map, take-map, take_all}
 use Rattle.std.proofs.Math.Seq.{take-append_seam}
@@ -37,9 +37,10 @@ use Rattle.anb_compile.proofs.Events.{formed_any, formed_labels, labels_append, 
 use Rattle.anb_compile.proofs.Protocols.{plan_is}
 use Rattle.anb_compile.proofs.Whole.{events_parted}
 use Rattle.anb_lack.specs.declared.origins.Origin.{Origin}
-use Rattle.anb_lack.specs.declared.origins.Origin.TheVariants.{Known}
+use Rattle.anb_lack.specs.declared.origins.Origin.TheVariants.{Built, Known}
 use Rattle.anb_lack.specs.Held.{AreWithin, CameFrom, IsHeld, IsStage, IsWithin}
-use Rattle.anb_lack.specs.Origins.{ComesFrom, HasBy, IsFrom}
+use Rattle.anb_lack.specs.Before.{unless_built}
+use Rattle.anb_lack.specs.Origins.{ComesFrom, HasBy, IsFrom, IsListedFrom, is_out}
 
 -- ---- the entries that a composition names
 
@@ -350,6 +351,23 @@ origin_one p plan t one other (inr (n, d, a, is)) (inr (m, e, b, js)) = elim (ca
     | inr later ↦ absurd (a.new (m + 1) (omega (arith, later)) b.has)
   ]
 ]
+
+pub listed_one : (p : ProtocolValue) (S : List Tree) (plan before : List PlanEvent) (t : Tree) (one other : Origin) → IsListedFrom p S plan before t one → IsListedFrom p S plan before t other → one ≡ other
+listed_one p S plan before t one other (inl (out, is)) (inl (out', js)) = origin_one p plan t one other is js
+listed_one p S plan before t one other (inl (out, is)) (inr (built, js)) = absurd (let never : true ≡ false = sym out ∙ built in cc)
+listed_one p S plan before t one other (inr (built, is)) (inl (out, js)) = absurd (let never : true ≡ false = sym out ∙ built in cc)
+listed_one p S plan before t one other (inr (built, is)) (inr (built', js)) = is ∙ sym js
+
+-- where a term comes out it keeps its origin, and else it is built
+pub listed_each : (p : ProtocolValue) (S : List Tree) (plan before : List PlanEvent) (ts : List Tree) (came : List Origin) → AllZip (ComesFrom p plan) ts came
+    → AllZip (IsListedFrom p S plan before) ts (unless_built (map (is_out S before) ts) came)
+listed_each p S plan before [] [] all = tt
+listed_each p S plan before [] (o ∷ came) all = absurd all
+listed_each p S plan before (t ∷ ts) [] all = absurd all
+listed_each p S plan before (t ∷ ts) (o ∷ came) all = (by (is_out S before t) refl, listed_each p S plan before ts came all.1) where
+  by : (b : Bool) → is_out S before t ≡ b → IsListedFrom p S plan before t (cond b o Built)
+  by true is = inl (is, all.0)
+  by false is = inr (is, refl)
 
 -- what can be had by fewer events can be had by more
 pub has_later : (p : ProtocolValue) (before after : List PlanEvent) (t : Tree) → HasRecipe (has_operator p.formats) (labels_of before) t → HasRecipe (has_operator p.formats) (labels_of (before ++ after)) t

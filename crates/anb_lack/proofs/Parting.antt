@@ -26,7 +26,7 @@ use Rattle.anb_lack.specs.Parts.{lacks, parts, parts_of_all}
 
 -- ---- numbers of parts
 
-same_tree : (ts : List Tree) (i : ℕ) (t u : Tree) → slice_get ts i ≡ Some t → slice_get ts i ≡ Some u → t ≡ u
+pub same_tree : (ts : List Tree) (i : ℕ) (t u : Tree) → slice_get ts i ≡ Some t → slice_get ts i ≡ Some u → t ≡ u
 same_tree ts i t u e f = let same : Some t ≡ Some u = sym e ∙ f in cc
 
 -- a number that came last

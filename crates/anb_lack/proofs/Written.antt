@@ -15,6 +15,12 @@ six start one two three four five all a b c d e f first second third fourth fift
     ∙ append_assoc ((((start ++ a) ++ b) ++ c) ++ d) e f ∙ append_assoc (((start ++ a) ++ b) ++ c) d (e ++ f) ∙ append_assoc ((start ++ a) ++ b) c (d ++ (e ++ f))
     ∙ append_assoc (start ++ a) b (c ++ (d ++ (e ++ f))) ∙ append_assoc start a (b ++ (c ++ (d ++ (e ++ f))))
 
+-- five
+pub five : (start one two three four all a b c d e : List ℕ) → one ≡ start ++ a → two ≡ one ++ b → three ≡ two ++ c → four ≡ three ++ d → all ≡ four ++ e → all ≡ start ++ (a ++ (b ++ (c ++ (d ++ e))))
+five start one two three four all a b c d e first second third fourth last =
+    last ∙ ap (λ l. l ++ e) (fourth ∙ ap (λ l. l ++ d) (third ∙ ap (λ l. l ++ c) (second ∙ ap (λ l. l ++ b) first)))
+    ∙ append_assoc (((start ++ a) ++ b) ++ c) d e ∙ append_assoc ((start ++ a) ++ b) c (d ++ e) ∙ append_assoc (start ++ a) b (c ++ (d ++ e)) ∙ append_assoc start a (b ++ (c ++ (d ++ e)))
+
 -- one more line
 pub had_next : (p : ProtocolValue) (terms : List Term) (origins : List Origin) (i : ℕ) (t : Term) (d : Origin) (out out' whole : List ℕ)
     → i < length terms → i < length origins → t ≡ get_or terms i t → out' ≡ out ++ origin_line p (tree_of t) (get_or origins i d)

@@ -3,19 +3,21 @@ use Rattle.std.specs.Prelude.{◌≡◌, ℕ, List, [], ◌∷◌, ◌++◌, cod
 use Rattle.std.specs.List.{AllZip, flat_map}
 use Rattle.anb_term.specs.Tree.{Tree}
 use Rattle.anb_term.specs.View.{tree_of}
-use Rattle.anb_protocol.specs.Plans.{plan_of}
+use Rattle.anb_protocol.specs.Plans.{PlanEvent, plan_of}
 use Rattle.anb_protocol.specs.Protocols.{ProtocolValue}
 use Rattle.anb_protocol.specs.Texts.{term_text}
 use Rattle.anb_reason.specs.declared.reasons.Refusal.{Refusal}
 use Rattle.anb_reason.specs.Reach.{IsReason}
 use Rattle.anb_lack.specs.declared.origins.Origin.{Origin}
-use Rattle.anb_lack.specs.declared.origins.Origin.TheVariants.{Known, Made, Received}
-use Rattle.anb_lack.specs.Origins.{ComesFrom}
+use Rattle.anb_lack.specs.declared.origins.Origin.TheVariants.{Built, Known, Made, Received}
+use Rattle.anb_lack.specs.Origins.{IsListedFrom}
 use Rattle.anb_lack.specs.Parts.{lacking}
+use Rattle.anb_lack.specs.Roots.{root_line, roots}
 
 abbrev pub origin_text : Origin → List ℕ
 origin_text Known = codes "known"
 origin_text Made = codes "made"
+origin_text Built = codes "built"
 origin_text (Received action) = codes "from action " ++ decimal action
 
 -- a line for a term that the role has
@@ -38,22 +40,28 @@ abbrev pub lacking_text : ProtocolValue → List Tree → List ℕ
 lacking_text p us = codes "it can't make:\n" ++ flat_map (lacking_line p) us
 
 -- the action that can't be sent, with its sender's name and its message
-abbrev pub refused_line : ProtocolValue → List ℕ → Refusal → List ℕ
-refused_line p sender r =
-    sender ++ (codes " can't compose " ++ (term_text p (tree_of r.term) ++ (codes " at action " ++ (decimal r.action ++ codes "\n"))))
+abbrev pub refused_text : ProtocolValue → List ℕ → Refusal → List ℕ
+refused_text p sender r =
+    sender ++ (codes " can't compose " ++ (term_text p (tree_of r.term) ++ (codes " at action " ++ decimal r.action)))
 
--- That action; what the sender has by then, the terms of the refusal, each with where it is from; and
--- which parts of the message don't compose from them.
-abbrev pub lack_text : ProtocolValue → List ℕ → Refusal → List Origin → List ℕ
-lack_text p sender r origins =
-    refused_line p sender r ++ (had_text p r.terms origins ++ lacking_text p (lacking r.terms (tree_of r.term)))
+-- for each of these that stands in something that the sender can't undo, and for each name, why it is lacking
+abbrev pub roots_text : ProtocolValue → (sender : List ℕ) → (terms : List Tree) → List PlanEvent → List Tree → List ℕ
+roots_text p sender terms before us = flat_map (root_line p sender) (roots terms before us)
 
--- the text of the protocol's refusal
-pub record IsLackText (p : ProtocolValue) (text : List ℕ) : Type 0 where
+-- What the sender has by then, after these events: the terms of the refusal, each with where it is from;
+-- which parts of the message don't compose from them; and why.
+abbrev pub lists_text : ProtocolValue → (sender : List ℕ) → Refusal → List PlanEvent → List Origin → List ℕ
+lists_text p sender r before origins =
+    had_text p r.terms origins ++ (lacking_text p (lacking r.terms (tree_of r.term))
+    ++ roots_text p sender r.terms before (lacking r.terms (tree_of r.term)))
+
+-- what is said of the protocol's refusal: a line without its end, and the lists
+pub record IsLackText (p : ProtocolValue) (line lists : List ℕ) : Type 0 where
   pub refusal : Refusal
   pub sender : List ℕ
   pub origins : List Origin
   pub reason : IsReason p refusal
   pub is_sender : slice_get p.roles refusal.role ≡ Some sender
-  pub are_origins : AllZip (ComesFrom p (plan_of p refusal.role)) refusal.terms origins
-  pub is : text ≡ lack_text p sender refusal origins
+  pub are_origins : AllZip (IsListedFrom p refusal.terms (plan_of p refusal.role) reason.unsent.before) refusal.terms origins
+  pub line_is : line ≡ refused_text p sender refusal
+  pub lists_are : lists ≡ lists_text p sender refusal reason.unsent.before origins

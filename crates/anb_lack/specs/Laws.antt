@@ -11,8 +11,9 @@ use Rattle.anb_compile.specs.Unsent.{labels_of}
 use Rattle.anb_reason.specs.declared.reasons.Refusal.{Refusal}
 use Rattle.anb_reason.specs.Reach.{IsReason}
 use Rattle.anb_lack.specs.declared.origins.Origin.{Origin}
-use Rattle.anb_lack.specs.Origins.{ComesFrom, IsOrigin}
+use Rattle.anb_lack.specs.Origins.{IsListedFrom, IsOrigin}
 use Rattle.anb_lack.specs.Parts.{lacking}
+use Rattle.anb_lack.specs.Roots.{RootValue, roots}
 
 -- a recipe over what the sender has before the send gives the term
 abbrev pub IsMade : (p : ProtocolValue) (r : Refusal) → IsReason p r → Tree → Type 0
@@ -29,8 +30,8 @@ HadIsFrom = (p : ProtocolValue) (r : Refusal) (reason : IsReason p r)
 
 -- a term is from one place at most, whatever the plan
 abbrev pub OriginsAreOne : Type 0
-OriginsAreOne = (p : ProtocolValue) (plan : List PlanEvent) (t : Tree) (one other : Origin)
-    → ComesFrom p plan t one → ComesFrom p plan t other → one ≡ other
+OriginsAreOne = (p : ProtocolValue) (S : List Tree) (plan before : List PlanEvent) (t : Tree) (one other : Origin)
+    → IsListedFrom p S plan before t one → IsListedFrom p S plan before t other → one ≡ other
 
 -- no recipe gives a part of the message that is listed as lacking
 abbrev pub LackingIsNotMade : Type 0
@@ -41,3 +42,8 @@ LackingIsNotMade = (p : ProtocolValue) (r : Refusal) (reason : IsReason p r)
 abbrev pub MessageIsLacking : Type 0
 MessageIsLacking = (p : ProtocolValue) (r : Refusal) → IsReason p r
     → (others : List Tree) × (lacking r.terms (tree_of r.term) ≡ tree_of r.term ∷ others)
+
+-- and none gives a key that is asked for
+abbrev pub KeysAreNotMade : Type 0
+KeysAreNotMade = (p : ProtocolValue) (r : Refusal) (reason : IsReason p r)
+    → AllByRecursion (λ (root : RootValue). IsMade p r reason root.key → ⊥) (roots r.terms reason.unsent.before (lacking r.terms (tree_of r.term)))

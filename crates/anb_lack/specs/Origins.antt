@@ -1,13 +1,15 @@
--- Where a role has a term from: the event of its plan from which on it can have it.
-use Rattle.std.specs.Prelude.{◌≡◌, ◌⊎◌, ℕ, ◌+◌, ◌≤◌, List, take, Some, slice_get}
+-- Where a role has a term from: the event of its plan from which on it can have it; or it builds it.
+use Rattle.std.specs.Prelude.{◌≡◌, ◌⊎◌, ℕ, ◌+◌, ◌≤◌, List, take, Bool, true, false, Some, slice_get}
 use Rattle.anb_term.specs.Tree.{Tree}
 use Rattle.anb_term.specs.Agree.{HasRecipe}
 use Rattle.anb_algebra.specs.ByteMeaning.{has_operator}
 use Rattle.anb_protocol.specs.Plans.{PlanEvent, to_know, to_make, to_send, to_receive}
 use Rattle.anb_protocol.specs.Protocols.{ProtocolValue}
 use Rattle.anb_compile.specs.Unsent.{labels_of}
+use Rattle.anb_reason.specs.Decided.{is_among}
+use Rattle.anb_lack.specs.Opened.{opened}
 use Rattle.anb_lack.specs.declared.origins.Origin.{Origin}
-use Rattle.anb_lack.specs.declared.origins.Origin.TheVariants.{Known, Made, Received}
+use Rattle.anb_lack.specs.declared.origins.Origin.TheVariants.{Built, Known, Made, Received}
 
 -- some recipe over what the first n events of a plan bring gives a term
 abbrev pub HasBy : ProtocolValue → List PlanEvent → ℕ → Tree → Type 0
@@ -27,7 +29,16 @@ IsFrom (to_make t) origin = origin ≡ Made
 IsFrom (to_send action t) origin = ⊥
 IsFrom (to_receive action t) origin = origin ≡ Received action
 
--- A term is from where its event is; one that needs no event, as a format without fields, is known.
+-- A term comes from where its event is; one that needs no event, as a format without fields, is known.
 abbrev pub ComesFrom : ProtocolValue → List PlanEvent → Tree → Origin → Type 0
 ComesFrom p plan t origin =
     (HasBy p plan 0 t × (origin ≡ Known)) ⊎ ((n : ℕ) × (e : PlanEvent) × IsOrigin p plan t n e × IsFrom e origin)
+
+-- it comes out of what the role has, which are these terms, by the end of these events
+abbrev pub is_out : List Tree → List PlanEvent → Tree → Bool
+is_out S before t = is_among (opened S (labels_of before)) t
+
+-- where a term of the list is from: a term that comes out of nothing is built
+abbrev pub IsListedFrom : ProtocolValue → (S : List Tree) → (plan before : List PlanEvent) → Tree → Origin → Type 0
+IsListedFrom p S plan before t origin =
+    ((is_out S before t ≡ true) × ComesFrom p plan t origin) ⊎ ((is_out S before t ≡ false) × (origin ≡ Built))

@@ -4,7 +4,7 @@ ghost use Rattle.std.specs.List.{AllByRecursion, flat_map};
 ghost use Rattle.anb_term.specs.View.{tree_of};
 ghost use Rattle.anb_protocol.specs.Texts.{IsTermOf};
 ghost use Rattle.anb_lack.specs.Lacking.{had_text, lacking_line, lacking_text};
-ghost use Rattle.anb_lack.specs.Lacking.{origin_line, origin_lines, origin_text, refused_line};
+ghost use Rattle.anb_lack.specs.Lacking.{origin_line, origin_lines, origin_text, refused_text};
 
 use crate::origins::Origin;
 use anb_base::{NoMemory, Text};
@@ -14,7 +14,7 @@ use anb_term::Term;
 use itoa::Buffer;
 use std::alloc::Global;
 
-/// Appends the line of the action that can't be sent.
+/// Appends what the action is that can't be sent.
 pub(crate) fn put_refused(
     alloc: Global,
     out: &mut Vec<u8>,
@@ -24,7 +24,7 @@ pub(crate) fn put_refused(
 ) -> Result<(), NoMemory>
     requires { IsTermOf protocol.now (tree_of refusal.now.term) }
     ensures { OnOk result (out.new.items
-        ≡ out.old.items ++ refused_line protocol.now sender.now refusal.now) }
+        ≡ out.old.items ++ refused_text protocol.now sender.now refusal.now) }
 {
     let message = protocol.text_of_term(alloc, &refusal.term)?;
     put(out, sender.as_str())?;
@@ -32,7 +32,6 @@ pub(crate) fn put_refused(
     put(out, message.as_str())?;
     put(out, " at action ")?;
     put_number(out, refusal.action)?;
-    put(out, "\n")?;
     Ok(())
 }
 
@@ -103,6 +102,7 @@ fn put_origin(out: &mut Vec<u8>, origin: Origin) -> Result<(), NoMemory>
     match origin {
         Origin::Known => put(out, "known"),
         Origin::Made => put(out, "made"),
+        Origin::Built => put(out, "built"),
         Origin::Received(action) => put_action(out, action),
     }
 }
@@ -167,7 +167,7 @@ fn put_action(out: &mut Vec<u8>, action: u32) -> Result<(), NoMemory>
 }
 
 /// Appends a number.
-fn put_number(out: &mut Vec<u8>, number: u32) -> Result<(), NoMemory>
+pub(crate) fn put_number(out: &mut Vec<u8>, number: u32) -> Result<(), NoMemory>
     ensures { OnOk result (out.new.items ≡ out.old.items ++ decimal number) }
 {
     let mut digits = Buffer::new();
@@ -175,7 +175,7 @@ fn put_number(out: &mut Vec<u8>, number: u32) -> Result<(), NoMemory>
 }
 
 /// Appends a text.
-fn put(out: &mut Vec<u8>, text: &str) -> Result<(), NoMemory>
+pub(crate) fn put(out: &mut Vec<u8>, text: &str) -> Result<(), NoMemory>
     ensures { OnOk result (out.new.items ≡ out.old.items ++ text.now) }
 {
     out.extend_from_slice(text.as_bytes())?;

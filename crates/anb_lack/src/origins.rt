@@ -18,12 +18,13 @@ use anb_protocol::{Event, Protocol};
 use anb_term::Term;
 use std::alloc::Global;
 
-/// Where a role has a term from: it knows it from the start, makes it, or can have it once it has
-/// received the message of an action, numbered from 1.
+/// Where a role has a term from: it knows it from the start, makes it, builds it, or can have it once
+/// it has received the message of an action, numbered from 1.
 #[derive(Clone, Copy, Debug, PartialEq, Eq)]
 pub enum Origin {
     Known,
     Made,
+    Built,
     Received(u32),
 }
 

@@ -81,6 +81,7 @@ module _ (narration name values transcript : List ℕ) (host_seed : Option (List
         compares = compared s due.some due.replayed;
         traced = record {
           code = code;
+          accepted = verified;
           fits = fits;
           terms = due.terms;
           are = due.are;

@@ -2,7 +2,9 @@
 use Rattle.std.specs.Prelude.{◌≡◌, ◌⊎◌, ℕ, true, false, List, [], ◌++◌, take, Option, Some}
 use Rattle.anb_base.specs.Moves.{Put}
 use Rattle.anb_base.specs.Wires.{WireState}
+use Rattle.anb_base.specs.declared.TheConstants.{ARRIVAL, WIDE}
 use Rattle.anb_code.specs.CodeValue.{CodeValue}
+use Rattle.anb_code.specs.Verified.{IsVerifiedCode}
 use Rattle.anb_compile.specs.Fitting.{FitsRole}
 use Rattle.anb_explain.specs.Explained.{line, register_terms}
 use Rattle.anb_plays.specs.Plays.{Played}
@@ -41,10 +43,11 @@ pub record TellsPlay (asked : Comparison) (subject : SubjectValue) (traced : Lis
   pub same : without_place run ≡ play
   pub tells : TellsRun subject 0 (arrivals_of asked.lines) traced run
 
--- The trace of the run of some code that fits the role, over all arrivals of the transcript, and then
+-- The trace of the run of some code that is accepted and fits the role, over all arrivals of the transcript, and then
 -- the first line that isn't due, where the replay ends with that status.
 pub record IsTraced (asked : Comparison) (status : Status) (text : List ℕ) : Type 0 where
   pub code : CodeValue
+  pub accepted : IsVerifiedCode ARRIVAL WIDE code
   pub fits : FitsRole asked.job.protocol asked.job.role code
   pub terms : List Tree
   pub are : register_terms asked.job.protocol asked.job.role code ≡ Some terms

@@ -1,5 +1,5 @@
 //! What is traced, from the files of the words.
-ghost use Rattle.std.specs.Prelude.{◌≡◌, ◌<◌, ◌≤◌, ◌^◌, [], ◌∷◌, length, All, IfOk, IfErr};
+ghost use Rattle.std.specs.Prelude.{◌≡◌, ◌+◌, ◌<◌, ◌≤◌, ◌^◌, [], ◌∷◌, length, All, IfOk, IfErr};
 ghost use Rattle.anb_base.specs.Moves.{Rose};
 ghost use Rattle.anb_base.specs.declared.TheConstants.{ARRIVAL, WIDE};
 ghost use Rattle.anb_code.specs.Taking.{take_texts};
@@ -48,7 +48,7 @@ pub(crate) fn prepare<F: Shelf>(
     ensures takes { IfOk result (λ t.
         length t.prepared.initial ≡ length (take_texts t.prepared.code.instrs)) }
     ensures short { IfOk result (λ t. All (λ value. length value ≤ ARRIVAL) t.prepared.initial) }
-    ensures few { IfOk result (λ t. length t.transcript < 2 ^ 32) }
+    ensures few { IfOk result (λ t. length t.transcript + 1 < 2 ^ 32) }
     ensures arrivals { IfOk result (λ t.
         All (λ arrival. length arrival ≤ ARRIVAL) (arrivals_of t.transcript)) }
     ensures refused { IfErr result (λ status. IsFailure status

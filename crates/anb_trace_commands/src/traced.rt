@@ -1,5 +1,5 @@
 //! A trace that is written to the standard streams.
-ghost use Rattle.std.specs.Prelude.{◌≡◌, ◌≢◌, ◌<◌, ◌≤◌, ◌^◌, ◌++◌, ◌⊎◌, [], ◌∷◌, length, All, IfOk, Some, false};
+ghost use Rattle.std.specs.Prelude.{◌≡◌, ◌≢◌, ◌+◌, ◌<◌, ◌≤◌, ◌^◌, ◌++◌, ◌⊎◌, [], ◌∷◌, length, All, IfOk, Some, false};
 ghost use Rattle.anb_base.specs.declared.TheConstants.{ARRIVAL};
 ghost use Rattle.anb_base.specs.declared.place.Place.TheVariants as place;
 ghost use Rattle.anb_code.specs.Taking.{take_texts};
@@ -86,7 +86,7 @@ fn trace_over<W: Wire>(alloc: Global, wire: &mut W, tracing: Tracing) -> Status
     requires takes { length tracing.prepared.initial
         ≡ length (take_texts tracing.prepared.code.instrs) }
     requires short { All (λ value. length value ≤ ARRIVAL) tracing.prepared.initial }
-    requires few { length tracing.transcript < 2 ^ 32 }
+    requires few { length tracing.transcript + 1 < 2 ^ 32 }
     requires arrivals { All (λ arrival. length arrival ≤ ARRIVAL) (arrivals_of tracing.transcript) }
     ensures comes { HasComeOf tracing.protocol tracing.role tracing.prepared.code
         tracing.prepared.initial tracing.prepared.seed tracing.transcript result
@@ -107,7 +107,7 @@ fn trace_now<W: Wire>(alloc: Global, wire: &mut W, tracing: Tracing) -> Status
     requires takes { length tracing.prepared.initial
         ≡ length (take_texts tracing.prepared.code.instrs) }
     requires short { All (λ value. length value ≤ ARRIVAL) tracing.prepared.initial }
-    requires few { length tracing.transcript < 2 ^ 32 }
+    requires few { length tracing.transcript + 1 < 2 ^ 32 }
     requires arrivals { All (λ arrival. length arrival ≤ ARRIVAL) (arrivals_of tracing.transcript) }
     ensures comes { HasComeOf tracing.protocol tracing.role tracing.prepared.code
         tracing.prepared.initial tracing.prepared.seed tracing.transcript result
@@ -149,7 +149,7 @@ fn trace_now<W: Wire>(alloc: Global, wire: &mut W, tracing: Tracing) -> Status
 fn compared(alloc: Global, prepared: &Prepared, transcript: &Transcript) -> Result<Status, NoMemory>
     requires count { length prepared.now.initial ≡ length (take_texts prepared.now.code.instrs) }
     requires short { All (λ value. length value ≤ ARRIVAL) prepared.now.initial }
-    requires few { length transcript.now < 2 ^ 32 }
+    requires few { length transcript.now + 1 < 2 ^ 32 }
     requires arrivals { All (λ arrival. length arrival ≤ ARRIVAL) (arrivals_of transcript.now) }
     ensures some { IfOk result (λ replayed. replayed ≢ status.NoMemory) }
     ensures replayed { IfOk result (IsReplayed

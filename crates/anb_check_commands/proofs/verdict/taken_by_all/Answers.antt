@@ -1,5 +1,5 @@
 -- One more role.
-use Rattle.std.proofs.Common.{◌≡◌, ℕ, zero, suc, ◌+◌, ◌≤◌, List, [], ◌∷◌, ◌++◌, length, None, Some, slice_get, sym, ap, ◌∙◌, subst, ⊎_elim, arith, length-append}
+use Rattle.std.proofs.Common.{◌≡◌, ℕ, zero, suc, ◌+◌, List, [], ◌∷◌, length, Some, slice_get, sym, ap, ◌∙◌, subst, ⊎_elim, length-append}
 use Rattle.anb_term.proofs.Lists.{slice_get-last}
 use Rattle.anb_pattern.specs.Taken.{TakenValue}
 use Rattle.anb_stranger.specs.Texts.{IsAllSaidOf}

@@ -15,4 +15,4 @@ returns-in_ok-role-in-Err-CannotSend-clause-is c =
     let here : slice_get c.roles.result.now w.role ≡ Some c.index-roles-role.result =
     slice_get-at c.roles.result.now w.role c.index-roles-role.result (omega (arith, first.is_role, ap length c.roles.ensures)) c.index-roles-role.is in
     let named : slice_get p.roles w.role ≡ Some name = subst (λ (roles : List (List ℕ)). slice_get roles w.role ≡ Some name) c.roles.ensures (here ∙ ap (λ (n : List ℕ). Some n) (sym c.in_ok-role-in-Err-CannotSend.ensures)) in
-    inl ((w.role, w.action, name, first, named, refl), c.in_ok-said-in-Err-CannotSend.ensures)
+    inl (w.action, name, refl, (w.role, w.action, name, first, named, refl), c.in_ok-said-in-Err-CannotSend.ensures)

@@ -1,57 +1,68 @@
-use Rattle.std.proofs.Common.{◌≡◌, ◌++◌, List, ℕ, length, Some, ap, ◌∙◌, sym, subst, arith, map}
+use Rattle.std.proofs.Common.{◌≡◌, ◌++◌, ◌∷◌, List, ℕ, length, Some, ap, ◌∙◌, sym, subst, arith, map}
 use Rattle.std.specs.List.{AllByRecursion, AllZip}
 use Rattle.std.specs.Prelude.{slice_get}
-use Rattle.std.proofs.lemmas.List.{length-map}
 use Rattle.std.proofs.lemmas.Slice.Zip.{AllZip-long}
+use Rattle.anb_lemmas.proofs.Each.{each_in_front}
 use Rattle.anb_term.specs.View.{tree_of}
 use Rattle.anb_term.proofs.Lists.{slice_get-at}
-use Rattle.anb_protocol.specs.Plans.{plan_of}
+use Rattle.anb_protocol.specs.Plans.{PlanEvent, plan_of, term_in, to_send}
 use Rattle.anb_protocol.specs.Texts.{IsTermOf}
-use Rattle.anb_lack.specs.Lacking.{had_text, lacking_text, refused_line}
-use Rattle.anb_lack.specs.Origins.{ComesFrom, HasBy}
-use Rattle.anb_lack.specs.Parts.{lacking}
-use Rattle.anb_lack.proofs.Showing.{had_at_end, lacking_of_protocol}
-use Rattle.anb_lack.proofs.Written.{three}
+use Rattle.anb_protocol.specs.Views.{plan_event}
+use Rattle.anb_lack.specs.Before.{IsBefore}
+use Rattle.anb_lack.specs.Lacking.{lists_text, refused_text}
+use Rattle.anb_lack.specs.Origins.{HasBy, IsListedFrom}
+use Rattle.anb_lack.proofs.Sends.{before_reason}
+use Rattle.anb_lack.proofs.Showing.{had_at_end}
 use Rattle.anb_lack.proofs.refusing.refusal_text.Goals as goal
 
-pub origins-requires-clause-terms : goal.origins-requires-clause-terms
-origins-requires-clause-terms c = subst (AllByRecursion (IsTermOf c.args.protocol.now)) (sym c.as_slice-terms.ensures) c.requires.terms
+pub listed_origins-requires-clause-terms : goal.listed_origins-requires-clause-terms
+listed_origins-requires-clause-terms c = subst (AllByRecursion (IsTermOf c.args.protocol.now)) (sym c.as_slice-terms.ensures) c.requires.terms
 
-pub origins-requires-clause-had : goal.origins-requires-clause-had
-origins-requires-clause-had c =
+pub listed_origins-requires-clause-had : goal.listed_origins-requires-clause-had
+listed_origins-requires-clause-had c =
     let p = c.args.protocol.now in
     let r = c.args.refusal.now in
     subst (AllByRecursion (HasBy p (plan_of p r.role) (length (plan_of p r.role)))) (sym c.as_slice-terms.ensures) (had_at_end p r c.requires.reason)
 
-pub put_had-requires-clause-long : goal.put_had-requires-clause-long
-put_had-requires-clause-long c =
+pub lists_text-requires-clause-before : goal.lists_text-requires-clause-before
+lists_text-requires-clause-before c =
     let p = c.args.protocol.now in
     let r = c.args.refusal.now in
-    ap length c.deref.ensures.value ∙ AllZip-long (ComesFrom p (plan_of p r.role)) (map tree_of c.as_slice-terms.result.now) c.in_ok-origins.origins.items c.in_ok-origins.ensures ∙ length-map c.as_slice-terms.result.now tree_of
+    let unsent = c.requires.reason.unsent in
+    let found = c.before_send-before.result.now in
+    let same = c.events.ensures ∙ c.in_ok-plan.ensures.plan in
+    let before = before_reason p r c.requires.reason (map plan_event found) (subst (λ es. IsBefore r.action es (map plan_event found)) same c.before_send-before.ensures) in
+    let P : PlanEvent → Type 0 = λ e. IsTermOf p (term_in e) in
+    subst (AllByRecursion P) (sym before) (each_in_front P unsent.before (to_send r.action unsent.message ∷ unsent.after) (subst (AllByRecursion P) unsent.plan c.requires.plan))
 
-pub put_lacking-requires : goal.put_lacking-requires
-put_lacking-requires c =
+pub lists_text-requires-clause-long : goal.lists_text-requires-clause-long
+lists_text-requires-clause-long c =
     let p = c.args.protocol.now in
     let r = c.args.refusal.now in
-    let listed = lacking_of_protocol p r.terms (tree_of r.term) c.requires.message in
-    subst (AllByRecursion (IsTermOf p)) (sym (ap (map tree_of) c.deref-2.ensures.value ∙ c.in_ok-lacking.ensures ∙ ap (λ l. lacking l (tree_of r.term)) c.as_slice-terms.ensures)) listed
+    let slice = c.as_slice-terms.result.now in
+    let found = c.before_send-before.result.now in
+    ap length c.deref.ensures.value ∙ AllZip-long (IsListedFrom p (map tree_of slice) (plan_of p r.role) (map plan_event found)) (map tree_of slice) c.in_ok-origins.origins.items c.in_ok-origins.ensures ∙ ap length c.as_slice-terms.ensures
 
 pub returns : goal.returns
 returns c =
     let p = c.args.protocol.now in
     let r = c.args.refusal.now in
+    let unsent = c.requires.reason.unsent in
     let sender = c.index-roles-refusal.result in
     let here : slice_get c.roles.result.now r.role ≡ Some sender = slice_get-at c.roles.result.now r.role sender (omega (arith, c.requires.reason.role, ap length c.roles.ensures)) c.index-roles-refusal.is in
     let P : List (List ℕ) → Type 0 = λ roles. slice_get roles r.role ≡ Some sender in
     let origins = c.in_ok-origins.origins.items in
-    let had = c.in_ok-put_had.ensures ∙ ap (λ us. c.put_refused.new.out.items ++ had_text p us c.deref.result.now) c.as_slice-terms.ensures ∙ ap (λ os. c.put_refused.new.out.items ++ had_text p r.terms os) c.deref.ensures.value in
-    let lacked = c.in_ok-put_lacking.ensures ∙ ap (λ us. c.put_had.new.out.items ++ lacking_text p us) (ap (map tree_of) c.deref-2.ensures.value ∙ c.in_ok-lacking.ensures ∙ ap (λ l. lacking l (tree_of r.term)) c.as_slice-terms.ensures) in
+    let found = c.before_send-before.result.now in
+    let same = c.events.ensures ∙ c.in_ok-plan.ensures.plan in
+    let before = before_reason p r c.requires.reason (map plan_event found) (subst (λ es. IsBefore r.action es (map plan_event found)) same c.before_send-before.ensures) in
+    let listed = subst (λ us. AllZip (IsListedFrom p us (plan_of p r.role) (map plan_event found)) us origins) c.as_slice-terms.ensures c.in_ok-origins.ensures in
     record {
       refusal = r;
       sender = sender;
       origins = origins;
       reason = c.requires.reason;
       is_sender = subst P c.roles.ensures here;
-      are_origins = subst (λ us. AllZip (ComesFrom p (plan_of p r.role)) us origins) c.as_slice-terms.ensures c.in_ok-origins.ensures;
-      is = c.new.ensures ∙ three _ _ _ _ (refused_line p sender r) (had_text p r.terms origins) (lacking_text p (lacking r.terms (tree_of r.term))) c.new-out.ensures.items c.in_ok-put_refused.ensures had lacked;
+      are_origins = subst (λ es. AllZip (IsListedFrom p r.terms (plan_of p r.role) es) r.terms origins) before listed;
+      line_is = c.in_ok-put_refused.ensures ∙ ap (λ l. l ++ refused_text p sender r) c.new-line.ensures.items;
+      lists_are = c.in_ok-lists.ensures ∙ ap (λ es. lists_text p sender r es c.deref.result.now) before ∙ ap (λ os. lists_text p sender r unsent.before os) c.deref.ensures.value;
     }

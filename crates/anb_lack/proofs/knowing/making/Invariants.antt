@@ -1,0 +1,8 @@
+use Rattle.std.proofs.Common.{map}
+use Rattle.anb_term.specs.View.{tree_of}
+use Rattle.anb_lack.specs.Roots.{makes}
+use Rattle.anb_lack.specs.Rows.{AreRows}
+use Rattle.anb_lack.proofs.knowing.making.Given as goal
+
+abbrev pub invariant-loop-role : goal.invariant-loop-role
+invariant-loop-role l = AreRows l.role (map tree_of l.keys) (makes l.protocol) l.rows.items

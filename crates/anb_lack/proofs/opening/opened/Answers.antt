@@ -1,0 +1,23 @@
+use Rattle.std.proofs.Common.{length, arith}
+use Rattle.anb_term.proofs.Lists.{slice_get-there}
+use Rattle.anb_intern.specs.declared.node.NodeId.{NodeId}
+use Rattle.anb_intern.proofs.Putting.{under_at}
+use Rattle.anb_lack.proofs.ComingOut.{out_next}
+use Rattle.anb_lack.proofs.opening.opened.Goals as goal
+
+pub put_out-requires-clause-within : goal.put_out-requires-clause-within
+put_out-requires-clause-within c =
+    let d : NodeId = record { 0 = 0 } in
+    under_at (length c.args.pool.now) c.args.ids.now c.loop-id.id-index d c.requires.under (omega arith)
+
+pub loop-id-preserved : goal.loop-id-preserved
+loop-id-preserved c =
+    let d : NodeId = record { 0 = 0 } in
+    let ts = c.args.pool.now in
+    let ids = c.args.ids.now in
+    let i = c.loop-id.id-index in
+    let there = slice_get-there ts _ (under_at (length ts) ids i d c.requires.under (omega arith)) in
+    record {
+      under = c.in_ok-put_out.ensures.under;
+      out = λ has is. out_next has ts ids c.loop-id.out.items c.put_out.new.out.items i d there.0 _ (omega arith) there.1 (c.in_ok-put_out.ensures.out has there.0 is there.1) (c.loop-id.invariant.out has is);
+    }
