@@ -38,8 +38,8 @@ use Rattle.anb_record_commands.proofs.Recorded.{in_folder, placeless}
 module _ (b : BranchedValue) (role : List ℕ) (told : Option ℕ) (initial : List (List ℕ)) (seed : List ℕ) (codes : List CodeValue)
     (file : List ℕ) (old new : StoreState) (left : Option (List ℕ)) (end : PlayEnd) where
   pub misses_arm : (k : Kept) → (end ≢ ended.NoMemory → RecordsTaken b role told initial seed codes file old new k left end) → MissesLines file old new (status_of end) (missing_of k file)
-  misses_arm kept.Whole is = tt
-  misses_arm kept.NoMemory is = tt
+  misses_arm kept.Whole is = λ some. (is (λ none. some (ap status_of none))).records.recorded.records.quiet (λ e. cc)
+  misses_arm kept.NoMemory is = λ some. (is (λ none. some (ap status_of none))).records.recorded.records.quiet (λ e. cc)
   misses_arm kept.Unwritten is = (
     refl,
     λ some. elim ((is (λ none. some (ap status_of none))).records.recorded.records.failed refl) [ inl never ↦ absurd (cc) | inr rose ↦ rose ],

@@ -33,8 +33,8 @@ use Rattle.anb_record_commands.proofs.Placeless.{are_due, falls_short, follows, 
 
 module _ (R : Run) (file : List ℕ) (old new : StoreState) (left : Option (List ℕ)) (end : PlayEnd) where
   pub misses : (k : Kept) → (end ≢ ended.NoMemory → IsRecorded R file old new k left end) → MissesLines file old new (status_of end) (missing_of k file)
-  misses kept.Whole is = tt
-  misses kept.NoMemory is = tt
+  misses kept.Whole is = λ some. (is (λ none. some (ap status_of none))).records.quiet (λ e. cc)
+  misses kept.NoMemory is = λ some. (is (λ none. some (ap status_of none))).records.quiet (λ e. cc)
   misses kept.Unwritten is = (
     refl,
     λ some. elim ((is (λ none. some (ap status_of none))).records.failed refl) [ inl never ↦ absurd (cc) | inr rose ↦ rose ],
@@ -77,12 +77,20 @@ in_folder R folder text valued store mid now left end begins written reads is = 
 -- what the lines miss is missing in the folder
 pub missing_in_folder : (folder : List ℕ) (store mid now : StoreState) (old new : WireState) (end : Status) (m : Missing) → mid.faults ≡ store.faults
     → MissesLines (transcript_in folder) mid now end m → IsMissing folder store now old new end m
-missing_in_folder folder store mid now old new end missing.Nothing same is = tt
-missing_in_folder folder store mid now old new end missing.NoMemory same is = tt
+missing_in_folder folder store mid now old new end missing.Nothing same is = λ some. is some ∙ same
+missing_in_folder folder store mid now old new end missing.NoMemory same is = λ some. is some ∙ same
 missing_in_folder folder store mid now old new end (missing.Unwritten name) same is = (inr is.0, λ some. subst (λ (n : ℕ). Rose n now.faults) same (is.1 some))
 missing_in_folder folder store mid now old new end (missing.There name) same is = absurd is
 
 -- ---- as a play tells it
+
+-- the same is missing where a stop tells no instruction
+pub missing_stopped : (folder : List ℕ) (store now : StoreState) (old new : WireState) (halt : Halt) (m : Missing) → IsMissing folder store now old new (Stopped halt) m
+    → IsMissing folder store now old new (Stopped (record { event = halt.event; at = 0 })) m
+missing_stopped folder store now old new halt missing.Nothing is = λ some. is (λ e. cc)
+missing_stopped folder store now old new halt missing.NoMemory is = λ some. is (λ e. cc)
+missing_stopped folder store now old new halt (missing.Unwritten name) is = (is.0, λ some. is.1 (λ e. cc))
+missing_stopped folder store now old new halt (missing.There name) is = let never : Stopped halt ≡ NoMemory = is.2 in absurd (cc)
 
 -- a stop without its instruction
 abbrev untold : Status → Status

@@ -45,12 +45,17 @@ recorded_phase s = phase_of s
 abbrev pub IsOfFolder : (folder : List ℕ) → List ℕ → Type 0
 IsOfFolder folder name = IsEither (values_in folder) (transcript_in folder) name
 
+-- no fault of the store occurred, unless the play itself ended for want of memory
+abbrev pub IsCalm : (store store_now : StoreState) → (end : Status) → Type 0
+IsCalm store store_now end = end ≢ NoMemory → store_now.faults ≡ store.faults
+
 module _ (folder : List ℕ) (store store_now : StoreState) where
   -- Why something is missing. A file that is there already is left, and so is the wire. One that couldn't
-  -- be written is counted by the store.
+  -- be written is counted by the store, and where nothing else is missing than for want of memory nothing was
+  -- counted: so a fault of the store is told.
   abbrev pub IsMissing : (old new : WireState) → (end : Status) → Missing → Type 0
-  IsMissing old new end missing.Nothing = Unit {0}
-  IsMissing old new end missing.NoMemory = Unit {0}
+  IsMissing old new end missing.Nothing = IsCalm store store_now end
+  IsMissing old new end missing.NoMemory = IsCalm store store_now end
   IsMissing old new end (missing.Unwritten name) = IsOfFolder folder name × (end ≢ NoMemory → Rose store.faults store_now.faults)
   IsMissing old new end (missing.There name) =
       IsOfFolder folder name × IsThere store name × (end ≡ NoMemory) × (new ≡ old) × (store_now ≡ store)

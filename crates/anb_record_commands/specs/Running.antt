@@ -21,7 +21,7 @@ use Rattle.anb_status.specs.declared.status.Status.TheVariants.{NoMemory}
 use Rattle.anb_transcript.specs.Replays.{arrivals_of}
 use Rattle.anb_transcript.specs.declared.transcript.TranscriptLine.{TranscriptLine}
 use Rattle.anb_record_commands.specs.Names.{transcript_in, values_in}
-use Rattle.anb_record_commands.specs.Outcomes.{IsOfFolder, ReplaysTo}
+use Rattle.anb_record_commands.specs.Outcomes.{IsCalm, IsOfFolder, ReplaysTo}
 use Rattle.anb_record_commands.specs.declared.ended.Missing.{Missing}
 use Rattle.anb_record_commands.specs.declared.ended.Missing.TheVariants as missing
 use Rattle.anb_record_commands.specs.declared.opening.Opened.{Opened}
@@ -35,8 +35,8 @@ missing_of kept.NoMemory transcript = missing.NoMemory
 module _ (file : List ℕ) (old new : StoreState) where
   -- what may be missing of lines that were appended to the file
   abbrev pub MissesLines : (end : Status) → Missing → Type 0
-  MissesLines end missing.Nothing = Unit {0}
-  MissesLines end missing.NoMemory = Unit {0}
+  MissesLines end missing.Nothing = IsCalm old new end
+  MissesLines end missing.NoMemory = IsCalm old new end
   MissesLines end (missing.Unwritten name) = (name ≡ file) × (end ≢ NoMemory → Rose old.faults new.faults)
   MissesLines end (missing.There name) = ⊥
 

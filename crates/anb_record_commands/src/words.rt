@@ -80,6 +80,13 @@ impl<'w> RecordingWords<'w> {
                 },
             ) => None,
             Some(
+                Command::CheckValues {
+                    narration: _narration,
+                    role: _role,
+                    values: _values,
+                },
+            ) => None,
+            Some(
                 Command::Check {
                     narration: _narration,
                 },
