@@ -4,7 +4,7 @@ use Rattle.std.proofs.lemmas.List.{take-append-drop}
 use Rattle.anb_lemmas.proofs.Each.{take_next}
 use Rattle.anb_stage.specs.Children.{lines}
 
-lines-append : (xs ys : List (List ℕ)) → lines (xs ++ ys) ≡ lines xs ++ lines ys
+pub lines-append : (xs ys : List (List ℕ)) → lines (xs ++ ys) ≡ lines xs ++ lines ys
 lines-append [] ys = refl
 lines-append (x ∷ xs) ys = ap (λ l. (x ++ 10 ∷ []) ++ l) (lines-append xs ys) ∙ sym (append_assoc (x ++ 10 ∷ []) (lines xs) (lines ys))
 

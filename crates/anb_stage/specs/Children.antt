@@ -36,9 +36,10 @@ abbrev pub limit_word : Option ℕ → List ℕ
 limit_word None = []
 limit_word (Some seconds) = decimal seconds
 
--- what is asked of a child: that limit, and its words
-abbrev pub asked_words : Option ℕ → List (List ℕ) → List (List ℕ)
-asked_words limit words = limit_word limit ∷ words
+-- what is asked of a child: the words of its program, where it isn't the spawner's own, that limit, and
+-- the words behind those of the program
+abbrev pub asked_words : Option ℕ → (program words : List (List ℕ)) → List (List ℕ)
+asked_words limit program words = program ++ limit_word limit ∷ words
 
 -- What a call leaves of its role's child. Of the count of faults each call says itself that it
 -- doesn't fall.

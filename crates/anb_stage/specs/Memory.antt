@@ -2,7 +2,9 @@
 use Rattle.std.specs.Prelude.{ℕ, Bool, false, ◌+◌, ◌<◌, ◌≤◌, IsTrue, List, [], ◌∷◌, ◌++◌, length, drop, replicate, get_or, slice_set, Option, Some}
 use Rattle.anb_base.specs.Memory.{raised, fails_after}
 use Rattle.anb_base.specs.Moves.{last_count}
-use Rattle.anb_stage.specs.Children.{Child, asked_words, lines}
+use Rattle.anb_stage.specs.Children.{Child, lines}
+use Rattle.anb_stage.specs.Words.{asked_by}
+use Rattle.anb_stage.specs.declared.words.ChildWords.{ChildWords}
 
 -- a child: what is left of its output, how many bytes had been written to all children when each byte
 -- of it was read, what was written to it, what was asked of it, its status, how many bytes can be
@@ -102,9 +104,9 @@ HasNoOutput spawner role = length spawner.children ≤ role
 abbrev pub HasNoRoom : MemoryChild → List ℕ → Type 0
 HasNoRoom c piece = (0 < length piece) × (c.room ≤ length c.written)
 
--- the limit and the words can't be asked whole
-abbrev pub HasNoRoomForWords : MemoryChild → Option ℕ → List (List ℕ) → Type 0
-HasNoRoomForWords c limit words = c.room < length c.asked + length (lines (asked_words limit words))
+-- what is asked can't be kept whole
+abbrev pub HasNoRoomForWords : MemoryChild → Option ℕ → ChildWords → Type 0
+HasNoRoomForWords c limit own = c.room < length c.asked + length (lines (asked_by limit own))
 
 -- the spawner after one more call, by which the child of this role became this one
 abbrev pub with_child : MemorySpawner → ℕ → MemoryChild → MemorySpawner
@@ -132,8 +134,8 @@ after_read c written n = record c {
 abbrev pub after_write : MemoryChild → List ℕ → MemoryChild
 after_write c bytes = record c { written = c.written ++ bytes }
 
-abbrev pub after_start : MemoryChild → Option ℕ → List (List ℕ) → MemoryChild
-after_start c limit words = record c { asked = c.asked ++ lines (asked_words limit words); phase = 1 }
+abbrev pub after_start : MemoryChild → Option ℕ → ChildWords → MemoryChild
+after_start c limit own = record c { asked = c.asked ++ lines (asked_by limit own); phase = 1 }
 
 abbrev pub after_finish : MemoryChild → MemoryChild
 after_finish c = record c { phase = 2 }

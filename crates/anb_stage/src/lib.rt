@@ -13,12 +13,14 @@ mod sides;
 mod spawner;
 mod stage;
 mod starting;
+mod words;
 
 pub use laws::{relays_are_due, stages_are_honest};
 pub use memory::MemSpawner;
 pub use refusal::RelayNo;
 pub use spawner::Spawner;
 pub use stage::relay;
+pub use words::ChildWords;
 
 /// The most roles that a protocol has.
 pub const ROLES: u32 = 32;

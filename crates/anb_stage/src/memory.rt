@@ -1,12 +1,13 @@
 //! Children in memory.
 
-ghost use Rattle.std.specs.Prelude.{◌≡◌, ◌<◌, ◌≤◌, ◌+◌, ◌-◌, ◌^◌, ◌↔◌, ◌⊎◌, ℕ, List, [], ◌∷◌, ◌++◌, length, take, drop, min, Some, true, IsTrue, IsErr, IfOk, OnOk, OnErr, vec_len, vec_capacity};
+ghost use Rattle.std.specs.Prelude.{◌≡◌, ◌<◌, ◌≤◌, ◌+◌, ◌-◌, ◌^◌, ◌↔◌, ◌⊎◌, ℕ, List, [], ◌∷◌, ◌++◌, length, take, drop, min, Some, None, IfSome, IfNone, true, IsTrue, IsErr, IfOk, OnOk, OnErr, vec_len, vec_capacity};
 ghost use Rattle.anb_base.specs.Memory.{raised, fails_after};
 ghost use Rattle.anb_base.specs.Moves.{Rose};
-ghost use Rattle.anb_stage.specs.Children.{asked_words, limit_word, lines, written_to_all};
+ghost use Rattle.anb_stage.specs.Children.{limit_word, lines, written_to_all};
+ghost use Rattle.anb_stage.specs.Words.{asked_by};
 ghost use Rattle.anb_stage.specs.Memory.{fresh_child, fresh_spawner, child_at, children_of, failed, failed_at, after_read, after_write, after_start, after_finish, IsDueToFail, HasNoOutput, HasNoRoom, HasNoRoomForWords, with_child};
 
-use crate::{ROLES, Spawner};
+use crate::{ChildWords, ROLES, Spawner};
 use anb_base::{Bytes, Failed, NoMemory, Text};
 use itoa::Buffer;
 use std::alloc::Global;
@@ -54,13 +55,15 @@ impl Room {
         self.bytes.extend_from_slice(bytes).unwrap();
     }
 
-    /// Puts the limit and the words, each with a line feed.
-    fn put_asked(&mut self, limit: &str, words: &[Text])
-        requires { length self.old.bytes.items + length (lines (limit.now ∷ words.now))
-            ≤ self.old.limit }
-        ensures put { self.new.bytes.items ≡ self.old.bytes.items ++ lines (limit.now ∷ words.now) }
+    /// Puts the words of the program, the limit and the words, each with a line feed.
+    fn put_asked(&mut self, program: &[Text], limit: &str, words: &[Text])
+        requires { length self.old.bytes.items
+            + length (lines (program.now ++ limit.now ∷ words.now)) ≤ self.old.limit }
+        ensures put { self.new.bytes.items
+            ≡ self.old.bytes.items ++ lines (program.now ++ limit.now ∷ words.now) }
         ensures limit { self.new.limit ≡ self.old.limit }
     {
+        self.put_lines(program);
         self.put(limit.as_bytes());
         self.put(b"\n");
         self.put_lines(words);
@@ -176,34 +179,32 @@ impl MemChild {
     }
 
     /// Whether the limit and the words, each with a line feed, fit.
-    fn has_room_for(&self, limit: &str, words: &[Text]) -> bool
-        ensures { IsTrue result
-            ↔ (length self.now.asked + length (lines (limit.now ∷ words.now)) ≤ self.now.room) }
+    fn has_room_for(&self, limit: &str, own: &ChildWords) -> bool
+        ensures { IsTrue result ↔ (length self.now.asked
+            + length (lines (own.now.program.items ++ limit.now ∷ own.now.words.items))
+            ≤ self.now.room) }
     {
-        let mut left = self.asked.left();
+        let Some(left) = left_behind(self.asked.left(), &own.program) else {
+            return false;
+        };
         if limit.len() >= left {
             return false;
         }
-        left -= limit.len() + 1;
-        for word in words {
-            let size = word.as_str().len();
-            if size >= left {
-                return false;
-            }
-            left -= size + 1;
-        }
-        true
+        left_behind(left - limit.len() - 1, &own.words).is_some()
     }
 
     /// Keeps the limit and the words.
-    fn ask(&mut self, limit: &str, words: &[Text])
-        requires { length self.old.asked + length (lines (limit.now ∷ words.now)) ≤ self.old.room }
+    fn ask(&mut self, limit: &str, own: &ChildWords)
+        requires { length self.old.asked
+            + length (lines (own.now.program.items ++ limit.now ∷ own.now.words.items))
+            ≤ self.old.room }
         ensures { self.new ≡ record self.old {
-          asked = self.old.asked ++ lines (limit.now ∷ words.now);
+          asked = self.old.asked
+              ++ lines (own.now.program.items ++ limit.now ∷ own.now.words.items);
           phase = 1;
         } }
     {
-        self.asked.put_asked(limit, words);
+        self.asked.put_asked(&own.program, limit, &own.words);
         self.phase = 1;
     }
 
@@ -214,6 +215,22 @@ impl MemChild {
         self.phase = 2;
         self.status
     }
+}
+
+/// How many bytes are left of so many behind these words, each with a line feed.
+fn left_behind(left: usize, words: &[Text]) -> Option<usize>
+    ensures some { IfSome result (λ n. n + length (lines words.now) ≡ left) }
+    ensures none { IfNone result (left < length (lines words.now)) }
+{
+    let mut left = left;
+    for word in words {
+        let size = word.as_str().len();
+        if size >= left {
+            return None;
+        }
+        left -= size + 1;
+    }
+    Some(left)
 }
 
 /// The limit as it is asked.
@@ -303,8 +320,9 @@ impl MemSpawner {
         child.written.bytes.as_slice()
     }
 
-    /// What was asked of a role's child: the seconds for which it may be silent, which are empty where
-    /// there is no limit, and its words, each with a line feed.
+    /// What was asked of a role's child: the words of its program, where it isn't the spawner's own, the
+    /// seconds for which it may be silent, which are empty where there is no limit, and its words, each
+    /// with a line feed.
     pub fn asked(&self, role: u32) -> &[u8]
         requires { role < length self.now.children }
         ensures { result.now ≡ (child_at self.now role).asked }
@@ -358,13 +376,13 @@ impl MemSpawner {
 impl Spawner for MemSpawner {
     ghost child = { children_of };
 
-    fn start(&mut self, role: u32, limit: Option<u32>, words: &[Text]) -> Result<(), Failed>
+    fn start(&mut self, role: u32, limit: Option<u32>, own: &ChildWords) -> Result<(), Failed>
         ensures fails { IsErr result ↔ (IsDueToFail self.old ⊎ HasNoOutput self.old role
-            ⊎ HasNoRoomForWords (child_at self.old role) limit words.now) }
+            ⊎ HasNoRoomForWords (child_at self.old role) limit own.now) }
         ensures failed { OnErr result
             (self.new ≡ with_child self.old role (failed_at self.old role)) }
         ensures started { OnOk result (self.new
-            ≡ with_child self.old role (after_start (child_at self.old role) limit words.now)) }
+            ≡ with_child self.old role (after_start (child_at self.old role) limit own.now)) }
         ensures never_falls { (child_at self.old role).faults ≤ (child_at self.new role).faults }
     {
         let fails = self.next_fails();
@@ -375,10 +393,10 @@ impl Spawner for MemSpawner {
         let child = &mut self.children[role as usize];
         let mut digits = Buffer::new();
         let limit = text_of(&mut digits, limit);
-        if fails || !child.has_room_for(limit, words) {
+        if fails || !child.has_room_for(limit, own) {
             return Err(child.fail(silent));
         }
-        child.ask(limit, words);
+        child.ask(limit, own);
         Ok(())
     }
 

@@ -12,14 +12,14 @@ use crate::carrying::carry_all;
 use crate::ends::Ends;
 use crate::finishing::finish_all;
 use crate::starting::start_all;
-use crate::{RelayNo, Spawner};
-use anb_base::{Sent, Text};
+use crate::{ChildWords, RelayNo, Spawner};
+use anb_base::Sent;
 use std::alloc::Global;
 
 /// Starts all children, carries the messages of all actions, and finishes all children.
 pub(crate) fn relay_all<P: Spawner>(
     alloc: Global,
-    words: &[Vec<Text>],
+    words: &[ChildWords],
     limit: Option<u32>,
     actions: &[Ends],
     spawner: &mut P,

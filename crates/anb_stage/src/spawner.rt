@@ -2,10 +2,12 @@
 
 ghost use Rattle.std.specs.Prelude.{◌≡◌, ◌<◌, ◌≤◌, ℕ, length, take, IfOk, IfSome, OnOk, OnErr};
 ghost use Rattle.anb_base.specs.Moves.{Rose, Took, Put, AtEnd, Stamped};
-ghost use Rattle.anb_stage.specs.Children.{Child, asked_words, lines, written_to_all, KeptByStart, KeptByRead, KeptByWrite, KeptByFinish, IsUnstarted, OthersStay};
+ghost use Rattle.anb_stage.specs.Children.{Child, lines, written_to_all, KeptByStart, KeptByRead, KeptByWrite, KeptByFinish, IsUnstarted, OthersStay};
+ghost use Rattle.anb_stage.specs.Words.{asked_by};
 ghost use Rattle.anb_stage.specs.declared.TheConstants.{ROLES};
 
-use anb_base::{Failed, Text};
+use crate::ChildWords;
+use anb_base::Failed;
 
 /// Child programs, one for each role. A role's child is started once, and then read and written until
 /// it is finished.
@@ -16,10 +18,10 @@ pub trait Spawner {
     /// Starts a role's child with these words. Where there is a limit, each call for the child fails
     /// once it was silent for so many seconds: it gave no byte that was waited for, took none, or
     /// didn't end.
-    fn start(&mut self, role: u32, limit: Option<u32>, words: &[Text]) -> Result<(), Failed>
+    fn start(&mut self, role: u32, limit: Option<u32>, own: &ChildWords) -> Result<(), Failed>
         requires within { role < ROLES }
         ensures asked { OnOk result (Put (child self.old role).asked (child self.new role).asked
-            (lines (asked_words limit words.now))) }
+            (lines (asked_by limit own.now))) }
         ensures started { OnOk result ((child self.new role).phase ≡ 1) }
         ensures failed { OnErr result (IsUnstarted (child self.old role) (child self.new role)) }
         ensures cause { OnErr result

@@ -7,8 +7,8 @@ ghost use Rattle.anb_stage.specs.Relays.{AreCut, ends_in, report, IsRelayed, IsR
 
 use crate::ends::ends_of;
 use crate::relaying::relay_all;
-use crate::{RelayNo, Spawner};
-use anb_base::{ARRIVAL, Sent, Text};
+use crate::{ChildWords, RelayNo, Spawner};
+use anb_base::{ARRIVAL, Sent};
 use anb_protocol::{Protocol, protocols_hold};
 use std::alloc::Global;
 
@@ -20,7 +20,7 @@ use std::alloc::Global;
 pub fn relay<P: Spawner>(
     alloc: Global,
     p: &Protocol,
-    words: &[Vec<Text>],
+    words: &[ChildWords],
     limit: Option<u32>,
     spawner: &mut P,
 ) -> Result<Vec<Sent>, RelayNo>

@@ -5,14 +5,13 @@ ghost use Rattle.anb_stage.specs.Words.{asked_lists};
 ghost use Rattle.anb_stage.specs.Steps.{Started, FailsStarting};
 ghost use Rattle.anb_stage.specs.declared.TheConstants.{ROLES};
 
-use crate::{RelayNo, Spawner};
-use anb_base::Text;
+use crate::{ChildWords, RelayNo, Spawner};
 
 /// Starts all children in order, each with its words and all with this limit.
 pub(crate) fn start_all<P: Spawner>(
     spawner: &mut P,
     limit: Option<u32>,
-    words: &[Vec<Text>],
+    words: &[ChildWords],
 ) -> Result<(), RelayNo>
     requires few { length words.now ≤ ROLES }
     requires new { (role : ℕ) → role < length words.now → (P.child spawner.old role).phase ≡ 0 }
@@ -23,7 +22,7 @@ pub(crate) fn start_all<P: Spawner>(
 {
     for (i, own) in words.iter().enumerate() {
         let role = i as u32;
-        if spawner.start(role, limit, own.as_slice()).is_err() {
+        if spawner.start(role, limit, own).is_err() {
             return Err(RelayNo::Fault(role));
         }
     }

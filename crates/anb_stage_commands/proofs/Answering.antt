@@ -14,17 +14,18 @@ use Rattle.anb_stage.specs.declared.refusal.RelayNo.TheVariants as no
 use Rattle.anb_status.specs.declared.status.Status.{Status}
 use Rattle.anb_status.specs.declared.status.Status.TheVariants.{NoMemory}
 use Rattle.anb_command.specs.Fetches.{Files}
-use Rattle.anb_command.specs.Roles.{SendableInFile}
 use Rattle.anb_status.specs.Statuses.{is_fault}
 use Rattle.anb_command.specs.Steps.{Answer, HasOneAnswer, IsFailure, given, refused}
 use Rattle.anb_command.specs.Writing.{IsWriting, IsWritingOne, IsWritten, WritesLess}
 use Rattle.anb_command.proofs.Chains.{told_map}
 use Rattle.anb_command.proofs.Failing.{IsFailure-map}
-use Rattle.anb_command.proofs.Ones.{IsQuiet, RefusesQuietly, is_quiet, narration_in_file_quiet, not_both, one_settled, protocol_quiet, quiet_as, same_refusal, send_quiet, sendable_one, then_one, then_quiet}
+use Rattle.anb_command.proofs.Ones.{IsQuiet, RefusesQuietly, not_both, one_settled, quiet_as, same_refusal, then_one, then_quiet}
 use Rattle.anb_command.proofs.Written.{faulty, refusal, the_one, written}
+use Rattle.anb_stage_commands.specs.CastRoles.{CastInFile}
 use Rattle.anb_stage_commands.specs.Words.{Staged, words_for}
 use Rattle.anb_stage_commands.specs.StageCommand.{AreToldOf, DoesStage, StageOf, StageText, answer_of, fault_status, status_after, status_of}
 use Rattle.anb_stage_commands.specs.Relaying.{FailsInFile, FailsRelaying, Relays, RelaysInFile, Stay}
+use Rattle.anb_stage_commands.proofs.Casting.{cast_quiet, cast_one}
 use Rattle.anb_stage_commands.proofs.Outcomes.{staged_refused, staged_text}
 
 -- where a fault came, or memory is wanting, and nothing is written
@@ -37,10 +38,6 @@ nothing_of Due w status fault less = record {
 
 no_memory : (Due : Answer (List ℕ) → Type 0) (w : Option (List ℕ)) (status : Status) → status ≡ NoMemory → IsWriting Due status w w
 no_memory Due w status is = subst (λ (t : Status). IsWriting Due t w w) (sym is) (nothing_of Due w NoMemory refl (inl refl))
-
-sendable_quiet : (files : Files) (narration : List ℕ) → RefusesQuietly (SendableInFile files narration)
-sendable_quiet files narration =
-    then_quiet (then_quiet (narration_in_file_quiet files narration) protocol_quiet) (λ (p : ProtocolValue). then_quiet (send_quiet p) (λ (u : Unit {0}). is_quiet p))
 
 status_quiet : (p : ProtocolValue) (r : RelayNo) → IsOfOutputs r → IsQuiet (status_of p r)
 status_quiet p (no.Fault role) never = absurd never
@@ -63,24 +60,24 @@ module _ (narrations : NarrationsAreUnique) (refusals : RefusalsAreUnique) (none
     due_in p = due_of outputs tails statuses (length p.roles) (ends_in p)
 
     one : HasOneAnswer Text
-    one = then_one (SendableInFile files s.narration) (StageOf s files outputs tails statuses) (sendable_one narrations refusals none files s.narration) (λ p x y is js. is ∙ sym js)
+    one = then_one (CastInFile files s) (StageOf s files outputs tails statuses) (cast_one narrations refusals none files s) (λ p x y is js. is ∙ sym js)
 
     answer_quiet : (p : ProtocolValue) (o : Option RelayNo) → IfSome o IsOfOutputs → (t : Status) → refused t ≡ answer p o → IsQuiet t
     answer_quiet p None of t is = not_both t _ is
     answer_quiet p (Some r) of t is = quiet_as t (status_of p r) (same_refusal t (status_of p r) is) (status_quiet p r of)
 
     quiet : RefusesQuietly Text
-    quiet = then_quiet (sendable_quiet files s.narration) (λ (p : ProtocolValue). record {
+    quiet = then_quiet (cast_quiet files s) (λ (p : ProtocolValue). record {
       each = λ t is. answer_quiet p (due_in p) (due_of_outputs outputs tails statuses (length p.roles) (ends_in p)) t is;
     })
 
-    whole : (p : ProtocolValue) (text : List ℕ) (status : Status) → SendableInFile files s.narration (given p) → Relays s old new p text → IsWritten text status w now → IsWriting Text status w now
+    whole : (p : ProtocolValue) (text : List ℕ) (status : Status) → CastInFile files s (given p) → Relays s old new p text → IsWritten text status w now → IsWriting Text status w now
     whole p text status f relays is =
         let nothing : due_in p ≡ None = (due outputs tails statuses (length p.roles) old new (words_for s p.roles) (ends_in p) (told p f)).0 relays.relays in
         let text_is : given text ≡ answer p (due_in p) = rw nothing (ap given (relays.tells outputs tails (told p f).cut)) in
         written Text (one_settled Text one) w now text status (inr (p, f, text_is)) is
 
-    refused_file : (status : Status) → IsFailure status (λ file. Unit {0}) (SendableInFile files s.narration (refused status)) → IsWriting Text status w w
+    refused_file : (status : Status) → IsFailure status (λ file. Unit {0}) (CastInFile files s (refused status)) → IsWriting Text status w w
     refused_file status fails =
         refusal Text (one_settled Text one) w w status (λ file. Unit {0}) quiet (
         IsFailure-map status (λ file. Unit {0}) (λ file. Unit {0}) _ _ (λ file is. is) (λ f. inl (status, f, refl)) fails
@@ -91,7 +88,7 @@ module _ (narrations : NarrationsAreUnique) (refusals : RefusalsAreUnique) (none
     by_fault name (Some seconds) false = nothing_of Text w _ refl refl
     by_fault name (Some seconds) true = nothing_of Text w _ refl refl
 
-    by_refusal : (p : ProtocolValue) (r : RelayNo) → SendableInFile files s.narration (given p) → IsRefused (length p.roles) old new (words_for s p.roles) (ends_in p) r → IsWriting Text (status_after s.limit new p r) w w
+    by_refusal : (p : ProtocolValue) (r : RelayNo) → CastInFile files s (given p) → IsRefused (length p.roles) old new (words_for s p.roles) (ends_in p) r → IsWriting Text (status_after s.limit new p r) w w
     by_refusal p r f is = by r ((due outputs tails statuses (length p.roles) old new (words_for s p.roles) (ends_in p) (told p f)).1 r is) where
       due_status : (q : RelayNo) → due_in p ≡ Some q → Text (refused (status_of p q))
       due_status q e = inr (p, f, ap (answer p) (sym e))
@@ -104,16 +101,16 @@ module _ (narrations : NarrationsAreUnique) (refusals : RefusalsAreUnique) (none
       by (no.Long action len) e = refusal Text (one_settled Text one) w w _ (λ file. Unit {0}) quiet (due_status (no.Long action len) e) (put_nothing w)
       by (no.Bad role status) e = refusal Text (one_settled Text one) w w _ (λ file. Unit {0}) quiet (due_status (no.Bad role status) e) (put_nothing w)
 
-    fails : (p : ProtocolValue) (status : Status) → SendableInFile files s.narration (given p) → FailsRelaying s old new p status → IsWriting Text status w w
+    fails : (p : ProtocolValue) (status : Status) → CastInFile files s (given p) → FailsRelaying s old new p status → IsWriting Text status w w
     fails p status f (inr (is, some)) = no_memory Text w status is
     fails p status f (inl r) = subst (λ (t : Status). IsWriting Text t w w) (sym r.is) (by_refusal p r.refusal f r.refuses)
 
-    pub answers_text : (p : ProtocolValue) (text : List ℕ) (status : Status) → SendableInFile files s.narration (given p) → Relays s old new p text → IsWritten text status w now → IsWritingOne Text status w now
+    pub answers_text : (p : ProtocolValue) (text : List ℕ) (status : Status) → CastInFile files s (given p) → Relays s old new p text → IsWritten text status w now → IsWritingOne Text status w now
     answers_text p text status f relays is = the_one Text one w now status (whole p text status f relays is)
 
     pub answers_refusal : (status : Status)
-        → (IsFailure status (λ file. Unit {0}) (SendableInFile files s.narration (refused status)) × Stay s old new)
-        ⊎ ((p : ProtocolValue) × SendableInFile files s.narration (given p) × FailsRelaying s old new p status) → IsWritingOne Text status w w
+        → (IsFailure status (λ file. Unit {0}) (CastInFile files s (refused status)) × Stay s old new)
+        ⊎ ((p : ProtocolValue) × CastInFile files s (given p) × FailsRelaying s old new p status) → IsWritingOne Text status w w
     answers_refusal status (inl (f, stay)) = the_one Text one w w status (refused_file status f)
     answers_refusal status (inr (p, f, r)) = the_one Text one w w status (fails p status f r)
 

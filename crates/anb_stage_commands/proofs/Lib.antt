@@ -1,3 +1,5 @@
-pub mod Lists
+mod Behind
+mod Casting
+mod Lists
 pub mod Outcomes
 pub mod Answering

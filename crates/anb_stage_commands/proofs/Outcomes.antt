@@ -1,8 +1,7 @@
 -- What the relay of a protocol comes to, as a command.
-use Rattle.std.specs.Prelude.{Vec}
-use Rattle.std.specs.Global.{Global}
 use Rattle.std.proofs.lemmas.List.{length-map}
 use Rattle.anb_stage.specs.Words.{asked_by, asked_lists}
+use Rattle.anb_stage.specs.declared.words.ChildWords.{ChildWords}
 use Rattle.std.proofs.Common.{◌≡◌, ℕ, Bool, true, false, ◌<◌, ◌≤◌, ◌⊎◌, List, [], ◌∷◌, length, get_or, Option, Some, None, IfSome, refl, sym, ap, ◌∙◌, subst, inl, inr, arith}
 use Rattle.anb_base.specs.Moves.{Rose}
 use Rattle.anb_base.specs.Wires.{WireState}
@@ -20,12 +19,13 @@ use Rattle.anb_status.specs.declared.status.Status.TheVariants.{Done, Usage, Fil
 use Rattle.anb_status.specs.Statuses.{IsEarly}
 use Rattle.anb_command.specs.Causes.{HasWireCause, NoneRose}
 use Rattle.anb_command.specs.Fetches.{Files, IfTold}
-use Rattle.anb_command.specs.Roles.{SendableInFile}
 use Rattle.anb_command.specs.Steps.{IsFailure, given, refused}
 use Rattle.anb_command.specs.Writing.{IsWritten}
 use Rattle.anb_command.proofs.Chains.{told_map}
-use Rattle.anb_command.proofs.Ones.{not_both, same_given, sendable_one}
+use Rattle.anb_command.proofs.Ones.{not_both, same_given}
+use Rattle.anb_stage_commands.proofs.Casting.{cast_one}
 use Rattle.anb_stage_commands.specs.Reports.{report_text}
+use Rattle.anb_stage_commands.specs.CastRoles.{CastInFile}
 use Rattle.anb_stage_commands.specs.Words.{Staged, asked_for, words_for}
 use Rattle.anb_stage_commands.specs.StageCommand.{AllGoWell, CompletesStage, HasStageCause, IsIdle, IsRefusedAs, IsRelayedAs, IsReport, IsStaged, NoChildRose, fault_status, status_after}
 use Rattle.anb_stage_commands.specs.Relaying.{FailsInFile, FailsRelaying, HasCauseBefore, HasChildCause, IsBefore, Relays, RelaysInFile, Stay}
@@ -71,7 +71,7 @@ module _ (s : Staged) (old new : ℕ → Child) (p : ProtocolValue) (n : ℕ) (w
   }
 
 -- as many roles as lists of words
-pub count_words : (s : Staged) (p : ProtocolValue) (all : List (Vec (List ℕ) Global)) → asked_lists s.limit all ≡ words_for s p.roles → length all ≡ length p.roles
+pub count_words : (s : Staged) (p : ProtocolValue) (all : List ChildWords) → asked_lists s.limit all ≡ words_for s p.roles → length all ≡ length p.roles
 count_words s p all asked = sym (length-map all (asked_by s.limit)) ∙ ap length asked ∙ length-map p.roles (asked_for s)
 
 before_of : (limit : Option ℕ) (children : ℕ → Child) (p : ProtocolValue) (r : RelayNo) → IsBefore (status_after limit children p r)
@@ -113,15 +113,15 @@ module _ (s : Staged) (children : ℕ → Child) (faults faults_now : List ℕ �
 -- ---- a file
 
 module _ (s : Staged) (told : Option Files) (old new : ℕ → Child) where
-  pub in_file : (p : ProtocolValue) (text : List ℕ) → IfTold told (λ files. SendableInFile files s.narration (given p)) → Relays s old new p text → RelaysInFile s old new told text
+  pub in_file : (p : ProtocolValue) (text : List ℕ) → IfTold told (λ files. CastInFile files s (given p)) → Relays s old new p text → RelaysInFile s old new told text
   in_file p text is relays = told_map told (λ files f. (p, f, relays)) is
 
-  pub fails_in_file : (p : ProtocolValue) (status : Status) → IfTold told (λ files. SendableInFile files s.narration (given p)) → FailsRelaying s old new p status
+  pub fails_in_file : (p : ProtocolValue) (status : Status) → IfTold told (λ files. CastInFile files s (given p)) → FailsRelaying s old new p status
       → FailsInFile s old new told status
   fails_in_file p status is fails = told_map told (λ files f. inr (p, f, fails)) is
 
 pub refused_file : (s : Staged) (told : Option Files) (children : ℕ → Child) (status : Status) (P : List ℕ → Type 0)
-    → IsFailure status P (IfTold told (λ files. SendableInFile files s.narration (refused status))) → FailsInFile s children children told status
+    → IsFailure status P (IfTold told (λ files. CastInFile files s (refused status))) → FailsInFile s children children told status
 refused_file s None children status P fails = tt
 refused_file s (Some files) children (FileFault file) P fails = inl (tt, λ role within. refl)
 refused_file s (Some files) children NoMemory P fails = inl (tt, λ role within. refl)
@@ -150,10 +150,10 @@ module _ (s : Staged) (old new : ℕ → Child) (told : Option Files) where
   pub staged_refused : (status : Status) (w : Option (List ℕ)) → FailsInFile s old new told status → IfTold told (λ files. IsStaged s old new w w files status)
   staged_refused status w fails = told_map told (λ files f. by files f) fails where
     by : (files : Files)
-        → (IsFailure status (λ file. Unit {0}) (SendableInFile files s.narration (refused status)) × Stay s old new)
-        ⊎ ((p : ProtocolValue) × SendableInFile files s.narration (given p) × FailsRelaying s old new p status)
-        → (IsFailure status (λ file. Unit {0}) (SendableInFile files s.narration (refused status)) × IsIdle s old new w w)
-        ⊎ ((p : ProtocolValue) × SendableInFile files s.narration (given p) × (IsRefusedAs s old new w w p status ⊎ IsRelayedAs s old new w w p status))
+        → (IsFailure status (λ file. Unit {0}) (CastInFile files s (refused status)) × Stay s old new)
+        ⊎ ((p : ProtocolValue) × CastInFile files s (given p) × FailsRelaying s old new p status)
+        → (IsFailure status (λ file. Unit {0}) (CastInFile files s (refused status)) × IsIdle s old new w w)
+        ⊎ ((p : ProtocolValue) × CastInFile files s (given p) × (IsRefusedAs s old new w w p status ⊎ IsRelayedAs s old new w w p status))
     by files (inl x) = inl (x.0, record { children = x.1; unwritten = refl })
     by files (inr (p, f, inl r)) = inr (p, f, inl (record { refusal = r.refusal; is = r.is; refuses = r.refuses; unwritten = refl }))
     by files (inr (p, f, inr (is, (text, relays)))) = inr (
@@ -205,12 +205,12 @@ module _ (narrations : NarrationsAreUnique) (refusals : RefusalsAreUnique) (none
   not_missing : (r : RelayNo) → None ≡ Some r → ⊥
   not_missing r e = cc
 
-  idle : (files : Files) (p : ProtocolValue) (status : Status) → SendableInFile files s.narration (given p) → Cause status
-      → IsFailure status (λ file. Unit {0}) (SendableInFile files s.narration (refused status)) → AnswersAs status
+  idle : (files : Files) (p : ProtocolValue) (status : Status) → CastInFile files s (given p) → Cause status
+      → IsFailure status (λ file. Unit {0}) (CastInFile files s (refused status)) → AnswersAs status
   unfolding Cause AnswersAs
   idle files p (FileFault file) f cause fails = absurd (quiet.files file cause.0 cause.1)
   idle files p NoMemory f cause fails = inr refl
-  idle files p status f cause fails = not_both status p (sendable_one narrations refusals none files s.narration (refused status) (given p) fails f)
+  idle files p status f cause fails = not_both status p (cast_one narrations refusals none files s (refused status) (given p) fails f)
 
   never_faulty : {P : Type 0} (name : List ℕ) (status : Status) (limit : Option ℕ) (silent : Bool) → status ≡ fault_status name limit silent → Cause status → P
   unfolding Cause
@@ -245,13 +245,13 @@ module _ (narrations : NarrationsAreUnique) (refusals : RefusalsAreUnique) (none
       → IfTold told (λ files. IsStaged s old new w now files status) → CompletesStage s old told status
   unfolding Cause AnswersAs
   completes status w now cause does = told_map told by does where
-    same : (files : Files) (p q : ProtocolValue) → SendableInFile files s.narration (given p) → SendableInFile files s.narration (given q) → p ≡ q
-    same files p q f g = same_given p q (sendable_one narrations refusals none files s.narration (given p) (given q) f g)
+    same : (files : Files) (p q : ProtocolValue) → CastInFile files s (given p) → CastInFile files s (given q) → p ≡ q
+    same files p q f g = same_given p q (cast_one narrations refusals none files s (given p) (given q) f g)
 
     by : (files : Files)
-        → (IsFailure status (λ file. Unit {0}) (SendableInFile files s.narration (refused status)) × IsIdle s old new w now)
-        ⊎ ((p : ProtocolValue) × SendableInFile files s.narration (given p) × (IsRefusedAs s old new w now p status ⊎ IsRelayedAs s old new w now p status))
-        → (p : ProtocolValue) → SendableInFile files s.narration (given p) → AllGoWell p old → (status ≡ Done) ⊎ (status ≡ NoMemory)
+        → (IsFailure status (λ file. Unit {0}) (CastInFile files s (refused status)) × IsIdle s old new w now)
+        ⊎ ((p : ProtocolValue) × CastInFile files s (given p) × (IsRefusedAs s old new w now p status ⊎ IsRelayedAs s old new w now p status))
+        → (p : ProtocolValue) → CastInFile files s (given p) → AllGoWell p old → (status ≡ Done) ⊎ (status ≡ NoMemory)
     by files (inl x) p f well = idle files p status f cause x.0
     by files (inr (q, g, inl r)) p f well = refused_as q status (subst (λ (z : ProtocolValue). AllGoWell z old) (same files p q f g) well) cause r.refusal r.is r.refuses
     by files (inr (q, g, inr r)) p f well = reported r.text status w now cause r.writes

@@ -1,10 +1,28 @@
 -- What the code's reading of the words stands for.
-use Rattle.std.specs.Prelude.{Option, Some, None}
+use Rattle.std.specs.Borrow.{Bor}
+use Rattle.std.specs.Prelude.{ℕ, List, [], ◌∷◌, Option, Some, None}
+use Rattle.anb_stage_commands.specs.declared.words.Behind.{Behind}
 use Rattle.anb_stage_commands.specs.declared.words.StageWords.{StageWords}
-use Rattle.anb_stage_commands.specs.Words.{Staged}
+use Rattle.anb_stage_commands.specs.Words.{Cast, Options, Staged, cast}
+
+-- each three words are a flag, a role and a program
+abbrev pub casts_of : List (List ℕ) → List Cast
+casts_of (flag ∷ role ∷ program ∷ words) = cast role program ∷ casts_of words
+casts_of words = []
+
+abbrev pub behind : Behind → Options
+behind words = record { casts = casts_of words.casts.now; limit = words.limit }
+
+abbrev pub behind_by : Option Behind → Option Options
+behind_by None = None
+behind_by (Some words) = Some (behind words)
+
+abbrev pub text_by : Option (Bor (List ℕ)) → Option (List ℕ)
+text_by None = None
+text_by (Some text) = Some text.now
 
 abbrev pub staged : StageWords → Staged
-staged words = record { narration = words.narration.now; folder = words.folder.now; limit = words.limit }
+staged words = record { narration = words.narration.now; folder = words.folder.now; casts = casts_of words.casts.now; limit = words.limit }
 
 abbrev pub staged_by : Option StageWords → Option Staged
 staged_by None = None

@@ -1,4 +1,5 @@
 pub mod Words
+pub mod CastRoles
 pub mod Reports
 pub mod StageCommand
 pub mod Asking

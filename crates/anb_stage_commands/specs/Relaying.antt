@@ -10,9 +10,9 @@ use Rattle.anb_stage.specs.declared.refusal.RelayNo.TheVariants as no
 use Rattle.anb_status.specs.declared.status.Status.{Status}
 use Rattle.anb_status.specs.declared.status.Status.TheVariants.{Usage, FileFault, ChildFault, ChildSilent, Unwritten, NoMemory}
 use Rattle.anb_command.specs.Fetches.{Files, IfTold}
-use Rattle.anb_command.specs.Roles.{SendableInFile}
 use Rattle.anb_status.specs.Statuses.{before_reach, phase_of}
 use Rattle.anb_command.specs.Steps.{IsFailure, given, refused}
+use Rattle.anb_stage_commands.specs.CastRoles.{CastInFile}
 use Rattle.anb_stage_commands.specs.Reports.{report_text}
 use Rattle.anb_stage_commands.specs.StageCommand.{HasChildFault, status_after}
 use Rattle.anb_stage_commands.specs.Words.{Staged, words_for}
@@ -59,12 +59,12 @@ module _ (s : Staged) (old new : ℕ → Child) where
   module _ (told : Option Files) where
     abbrev pub RelaysInFile : List ℕ → Type 0
     RelaysInFile text = IfTold told (λ files.
-        (p : ProtocolValue) × SendableInFile files s.narration (given p) × Relays p text)
+        (p : ProtocolValue) × CastInFile files s (given p) × Relays p text)
 
     abbrev pub FailsInFile : Status → Type 0
     FailsInFile status = IfTold told (λ files.
-        (IsFailure status (λ file. Unit {0}) (SendableInFile files s.narration (refused status)) × Stay)
-        ⊎ ((p : ProtocolValue) × SendableInFile files s.narration (given p) × FailsRelaying p status))
+        (IsFailure status (λ file. Unit {0}) (CastInFile files s (refused status)) × Stay)
+        ⊎ ((p : ProtocolValue) × CastInFile files s (given p) × FailsRelaying p status))
 
   -- a fault of the narration's file, or of a child
   abbrev pub HasCauseBefore : (faults faults_now : List ℕ → ℕ) → Status → Type 0

@@ -1,5 +1,5 @@
 -- What `stage` does: it relays among child programs, one for each role, and writes a report.
-use Rattle.std.specs.Prelude.{◌≡◌, ◌⊎◌, ℕ, Bool, true, false, ◌<◌, List, [], length, get_or, Option, Some, None}
+use Rattle.std.specs.Prelude.{◌≡◌, ◌⊎◌, ℕ, Bool, true, ◌<◌, List, [], length, get_or, Option, Some, None}
 use Rattle.anb_base.specs.Moves.{Rose}
 use Rattle.anb_base.specs.Wires.{WireState}
 use Rattle.anb_base.specs.declared.place.Place.TheVariants.{Stdio}
@@ -14,9 +14,9 @@ use Rattle.anb_status.specs.declared.status.Status.{Status}
 use Rattle.anb_status.specs.declared.status.Status.TheVariants.{Done, ChildFault, ChildSilent, ChildEnded, ChildCut, ChildLong, ChildBad, NoMemory}
 use Rattle.anb_command.specs.Causes.{HasCause}
 use Rattle.anb_command.specs.Fetches.{Files, IfTold}
-use Rattle.anb_command.specs.Roles.{SendableInFile}
 use Rattle.anb_command.specs.Steps.{Answer, InTurn, IsFailure, given, refused}
 use Rattle.anb_command.specs.Writing.{IsWritingOne, IsWritten}
+use Rattle.anb_stage_commands.specs.CastRoles.{CastInFile}
 use Rattle.anb_stage_commands.specs.Reports.{report_text}
 use Rattle.anb_stage_commands.specs.Words.{Staged, words_for}
 
@@ -46,7 +46,7 @@ module _ (s : Staged) (files : Files) where
     -- they are those of the children of the protocol's roles
     abbrev pub AreToldOf : (ℕ → Child) → Type 0
     AreToldOf children =
-        (p : ProtocolValue) → SendableInFile files s.narration (given p)
+        (p : ProtocolValue) → CastInFile files s (given p)
         → AreTold outputs tails statuses (length p.roles) children
 
     -- what is due of a protocol: the refusal of its relay, or the report of it
@@ -58,9 +58,9 @@ module _ (s : Staged) (files : Files) where
     StageOf p answer =
         answer ≡ answer_of p (due_of outputs tails statuses (length p.roles) (ends_in p))
 
-    -- the refusal of the narration's file, or what is due of its protocol
+    -- the refusal of the narration's file, or of a role with a program, or what is due of its protocol
     abbrev pub StageText : Answer (List ℕ) → Type 0
-    StageText = InTurn (SendableInFile files s.narration) StageOf
+    StageText = InTurn (CastInFile files s) StageOf
 
 -- between these children, and these bytes that are written
 module _ (s : Staged) (old new : ℕ → Child) (written written_now : Option (List ℕ)) where
@@ -90,13 +90,13 @@ module _ (s : Staged) (old new : ℕ → Child) (written written_now : Option (L
         → text ≡ report_text (report outputs (ends_in p))
     pub writes : IsReport text status
 
-  -- The narration's file is refused; or it tells a protocol whose roles can all send, and the
-  -- relay among their children is refused, or is whole and reported.
+  -- The narration's file is refused, or a role with a program; or it tells a protocol with these roles,
+  -- which can all send, and the relay among their children is refused, or is whole and reported.
   abbrev pub IsStaged : Files → Status → Type 0
   IsStaged files status =
-      (IsFailure status (λ file. Unit {0}) (SendableInFile files s.narration (refused status))
+      (IsFailure status (λ file. Unit {0}) (CastInFile files s (refused status))
       × IsIdle)
-      ⊎ ((p : ProtocolValue) × SendableInFile files s.narration (given p)
+      ⊎ ((p : ProtocolValue) × CastInFile files s (given p)
       × (IsRefusedAs p status ⊎ IsRelayedAs p status))
 
   -- Where the children are told too, the status and what is written are those that are due, in both
@@ -122,7 +122,7 @@ pub record AllGoWell (p : ProtocolValue) (children : ℕ → Child) : Type 0 whe
 -- then all is done, where nothing failed and memory wasn't wanting
 abbrev pub CompletesStage : Staged → (ℕ → Child) → Option Files → Status → Type 0
 CompletesStage s children told status = IfTold told (λ files.
-    (p : ProtocolValue) → SendableInFile files s.narration (given p) → AllGoWell p children
+    (p : ProtocolValue) → CastInFile files s (given p) → AllGoWell p children
     → (status ≡ Done) ⊎ (status ≡ NoMemory))
 
 -- the count of a role's child rose, and this is its status

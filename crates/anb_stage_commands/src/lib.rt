@@ -1,6 +1,7 @@
 //! The command that relays among child programs.
 #![tactic(auto)]
 
+mod casts;
 mod report;
 mod staging;
 mod words;

@@ -1,5 +1,5 @@
 //! The relay of a narration's file among child programs.
-ghost use Rattle.std.specs.Prelude.{◌≡◌, ◌⊎◌, ◌<◌, ◌≤◌, ℕ, [], ◌∷◌, length, get_or, Some, IfOk, IfErr, false};
+ghost use Rattle.std.specs.Prelude.{◌≡◌, ◌⊎◌, ◌<◌, ◌≤◌, ℕ, [], ◌∷◌, length, get_or, Some, IfOk, IfErr, OnOk, false};
 ghost use Rattle.anb_base.specs.Moves.{Rose};
 ghost use Rattle.anb_base.specs.declared.place.Place.TheVariants as place;
 ghost use Rattle.anb_protocol.specs.Protocols.{ProtocolValue};
@@ -7,20 +7,23 @@ ghost use Rattle.anb_stage.specs.declared.TheConstants.{ROLES};
 ghost use Rattle.anb_command.specs.Causes.{NoneRose};
 ghost use Rattle.anb_command.specs.Fetches.{Fetches, IfTold};
 ghost use Rattle.anb_command.specs.Reaches.{Reaches};
+ghost use Rattle.anb_command.specs.Steps.{IsFailure, given, refused};
 ghost use Rattle.anb_command.specs.Reported.{TellsFaults, TellsFileFaults};
-ghost use Rattle.anb_status.specs.Statuses.{phase_of};
+ghost use Rattle.anb_status.specs.Statuses.{IsEarly, phase_of};
 ghost use Rattle.anb_command.specs.Touches.{Touches};
 ghost use Rattle.anb_stage_commands.specs.Asking.{staged};
+ghost use Rattle.anb_stage_commands.specs.CastRoles.{CastInFile, IsCast};
 ghost use Rattle.anb_stage_commands.specs.StageCommand.{CompletesStage, DoesStage, HasStageCause, NoChildRose};
 ghost use Rattle.anb_stage_commands.specs.StageCommand.{fault_status, status_after};
 ghost use Rattle.anb_stage_commands.specs.Relaying.{FailsInFile, FailsRelaying, HasCauseBefore, HasChildCause, IsBefore, IsNamed, Relays, RelaysInFile};
 ghost use Rattle.anb_status.specs.declared.status.Status.TheVariants as status;
 
 use crate::StageWords;
+use crate::casts::absent_role;
 use crate::report::report_text;
 use crate::words::words_for;
 use anb_base::{NoMemory, Shelf, Text, Wire};
-use anb_command::{Status, sendable_in_file, write_text};
+use anb_command::{Status, codes_of, no_role, protocol_in_file, write_text};
 use anb_protocol::{Protocol, protocols_hold};
 use anb_read::{narrations_are_unique, none_is_both, refusals_are_unique};
 use anb_stage::{RelayNo, Spawner, relay, relays_are_due};
@@ -82,8 +85,54 @@ fn relayed_in_file<F: Shelf, P: Spawner>(
         (F.files shelf.old) (F.files shelf.new) (F.faults shelf.old) (F.faults shelf.new) }
     ensures told { TellsFileFaults result (F.faults shelf.old) (F.faults shelf.new) }
 {
-    match sendable_in_file(alloc, shelf, words.narration) {
+    match cast_in_file(alloc, shelf, words) {
         Ok(protocol) => relayed(alloc, spawner, &protocol, words),
+        Err(status) => Err(status),
+    }
+}
+
+/// The protocol in the narration's file, where it has each role with a program, and all its roles can
+/// send.
+fn cast_in_file<F: Shelf>(
+    alloc: Global,
+    shelf: &mut F,
+    words: StageWords,
+) -> Result<Protocol, Status>
+    ensures given { IfOk result (λ p. IfTold (F.files shelf.old) (λ files.
+        CastInFile files (staged words.entry) (given p))) }
+    ensures refused { IfErr result (λ status. IsFailure status
+        (λ file. (file ≡ words.entry.narration.now)
+        × Rose (F.faults shelf.old file) (F.faults shelf.new file))
+        (IfTold (F.files shelf.old) (λ files.
+        CastInFile files (staged words.entry) (refused status)))) }
+    ensures early { IfErr result IsEarly }
+    ensures fetches { Fetches (words.entry.narration.now ∷ [])
+        (F.files shelf.old) (F.files shelf.new) (F.faults shelf.old) (F.faults shelf.new) }
+    ensures told { TellsFileFaults result (F.faults shelf.old) (F.faults shelf.new) }
+{
+    let protocol = match protocol_in_file(alloc, shelf, words.narration) {
+        Ok(protocol) => protocol,
+        Err(status) => return Err(status),
+    };
+    match check_cast(alloc, &protocol, words) {
+        Ok(()) => Ok(protocol),
+        Err(status) => Err(status),
+    }
+}
+
+/// Whether a protocol has each role with a program, and all its roles can send.
+fn check_cast(alloc: Global, protocol: &Protocol, words: StageWords) -> Result<(), Status>
+    ensures given { OnOk result
+        (IsCast protocol.now (staged words.entry) (given protocol.now)) }
+    ensures refused { IfErr result (λ status. IsFailure status (λ file. ⊥)
+        (IsCast protocol.now (staged words.entry) (refused status))) }
+    ensures early { IfErr result IsEarly }
+{
+    if let Some(role) = absent_role(protocol, words.casts) {
+        return Err(no_role(alloc, role));
+    }
+    match codes_of(alloc, protocol) {
+        Ok(_) => Ok(()),
         Err(status) => Err(status),
     }
 }

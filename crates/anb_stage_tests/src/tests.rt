@@ -265,6 +265,58 @@ fn a_child_may_be_silent(rt: HostRuntime) -> Result<(), Fail> {
     Ok(())
 }
 
+/// What a stage of Ping by these words comes to.
+fn cast(rt: &impl Abort, alloc: Global, all: &[&str]) -> Result<Staged, Fail> {
+    let spawner = children(rt, alloc, &[FRAME, FRAME], 0, 0)?;
+    stage_by(alloc, all, shelf(alloc, PING, 0)?, spawner)
+}
+
+#[test]
+fn a_role_may_have_a_program(rt: HostRuntime) -> Result<(), Fail> {
+    let alloc = rt.alloc();
+    let words = ["stage", "n", "f", "--as", "B", " ./b  -x", "--timeout", "7"];
+    let staged = cast(&rt, alloc, &words)?;
+    assert_eq!(&rt; staged.number, 0);
+    assert!(&rt; 1 < staged.spawner.roles());
+    assert_eq!(&rt;
+        staged.spawner.asked(0),
+        b"7\nplay\nn\nA\nf/A.values\n".as_slice()
+    );
+    assert_eq!(&rt;
+        staged.spawner.asked(1),
+        b"./b\n-x\n7\nplay\nn\nB\nf/B.values\n".as_slice()
+    );
+    Ok(())
+}
+
+/// By these words, behind those of the files, a stage of Ping comes to this status and this line.
+fn miscast(
+    rt: &impl Abort,
+    alloc: Global,
+    behind: &[&str],
+    number: u8,
+    line: &str,
+) -> Result<(), Fail> {
+    let mut words = Vec::new(alloc);
+    words.extend_from_slice(&["stage", "n", "f"])?;
+    words.extend_from_slice(behind)?;
+    let staged = cast(rt, alloc, &words)?;
+    assert_eq!(rt; staged.number, number);
+    assert_eq!(rt; staged.err.written(), line.as_bytes());
+    Ok(())
+}
+
+#[test]
+fn programs_are_of_roles(rt: HostRuntime) -> Result<(), Fail> {
+    let alloc = rt.alloc();
+    let usage = "anb: the words fit no command\n";
+    miscast(&rt, alloc, &["--as", "C", "c"], 5, "anb: no role C\n")?;
+    miscast(&rt, alloc, &["--as", "B", "b", "--as", "B", "c"], 1, usage)?;
+    miscast(&rt, alloc, &["--as", "B", "  "], 1, usage)?;
+    miscast(&rt, alloc, &["--as", "B"], 1, usage)?;
+    miscast(&rt, alloc, &["--timeout", "7", "--as", "B", "b"], 1, usage)
+}
+
 #[test]
 fn a_message_goes_through_all_roles(rt: HostRuntime) -> Result<(), Fail> {
     let alloc = rt.alloc();

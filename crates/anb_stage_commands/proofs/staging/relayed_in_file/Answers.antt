@@ -20,9 +20,9 @@ pub returns-in-Ok-clause-cause : goal.returns-in-Ok-clause-cause
 returns-in-Ok-clause-cause g c =
     if_err_map c.relayed.result _ _ (λ status cause.
     cause_before (staged c.args.words) (g.P.Spawner.child c.args.spawner.now) (g.P.Spawner.child c.relayed.new.spawner)
-    (g.F.Shelf.faults c.args.shelf.now) (g.F.Shelf.faults c.sendable_in_file.new.shelf) status cause) c.relayed.ensures.cause
+    (g.F.Shelf.faults c.args.shelf.now) (g.F.Shelf.faults c.cast_in_file.new.shelf) status cause) c.relayed.ensures.cause
 
 pub returns-in-Err-clause-cause : goal.returns-in-Err-clause-cause
 returns-in-Err-clause-cause g c =
-    file_cause (staged c.args.words) (g.P.Spawner.child c.args.spawner.now) (g.F.Shelf.faults c.args.shelf.now) (g.F.Shelf.faults c.sendable_in_file.new.shelf) _
+    file_cause (staged c.args.words) (g.P.Spawner.child c.args.spawner.now) (g.F.Shelf.faults c.args.shelf.now) (g.F.Shelf.faults c.cast_in_file.new.shelf) _
     c.in-Err.status c.in-Err.ensures.early c.in-Err.ensures.refused
