@@ -1,0 +1,16 @@
+pub mod Places
+pub mod Picking
+pub mod Readying
+pub mod Stepping
+pub mod Valued
+pub mod Shutting
+pub mod Spoiling
+pub mod Spared
+pub mod Going
+pub mod Gone
+pub mod Narrated
+pub mod Opened
+pub mod Keyed
+pub mod Listing
+pub mod Staging
+pub mod Found
