@@ -8,7 +8,7 @@ use Rattle.anb_attempts.specs.declared.attempts.Attempt.{Attempt}
 use Rattle.anb_attempts.specs.declared.attempts.Gap.{Gap}
 use Rattle.anb_attempts.specs.declared.attempts.Scene.{Scene}
 use Rattle.anb_attempts.specs.declared.attempts.Suite.{Suite}
-use Rattle.anb_attempts.specs.Attempts.{AreParts, Covers, HasAdded, PartValue}
+use Rattle.anb_attempts.specs.Attempts.{AreParts, ComesOf, Covers, HasAdded, IsJoined, PartValue}
 use Rattle.anb_attempts.specs.Parts.{HasPut}
 
 abbrev pub scenes_in : List PartValue → List Scene
@@ -34,6 +34,25 @@ module _ {X : Type 0} (Is : ℕ → X → PartValue → Type 0) where
   one_more n (y ∷ ys) (q ∷ qs) x part are is =
       let e : n + length (q.scenes ++ scenes_in qs) ≡ (n + length q.scenes) + length (scenes_in qs) = omega (arith, length-append q.scenes (scenes_in qs)) in
       (are.0, one_more (n + length q.scenes) ys qs x part are.1 (subst (λ k. Is k x part) e is))
+
+  -- of one, and of one more
+  pub comes_of_one : (n : ℕ) (x : X) (part : PartValue) → Is n x part → ComesOf Is n (x ∷ []) part
+  comes_of_one n x part is = record {
+    parts = part ∷ [];
+    are = (is, tt);
+    scenes = sym (append-nil part.scenes);
+    attempts = sym (append-nil part.attempts);
+    gaps = sym (append-nil part.gaps);
+  }
+
+  pub comes_of_more : (n : ℕ) (xs : List X) (x : X) (part more both : PartValue) → ComesOf Is n xs part → Is (n + length part.scenes) x more → IsJoined part more both → ComesOf Is n (xs ++ x ∷ []) both
+  comes_of_more n xs x part more both c is joined = record {
+    parts = c.parts ++ more ∷ [];
+    are = one_more n xs c.parts x more c.are (subst (λ k. Is k x more) (ap (λ l. n + length l) c.scenes) is);
+    scenes = and_last (λ (q : PartValue). q.scenes) [] part.scenes both.scenes c.parts more c.scenes joined.scenes;
+    attempts = and_last (λ (q : PartValue). q.attempts) [] part.attempts both.attempts c.parts more c.attempts joined.attempts;
+    gaps = and_last (λ (q : PartValue). q.gaps) [] part.gaps both.gaps c.parts more c.gaps joined.gaps;
+  }
 
   pub none_added : (old new : Suite) → new.scenes.items ≡ old.scenes.items → new.attempts.items ≡ old.attempts.items → new.gaps.items ≡ old.gaps.items → HasAdded Is [] old new
   none_added old new s a g = record {

@@ -2,3 +2,4 @@ pub mod Tests
 pub mod Turns
 pub mod Adding
 pub mod Standing
+mod Having

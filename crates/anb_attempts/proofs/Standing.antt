@@ -1,5 +1,5 @@
 -- What holds of each scene and each attempt of a suite.
-use Rattle.std.proofs.Common.{◌≡◌, ℕ, ◌+◌, ◌<◌, List, [], ◌∷◌, ◌++◌, length, map, sym, ap, ◌∙◌, subst, inl, inr, arith, length-append}
+use Rattle.std.proofs.Common.{◌≡◌, ℕ, ◌+◌, ◌<◌, List, [], ◌∷◌, ◌++◌, length, map, Bool, Option, sym, ap, ◌∙◌, subst, inl, inr, arith, length-append}
 use Rattle.std.specs.List.{AllByRecursion, AllZip}
 use Rattle.std.specs.Option.{option_map}
 use Rattle.std.specs.Prelude.{IfSome}
@@ -8,14 +8,21 @@ use Rattle.anb_term.specs.View.{tree_of}
 use Rattle.anb_code.specs.CodeValue.{CodeValue}
 use Rattle.anb_partner.specs.Plans.{MayStand}
 use Rattle.anb_protocol.specs.Protocols.{ProtocolValue}
+use Rattle.anb_openings.specs.Openings.{parsed_at}
+use Rattle.anb_openings.specs.declared.cases.OpeningCase.{OpeningCase}
+use Rattle.anb_openings.specs.declared.cases.OpeningFinding.{OpeningFinding}
+use Rattle.anb_openings.specs.declared.cases.OpeningFinding.TheVariants as opening
 use Rattle.anb_spoil.specs.declared.changes.Change.{Change}
+use Rattle.anb_spoil.specs.declared.wrongs.Wrong.{Wrong}
 use Rattle.anb_suite.specs.declared.cases.Case.{Case}
 use Rattle.anb_suite.specs.declared.cases.Finding.{Finding}
 use Rattle.anb_suite.specs.declared.cases.Finding.TheVariants as finding
 use Rattle.anb_attempts.specs.declared.attempts.Attempt.{Attempt}
 use Rattle.anb_attempts.specs.declared.attempts.Scene.{Scene}
 use Rattle.anb_attempts.specs.declared.attempts.Suite.{Suite}
-use Rattle.anb_attempts.specs.Attempts.{AreParts, CaseMayStand, HasAdded, IsAttempt, IsPartOf, IsPartOfCheck, IsSceneOf, PartValue, Place, SceneMayStand}
+use Rattle.anb_attempts.specs.declared.points.Point.{Point}
+use Rattle.anb_attempts.specs.declared.points.Point.TheVariants.{Check, Opening}
+use Rattle.anb_attempts.specs.Attempts.{AreParts, CaseMayStand, HasAdded, IsAttempt, IsOpeningAttempt, IsPartOf, IsPartOfCase, IsPartOfCheck, IsPartOfFound, IsPartOfPoint, IsSceneOf, IsSceneOfOpening, OpeningMayStand, PartValue, Place, SceneMayStand, changes_tried}
 use Rattle.anb_attempts.proofs.Adding.{attempts_in, scenes_in}
 
 -- an attempt's scene is below a number
@@ -77,21 +84,69 @@ module _ (p : ProtocolValue) (role : ℕ) where
   zip_below n at (c ∷ cs) (a ∷ rest) all = ((let e = all.0.scene_is in omega (arith, e)), zip_below n at cs rest all.1)
 
   module _ (changes : List Change) where
+    case_stands : (n : ℕ) (case : Case) (part : PartValue) → IsPartOfCase p role changes n case part → AllByRecursion (SceneMayStand p) part.scenes
+    case_stands n case part (inl t) = subst (AllByRecursion (SceneMayStand p)) (sym t.scenes) (scene_stands case t.scene t.stands t.is, tt)
+    case_stands n case part (inr t) = subst (AllByRecursion (SceneMayStand p)) (sym t.1.scenes) tt
+
+    case_below : (n : ℕ) (case : Case) (part : PartValue) → IsPartOfCase p role changes n case part → AllByRecursion (IsBelow (n + length part.scenes)) part.attempts
+    case_below n case part (inl t) =
+        let e : length part.scenes ≡ 1 = ap length t.scenes in each_below (n + 1) (n + length part.scenes) part.attempts (ap (λ k. n + k) (sym e)) (zip_below n _ changes part.attempts t.attempts)
+    case_below n case part (inr t) = subst (AllByRecursion (IsBelow (n + length part.scenes))) (sym t.1.attempts) tt
+
     found_stands : (n : ℕ) (found : Finding) (part : PartValue) → IsPartOf p role changes n found part → AllByRecursion (SceneMayStand p) part.scenes
-    found_stands n (finding.Case case) part (inl t) = subst (AllByRecursion (SceneMayStand p)) (sym t.scenes) (scene_stands case t.scene t.stands t.is, tt)
-    found_stands n (finding.Case case) part (inr t) = subst (AllByRecursion (SceneMayStand p)) (sym t.1.scenes) tt
+    found_stands n (finding.Case case) part t =
+        subst (AllByRecursion (SceneMayStand p)) (sym t.comes.scenes) (parts_stand (IsPartOfCase p role changes) (SceneMayStand p) case_stands n (case ∷ t.within) t.comes.parts t.comes.are)
     found_stands n finding.Implied part e = subst (λ (q : PartValue). AllByRecursion (SceneMayStand p) q.scenes) (sym e) tt
 
     found_below : (n : ℕ) (found : Finding) (part : PartValue) → IsPartOf p role changes n found part → AllByRecursion (IsBelow (n + length part.scenes)) part.attempts
-    found_below n (finding.Case case) part (inl t) =
-        let e : length part.scenes ≡ 1 = ap length t.scenes in each_below (n + 1) (n + length part.scenes) part.attempts (ap (λ k. n + k) (sym e)) (zip_below n _ changes part.attempts t.attempts)
-    found_below n (finding.Case case) part (inr t) = subst (AllByRecursion (IsBelow (n + length part.scenes))) (sym t.1.attempts) tt
+    found_below n (finding.Case case) part t =
+        let e : n + length (scenes_in t.comes.parts) ≡ n + length part.scenes = ap (λ l. n + length l) (sym t.comes.scenes) in
+        subst (AllByRecursion (IsBelow (n + length part.scenes))) (sym t.comes.attempts)
+        (each_below (n + length (scenes_in t.comes.parts)) (n + length part.scenes) (attempts_in t.comes.parts) e (parts_below (IsPartOfCase p role changes) case_below n (case ∷ t.within) t.comes.parts t.comes.are))
     found_below n finding.Implied part e = subst (λ (q : PartValue). AllByRecursion (IsBelow (n + length q.scenes)) q.attempts) (sym e) tt
 
-    module _ (code : CodeValue) where
-      pub checks_stand : (xs : List ℕ) (old new : Suite) → HasAdded (IsPartOfCheck p role code changes) xs old new → AllByRecursion (SceneMayStand p) old.scenes.items → AllByRecursion (SceneMayStand p) new.scenes.items
-      checks_stand = all_stand (IsPartOfCheck p role code changes) (SceneMayStand p) (λ n check part is. found_stands n is.0 part is.2)
+-- ---- those of openings
 
-      pub checks_below : (xs : List ℕ) (old new : Suite) → HasAdded (IsPartOfCheck p role code changes) xs old new → AllByRecursion (IsBelow (length old.scenes.items)) old.attempts.items
-          → AllByRecursion (IsBelow (length new.scenes.items)) new.attempts.items
-      checks_below = all_below (IsPartOfCheck p role code changes) (λ n check part is. found_below n is.0 part is.2)
+module _ (p : ProtocolValue) (role : ℕ) where
+  opening_stands : (parsed : Option ℕ) (case : OpeningCase) (scene : Scene) → OpeningMayStand p case → IsSceneOfOpening parsed case scene → SceneMayStand p scene
+  opening_stands parsed case scene stands is = record {
+    arrivals = subst (λ v. AllByRecursion (MayStand p) (map tree_of v.items)) (sym is.arrivals) stands.arrivals;
+    messages = subst (λ v. AllByRecursion (MayStand p) (map tree_of v.items)) (sym is.messages) stands.messages;
+    right = subst (λ o. IfSome (option_map tree_of o) (MayStand p)) (sym is.right) stands.wrong;
+  }
+
+  ways_below : (n : ℕ) (at : Place) (ways : List Wrong) (attempts : List Attempt) → AllZip (IsOpeningAttempt p role n at) ways attempts → AllByRecursion (IsBelow (n + 1)) attempts
+  ways_below n at [] [] all = tt
+  ways_below n at [] (a ∷ rest) all = absurd all
+  ways_below n at (w ∷ ws) [] all = absurd all
+  ways_below n at (w ∷ ws) (a ∷ rest) all = ((let e = all.0.scene_is in omega (arith, e)), ways_below n at ws rest all.1)
+
+  module _ (all : Bool) (parsed : Option ℕ) where
+    opened_stands : (n : ℕ) (found : OpeningFinding) (part : PartValue) → IsPartOfFound p role all parsed n found part → AllByRecursion (SceneMayStand p) part.scenes
+    opened_stands n (opening.Case case) part (inl t) = subst (AllByRecursion (SceneMayStand p)) (sym t.scenes) (opening_stands parsed case t.scene t.stands t.is, tt)
+    opened_stands n (opening.Case case) part (inr t) = subst (AllByRecursion (SceneMayStand p)) (sym t.1.scenes) tt
+    opened_stands n (opening.NoCase none) part gap = subst (AllByRecursion (SceneMayStand p)) (sym gap.scenes) tt
+
+    opened_below : (n : ℕ) (found : OpeningFinding) (part : PartValue) → IsPartOfFound p role all parsed n found part → AllByRecursion (IsBelow (n + length part.scenes)) part.attempts
+    opened_below n (opening.Case case) part (inl t) =
+        let e : length part.scenes ≡ 1 = ap length t.scenes in each_below (n + 1) (n + length part.scenes) part.attempts (ap (λ k. n + k) (sym e)) (ways_below n _ _ part.attempts t.attempts)
+    opened_below n (opening.Case case) part (inr t) = subst (AllByRecursion (IsBelow (n + length part.scenes))) (sym t.1.attempts) tt
+    opened_below n (opening.NoCase none) part gap = subst (AllByRecursion (IsBelow (n + length part.scenes))) (sym gap.attempts) tt
+
+-- ---- those of all points
+
+module _ (p : ProtocolValue) (role : ℕ) (code : CodeValue) (all : Bool) where
+  point_stands : (n : ℕ) (point : Point) (part : PartValue) → IsPartOfPoint p role code all n point part → AllByRecursion (SceneMayStand p) part.scenes
+  point_stands n (Check check) part is = found_stands p role (changes_tried all) n is.0 part is.2
+  point_stands n (Opening instruction) part is = opened_stands p role all (parsed_at code instruction) n is.0 part is.2
+
+  point_below : (n : ℕ) (point : Point) (part : PartValue) → IsPartOfPoint p role code all n point part → AllByRecursion (IsBelow (n + length part.scenes)) part.attempts
+  point_below n (Check check) part is = found_below p role (changes_tried all) n is.0 part is.2
+  point_below n (Opening instruction) part is = opened_below p role all (parsed_at code instruction) n is.0 part is.2
+
+  pub points_stand : (xs : List Point) (old new : Suite) → HasAdded (IsPartOfPoint p role code all) xs old new → AllByRecursion (SceneMayStand p) old.scenes.items → AllByRecursion (SceneMayStand p) new.scenes.items
+  points_stand = all_stand (IsPartOfPoint p role code all) (SceneMayStand p) point_stands
+
+  pub points_below : (xs : List Point) (old new : Suite) → HasAdded (IsPartOfPoint p role code all) xs old new → AllByRecursion (IsBelow (length old.scenes.items)) old.attempts.items
+      → AllByRecursion (IsBelow (length new.scenes.items)) new.attempts.items
+  points_below = all_below (IsPartOfPoint p role code all) point_below

@@ -28,3 +28,7 @@ isnt_within b n m is isnt = elim (below_or_not m n) [
 pub if_three : {A E : Type 0} (r : Result A E) (P Q R S : A → Type 0) → IfOk r P → IfOk r Q → IfOk r R → ((x : A) → P x → Q x → R x → S x) → IfOk r S
 if_three (Ok x) P Q R S p q s f = f x p q s
 if_three (Err e) P Q R S p q s f = tt
+
+pub if_one : {A E : Type 0} (r : Result A E) (P S : A → Type 0) → IfOk r P → ((x : A) → P x → S x) → IfOk r S
+if_one (Ok x) P S p f = f x p
+if_one (Err e) P S p f = tt

@@ -1,5 +1,6 @@
--- All that is tried of a role: the honest attempt, and for each check of its code a scene with its attempts, or why there is none.
-use Rattle.std.specs.Prelude.{◌≡◌, ◌+◌, ◌<◌, ℕ, List, [], ◌∷◌, ◌++◌, length, map, codes, Bool, true, false, Option, Some, None, unwrap_or, IfSome, ◌⊎◌}
+-- All that is tried of a role: the honest attempt, and for each check and each opening of its code a scene with its
+-- attempts, or why there is none.
+use Rattle.std.specs.Prelude.{◌≡◌, ◌+◌, ◌<◌, ℕ, List, [], ◌∷◌, ◌++◌, ◌||◌, length, map, filter, codes, slice_get, Bool, true, false, Option, Some, None, unwrap_or, IfSome, ◌⊎◌}
 use Rattle.std.specs.List.{AllByRecursion, AllZip, flat_map}
 use Rattle.std.specs.Option.{option_map, option_map_or}
 use Rattle.anb_term.specs.Tree.{Tree}
@@ -7,34 +8,54 @@ use Rattle.anb_term.specs.View.{tree_of}
 use Rattle.anb_plays.specs.Honest.{heard}
 use Rattle.anb_code.specs.CodeValue.{CodeValue}
 use Rattle.anb_code.specs.Meaning.{acts_of}
+use Rattle.anb_format.specs.Formats.{FormatValue}
+use Rattle.anb_format.specs.declared.pieces.Piece.{Piece}
+use Rattle.anb_openings.specs.Openings.{HasOpening, IsOpeningFinding, openings_of, parsed_at}
+use Rattle.anb_openings.specs.declared.cases.NoCase.{NoCase}
+use Rattle.anb_openings.specs.declared.cases.Obstacle.{Obstacle}
+use Rattle.anb_openings.specs.declared.cases.Obstacle.TheVariants.{Earlier, OwnTerm, Later}
+use Rattle.anb_openings.specs.declared.cases.OpeningCase.{OpeningCase}
+use Rattle.anb_openings.specs.declared.cases.OpeningFinding.{OpeningFinding}
+use Rattle.anb_openings.specs.declared.cases.OpeningFinding.TheVariants as opening
 use Rattle.anb_protocol.specs.Plans.{plan_of}
 use Rattle.anb_protocol.specs.Protocols.{ProtocolValue}
+use Rattle.anb_protocol.specs.Texts.{term_text}
 use Rattle.anb_protocol.specs.Plays.{events_of}
 use Rattle.anb_probe.specs.Cases.{DifferAt}
 use Rattle.anb_partner.specs.Plans.{said, MayStand}
-use Rattle.anb_suite.specs.Suites.{checks_of, IsFinding}
+use Rattle.anb_suite.specs.Suites.{checks_of, HasCheck, IsFinding}
 use Rattle.anb_suite.specs.declared.cases.Case.{Case}
 use Rattle.anb_suite.specs.declared.cases.Finding.{Finding}
 use Rattle.anb_suite.specs.declared.cases.Finding.TheVariants as finding
-use Rattle.anb_spoil.specs.Words.{change_words}
+use Rattle.anb_spoil.specs.Rows.{is_default, rows_of}
+use Rattle.anb_spoil.specs.Words.{argument_of, change_words, row_words}
 use Rattle.anb_spoil.specs.declared.changes.Change.{Change}
 use Rattle.anb_spoil.specs.declared.changes.Change.TheVariants.{LastByte, WithoutLast, FirstByte, ByteMore, ZeroInFront}
+use Rattle.anb_spoil.specs.declared.rows.Row.{Row}
+use Rattle.anb_spoil.specs.declared.rows.Row.TheVariants.{At, Behind}
+use Rattle.anb_spoil.specs.declared.rows.Spoiling.{Spoiling}
+use Rattle.anb_spoil.specs.declared.rows.Spoiling.TheVariants as spoiling
+use Rattle.anb_spoil.specs.declared.wrongs.Wrong.{Wrong}
 use Rattle.anb_spoil.specs.declared.wrongs.Wrong.TheVariants as wrong
 use Rattle.anb_verdict.specs.Others.{other_than}
-use Rattle.anb_verdict.specs.Places.{narrated_at, part_at, place_in_arrivals, place_value}
+use Rattle.anb_verdict.specs.Places.{narrated_at, operand, part_at, place_in_arrivals, place_value}
+use Rattle.anb_verdict.specs.declared.place.Place as verdict
 use Rattle.anb_verdict.specs.declared.missing.Missing.{Missing}
-use Rattle.anb_verdict.specs.declared.missing.Missing.TheVariants.{Comparison}
+use Rattle.anb_verdict.specs.declared.missing.Missing.TheVariants.{Comparison, Tag, Literal, NotMinimal, BeyondEnd, BytesBehind}
 use Rattle.anb_verdict.specs.declared.missing.Other.{Other}
 use Rattle.anb_verdict.specs.declared.missing.Other.TheVariants.{Makes}
 use Rattle.anb_verdict.specs.declared.title.Title.{Title}
 use Rattle.anb_verdict.specs.declared.title.Title.TheVariants.{Narrated, Changed}
+use Rattle.anb_attempts.specs.Inner.{AreWithin}
 use Rattle.anb_attempts.specs.declared.attempts.TheConstants.{MOST}
 use Rattle.anb_attempts.specs.declared.attempts.Attempt.{Attempt}
 use Rattle.anb_attempts.specs.declared.attempts.Gap.{Gap}
 use Rattle.anb_attempts.specs.declared.attempts.Scene.{Scene}
 use Rattle.anb_attempts.specs.declared.attempts.Suite.{Suite}
 use Rattle.anb_attempts.specs.declared.attempts.Why.{Why}
-use Rattle.anb_attempts.specs.declared.attempts.Why.TheVariants.{Large}
+use Rattle.anb_attempts.specs.declared.attempts.Why.TheVariants.{Large, Before, Own, After}
+use Rattle.anb_attempts.specs.declared.points.Point.{Point}
+use Rattle.anb_attempts.specs.declared.points.Point.TheVariants.{Check, Opening}
 
 -- ---- scenes
 
@@ -58,6 +79,14 @@ pub record IsSceneOf (spare : ℕ) (case : Case) (scene : Scene) : Type 0 where
   pub right : scene.right ≡ Some case.wrong
   pub due : IsDue spare case scene.due
 
+-- That of the case of an opening. Bytes that are none of a format are never parsed, so where a format is parsed it is known
+-- that the role stops.
+pub record IsSceneOfOpening (parsed : Option ℕ) (case : OpeningCase) (scene : Scene) : Type 0 where
+  pub arrivals : scene.arrivals ≡ case.arrivals
+  pub messages : scene.messages ≡ case.messages
+  pub right : scene.right ≡ Some case.opened
+  pub due : scene.due ≡ option_map (λ format. case.event) parsed
+
 -- the honest one
 pub record IsNarrated (p : ProtocolValue) (role : ℕ) (scene : Scene) : Type 0 where
   pub arrivals : map tree_of scene.arrivals.items ≡ heard (events_of p role)
@@ -71,10 +100,17 @@ pub record SceneMayStand (p : ProtocolValue) (scene : Scene) : Type 0 where
   pub messages : AllByRecursion (MayStand p) (map tree_of scene.messages.items)
   pub right : IfSome (option_map tree_of scene.right) (MayStand p)
 
-pub record CaseMayStand (p : ProtocolValue) (case : Case) : Type 0 where
-  pub arrivals : AllByRecursion (MayStand p) (map tree_of case.arrivals.items)
-  pub messages : AllByRecursion (MayStand p) (map tree_of case.messages.items)
-  pub wrong : MayStand p (tree_of case.wrong)
+-- and so may those of a case
+pub record TermsMayStand (p : ProtocolValue) (heard said : List Tree) (right : Tree) : Type 0 where
+  pub arrivals : AllByRecursion (MayStand p) heard
+  pub messages : AllByRecursion (MayStand p) said
+  pub wrong : MayStand p right
+
+abbrev pub CaseMayStand : ProtocolValue → Case → Type 0
+CaseMayStand p case = TermsMayStand p (map tree_of case.arrivals.items) (map tree_of case.messages.items) (tree_of case.wrong)
+
+abbrev pub OpeningMayStand : ProtocolValue → OpeningCase → Type 0
+OpeningMayStand p case = TermsMayStand p (map tree_of case.arrivals.items) (map tree_of case.messages.items) (tree_of case.opened)
 
 -- ---- attempts
 
@@ -128,8 +164,72 @@ BeginsHonestly (attempt ∷ attempts) = IsHonestAttempt attempt
 -- why something isn't tried, as a report has it
 abbrev pub why_words : Why → List ℕ
 why_words Large = codes "a term is too large"
+why_words Before = codes "a check before it fails then"
+why_words Own = codes "the role makes it itself"
+why_words After = codes "a check behind it fails then"
 
--- ---- what comes of one check
+-- ---- attempts at an opening
+
+-- In what ways bytes of a format are made wrong: by default one length that isn't minimal is enough; and sealed bytes.
+abbrev pub is_tried : (all : Bool) → List Piece → Row → Bool
+is_tried all pieces row = all || is_default pieces row
+
+abbrev pub format_ways : (all : Bool) → (format : ℕ) → List Piece → List Wrong
+format_ways all format pieces = map (wrong.Spoilt format) (filter (is_tried all pieces) (rows_of pieces))
+
+abbrev pub tag_ways : (all : Bool) → List Wrong
+tag_ways false = wrong.Changed LastByte ∷ []
+tag_ways true = wrong.Changed LastByte ∷ wrong.Changed FirstByte ∷ []
+
+-- What a program lacks that takes a piece that is written so. Of a sign beside a field and of capital digits the title says it.
+abbrev pub lack_of_piece : Spoiling → verdict.Place → Option Missing
+lack_of_piece spoiling.OtherByte place = Some (Literal place)
+lack_of_piece spoiling.LongLength place = Some NotMinimal
+lack_of_piece spoiling.LeadingZero place = Some NotMinimal
+lack_of_piece spoiling.LengthBeyond place = Some BeyondEnd
+lack_of_piece spoiling.Semicolon place = None
+lack_of_piece spoiling.Dot place = None
+lack_of_piece spoiling.Comma place = None
+lack_of_piece spoiling.Capitals place = None
+
+-- and one that takes what is made wrong so
+abbrev pub lack_by : Wrong → verdict.Place → Option Missing
+lack_by (wrong.Changed change) place = Some (Tag place)
+lack_by (wrong.Spoilt format (At i piece)) place = lack_of_piece piece place
+lack_by (wrong.Spoilt format Behind) place = Some BytesBehind
+
+pub record Lacks (at : Place) (way : Wrong) (missing : Option Missing) : Type 0 where
+  pub place : verdict.Place
+  pub at_is : place_value place ≡ at
+  pub is : missing ≡ lack_by way place
+
+-- by its instruction: it parses the format at this place, or takes off a tag
+abbrev pub ways_of : ProtocolValue → (all : Bool) → (parsed : Option ℕ) → List Wrong
+ways_of p all None = tag_ways all
+ways_of p all (Some format) = option_map_or (λ (f : FormatValue). format_ways all format f.pieces) (slice_get p.formats format) []
+
+module _ (p : ProtocolValue) (role : ℕ) where
+  -- the text of an operand of what is narrated at a place
+  abbrev pub operand_at : Place → (i : ℕ) → List ℕ
+  operand_at at i = option_map_or (λ t. option_map_or (term_text p) (operand i t) []) (option_map_or (λ t. part_at t at.1) (narrated_at p role at.0) None) []
+
+  -- how the report names what is made wrong there
+  abbrev pub name_at : Place → List Piece → Row → List ℕ
+  name_at at pieces row = option_map_or (operand_at at) (argument_of pieces row) []
+
+  abbrev pub way_words : Place → Wrong → List ℕ
+  way_words at (wrong.Changed change) = change_words change 2
+  way_words at (wrong.Spoilt format row) =
+      option_map_or (λ (f : FormatValue). row_words f.pieces row (name_at at f.pieces row)) (slice_get p.formats format) []
+
+  -- An attempt that makes what is opened at a place wrong in a way.
+  pub record IsOpeningAttempt (scene : ℕ) (at : Place) (way : Wrong) (attempt : Attempt) : Type 0 where
+    pub scene_is : attempt.scene ≡ scene
+    pub wrong_is : attempt.wrong ≡ way
+    pub title : SaysChanged at (way_words at way) attempt.title
+    pub lacks : Lacks at way attempt.lacks
+
+-- ---- what comes of one check, and of one opening
 
 pub record PartValue : Type 0 where
   pub scenes : List Scene
@@ -138,6 +238,12 @@ pub record PartValue : Type 0 where
 
 abbrev pub nothing : PartValue
 nothing = record { scenes = []; attempts = []; gaps = [] }
+
+-- one part, and then another
+pub record IsJoined (first second both : PartValue) : Type 0 where
+  pub scenes : both.scenes ≡ first.scenes ++ second.scenes
+  pub attempts : both.attempts ≡ first.attempts ++ second.attempts
+  pub gaps : both.gaps ≡ first.gaps ++ second.gaps
 
 -- one gap
 pub record IsGap (at : Place) (why : Why) (part : PartValue) : Type 0 where
@@ -148,7 +254,43 @@ pub record IsGap (at : Place) (why : Why) (part : PartValue) : Type 0 where
   pub attempts : part.attempts ≡ []
   pub gaps : part.gaps ≡ gap ∷ []
 
+-- why there is no case
+abbrev pub why_not : Obstacle → Why
+why_not (Earlier instruction) = Before
+why_not OwnTerm = Own
+why_not (Later instruction) = After
+
+-- the instructions of a code at which something is tried: its checks, and then its openings
+abbrev pub points_of : CodeValue → List Point
+points_of code = map Check (checks_of (acts_of code)) ++ map Opening (openings_of (acts_of code))
+
+abbrev pub HasPoint : CodeValue → Point → Type 0
+HasPoint code (Check check) = HasCheck code check
+HasPoint code (Opening instruction) = HasOpening code instruction
+
+module _ {X : Type 0} (Is : ℕ → X → PartValue → Type 0) where
+  -- of each in order there is a part, where so many scenes stand before
+  abbrev pub AreParts : (number : ℕ) → List X → List PartValue → Type 0
+  AreParts number [] [] = Unit {0}
+  AreParts number [] (part ∷ parts) = ⊥
+  AreParts number (x ∷ xs) [] = ⊥
+  AreParts number (x ∷ xs) (part ∷ parts) = Is number x part × AreParts (number + length part.scenes) xs parts
+
+  -- one part of all of them
+  pub record ComesOf (number : ℕ) (xs : List X) (part : PartValue) : Type 0 where
+    pub parts : List PartValue
+    pub are : AreParts number xs parts
+    pub scenes : part.scenes ≡ flat_map (λ (q : PartValue). q.scenes) parts
+    pub attempts : part.attempts ≡ flat_map (λ (q : PartValue). q.attempts) parts
+    pub gaps : part.gaps ≡ flat_map (λ (q : PartValue). q.gaps) parts
+
 module _ (p : ProtocolValue) (role : ℕ) where
+  abbrev pub opening_place : OpeningCase → Place
+  opening_place case = place_at p role (map tree_of case.arrivals.items) case.event
+
+  abbrev pub obstacle_place : NoCase → Place
+  obstacle_place none = place_at p role (map tree_of none.arrivals.items) none.event
+
   -- a scene with this number, and an attempt for each change
   pub record IsTried (changes : List Change) (number : ℕ) (case : Case) (part : PartValue) : Type 0 where
     pub stands : CaseMayStand p case
@@ -162,28 +304,54 @@ module _ (p : ProtocolValue) (role : ℕ) where
   abbrev pub IsPartOfCase : List Change → (number : ℕ) → Case → PartValue → Type 0
   IsPartOfCase changes number case part = IsTried changes number case part ⊎ ((CaseMayStand p case → ⊥) × IsGap (case_place p role case) Large part)
 
+  -- of a case, and then of those for the parts of what it makes wrong, in scenes with numbers from here
+  pub record IsPartOfCases (changes : List Change) (number : ℕ) (case : Case) (part : PartValue) : Type 0 where
+    pub within : List Case
+    pub are_within : AreWithin p (length p.atoms) case within
+    pub comes : ComesOf (IsPartOfCase changes) number (case ∷ within) part
+
   -- and nothing where the others imply the check
   abbrev pub IsPartOf : List Change → (number : ℕ) → Finding → PartValue → Type 0
-  IsPartOf changes number (finding.Case case) part = IsPartOfCase changes number case part
+  IsPartOf changes number (finding.Case case) part = IsPartOfCases changes number case part
   IsPartOf changes number finding.Implied part = part ≡ nothing
 
   abbrev pub IsPartOfCheck : CodeValue → List Change → (number check : ℕ) → PartValue → Type 0
   IsPartOfCheck code changes number check part = (found : Finding) × IsFinding p role code check found × IsPartOf changes number found part
 
+  -- of the case of an opening: a scene with this number, and an attempt for each way to make it wrong
+  pub record IsOpened (all : Bool) (parsed : Option ℕ) (number : ℕ) (case : OpeningCase) (part : PartValue) : Type 0 where
+    pub stands : OpeningMayStand p case
+    pub scene : Scene
+    pub is : IsSceneOfOpening parsed case scene
+    pub scenes : part.scenes ≡ scene ∷ []
+    pub attempts : AllZip (IsOpeningAttempt p role number (opening_place case)) (ways_of p all parsed) part.attempts
+    pub gaps : part.gaps ≡ []
+
+  abbrev pub IsPartOfOpened : (all : Bool) → (parsed : Option ℕ) → (number : ℕ) → OpeningCase → PartValue → Type 0
+  IsPartOfOpened all parsed number case part =
+      IsOpened all parsed number case part ⊎ ((OpeningMayStand p case → ⊥) × IsGap (opening_place case) Large part)
+
+  -- and a gap where there is no case
+  abbrev pub IsPartOfFound : (all : Bool) → (parsed : Option ℕ) → (number : ℕ) → OpeningFinding → PartValue → Type 0
+  IsPartOfFound all parsed number (opening.Case case) part = IsPartOfOpened all parsed number case part
+  IsPartOfFound all parsed number (opening.NoCase none) part = IsGap (obstacle_place none) (why_not none.why) part
+
+  abbrev pub IsPartOfOpening : CodeValue → (all : Bool) → (number instruction : ℕ) → PartValue → Type 0
+  IsPartOfOpening code all number instruction part =
+      (found : OpeningFinding) × IsOpeningFinding p role code instruction found × IsPartOfFound all (parsed_at code instruction) number found part
+
+  -- of either
+  abbrev pub IsPartOfPoint : CodeValue → (all : Bool) → (number : ℕ) → Point → PartValue → Type 0
+  IsPartOfPoint code all number (Check check) part = IsPartOfCheck code (changes_tried all) number check part
+  IsPartOfPoint code all number (Opening instruction) part = IsPartOfOpening code all number instruction part
+
 -- ---- what comes of all
 
 module _ {X : Type 0} (Is : ℕ → X → PartValue → Type 0) where
-  -- of each in order there is a part, where so many scenes stand before
-  abbrev pub AreParts : (number : ℕ) → List X → List PartValue → Type 0
-  AreParts number [] [] = Unit {0}
-  AreParts number [] (part ∷ parts) = ⊥
-  AreParts number (x ∷ xs) [] = ⊥
-  AreParts number (x ∷ xs) (part ∷ parts) = Is number x part × AreParts (number + length part.scenes) xs parts
-
   -- these are added to what was there before
   pub record HasAdded (xs : List X) (old new : Suite) : Type 0 where
     pub parts : List PartValue
-    pub are : AreParts (length old.scenes.items) xs parts
+    pub are : AreParts Is (length old.scenes.items) xs parts
     pub scenes : new.scenes.items ≡ old.scenes.items ++ flat_map (λ (part : PartValue). part.scenes) parts
     pub attempts : new.attempts.items ≡ old.attempts.items ++ flat_map (λ (part : PartValue). part.attempts) parts
     pub gaps : new.gaps.items ≡ old.gaps.items ++ flat_map (λ (part : PartValue). part.gaps) parts
@@ -217,8 +385,8 @@ pub record IsBegun (p : ProtocolValue) (role : ℕ) (suite : Suite) : Type 0 whe
   pub gaps : suite.gaps.items ≡ []
   pub more : suite.more ≡ false
 
--- the honest attempt, and then what comes of each check of the code, in order
+-- the honest attempt, and then what comes of each check and of each opening of the code, in order
 pub record IsSuite (p : ProtocolValue) (role : ℕ) (code : CodeValue) (all : Bool) (suite : Suite) : Type 0 where
   pub begun : Suite
   pub begins : IsBegun p role begun
-  pub covers : Covers (IsPartOfCheck p role code (changes_tried all)) (checks_of (acts_of code)) begun suite
+  pub covers : Covers (IsPartOfPoint p role code all) (points_of code) begun suite

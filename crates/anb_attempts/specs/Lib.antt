@@ -1,3 +1,4 @@
+pub mod Inner
 pub mod Attempts
 -- for proofs alone
 pub mod Parts

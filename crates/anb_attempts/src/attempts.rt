@@ -38,6 +38,12 @@ pub struct Attempt {
 pub enum Why {
     /// A term of it is larger than a plan may have.
     Large,
+    /// A check before it fails over what is made wrong.
+    Before,
+    /// What it opens doesn't arrive as a whole: the role makes it itself.
+    Own,
+    /// A check behind it fails, also where the right parts are taken.
+    After,
 }
 
 /// What isn't tried.
@@ -68,6 +74,9 @@ impl Why {
     {
         match self {
             Why::Large => "a term is too large",
+            Why::Before => "a check before it fails then",
+            Why::Own => "the role makes it itself",
+            Why::After => "a check behind it fails then",
         }
     }
 }

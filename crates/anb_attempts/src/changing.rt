@@ -68,7 +68,7 @@ fn attempt_at(
 }
 
 /// Titles are those of values of more than one byte.
-const USUAL_SIZE: usize = 2;
+pub(crate) const USUAL_SIZE: usize = 2;
 
 /// The title of an attempt that changes a value of this many bytes at a place.
 pub fn changed_title(

@@ -1,7 +1,7 @@
 //! What comes of one check: a scene with its attempts, or a gap, or neither.
-ghost use Rattle.std.specs.Prelude.{◌≡◌, ◌∷◌, [], IfOk};
+ghost use Rattle.std.specs.Prelude.{◌≡◌, ◌∷◌, [], IfOk, OnOk};
 ghost use Rattle.anb_verdict.specs.Places.{place_value};
-ghost use Rattle.anb_attempts.specs.Attempts.{nothing, IsGap};
+ghost use Rattle.anb_attempts.specs.Attempts.{nothing, IsGap, IsJoined};
 ghost use Rattle.anb_attempts.specs.Parts.{part_value};
 
 use crate::attempts::{Attempt, Gap, Scene, Why};
@@ -45,6 +45,19 @@ pub(crate) fn one_scene(
         attempts,
         gaps: Vec::new(alloc),
     })
+}
+
+/// Adds what comes of another case.
+pub(crate) fn join(part: &mut Part, more: Part) -> Result<(), NoMemory>
+    ensures { OnOk result (IsJoined (part_value part.old) (part_value more) (part_value part.new)) }
+{
+    let mut scenes = more.scenes;
+    let mut attempts = more.attempts;
+    let mut gaps = more.gaps;
+    part.scenes.append(&mut scenes)?;
+    part.attempts.append(&mut attempts)?;
+    part.gaps.append(&mut gaps)?;
+    Ok(())
 }
 
 /// One gap.

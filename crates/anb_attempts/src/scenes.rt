@@ -1,13 +1,14 @@
-//! Scenes: the honest one, and those of cases.
+//! Scenes: the honest one, and those of checks and openings.
 ghost use Rattle.std.specs.Prelude.{◌≡◌, ◌↔◌, ◌<◌, ◌∷◌, [], length, map, IfOk, IsTrue};
 ghost use Rattle.std.specs.List.{AllByRecursion};
 ghost use Rattle.anb_term.specs.View.{tree_of};
 ghost use Rattle.anb_partner.specs.Plans.{MayStand};
-ghost use Rattle.anb_attempts.specs.Attempts.{CaseMayStand, IsBegun, IsDue, IsNarrated, IsSceneOf, SceneMayStand};
+ghost use Rattle.anb_attempts.specs.Attempts.{IsBegun, IsDue, IsNarrated, IsSceneOf, IsSceneOfOpening, SceneMayStand, TermsMayStand};
 
 use crate::attempts::{Attempt, Scene, Suite};
 use crate::differing::differ_in_place;
 use anb_base::NoMemory;
+use anb_openings::OpeningCase;
 use anb_partner::{may_stand, narrated_terms};
 use anb_protocol::Protocol;
 use anb_spoil::{Change, Wrong};
@@ -80,17 +81,40 @@ fn due_in(spare: u32, case: &Case) -> Option<u32>
     }
 }
 
-/// Whether all terms of a case may stand in a plan.
-pub(crate) fn case_may_stand(alloc: Global, p: &Protocol, case: &Case) -> Result<bool, NoMemory>
-    ensures { IfOk result (λ b. IsTrue b ↔ CaseMayStand p.now case.now) }
+/// The scene of an opening's case, where the format at this place is parsed.
+pub(crate) fn scene_of_opening(parsed: Option<u16>, case: OpeningCase) -> Scene
+    ensures { IsSceneOfOpening parsed case result }
 {
-    if !all_may_stand(alloc, p, &case.arrivals)? {
+    let due = match parsed {
+        Some(_format) => Some(case.event),
+        None => None,
+    };
+    Scene {
+        arrivals: case.arrivals,
+        messages: case.messages,
+        right: Some(case.opened),
+        due,
+    }
+}
+
+/// Whether all terms of a case may stand in a plan.
+pub(crate) fn terms_may_stand(
+    alloc: Global,
+    p: &Protocol,
+    arrivals: &[Term],
+    messages: &[Term],
+    wrong: &Term,
+) -> Result<bool, NoMemory>
+    ensures { IfOk result (λ b. IsTrue b ↔ TermsMayStand p.now (map tree_of arrivals.now)
+        (map tree_of messages.now) (tree_of wrong.now)) }
+{
+    if !all_may_stand(alloc, p, arrivals)? {
         return Ok(false);
     }
-    if !all_may_stand(alloc, p, &case.messages)? {
+    if !all_may_stand(alloc, p, messages)? {
         return Ok(false);
     }
-    may_stand(alloc, p, &case.wrong)
+    may_stand(alloc, p, wrong)
 }
 
 fn all_may_stand(alloc: Global, p: &Protocol, terms: &[Term]) -> Result<bool, NoMemory>

@@ -1,27 +1,26 @@
 //! All that is tried of a role.
 ghost use Rattle.std.specs.Prelude.{◌≡◌, ◌+◌, ◌<◌, ◌≤◌, ◌++◌, ◌↔◌, false, length, IfOk, OnOk, IsTrue};
 ghost use Rattle.std.specs.List.{All};
-ghost use Rattle.anb_code.specs.Meaning.{acts_of};
 ghost use Rattle.anb_compile.specs.Fitting.{FitsRole};
-ghost use Rattle.anb_suite.specs.Suites.{checks_of, HasCheck};
-ghost use Rattle.anb_attempts.specs.Attempts.{BeginsHonestly, Covers, IsPartOfCheck, IsSuite, SceneMayStand};
+ghost use Rattle.anb_attempts.specs.Attempts.{points_of, BeginsHonestly, Covers, HasPoint, IsPartOfPoint, IsSuite, SceneMayStand};
 ghost use Rattle.anb_attempts.specs.Parts.{part_value, HasPut};
 ghost use Rattle.anb_attempts.specs.declared.attempts.TheConstants.{MOST};
 
 use crate::attempts::{MOST, Suite};
 use crate::changing::changes_tried;
 use crate::checking::part_of_check;
+use crate::opening::part_of_opening;
 use crate::parts::Part;
+use crate::points::{Point, points_of};
 use crate::scenes::begin;
 use anb_base::NoMemory;
 use anb_code::RoleCode;
 use anb_protocol::Protocol;
-use anb_spoil::Change;
-use anb_suite::checks;
 use std::alloc::Global;
 
-/// All that is tried of a role with this code; of each value all changes, or those that are tried by
-/// default. It takes the time of one comparison for each that the code has.
+/// All that is tried of a role with this code; of each value all changes, and of each format all rows,
+/// or those that are tried by default. It takes the time of one comparison for each comparison and each
+/// opening that the code has.
 pub fn suite_of(
     alloc: Global,
     p: &Protocol,
@@ -38,35 +37,34 @@ pub fn suite_of(
     ensures stand { IfOk result (λ suite. All (SceneMayStand p.now) suite.scenes.items) }
     ensures most { IfOk result (λ suite. length suite.attempts.items ≤ MOST) }
 {
-    let changes = changes_tried(alloc, all)?;
-    let checks = checks(alloc, code)?;
+    let points = points_of(alloc, code)?;
     let mut suite = begin(alloc, p, role)?;
-    put_checks(alloc, p, role, code, &changes, &checks, &mut suite)?;
+    put_points(alloc, p, role, code, all, &points, &mut suite)?;
     Ok(suite)
 }
 
-/// Adds what is tried of these checks, as long as there is room.
-fn put_checks(
+/// Adds what is tried at these instructions, as long as there is room.
+fn put_points(
     alloc: Global,
     p: &Protocol,
     role: u32,
     code: &RoleCode,
-    changes: &[Change],
-    checks: &[u32],
+    all: bool,
+    points: &[Point],
     suite: &mut Suite,
 ) -> Result<(), NoMemory>
     requires role { role < length p.now.roles }
     requires fits { FitsRole p.now role code.now }
-    requires checks { All (HasCheck code.now) checks.now }
+    requires points { All (HasPoint code.now) points.now }
     requires more { suite.old.more ≡ false }
     requires most { length suite.old.attempts.items ≤ MOST }
-    ensures covers { OnOk result (Covers (IsPartOfCheck p.now role code.now changes.now)
-        checks.now suite.old suite.new) }
+    ensures covers { OnOk result (Covers (IsPartOfPoint p.now role code.now all)
+        points.now suite.old suite.new) }
     ensures most { OnOk result (length suite.new.attempts.items ≤ MOST) }
 {
-    for check in checks {
+    for point in points {
         let scene = suite.scenes.len();
-        let part = part_of_check(alloc, p, role, code, changes, scene, *check)?;
+        let part = part_of_point(alloc, p, role, code, all, scene, *point)?;
         if !has_room(suite, &part) {
             suite.more = true;
             return Ok(());
@@ -74,6 +72,33 @@ fn put_checks(
         put(suite, part)?;
     }
     Ok(())
+}
+
+/// What is tried at one instruction, in a scene with this number.
+fn part_of_point(
+    alloc: Global,
+    p: &Protocol,
+    role: u32,
+    code: &RoleCode,
+    all: bool,
+    scene: usize,
+    point: Point,
+) -> Result<Part, NoMemory>
+    requires role { role < length p.now.roles }
+    requires fits { FitsRole p.now role code.now }
+    requires point { HasPoint code.now point }
+    ensures { IfOk result (λ part.
+        IsPartOfPoint p.now role code.now all scene point (part_value part)) }
+{
+    match point {
+        Point::Check(check) => {
+            let changes = changes_tried(alloc, all)?;
+            part_of_check(alloc, p, role, code, &changes, scene, check)
+        }
+        Point::Opening(instruction) => {
+            part_of_opening(alloc, p, role, code, all, scene, instruction)
+        }
+    }
 }
 
 /// Whether the attempts of a part are few enough.

@@ -83,7 +83,7 @@ due_there R N own reaches = ap (due_after R) (sym (append-nil own)) ∙ due_behi
 
 -- no value was changed
 pub plain_talk : (R : Run) (lines : List TranscriptLine) (s u : WireState) (at : Option ℕ) (corrupt : Corruption) (stop : Stop)
-    → IfSome at (λ n. length lines ≤ n) → length lines < 2 ^ 32 → IsOver R [] lines s u corrupt stop → IsTalk R at corrupt s u lines stop
+    → IfSome at (λ n. length lines ≤ n) → length lines + 1 < 2 ^ 32 → IsOver R [] lines s u corrupt stop → IsTalk R at corrupt s u lines stop
 plain_talk R lines s u at corrupt NoMemory most few over = tt
 plain_talk R lines s u at corrupt (Over end) most few over =
     let on : GoesOn R over.N [] lines s over.t lines = subst (GoesOn R over.N [] lines s over.t) (sym over.on.lines) over.on in
@@ -99,7 +99,7 @@ plain_talk R lines s u at corrupt (Over end) most few over =
     }
 
 -- a value was changed behind the first lines
-module _ (R N M : Run) (first lines : List TranscriptLine) (s t u : WireState) (n : ℕ) (corrupt : Corruption) (one : GoesOnBy n R N [] first s t) (changed : IsChanged corrupt N M) (few : length lines < 2 ^ 32) where
+module _ (R N M : Run) (first lines : List TranscriptLine) (s t u : WireState) (n : ℕ) (corrupt : Corruption) (one : GoesOnBy n R N [] first s t) (changed : IsChanged corrupt N M) (few : length lines + 1 < 2 ^ 32) where
   pub hooked_talk : (stop : Stop) → IsOver M first lines t u corrupt stop → IsTalk R (Some n) corrupt s u lines stop
   hooked_talk NoMemory over = tt
   hooked_talk (Over end) over =
@@ -114,13 +114,13 @@ module _ (R N M : Run) (first lines : List TranscriptLine) (s t u : WireState) (
       let own = map flipped first ++ (Out changed.0 ∷ In changed.1 ∷ map flipped later) in
       let reaches : Reaches R over.N own =
       reaches_joined R N over.N (map flipped first) (Out changed.0 ∷ In changed.1 ∷ map flipped later) begun.reaches
-      (reaches_joined N M over.N (Out changed.0 ∷ In changed.1 ∷ []) (map flipped later) changed.3 over.on.reaches) in
+      (reaches_joined N M over.N (Out changed.0 ∷ In changed.1 ∷ []) (map flipped later) changed.4 over.on.reaches) in
       let is_own : map flipped (take (length first) lines) ++ (Out changed.0 ∷ In changed.1 ∷ map flipped (drop (length first) lines)) ≡ own =
       ap (λ l. map flipped l ++ (Out changed.0 ∷ In changed.1 ∷ map flipped (drop (length first) lines))) front
       ∙ ap (λ l. map flipped first ++ (Out changed.0 ∷ In changed.1 ∷ map flipped l)) back in
       record {
         hooked = Some h;
-        is_hooked = (ap Some (sym count), omega (arith, ap length whole, length-append first later), changed.2);
+        is_hooked = (ap Some (sym count), omega (arith, ap length whole, length-append first later), changed.2, changed.3);
         due = subst (AreDue R) (sym is_own) reaches.due;
         mid = over.t;
         passed = subst (Passed s over.t) (sym whole) (passed_joined s t over.t first later begun.passed over.on.passed);
@@ -131,7 +131,7 @@ module _ (R N M : Run) (first lines : List TranscriptLine) (s t u : WireState) (
 
 -- it is over where a value is to be changed
 pub talk_at_hook : (R N : Run) (lines : List TranscriptLine) (s t : WireState) (n : ℕ) (corrupt : Corruption) (stop : Stop)
-    → GoesOnBy n R N [] lines s t → length lines < 2 ^ 32 → Stops corrupt (due_after N []) t t stop → IsTalk R (Some n) corrupt s t lines stop
+    → GoesOnBy n R N [] lines s t → length lines + 1 < 2 ^ 32 → Stops corrupt (due_after N []) t t stop → IsTalk R (Some n) corrupt s t lines stop
 talk_at_hook R N lines s t n corrupt stop on few stops =
     plain_talk R lines s t (Some n) corrupt stop (omega (arith, ap length on.1.lines, on.2)) few
     (over_behind R N [] lines lines s t t on.0 corrupt stop on.1 refl stops)

@@ -1,6 +1,7 @@
 -- How far a talk is, and what a part of it does.
 use Rattle.std.specs.Prelude.{◌≡◌, ℕ, List, [], ◌∷◌, ◌++◌, length, map, Option, Some, IfSome, Result}
 use Rattle.std.specs.List.{AllByRecursion}
+use Rattle.anb_base.specs.Bytes.{IsBytes}
 use Rattle.anb_base.specs.Wires.{WireState}
 use Rattle.anb_machine.specs.declared.turn.Halt.{Halt}
 use Rattle.anb_plays.specs.Plays.{Run, SendsFirst}
@@ -48,10 +49,10 @@ abbrev pub IsOver : (R : Run) (before after : List TranscriptLine) (s u : WireSt
 IsOver R before after s u corrupt (Over end) = Closes R before after s u corrupt end
 IsOver R before after s u corrupt NoMemory = Unit {0}
 
--- a value was changed
+-- a value was changed, into bytes
 abbrev pub IsChanged : Corruption → (R N : Run) → Type 0
 IsChanged corrupt R N =
-    (right wrong : List ℕ) × (corrupt right ≡ Some wrong)
+    (right wrong : List ℕ) × (corrupt right ≡ Some wrong) × IsBytes wrong
     × Reaches R N (Out right ∷ In wrong ∷ [])
 
 -- the whole talk

@@ -1,6 +1,7 @@
 -- What comes of a partner's conversation with a child.
 use Rattle.std.specs.Prelude.{◌≡◌, ℕ, ◌+◌, ◌<◌, ◌≤◌, ◌^◌, ◌⊎◌, List, [], ◌∷◌, ◌++◌, length, map, take, drop, replicate, Bool, true, false, Option, Some, None, IfSome, Result, Ok, Err}
 use Rattle.std.specs.List.{AllByRecursion}
+use Rattle.anb_base.specs.Bytes.{IsBytes}
 use Rattle.anb_base.specs.Moves.{Took, Put, PutPrefix, AtEnd, Rose, Stamped}
 use Rattle.anb_base.specs.Wires.{WireState}
 use Rattle.anb_base.specs.declared.TheConstants.{ARRIVAL}
@@ -45,11 +46,11 @@ own_lines handed None lines = map In handed ++ map flipped lines
 own_lines handed (Some h) lines =
     map In handed ++ map flipped (take h.at lines) ++ Out h.right ∷ In h.wrong ∷ map flipped (drop h.at lines)
 
--- where a value is to be changed behind so many lines: it was, where there are more of them
+-- where a value is to be changed behind so many lines: it was, into bytes, where there are more of them
 abbrev pub IsHooked : Option ℕ → Corruption → List TranscriptLine → Option Hooked → Type 0
 IsHooked at corrupt lines None = IfSome at (λ n. length lines ≤ n)
 IsHooked at corrupt lines (Some h) =
-    (at ≡ Some h.at) × (h.at ≤ length lines) × (corrupt h.right ≡ Some h.wrong)
+    (at ≡ Some h.at) × (h.at ≤ length lines) × (corrupt h.right ≡ Some h.wrong) × IsBytes h.wrong
 
 -- ---- the child's pipes
 
@@ -127,7 +128,7 @@ pub record Talks (R : Run) (handed : List (List ℕ)) (at : Option ℕ) (corrupt
   pub passed : Passed old mid lines
   pub ends : Ends corrupt (due_after R (own_lines handed hooked lines)) mid new end
   pub short : AllByRecursion IsShort lines
-  pub few : length lines < 2 ^ 32
+  pub few : length lines + 1 < 2 ^ 32
 
 -- ---- the whole conversation
 

@@ -1,5 +1,6 @@
 //! The partner's talk with a child, line by line.
 ghost use Rattle.std.specs.Prelude.{◌≡◌, ◌≤◌, ◌<◌, ◌+◌, ◌++◌, ◌^◌, [], ◌∷◌, ℕ, List, length, map, All, Ok, Some, IsTrue, IfOk, OnOk, OnErr, IfErr};
+ghost use Rattle.anb_base.specs.Bytes.{IsBytes};
 ghost use Rattle.anb_base.specs.Wires.{WireState};
 ghost use Rattle.anb_base.specs.declared.TheConstants.{ARRIVAL};
 ghost use Rattle.anb_machine.specs.Machines.{gives, left, waits};
@@ -167,13 +168,13 @@ fn go_on<W: Wire>(
     buffer: &mut [u8],
 ) -> Result<(), Stop>
     requires room { length buffer.old ≡ ARRIVAL }
-    requires few { length lines.old.items < 2 ^ 32 }
+    requires few { length lines.old.items + 1 < 2 ^ 32 }
     ensures goes_on { OnOk result (GoesOnBy count (gives machine.old) (gives machine.new)
         lines.old.items lines.new.items (W.state child.old) (W.state child.new)) }
     ensures over { IfErr result (λ stop. (corrupt : Corruption) → IsOver (gives machine.old)
         lines.old.items lines.new.items (W.state child.old) (W.state child.new) corrupt stop) }
     ensures most { length lines.new.items ≤ length lines.old.items + count }
-    ensures few { length lines.new.items < 2 ^ 32 }
+    ensures few { length lines.new.items + 1 < 2 ^ 32 }
     ensures room { length buffer.new ≡ ARRIVAL }
 {
     for _ in 0..count {
@@ -193,10 +194,10 @@ fn go_to_end<W: Wire>(
     buffer: &mut [u8],
 ) -> Stop
     requires room { length buffer.old ≡ ARRIVAL }
-    requires few { length lines.old.items < 2 ^ 32 }
+    requires few { length lines.old.items + 1 < 2 ^ 32 }
     ensures over { (corrupt : Corruption) → IsOver (gives machine.old) lines.old.items lines.new.items
         (W.state child.old) (W.state child.new) corrupt result }
-    ensures few { length lines.new.items < 2 ^ 32 }
+    ensures few { length lines.new.items + 1 < 2 ^ 32 }
     ensures room { length buffer.new ≡ ARRIVAL }
 {
     loop {
@@ -215,14 +216,14 @@ fn turn<W: Wire>(
     buffer: &mut [u8],
 ) -> Result<(), Stop>
     requires room { length buffer.old ≡ ARRIVAL }
-    requires few { length lines.old.items < 2 ^ 32 }
+    requires few { length lines.old.items + 1 < 2 ^ 32 }
     ensures goes_on { OnOk result (GoesOnBy 1 (gives machine.old) (gives machine.new)
         lines.old.items lines.new.items (W.state child.old) (W.state child.new)) }
     ensures further { OnOk result (left machine.new < left machine.old) }
     ensures over { IfErr result (λ stop. (corrupt : Corruption)
         → Stops corrupt (due_after (gives machine.old) []) (W.state child.old) (W.state child.new) stop) }
     ensures no_line { IfErr result (λ stop. lines.new.items ≡ lines.old.items) }
-    ensures few { length lines.new.items < 2 ^ 32 }
+    ensures few { length lines.new.items + 1 < 2 ^ 32 }
     ensures room { length buffer.new ≡ ARRIVAL }
 {
     if lines.len() + 1 >= MOST_LINES {
@@ -279,7 +280,7 @@ fn take_in(
 }
 
 /// More lines than any code has sends and receives.
-const MOST_LINES: usize = 4_294_967_296;
+const MOST_LINES: usize = 4_294_967_295;
 
 /// Takes the right value of the machine, and hands it the wrong one that is made of it.
 fn change_value(
@@ -312,7 +313,7 @@ fn hand_wrong(
     right: &[u8],
 ) -> Result<(), Stop>
     ensures handed { OnOk result ((bytes : List ℕ) × (wrong_by formats.now wrong right.now ≡ Some bytes)
-        × Reaches (gives machine.old) (gives machine.new) (In bytes ∷ [])) }
+        × IsBytes bytes × Reaches (gives machine.old) (gives machine.new) (In bytes ∷ [])) }
     ensures over { IfErr result (λ stop. (s : WireState)
         → Stops (wrong_by formats.now wrong) (Ok (Send right.now)) s s stop) }
 {
@@ -321,6 +322,7 @@ fn hand_wrong(
             if bytes.as_slice().len() > ARRIVAL as usize {
                 return Err(Stop::Over(TalkEnd::Unchanged));
             }
+            are_bytes(bytes.as_slice());
             match hand(alloc, machine, &bytes) {
                 Ok(()) => Ok(()),
                 Err(NoMemory) => Err(Stop::NoMemory),
@@ -329,6 +331,13 @@ fn hand_wrong(
         Ok(None) => Err(Stop::Over(TalkEnd::Unchanged)),
         Err(NoMemory) => Err(Stop::NoMemory),
     }
+}
+
+/// A law: a slice of bytes is a string of bytes.
+fn are_bytes(bytes: &[u8])
+    ensures { IsBytes bytes.now }
+{
+    let _ = bytes;
 }
 
 /// Writes a message to the child in its frame.

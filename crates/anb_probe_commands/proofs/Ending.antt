@@ -1,12 +1,14 @@
 -- What a report comes to, and what goes over the wire.
 use Rattle.std.proofs.Common.{◌≡◌, ◌≢◌, ◌≤◌, ◌⊎◌, ℕ, cond, List, [], ◌++◌, length, Bool, true, false, Option, Result, Ok, Err, IfOk, refl, ap, sym, ◌∙◌, subst, inl, inr, arith}
 use Rattle.std.specs.Prelude.{◌==◌, count_by}
+use Rattle.anb_attempts.specs.declared.attempts.TheConstants.{MOST}
 use Rattle.anb_base.specs.Moves.{PutPrefix, Rose}
 use Rattle.anb_base.specs.Wires.{WireState}
 use Rattle.anb_base.specs.declared.place.Place.TheVariants.{Stdio}
 use Rattle.anb_base.proofs.Joined.{Put-joined}
 use Rattle.anb_base.proofs.Moving.{put_further, put_within}
 use Rattle.anb_partner.specs.Trials.{Trial}
+use Rattle.anb_protocol.specs.Protocols.{ProtocolValue}
 use Rattle.anb_partner.specs.declared.planning.PartnerNo.{PartnerNo}
 use Rattle.anb_partner.specs.declared.planning.PartnerNo.TheVariants as no
 use Rattle.anb_status.specs.declared.status.Status.{Status}
@@ -108,8 +110,8 @@ module _ (q : Probing) (x : Prepared) (program : List (List ℕ)) where
 
   -- not all cases were played
   pub cut_cases : (old new : ℕ → Trial) (S T U : WireState) (why : PlayNo) → Wrote S T (first_lines (length x.cases.items)) → IsCut q x program old new T.written U.written why → PlaysLess q g program old new S.written U.written why
-  cut_cases old new S T U NotStarted first (vs, part, next, put) =
-      (vs, record { reached = part.reached; played = part.played }, next, Put-joined S.written T.written U.written _ _ first.put put)
+  cut_cases old new S T U NotStarted first (vs, part, within, next, put) =
+      (vs, record { reached = part.reached; played = part.played }, within, next, Put-joined S.written T.written U.written _ _ first.put put)
   cut_cases old new S T U Failed first (vs, part, put) =
       (vs, record { reached = part.reached; played = part.played }, inl (put_further S.written T.written U.written _ _ first.put put))
   cut_cases old new S T U NoMemory first (vs, part, put) =
@@ -148,10 +150,11 @@ module _ (q : Probing) (x : Prepared) (program : List (List ℕ)) where
 -- ---- what it comes to
 
 module _ (q : Probing) (trying : Trying) (g : Agenda) (name : List ℕ) (old new : ℕ → Trial) (S T : WireState) where
-  pub comes_all : (vs : List Verdict) → PlaysAll q g trying.program old new S T vs → ComesTo q trying g name old new S.written T.written (status_for vs)
-  comes_all vs all = by (count_by is_failed vs == 0) refl where
+  pub comes_all : (vs : List Verdict) → is_beyond trying.case g.count ≡ false → PlaysAll q g trying.program old new S T vs → ComesTo q trying g name old new S.written T.written (status_for vs)
+  comes_all vs there all = by (count_by is_failed vs == 0) refl where
     by : (b : Bool) → (count_by is_failed vs == 0) ≡ b → ComesTo q trying g name old new S.written T.written (cond b status.Done (status.CasesNotOk (count_by is_failed vs) (length vs)))
     by true e = inl (record {
+      there = there;
       reached = all.reached;
       verdicts = vs;
       all = all.all;
@@ -160,6 +163,7 @@ module _ (q : Probing) (trying : Trying) (g : Agenda) (name : List ℕ) (old new
       is = sym (ap (λ c. cond c status.Done (status.CasesNotOk (count_by is_failed vs) (length vs))) e);
     })
     by false e = inl (record {
+      there = there;
       reached = all.reached;
       verdicts = vs;
       all = all.all;
@@ -174,17 +178,19 @@ module _ (q : Probing) (trying : Trying) (g : Agenda) (name : List ℕ) (old new
     by true = record { only = all.wrote.only; cause = all.wrote.quiet }
     by false = record { only = all.wrote.only; cause = all.wrote.quiet }
 
-  pub comes_less : (why : PlayNo) → PlaysLess q g trying.program old new S.written T.written why → ComesTo q trying g name old new S.written T.written (status_of why name)
-  comes_less NotStarted (vs, part, next, put) = record { reached = part.reached; verdicts = vs; played = part.played; next = next; put = put; is = refl }
-  comes_less Failed (vs, part, inl put) = record { reached = part.reached; verdicts = vs; played = part.played; writes = inl put }
-  comes_less Failed (vs, part, inr put) = record { reached = part.reached; verdicts = vs; played = part.played; writes = inr (inl put) }
-  comes_less NoMemory (vs, part, inl put) = record { reached = part.reached; verdicts = vs; played = part.played; writes = inl put }
-  comes_less NoMemory (vs, part, inr put) = record { reached = part.reached; verdicts = vs; played = part.played; writes = inr (inl put) }
+  pub comes_less : (why : PlayNo) → is_beyond trying.case g.count ≡ false → PlaysLess q g trying.program old new S.written T.written why → ComesTo q trying g name old new S.written T.written (status_of why name)
+  comes_less NotStarted there (vs, part, within, next, put) =
+      record { there = there; reached = part.reached; verdicts = vs; within = within; played = part.played; next = next; put = put; is = refl }
+  comes_less Failed there (vs, part, inl put) = record { idle = λ e. absurd (cc); reached = part.reached; verdicts = vs; played = part.played; writes = inl put }
+  comes_less Failed there (vs, part, inr put) = record { idle = λ e. absurd (cc); reached = part.reached; verdicts = vs; played = part.played; writes = inr (inl put) }
+  comes_less NoMemory there (vs, part, inl put) = record { idle = λ e. absurd (cc); reached = part.reached; verdicts = vs; played = part.played; writes = inl put }
+  comes_less NoMemory there (vs, part, inr put) = record { idle = λ e. absurd (cc); reached = part.reached; verdicts = vs; played = part.played; writes = inr (inl put) }
 
-  pub ends_less : (why : PlayNo) → PlaysLess q g trying.program old new S.written T.written why → Broke S T why → EndsLate old new S T (status_of why name)
-  ends_less NotStarted (vs, part, next, put) broke = record { only = broke.only; cause = ((length vs, next.rose), broke.quiet (λ e. absurd (cc))) }
-  ends_less Failed less broke = record { only = broke.only; cause = broke.cause refl }
-  ends_less NoMemory less broke = record { only = broke.only; cause = broke.quiet (λ e. absurd (cc)) }
+  pub ends_less : length g.cases ≤ MOST → (why : PlayNo) → PlaysLess q g trying.program old new S.written T.written why → Broke S T why → EndsLate old new S T (status_of why name)
+  ends_less few NotStarted (vs, part, within, next, put) broke =
+      record { only = broke.only; cause = ((length vs, omega (arith, few, within), next), broke.quiet (λ e. absurd (cc))) }
+  ends_less few Failed less broke = record { only = broke.only; cause = broke.cause refl }
+  ends_less few NoMemory less broke = record { only = broke.only; cause = broke.quiet (λ e. absurd (cc)) }
 
 -- there is no such case
 module _ (q : Probing) (trying : Trying) (g : Agenda) (name : List ℕ) (old : ℕ → Trial) (S T : WireState) where
@@ -197,7 +203,7 @@ module _ (q : Probing) (trying : Trying) (g : Agenda) (name : List ℕ) (old : �
   pub comes_beyond_cut : (why : PlayNo) → ((i : ℕ) → (old i).phase ≡ 0) → BrokeIn (no_such_case g.count) S T why → ComesTo q trying g name old old S.written T.written (status_of why name)
   comes_beyond_cut why fresh broke = by why broke.started where
     short : IsCutShort q trying g name old old S.written T.written
-    short = record { reached = 0; verdicts = []; played = none_played q g.scenes trying.program g.cases old 0 1 fresh; writes = inr (inr broke.part) }
+    short = record { idle = λ e. refl; reached = 0; verdicts = []; played = none_played q g.scenes trying.program g.cases old 0 1 fresh; writes = inr (inr broke.part) }
 
     by : (w : PlayNo) → w ≢ NotStarted → ComesTo q trying g name old old S.written T.written (status_of w name)
     by NotStarted never = absurd (never refl)
@@ -236,16 +242,16 @@ over_unreached old S T tried =
 pub over_wanting : (old : ℕ → Trial) (S : WireState) → OverTrials old old S S status.NoMemory
 over_wanting old S = let o = no_memory Stdio false S in record { cause = tt; told = o.told; reached = o.reached; touches = o.touches }
 
-pub over_honest : (old : ℕ → Trial) (S : WireState) (why : PartnerNo) (s : Status) → IsHonestNo why s → OverTrials old old S S s
-over_honest old S (no.CannotSend line) s (action, name, is) =
+pub over_honest : (p : ProtocolValue) (role : ℕ) (old : ℕ → Trial) (S : WireState) (why : PartnerNo) (s : Status) → IsHonestNo p role why s → OverTrials old old S S s
+over_honest p role old S (no.CannotSend line) s (number, sender, at, is) =
     subst (OverTrials old old S S) (sym is) (record { cause = tt; told = nothing_failed S S _ refl refl refl; reached = refl; touches = untouched false before_reach S })
-over_honest old S no.Large s is =
+over_honest p role old S no.Large s is =
     subst (OverTrials old old S S) (sym is) (record { cause = tt; told = nothing_failed S S _ refl refl refl; reached = refl; touches = untouched false before_reach S })
-over_honest old S no.NoMemory s is = subst (OverTrials old old S S) (sym is) (over_wanting old S)
+over_honest p role old S no.NoMemory s is = subst (OverTrials old old S S) (sym is) (over_wanting old S)
 
 module _ (q : Probing) (trying : Trying) (old : ℕ → Trial) (S : WireState) (s : Status) where
   pub over_refused : RefusesHonest q trying s ⊎ (s ≡ status.NoMemory) → OverTrials old old S S s
-  over_refused (inl r) = over_honest old S r.why s r.is
+  over_refused (inl r) = over_honest q.protocol q.role old S r.why s r.is
   over_refused (inr none) = subst (OverTrials old old S S) (sym none) (over_wanting old S)
 
 -- ---- reaching

@@ -16,7 +16,7 @@ use Rattle.anb_command.proofs.Answering.{refusing}
 use Rattle.anb_command.proofs.Chains.{told_map}
 use Rattle.anb_command.proofs.Ones.{not_both, same_given}
 use Rattle.anb_probe_commands.specs.Playing.{OverTrials, TaskComesTo}
-use Rattle.anb_probe_commands.specs.ProbeCommand.{Agenda, ComesTo, CompletesProbe, DoesProbe, HasProbeCause, IsBeyond, IsIdle, IsProbed, IsReported, NoTrialRose, RefusesHonest, Suit, agenda_of, probe_phase}
+use Rattle.anb_probe_commands.specs.ProbeCommand.{Agenda, ComesTo, CompletesProbe, DoesProbe, HasProbeCause, IsBeyond, IsIdle, IsProbed, IsReported, RefusesHonest, StartFailed, Suit, agenda_of, probe_phase}
 use Rattle.anb_probe_commands.specs.Probings.{IsReadToProbe, Probing, ProbingIs}
 use Rattle.anb_probe_commands.specs.Reports.{is_failed, status_for}
 use Rattle.anb_probe_commands.specs.Words.{Probed, Trying}
@@ -163,11 +163,11 @@ module _ (names : List (List ℕ)) (faults faults_now : List ℕ → ℕ) (old n
   early_probe (ChildFault name) (inr never) cause = absurd (cc)
   early_probe _ early cause = cause
 
-  pub only_memory : NoneRose names faults faults_now S T → NoTrialRose old new → (s : Status) → HasProbeCause names faults faults_now old new S T s → is_fault s ≡ true → s ≡ NoMemory
+  pub only_memory : NoneRose names faults faults_now S T → (StartFailed old new → ⊥) → (s : Status) → HasProbeCause names faults faults_now old new S T s → is_fault s ≡ true → s ≡ NoMemory
   only_memory none calm (FileFault file) cause fault = absurd (none.files file cause.0 cause.1)
   only_memory none calm (Unreached at) cause fault = absurd (none.reaches cause.1)
   only_memory none calm WriteFault cause fault = absurd (none.writes cause)
-  only_memory none calm (ChildFault name) cause fault = absurd (calm cause.0 cause.1)
+  only_memory none calm (ChildFault name) cause fault = absurd (calm cause)
   only_memory none calm NoMemory cause fault = refl
   only_memory none calm ReadFault cause fault = absurd (none.reads cause)
   only_memory none calm (ChildSilent role seconds) cause fault = absurd cause

@@ -158,6 +158,7 @@ module _ (q : Probing) (x : Prepared) (program : List (List ℕ)) (old mid new :
   cut_next NotStarted (stuck, same) = (
     vs,
     part_before,
+    within,
     subst (λ (t : Trial). IsNotStarted t (new (length vs))) same_before stuck,
     subst (λ (w : Option (List ℕ)). Put S.written w (played_lines q.protocol q.role 1 x.cases.items vs)) (sym same) wrote.put,
   )

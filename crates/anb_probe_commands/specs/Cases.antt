@@ -97,7 +97,7 @@ earlier_line event why = codes "# not tried: the message of an earlier session a
 
 -- that there are more than the most attempts
 abbrev pub more_lines : Bool → List (List ℕ)
-more_lines more = if more then codes "# not tried: what is behind the first 4096 cases\n" ∷ [] else []
+more_lines more = if more then codes "# not tried: what comes after the first 4096 cases\n" ∷ [] else []
 
 module _ (p : ProtocolValue) (role : ℕ) where
   -- that an attempt with this title can't be made

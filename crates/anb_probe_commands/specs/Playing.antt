@@ -27,7 +27,7 @@ use Rattle.anb_probe_commands.specs.declared.partners.Lack.{Lack}
 use Rattle.anb_probe_commands.specs.Cases.{AreMade, lack_in, lack_of}
 use Rattle.anb_probe_commands.specs.Plays.{ArePlayed, IsNotStarted, IsTried, handed, initial}
 use Rattle.anb_probe_commands.specs.Probings.{Probing}
-use Rattle.anb_probe_commands.specs.ProbeCommand.{Agenda, ComesTo, RefusesHonest, Suit, agenda_of, probe_phase}
+use Rattle.anb_probe_commands.specs.ProbeCommand.{Agenda, ComesTo, RefusesHonest, StartFailed, Suit, agenda_of, probe_phase}
 use Rattle.anb_probe_commands.specs.Reports.{played_lines, report, report_so_far}
 use Rattle.anb_probe_commands.specs.Tasks.{agenda_by}
 use Rattle.anb_probe_commands.specs.Words.{Trying}
@@ -106,7 +106,7 @@ module _ (q : Probing) (x : Prepared) (program : List (List ℕ)) where
 
     -- the same of all of them
     abbrev pub IsCut : PlayNo → Type 0
-    IsCut NotStarted = (verdicts : List Verdict) × IsPlayedPart verdicts
+    IsCut NotStarted = (verdicts : List Verdict) × IsPlayedPart verdicts × (length verdicts < length x.cases.items)
         × IsNotStarted (old (length verdicts)) (new (length verdicts))
         × Put w now (played_lines q.protocol q.role 1 x.cases.items verdicts)
     IsCut why = (verdicts : List Verdict) × IsPlayedPart verdicts
@@ -127,7 +127,7 @@ module _ (q : Probing) (g : Agenda) (program : List (List ℕ)) (old new : ℕ �
       pub played : ArePlayed q g.scenes program g.cases reached verdicts (length verdicts + 1) old new
 
     abbrev pub PlaysLess : PlayNo → Type 0
-    PlaysLess NotStarted = (verdicts : List Verdict) × PlaysPart verdicts
+    PlaysLess NotStarted = (verdicts : List Verdict) × PlaysPart verdicts × (length verdicts < length g.cases)
         × IsNotStarted (old (length verdicts)) (new (length verdicts))
         × Put w now (report_so_far q.protocol q.role g.cases verdicts)
     PlaysLess why = (verdicts : List Verdict) × PlaysPart verdicts
@@ -142,8 +142,7 @@ LateCause old new S T status.Done = T.write_faults ≡ S.write_faults
 LateCause old new S T (status.CasesNotOk failed cases) = T.write_faults ≡ S.write_faults
 LateCause old new S T status.NoMemory = T.write_faults ≡ S.write_faults
 LateCause old new S T status.WriteFault = Rose S.write_faults T.write_faults
-LateCause old new S T (status.ChildFault name) =
-    ((case : ℕ) × Rose (old case).faults (new case).faults) × (T.write_faults ≡ S.write_faults)
+LateCause old new S T (status.ChildFault name) = StartFailed old new × (T.write_faults ≡ S.write_faults)
 LateCause old new S T status = ⊥
 
 pub record EndsLate (old new : ℕ → Trial) (S T : WireState) (status : Status) : Type 0 where
@@ -153,7 +152,7 @@ pub record EndsLate (old new : ℕ → Trial) (S T : WireState) (status : Status
 -- ---- a whole task
 
 abbrev pub HasTrialCause : (old new : ℕ → Trial) → (S T : WireState) → Status → Type 0
-HasTrialCause old new S T (status.ChildFault name) = (case : ℕ) × Rose (old case).faults (new case).faults
+HasTrialCause old new S T (status.ChildFault name) = StartFailed old new
 HasTrialCause old new S T status = HasWireCause (Some Stdio) S T status
 
 pub record OverTrials (old new : ℕ → Trial) (S T : WireState) (status : Status) : Type 0 where

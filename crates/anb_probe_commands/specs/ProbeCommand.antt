@@ -1,6 +1,6 @@
 -- What `probe` does: a program is tried in the cases of a role, and a report is written.
-use Rattle.std.specs.Prelude.{◌≡◌, ◌⊎◌, ℕ, ◌+◌, List, [], ◌∷◌, length, map, slice_get, true, Option, Some, Result}
-use Rattle.anb_base.specs.Moves.{Put, PutPrefix, Rose}
+use Rattle.std.specs.Prelude.{◌≡◌, ◌⊎◌, ◌<◌, ℕ, ◌+◌, List, [], ◌∷◌, length, map, take, slice_get, count_by, true, false, Option, Some, Result}
+use Rattle.anb_base.specs.Moves.{Put, PutPrefix}
 use Rattle.anb_base.specs.Wires.{WireState}
 use Rattle.anb_base.specs.declared.place.Place.TheVariants.{Stdio}
 use Rattle.anb_code.specs.CodeValue.{CodeValue}
@@ -10,15 +10,18 @@ use Rattle.anb_partner.specs.Trials.{Trial}
 use Rattle.anb_partner.specs.declared.planning.Partner.{Partner}
 use Rattle.anb_partner.specs.declared.planning.PartnerNo.{PartnerNo}
 use Rattle.anb_partner.specs.declared.planning.PartnerNo.TheVariants as no
+use Rattle.anb_protocol.specs.Protocols.{ActionValue, ProtocolValue}
 use Rattle.anb_protocol.specs.declared.refusals.Kind.TheVariants.{AllNodes}
 use Rattle.anb_protocol.specs.declared.refusals.ResolveNo.TheVariants.{Limit}
 use Rattle.anb_status.specs.declared.status.NarrationNo.TheVariants.{Resolve}
 use Rattle.anb_status.specs.declared.status.Status.{Status}
 use Rattle.anb_status.specs.declared.status.Status.TheVariants.{BadNarration, CannotSend, ChildFault, Done, NoMemory, Unreached, WriteFault}
 use Rattle.anb_status.specs.Statuses.{Phase, after_reach, at_reach, before_reach, phase_of}
+use Rattle.anb_verdict.specs.Places.{is_own}
 use Rattle.anb_verdict.specs.Texts.{no_such_case}
 use Rattle.anb_verdict.specs.declared.verdict.Verdict.{Verdict}
 use Rattle.anb_attempts.specs.Attempts.{IsSuite}
+use Rattle.anb_attempts.specs.declared.attempts.TheConstants.{MOST}
 use Rattle.anb_attempts.specs.declared.attempts.Attempt.{Attempt}
 use Rattle.anb_attempts.specs.declared.attempts.Scene.{Scene}
 use Rattle.anb_attempts.specs.declared.attempts.Suite.{Suite}
@@ -63,11 +66,24 @@ agenda_of {q} {trying} s = record {
   count = case_count (map lack_of s.partners) s.suite.attempts.items;
 }
 
--- The partner of the first scene, the honest one, can't be made: it can't send something, or its plan has too many nodes.
-abbrev pub IsHonestNo : PartnerNo → Status → Type 0
-IsHonestNo (no.CannotSend line) status = (action : ℕ) × (name : List ℕ) × (status ≡ CannotSend action name)
-IsHonestNo no.Large status = status ≡ BadNarration (Resolve (Limit AllNodes 65536))
-IsHonestNo no.NoMemory status = status ≡ NoMemory
+-- a line of the role is the action with this number, from 1, whose sender has this name
+pub record IsLineOf (p : ProtocolValue) (role line number : ℕ) (sender : List ℕ) : Type 0 where
+  pub before : ℕ
+  pub number_is : number ≡ before + 1
+  pub action : ActionValue
+  pub here : slice_get p.actions before ≡ Some action
+  pub own : is_own role action ≡ true
+  pub counted : count_by (is_own role) (take before p.actions) + 1 ≡ line
+  pub named : slice_get p.roles action.from ≡ Some sender
+
+module _ (p : ProtocolValue) (role : ℕ) where
+  -- The partner of the first scene, the honest one, can't be made: it can't send the action of this line, or its plan has too
+  -- many nodes.
+  abbrev pub IsHonestNo : PartnerNo → Status → Type 0
+  IsHonestNo (no.CannotSend line) status =
+      (number : ℕ) × (sender : List ℕ) × IsLineOf p role line number sender × (status ≡ CannotSend number sender)
+  IsHonestNo no.Large status = status ≡ BadNarration (Resolve (Limit AllNodes 65536))
+  IsHonestNo no.NoMemory status = status ≡ NoMemory
 
 pub record RefusesHonest (q : Probing) (trying : Trying) (status : Status) : Type 0 where
   pub code : CodeValue
@@ -78,7 +94,7 @@ pub record RefusesHonest (q : Probing) (trying : Trying) (status : Status) : Typ
   pub first : slice_get suite.scenes.items 0 ≡ Some scene
   pub why : PartnerNo
   pub refuses : RefusesPartner (script_in q.protocol q.role scene) why
-  pub is : IsHonestNo why status
+  pub is : IsHonestNo q.protocol q.role why status
 
 -- ---- what comes of it
 
@@ -95,6 +111,7 @@ module _ (q : Probing) (trying : Trying) (g : Agenda) (name : List ℕ) (old new
 
   -- all cases are over, and the report is written
   pub record IsReported (status : Status) : Type 0 where
+    pub there : is_beyond trying.case g.count ≡ false
     pub reached : ℕ
     pub verdicts : List Verdict
     pub all : length verdicts ≡ length g.cases
@@ -117,8 +134,9 @@ module _ (q : Probing) (trying : Trying) (g : Agenda) (name : List ℕ) (old new
       ⊎ ((length verdicts ≡ length g.cases) × PutPrefix written written_now (whole verdicts))
       ⊎ PutPrefix written written_now (no_such_case g.count)
 
-  -- writing failed, or memory was wanting
+  -- writing failed, or memory was wanting; nothing was started where there is no such case
   pub record IsCutShort : Type 0 where
+    pub idle : is_beyond trying.case g.count ≡ true → new ≡ old
     pub reached : ℕ
     pub verdicts : List Verdict
     pub played : Plays (length verdicts + 1) reached verdicts
@@ -126,8 +144,10 @@ module _ (q : Probing) (trying : Trying) (g : Agenda) (name : List ℕ) (old new
 
   -- the program can't be started: the lines of the cases before are written
   pub record IsStuck (child : List ℕ) : Type 0 where
+    pub there : is_beyond trying.case g.count ≡ false
     pub reached : ℕ
     pub verdicts : List Verdict
+    pub within : length verdicts < length g.cases
     pub played : Plays (length verdicts + 1) reached verdicts
     pub next : IsNotStarted (old (length verdicts)) (new (length verdicts))
     pub put : Put written written_now (so_far verdicts)
@@ -196,15 +216,15 @@ module _ (asked : Probed) (told : Option Files) (host_seed : Option (List ℕ)) 
       ⊎ IsBeyond q asked.trying (agenda_of suit) asked.role old new S.written T.written status))
       ⊎ (status ≡ NoMemory))
 
--- A program that can't be started is answered only where the count of a case's child rose, and all else as by the other
--- commands.
+-- Starting the program failed in a case. What comes of a child that was started is no such failure, nor that it was
+-- silent for too long.
+abbrev pub StartFailed : (children children_now : ℕ → Trial) → Type 0
+StartFailed children children_now = (case : ℕ) × (case < MOST) × IsNotStarted (children case) (children_now case)
+
+-- A program that can't be started is answered only where a start failed, and all else as by the other commands.
 abbrev pub HasProbeCause : (names : List (List ℕ)) → (faults faults_now : List ℕ → ℕ) → (children children_now : ℕ → Trial)
     → (old new : WireState) → Status → Type 0
 HasProbeCause names faults faults_now children children_now old new (ChildFault name) =
-    (case : ℕ) × Rose (children case).faults (children_now case).faults
+    StartFailed children children_now
 HasProbeCause names faults faults_now children children_now old new status =
     HasCause names (Some Stdio) faults faults_now old new status
-
--- no count of a child rose
-abbrev pub NoTrialRose : (children children_now : ℕ → Trial) → Type 0
-NoTrialRose children children_now = (case : ℕ) → Rose (children case).faults (children_now case).faults → ⊥

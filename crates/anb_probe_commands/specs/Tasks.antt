@@ -1,14 +1,14 @@
 -- For proofs alone: a task that was read from files.
-use Rattle.std.specs.Prelude.{◌≡◌, ◌⊎◌, ◌<◌, ◌≤◌, ℕ, List, length, All, Option, Some}
+use Rattle.std.specs.Prelude.{◌≡◌, ◌⊎◌, ◌<◌, ◌≤◌, ◌+◌, ℕ, List, length, All, Option, Some, slice_get}
 use Rattle.anb_base.specs.declared.TheConstants.{ARRIVAL}
 use Rattle.anb_code.specs.CodeValue.{CodeValue}
 use Rattle.anb_compile.specs.Fitting.{FitsRole}
 use Rattle.anb_command.specs.Roles.{Part}
 use Rattle.anb_partner.specs.declared.planning.PartnerNo.TheVariants as no
-use Rattle.anb_protocol.specs.Protocols.{ProtocolValue}
+use Rattle.anb_protocol.specs.Protocols.{ActionValue, ProtocolValue}
 use Rattle.anb_values.specs.declared.refusal.ValuesNo.TheVariants.{Long}
 use Rattle.anb_status.specs.declared.status.Status.{Status}
-use Rattle.anb_status.specs.declared.status.Status.TheVariants.{BadValues, NoMemory}
+use Rattle.anb_status.specs.declared.status.Status.TheVariants.{BadValues, CannotSend, NoMemory}
 use Rattle.anb_probe_commands.specs.ProbeCommand.{Agenda, IsHonestNo}
 use Rattle.anb_probe_commands.specs.Probings.{Probing, begins}
 use Rattle.anb_probe_commands.specs.declared.cases.Prepared.{Prepared}
@@ -36,9 +36,14 @@ abbrev pub IsLongOf : Option (List ℕ) → Status → Type 0
 IsLongOf label status = (status ≡ NoMemory) ⊎ ((l : List ℕ) × (label ≡ Some l) × (status ≡ BadValues (Long l)))
 
 -- the status where the honest partner can't be made
-abbrev pub IsHonestLack : Lack → Status → Type 0
-IsHonestLack (Blocked line) = IsHonestNo (no.CannotSend line)
-IsHonestLack Large = IsHonestNo no.Large
+abbrev pub IsHonestLack : ProtocolValue → (role : ℕ) → Lack → Status → Type 0
+IsHonestLack p role (Blocked line) = IsHonestNo p role (no.CannotSend line)
+IsHonestLack p role Large = IsHonestNo p role no.Large
+
+-- the status of the action behind so many, which its sender can't compose
+abbrev pub IsUnsentBehind : ProtocolValue → (before : ℕ) → ActionValue → Status → Type 0
+IsUnsentBehind p before action status =
+    (sender : List ℕ) × (slice_get p.roles action.from ≡ Some sender) × (status ≡ CannotSend (before + 1) sender)
 
 abbrev pub agenda_by : Prepared → Agenda
 agenda_by x = record { scenes = x.scenes.items; cases = x.cases.items; untried = x.untried.items; count = x.count }

@@ -5,7 +5,9 @@ ghost use Rattle.anb_attempts.specs.declared.attempts.TheConstants.{MOST};
 ghost use Rattle.anb_probe_commands.specs.Cases.{AreMade, all_untried, case_count, cases_from, is_wanted, lack_of};
 ghost use Rattle.anb_probe_commands.specs.Playing.{IsPrepared};
 ghost use Rattle.anb_probe_commands.specs.ProbeCommand.{RefusesHonest};
-ghost use Rattle.anb_probe_commands.specs.Tasks.{CanProbe, IsHonestLack, probing_by};
+ghost use Rattle.anb_probe_commands.specs.Tasks.{CanProbe, IsHonestLack, IsUnsentBehind, probing_by};
+ghost use Rattle.anb_protocol.specs.Views.{action_value};
+ghost use Rattle.anb_verdict.specs.Places.{is_own};
 ghost use Rattle.anb_probe_commands.specs.Asking.{trying_by};
 ghost use Rattle.anb_probe_commands.specs.declared.partners.Lack.TheVariants as lack;
 ghost use Rattle.anb_status.specs.declared.status.Status.TheVariants as status;
@@ -18,7 +20,7 @@ use anb_attempts::{Attempt, Scene, Suite, suite_of};
 use anb_base::{Bytes, NoMemory};
 use anb_command::{NarrationNo, Status};
 use anb_partner::{Partner, Values, values_for};
-use anb_protocol::{Kind, Protocol, ResolveNo};
+use anb_protocol::{Action, Kind, Protocol, ResolveNo};
 use std::alloc::Global;
 
 /// All that is tried of a role: the scenes, each with its partner or with why there is none; what the
@@ -170,7 +172,7 @@ fn case_count(attempts: &[Attempt], partners: &[Result<Partner, Lack>]) -> u32
 
 /// The status where the honest partner can't be made.
 fn honest_no(alloc: Global, p: &Protocol, role: u32, why: Lack) -> Status
-    ensures { IsHonestLack why result ⊎ (result ≡ status.NoMemory) }
+    ensures { IsHonestLack p.now role why result ⊎ (result ≡ status.NoMemory) }
 {
     match why {
         Lack::Blocked(line) => honest_blocked(alloc, p, role, line),
@@ -183,33 +185,41 @@ fn honest_no(alloc: Global, p: &Protocol, role: u32, why: Lack) -> Status
 /// The status where it can't make what the role is to hear in this line, from 1, of those that the role
 /// says and hears.
 fn honest_blocked(alloc: Global, p: &Protocol, role: u32, line: u32) -> Status
-    ensures { IsHonestLack (lack.Blocked line) result ⊎ (result ≡ status.NoMemory) }
+    ensures { IsHonestLack p.now role (lack.Blocked line) result ⊎ (result ≡ status.NoMemory) }
 {
-    let mut left = line;
-    for i in 0..p.actions() {
-        let Some(action) = p.messages().get(i as usize) else {
-            break;
-        };
-        if action.from == role || action.to == role {
-            if left <= 1 {
-                return cannot_send(alloc, p, i + 1, action.from);
+    let actions = p.messages();
+    let mut lines = 0;
+    for i in 0..actions.len() {
+        if is_own(&actions[i], role) {
+            lines += 1;
+            if lines == line as usize {
+                return cannot_send(alloc, p, i, &actions[i]);
             }
-            left -= 1;
         }
     }
     // A line is one of the role's messages.
     Status::NoMemory
 }
 
-/// The status of a message that this role can't compose.
-fn cannot_send(alloc: Global, p: &Protocol, action: u32, role: u32) -> Status
-    ensures { (line : ℕ) → IsHonestLack (lack.Blocked line) result ⊎ (result ≡ status.NoMemory) }
+/// Whether a role sends or hears in an action.
+fn is_own(action: &Action, role: u32) -> bool
+    ensures { result ≡ is_own role (action_value action.now) }
 {
-    match p.roles().get(role as usize) {
-        Some(name) => match name.copy(alloc) {
-            Ok(role) => Status::CannotSend { action, role },
-            Err(NoMemory) => Status::NoMemory,
+    action.from == role || action.to == role
+}
+
+/// The status of the action behind so many, which its sender can't compose.
+fn cannot_send(alloc: Global, p: &Protocol, before: usize, action: &Action) -> Status
+    ensures { IsUnsentBehind p.now before (action_value action.now) result ⊎ (result ≡ status.NoMemory) }
+{
+    let Some(name) = p.roles().get(action.from as usize) else {
+        return Status::NoMemory;
+    };
+    match (u32::try_from(before), name.copy(alloc)) {
+        (Ok(before), Ok(role)) if before < u32::MAX => Status::CannotSend {
+            action: before + 1,
+            role,
         },
-        None => Status::NoMemory,
+        _ => Status::NoMemory,
     }
 }

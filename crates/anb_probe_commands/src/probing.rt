@@ -8,7 +8,7 @@ ghost use Rattle.anb_command.specs.Reported.{TellsFaults};
 ghost use Rattle.anb_command.specs.Touches.{Touches};
 ghost use Rattle.anb_probe_commands.specs.Asking.{probing, trying_by};
 ghost use Rattle.anb_probe_commands.specs.Playing.{CanPlay, OverTrials, TaskComesTo};
-ghost use Rattle.anb_probe_commands.specs.ProbeCommand.{ComesTo, CompletesProbe, DoesProbe, HasProbeCause, NoTrialRose, probe_files, probe_phase};
+ghost use Rattle.anb_probe_commands.specs.ProbeCommand.{ComesTo, CompletesProbe, DoesProbe, HasProbeCause, StartFailed, probe_files, probe_phase};
 ghost use Rattle.anb_probe_commands.specs.Tasks.{CanProbe, agenda_by, probing_by};
 
 use crate::cases::{Prepared, prepare};
@@ -38,7 +38,7 @@ pub fn probe<F: Shelf, T: Trials, W: Wire>(
         (T.trial trials.old) (T.trial trials.new) (W.state wire.old) (W.state wire.new) result }
     ensures completes { NoneRose (probe_files (probing words.entry))
         (F.faults shelf.old) (F.faults shelf.new) (W.state wire.old) (W.state wire.new)
-        → NoTrialRose (T.trial trials.old) (T.trial trials.new)
+        → (StartFailed (T.trial trials.old) (T.trial trials.new) → ⊥)
         → CompletesProbe (probing words.entry) (F.files shelf.old) host_seed
         (T.trial trials.old) (T.trial trials.new) (W.state wire.old) (W.state wire.new) result }
     ensures faults { HasProbeCause (probe_files (probing words.entry))

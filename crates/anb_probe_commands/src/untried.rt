@@ -53,7 +53,7 @@ fn put_more(alloc: Global, lines: &mut Vec<Bytes>, more: bool) -> Result<(), NoM
     ensures { OnOk result (lines.new.items ≡ joined_once lines.old.items (more_lines more)) }
 {
     if more {
-        let line = "# not tried: what is behind the first 4096 cases\n";
+        let line = "# not tried: what comes after the first 4096 cases\n";
         put_once(lines, text_line(alloc, line)?)
     } else {
         Ok(())

@@ -26,9 +26,9 @@ around_name LongLength = (codes "with a length of ", codes " that isn't minimal"
 around_name LengthBeyond = (codes "with a length of ", codes " beyond the end")
 around_name LeadingZero = (codes "with a length of ", codes " that begins with a zero")
 around_name Semicolon = (codes "with \";\" in front of ", [])
-around_name Dot = (codes "with \".\" behind ", [])
+around_name Dot = (codes "with \".\" after ", [])
 around_name Capitals = (codes "with capital digits of ", [])
-around_name Comma = (codes "with \",\" behind ", [])
+around_name Comma = (codes "with \",\" after ", [])
 
 -- a field that is written in a wrong way, whose argument has this name
 abbrev pub field_words : Spoiling → List ℕ → List ℕ
@@ -47,7 +47,7 @@ piece_words spoiling (Field kind ∷ pieces) name = field_words spoiling name
 -- a row of these pieces
 abbrev pub row_words : List Piece → Row → List ℕ → List ℕ
 row_words pieces (At i spoiling) name = piece_words spoiling (drop i pieces) name
-row_words pieces Behind name = codes "with a byte behind its end"
+row_words pieces Behind name = codes "with a byte after its end"
 
 -- the number of the argument of the first of these pieces, where so many stand before it
 abbrev pub argument_number : ℕ → List Piece → Option ℕ

@@ -63,7 +63,7 @@ pub fn put_row_words(
             let (_, from) = pieces.split_at((place as usize).min(pieces.len()));
             put_piece_words(alloc, out, spoiling, from, name)?;
         }
-        Row::Behind => out.extend_from_slice("with a byte behind its end".as_bytes())?,
+        Row::Behind => out.extend_from_slice("with a byte after its end".as_bytes())?,
     }
     Ok(())
 }
@@ -121,8 +121,8 @@ fn around_name(spoiling: Spoiling) -> (&'static str, &'static str)
         Spoiling::LengthBeyond => ("with a length of ", " beyond the end"),
         Spoiling::LeadingZero => ("with a length of ", " that begins with a zero"),
         Spoiling::Semicolon => ("with \";\" in front of ", ""),
-        Spoiling::Dot => ("with \".\" behind ", ""),
+        Spoiling::Dot => ("with \".\" after ", ""),
         Spoiling::Capitals => ("with capital digits of ", ""),
-        Spoiling::Comma => ("with \",\" behind ", ""),
+        Spoiling::Comma => ("with \",\" after ", ""),
     }
 }

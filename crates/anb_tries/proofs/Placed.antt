@@ -114,6 +114,11 @@ along spare (Some r) es ins ms corrupt at (Some h) ls hs ss is hook fits =
     let from : h.at ≡ 0 + h.at = omega arith in
     hooked spare 1 0 h.at r es ins ms ls h.right h.wrong hs ss (sym is ∙ hook.0 ∙ ap Some from) hook.1 fits
 
+-- what a value was changed into are bytes
+changed_bytes : (o : Option Hooked) (corrupt : Corruption) (at : Option ℕ) (ls : List TranscriptLine) → IsHooked at corrupt ls o → IfSome o (λ h. IsBytes h.wrong)
+changed_bytes None corrupt at ls is = tt
+changed_bytes (Some h) corrupt at ls is = is.3
+
 module _ (a : Attempt) (is : IsAttempt a) (law : PartnersPlay a.script.protocol) where
   abbrev pub lines : List TranscriptLine
   lines = a.conversation.lines
@@ -135,7 +140,7 @@ module _ (a : Attempt) (is : IsAttempt a) (law : PartnersPlay a.script.protocol)
   partner_plays arrivals bytes = (law a.script a.code a.initial arrivals (replicate 32 0) 0 refl is.partner is.count is.values bytes).0
 
   pub arrive : AllByRecursion IsBytes (arrivals_of own)
-  arrive = own_arrive a.handed is.converses.talks.hooked lines is.handed_values is.lines is.changed
+  arrive = own_arrive a.handed is.converses.talks.hooked lines is.handed_values is.lines (changed_bytes is.converses.talks.hooked a.wrong a.at lines is.converses.talks.is_hooked)
 
   pub own_fit : Fits (sides_of (partner_plan a.script)) own
   own_fit = due_fit (meaning_of a.script.protocol) (draw_of (replicate 32 0) 0) (map event_of (partner_plan a.script)) a.initial R partner_plays own is.converses.talks.due arrive

@@ -1,5 +1,5 @@
 -- Verdicts on attempts are right.
-use Rattle.std.specs.Prelude.{◌≡◌, ◌≢◌, ◌<◌, ◌≤◌, ◌^◌, ℕ, List, length, map, replicate, take, true, false, Option, Some, None, IfSome, slice_get}
+use Rattle.std.specs.Prelude.{◌≡◌, ◌≢◌, ◌<◌, ◌≤◌, ◌^◌, ℕ, List, length, map, replicate, take, true, false, Option, Some, None, slice_get}
 use Rattle.std.specs.List.{AllByRecursion}
 use Rattle.anb_base.specs.Bytes.{IsBytes}
 use Rattle.anb_base.specs.declared.TheConstants.{ARRIVAL}
@@ -78,7 +78,6 @@ module _ (a : Attempt) where
     pub handed_values : AllByRecursion IsBytes a.handed
     pub converses : Converses (run_bytes a.code a.initial (replicate 32 0) 0) a.handed a.at a.wrong a.words a.old a.new a.conversation
     pub lines : AllByRecursion IsBytes (map line_bytes a.conversation.lines)
-    pub changed : IfSome converses.talks.hooked (λ h. IsBytes h.wrong)
     pub long : (len : ℕ) → a.conversation.end ≡ Long len → len < 2 ^ 32
     pub verdict : IsTriedVerdict judged seen a.conversation.end a.verdict
 

@@ -1,5 +1,5 @@
 //! One attempt on one program.
-ghost use Rattle.std.specs.Prelude.{◌≡◌, ◌≢◌, ◌<◌, ◌≤◌, ◌^◌, ℕ, length, map, replicate, All, IfOk, IfErr};
+ghost use Rattle.std.specs.Prelude.{◌≡◌, ◌≢◌, ◌+◌, ◌<◌, ◌≤◌, ◌^◌, ℕ, length, map, replicate, All, IfOk, IfErr};
 ghost use Rattle.std.specs.List.{AllByRecursion};
 ghost use Rattle.anb_base.specs.Bytes.{IsBytes};
 ghost use Rattle.anb_base.specs.Moves.{Rose};
@@ -116,7 +116,7 @@ fn verdict_on(
     requires count { length initial.now ≡ length (known_by p.now role) }
     requires bytes { AllByRecursion IsBytes initial.now }
     requires short { All (λ value. length value ≤ ARRIVAL) initial.now }
-    requires few { length conversation.now.lines < 2 ^ 32 }
+    requires few { length conversation.now.lines + 1 < 2 ^ 32 }
     requires lines { AllByRecursion IsShort conversation.now.lines }
     ensures { IfOk result (IsTriedVerdict (record {
       protocol = p.now;
@@ -144,7 +144,7 @@ fn verdict_behind(
     requires count { length initial.now ≡ length (known_by p.now role) }
     requires bytes { AllByRecursion IsBytes initial.now }
     requires short { All (λ value. length value ≤ ARRIVAL) initial.now }
-    requires few { length lines.now < 2 ^ 32 }
+    requires few { length lines.now + 1 < 2 ^ 32 }
     requires lines { AllByRecursion IsShort lines.now }
     ensures { IfOk result (IsTriedVerdict (record {
       protocol = p.now;

@@ -107,7 +107,7 @@ module _ (p : ProtocolValue) (role : ℕ) where
   note_text (says.StrictEnd status) = codes "# too strict: it ended with " ++ decimal status ++ 10 ∷ []
   note_text (says.Wrong event) = wrong_text event
   note_text says.Unnarrated = codes "# wrong: it sent a message that isn't narrated\n"
-  note_text says.Loose = codes "# wrong: behind its last message came bytes that are none\n"
+  note_text says.Loose = codes "# wrong: after its last message came bytes that are none\n"
   note_text (says.Signal signal) = codes "# ended by signal " ++ decimal signal ++ 10 ∷ []
   note_text says.Silent = codes "# silent for too long\n"
   note_text says.Lost = codes "# its end isn't known\n"
@@ -131,7 +131,7 @@ module _ (p : ProtocolValue) (role : ℕ) where
   missing_text (missing.Literal place) = codes "the literal of " ++ head_text p role place ++ codes " isn't compared"
   missing_text missing.NotMinimal = codes "a length that isn't minimal is taken"
   missing_text missing.BeyondEnd = codes "a length beyond the end is taken"
-  missing_text missing.BytesBehind = codes "bytes behind the end are taken"
+  missing_text missing.BytesBehind = codes "bytes after the end are taken"
   missing_text missing.Earlier = codes "the message of an earlier session is taken"
 
   abbrev pub missing_line : Missing → List ℕ

@@ -32,7 +32,7 @@ pub fn judge_case(
     requires count { length initial.now ≡ length (known_by p.now role) }
     requires bytes { AllByRecursion IsBytes initial.now }
     requires short { All (λ value. length value ≤ ARRIVAL) initial.now }
-    requires few { length transcript.now < 2 ^ 32 }
+    requires few { length transcript.now + 1 < 2 ^ 32 }
     requires lines { All (λ line. length (line_bytes line) ≤ ARRIVAL) transcript.now }
     ensures { IfOk result (IsVerdict (record {
       protocol = p.now;

@@ -78,7 +78,7 @@ fn missing_text(alloc: Global, p: &Protocol, role: u32, missing: &Missing) -> Re
         }
         Missing::NotMinimal => text(alloc, "a length that isn't minimal is taken"),
         Missing::BeyondEnd => text(alloc, "a length beyond the end is taken"),
-        Missing::BytesBehind => text(alloc, "bytes behind the end are taken"),
+        Missing::BytesBehind => text(alloc, "bytes after the end are taken"),
         Missing::Earlier => text(alloc, "the message of an earlier session is taken"),
     }
 }

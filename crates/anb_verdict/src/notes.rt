@@ -44,7 +44,7 @@ pub(crate) fn note_text(
         Verdict::Unnarrated => text(alloc, "# wrong: it sent a message that isn't narrated\n"),
         Verdict::Loose => text(
             alloc,
-            "# wrong: behind its last message came bytes that are none\n",
+            "# wrong: after its last message came bytes that are none\n",
         ),
         Verdict::Signal(signal) => Ok(Text::new(format!(in alloc;
             "# ended by signal {}\n",

@@ -1,25 +1,23 @@
 use Rattle.std.proofs.Common.{◌≡◌, ℕ, ◌<◌, List, [], ◌∷◌, length, sym, ap, ◌∙◌, subst, arith}
 use Rattle.std.specs.List.{AllByRecursion}
 use Rattle.std.proofs.lemmas.List.Elements.{All-from_recursion}
-use Rattle.anb_spoil.specs.declared.changes.Change.{Change}
 use Rattle.anb_attempts.specs.declared.attempts.Attempt.{Attempt}
 use Rattle.anb_attempts.specs.declared.attempts.Scene.{Scene}
 use Rattle.anb_attempts.specs.declared.attempts.Suite.{Suite}
-use Rattle.anb_attempts.specs.Attempts.{Covers, IsPartOfCheck, SceneMayStand, changes_tried}
-use Rattle.anb_attempts.proofs.Standing.{IsBelow, checks_below, checks_stand}
+use Rattle.anb_attempts.specs.declared.points.Point.{Point}
+use Rattle.anb_attempts.specs.Attempts.{Covers, IsPartOfPoint, SceneMayStand}
+use Rattle.anb_attempts.proofs.Standing.{IsBelow, points_below, points_stand}
 use Rattle.anb_attempts.proofs.trying.suite_of.Goals as goal
 
 pub returns-clause-is : goal.returns-clause-is
 returns-clause-is c =
     let begun = c.in_ok-suite.suite in
-    let new = c.put_checks.new.suite in
-    let changes = c.deref.ensures.value ∙ c.in_ok-changes.ensures in
-    let checks = c.deref-2.ensures.value ∙ c.in_ok-checks.ensures.are in
+    let new = c.put_points.new.suite in
+    let points = c.deref.ensures.value ∙ c.in_ok-points.ensures.are in
     record {
       begun = begun;
       begins = c.in_ok-suite.ensures.begun;
-      covers = subst (λ (l : List ℕ). Covers (IsPartOfCheck c.args.p.now c.args.role c.args.code.now (changes_tried c.args.all)) l begun new) checks
-          (subst (λ (l : List Change). Covers (IsPartOfCheck c.args.p.now c.args.role c.args.code.now l) c.deref-2.result.now begun new) changes c.in_ok-put_checks.ensures.covers);
+      covers = subst (λ (l : List Point). Covers (IsPartOfPoint c.args.p.now c.args.role c.args.code.now c.args.all) l begun new) points c.in_ok-put_points.ensures.covers;
     }
 
 begun_below : (suite : Suite) (scene : Scene) (attempt : Attempt) → suite.scenes.items ≡ scene ∷ [] → suite.attempts.items ≡ attempt ∷ [] → attempt.scene ≡ 0 → AllByRecursion (IsBelow (length suite.scenes.items)) suite.attempts.items
@@ -30,15 +28,15 @@ begun_below suite scene attempt s a first =
 pub returns-clause-within : goal.returns-clause-within
 returns-clause-within c =
     let begun = c.in_ok-suite.suite in
-    let new = c.put_checks.new.suite in
+    let new = c.put_points.new.suite in
     let b = c.in_ok-suite.ensures.begun in
-    let covers = c.in_ok-put_checks.ensures.covers in
+    let covers = c.in_ok-put_points.ensures.covers in
     All-from_recursion (IsBelow (length new.scenes.items)) new.attempts.items
-    (checks_below c.args.p.now c.args.role c.deref.result.now c.args.code.now covers.tried begun new covers.added (begun_below begun b.scene b.attempt b.scenes b.attempts b.honest.scene))
+    (points_below c.args.p.now c.args.role c.args.code.now c.args.all covers.tried begun new covers.added (begun_below begun b.scene b.attempt b.scenes b.attempts b.honest.scene))
 
 pub returns-clause-stand : goal.returns-clause-stand
 returns-clause-stand c =
-    let covers = c.in_ok-put_checks.ensures.covers in
-    let new = c.put_checks.new.suite in
+    let covers = c.in_ok-put_points.ensures.covers in
+    let new = c.put_points.new.suite in
     All-from_recursion (SceneMayStand c.args.p.now) new.scenes.items
-    (checks_stand c.args.p.now c.args.role c.deref.result.now c.args.code.now covers.tried c.in_ok-suite.suite new covers.added c.in_ok-suite.ensures.stand)
+    (points_stand c.args.p.now c.args.role c.args.code.now c.args.all covers.tried c.in_ok-suite.suite new covers.added c.in_ok-suite.ensures.stand)

@@ -22,7 +22,7 @@ returns-in-Message-clause-changed c =
     let b = c.as_slice.result.now in
     let so = λ (xs : List (List ℕ)). c.in-Message.ensures.turned.0 xs ∙ ap (λ m. says m (M xs)) (sym c.as_slice.ensures) in
     on_ok c.hand_wrong.result _ _ c.hand_wrong.ensures.handed (λ h.
-    (b, h.0, h.1, reaches_joined R M N (Out b ∷ []) (In h.0 ∷ []) (says_line R M b so) h.2))
+    (b, h.0, h.1, h.2, reaches_joined R M N (Out b ∷ []) (In h.0 ∷ []) (says_line R M b so) h.3))
 
 pub returns-in-Message-clause-over : goal.returns-in-Message-clause-over
 returns-in-Message-clause-over c =

@@ -1,4 +1,4 @@
-use Rattle.std.proofs.Common.{sym, subst, ℕ}
+use Rattle.std.proofs.Common.{sym, subst, ◌∙◌, ℕ}
 use Rattle.anb_partner.specs.Trials.{Trial}
 use Rattle.anb_status.specs.declared.status.Status.{Status}
 use Rattle.anb_probe_commands.specs.Asking.{trying_by}
@@ -27,4 +27,4 @@ returns-in-Err-play_all-clause-comes g c =
     let new = g.T.Trials.trial c.play_all.new.trials in
     subst (λ (s : Status). ComesTo q (trying_by c.args.trying) (agenda_by c.args.prepared.now) c.args.name (g.T.Trials.trial c.args.trials.now) new S.written T.written s) (sym c.status_of-in-Err-play_all.ensures)
     (subst (λ (old : ℕ → Trial). ComesTo q (trying_by c.args.trying) (agenda_by c.args.prepared.now) c.args.name old new S.written T.written (status_of c.in-Err-play_all.no c.args.name)) c.wait_at_most.ensures
-    (comes_less q (trying_by c.args.trying) (agenda_by c.args.prepared.now) c.args.name (g.T.Trials.trial c.wait_at_most.new.trials) new S T c.in-Err-play_all.no c.in-Err-play_all.ensures.cut))
+    (comes_less q (trying_by c.args.trying) (agenda_by c.args.prepared.now) c.args.name (g.T.Trials.trial c.wait_at_most.new.trials) new S T c.in-Err-play_all.no (sym c.is_beyond.ensures ∙ c.if-is_beyond.false) c.in-Err-play_all.ensures.cut))
