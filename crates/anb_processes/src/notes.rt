@@ -38,6 +38,12 @@ pub(crate) fn tell_no_program(rt: &HostRuntime, path: &str) -> io::Result<()> {
     tell(rt, line.as_str())
 }
 
+/// Tells that a program can't be started.
+pub(crate) fn tell_unstarted(rt: &HostRuntime, name: &Text) -> io::Result<()> {
+    let line = format!(in rt.alloc(); "anb: can't start {}\n", name.as_str())?;
+    tell(rt, line.as_str())
+}
+
 fn tell(rt: &HostRuntime, line: &str) -> io::Result<()> {
     rt.stderr().write_all(line.as_bytes())
 }

@@ -2,8 +2,10 @@
 
 ghost use Rattle.std.specs.Prelude.{◌≤◌, length, IfOk};
 
+use crate::kept::Kept;
 use crate::pauses::{Pauses, is_over};
 use anb_base::Text;
+use std::alloc::Global;
 use std::io;
 use std::io::{ErrorKind, Read, Write};
 use std::os::fd::{AsRawFd, OwnedFd, RawFd};
@@ -17,7 +19,7 @@ const DROPPED_BYTES: usize = 4 * 1024 * 1024;
 
 const DROPPING_TIME: u64 = 2_000;
 
-/// How many bytes are read at once there.
+/// How many bytes are read at once there, or kept.
 const DROPPED_PIECE: usize = 4_096;
 
 /// The descriptor above those of the standard streams.
@@ -26,12 +28,13 @@ const FIRST_FREE: RawFd = 3;
 /// A child that was started, its input while that is open, and its output, which both don't block.
 #[derive(Drop)]
 pub(crate) struct Running {
-    pub(crate) role: u32,
     /// For how long it may be silent at most.
     limit: Option<Duration>,
     child: Child,
     input: Option<ChildStdin>,
     output: Option<ChildStdout>,
+    /// What it wrote while it took no input, where that is kept.
+    kept: Option<Kept>,
     /// When it was found to have ended.
     ended: Option<Instant>,
     is_left: bool,
@@ -43,7 +46,6 @@ impl Running {
     pub(crate) fn start(
         rt: &HostRuntime,
         program: &str,
-        role: u32,
         limit: Option<Duration>,
         words: &[Text],
     ) -> io::Result<Self> {
@@ -56,11 +58,11 @@ impl Running {
             .stdout(Stdio::piped())
             .stderr(rt.stderr());
         let mut running = Running {
-            role,
             limit,
             child: command.spawn(rt)?,
             input: None,
             output: None,
+            kept: None,
             ended: None,
             is_left: false,
         };
@@ -84,11 +86,23 @@ impl Running {
         Ok(())
     }
 
+    /// From now on what it writes while it takes no input is read, up to four mebibytes, and kept until it
+    /// is asked for. A child that first wants to be heard then goes on, however small its pipes are.
+    pub(crate) fn keep(&mut self, alloc: Global) {
+        self.kept = Some(Kept::new(alloc));
+    }
+
     /// What the child wrote, once there is some. Its output is also at its end where it has ended and
     /// whoever else holds its pipe writes nothing for two seconds.
     pub(crate) fn read(&mut self, rt: &HostRuntime, buf: &mut [u8]) -> io::Result<usize>
         ensures { IfOk result (λ n. n ≤ length buf.new) }
     {
+        if let Some(kept) = &mut self.kept {
+            let n = kept.take(buf);
+            if n > 0 {
+                return Ok(n);
+            }
+        }
         let start = Instant::now(rt)?;
         let mut pauses = Pauses::new();
         for _ in 0..u64::MAX {
@@ -125,6 +139,9 @@ impl Running {
                 Err(error) if is_for_the_moment(error.kind()) => {}
                 ended => return ended,
             }
+            if self.keep_some()? {
+                continue;
+            }
             if self.is_long_over(rt)? {
                 return Ok(piece.len());
             }
@@ -134,6 +151,25 @@ impl Running {
             pauses.pause(rt);
         }
         Err(silence())
+    }
+
+    /// Whether some of what the child wrote could be read and kept.
+    fn keep_some(&mut self) -> io::Result<bool> {
+        let (Some(kept), Some(output)) = (&mut self.kept, &mut self.output) else {
+            return Ok(false);
+        };
+        if !kept.has_room() {
+            return Ok(false);
+        }
+        let mut piece = [0u8; DROPPED_PIECE];
+        match output.read(&mut piece) {
+            Ok(n) => {
+                kept.put(&piece[..n])?;
+                Ok(n > 0)
+            }
+            // What fails here fails where it is asked for.
+            Err(_) => Ok(false),
+        }
     }
 
     /// Whether the child ended two seconds ago or more.
@@ -147,9 +183,19 @@ impl Running {
         }
     }
 
-    /// Ends the child's input, waits for the child, and answers its status, where it ended by itself.
-    /// What it still writes is dropped.
-    pub(crate) fn finish(&mut self, rt: &HostRuntime) -> io::Result<u8> {
+    /// From now on it may be silent for so long at most.
+    pub(crate) fn set_limit(&mut self, limit: Duration) {
+        self.limit = Some(limit);
+    }
+
+    /// Ends the child's input.
+    pub(crate) fn close(&mut self) {
+        self.input = None;
+    }
+
+    /// Ends the child's input, waits for the child, and answers what it ended with. What it still
+    /// writes is dropped.
+    pub(crate) fn finish(&mut self, rt: &HostRuntime) -> io::Result<ExitStatus> {
         self.input = None;
         let start = Instant::now(rt)?;
         let mut heard = start;
@@ -157,7 +203,7 @@ impl Running {
         let mut dropped = 0usize;
         for _ in 0..u64::MAX {
             if let Some(status) = self.child.try_wait()? {
-                return number_of(status);
+                return Ok(status);
             }
             let count = self.drop_some();
             dropped = dropped.saturating_add(count);
@@ -174,6 +220,11 @@ impl Running {
             pauses.pause(rt);
         }
         Err(silence())
+    }
+
+    /// Finishes the child, and answers the number of its status, where it ended by itself.
+    pub(crate) fn finish_with_status(&mut self, rt: &HostRuntime) -> io::Result<u8> {
+        number_of(self.finish(rt)?)
     }
 
     /// Reads and drops some of what the child wrote, and answers how much. Output that is at its end
@@ -246,7 +297,7 @@ fn is_beyond(rt: &HostRuntime, limit: Option<Duration>, start: Instant) -> io::R
 }
 
 /// The fault of a child that was silent for too long.
-fn silence() -> io::Error {
+pub(crate) fn silence() -> io::Error {
     io::Error::from(ErrorKind::TimedOut)
 }
 

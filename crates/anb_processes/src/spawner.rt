@@ -4,12 +4,12 @@ ghost use Rattle.std.specs.Prelude.{◌≡◌, ◌<◌, ◌≤◌, ℕ, get_or};
 ghost use Rattle.anb_processes.specs.Children.{child_of};
 
 use crate::counts::Counts;
-use crate::notes::{tell_end, tell_left, tell_no_program};
+use crate::notes::{tell_end, tell_left, tell_no_program, tell_unstarted};
 use crate::running::{Running, is_silence};
 use crate::watcher::Watcher;
 use anb_base::{Failed, Text};
-use anb_stage::Spawner;
-use std::alloc::Global;
+use anb_stage::{ChildWords, Spawner};
+use std::alloc::{AllocError, Global};
 use std::io::ErrorKind;
 use std::marker::Model;
 use std::process::ExitStatus;
@@ -43,15 +43,16 @@ impl ChildProgram {
     }
 }
 
-/// A child with the name of its role.
+/// A role's child, with the role's name.
 #[derive(Drop)]
 struct Named {
+    role: u32,
     name: Text,
     running: Running,
 }
 
-/// Starts one program for all roles, each time as a child of this one, over pipes. It tells nothing
-/// of the bytes, the words and the statuses. Each role's count rises by one with each fault, which
+/// Starts a program for each role as a child of this one, over pipes: the one that its words name, or one
+/// and the same. It tells nothing of the bytes, the words and the statuses. Each role's count rises by one with each fault, which
 /// is also the answer for a child that a signal ended. What a child no longer takes is dropped, and is
 /// no fault. Dropping it closes all pipes and ends no child: `end` does.
 #[derive(Drop)]
@@ -143,12 +144,22 @@ fn start(
     children: &mut Vec<Named>,
     role: u32,
     limit: Option<u32>,
-    words: &[Text],
+    own: &ChildWords,
 ) -> io::Result<()> {
-    let name = name_of(rt.alloc(), words)?;
+    let name = name_of(rt.alloc(), &own.words)?;
     let limit = limit.map(|seconds| Duration::from_secs(u64::from(seconds)));
-    let running = Running::start(rt, program.path()?, role, limit, words)?;
-    match children.push(Named { name, running }) {
+    let running = match &*own.program {
+        [] => Running::start(rt, program.path()?, limit, &own.words)?,
+        [first, words @ ..] => {
+            let words = joined(rt.alloc(), words, &own.words)?;
+            Running::start(rt, first.as_str(), limit, &words)?
+        }
+    };
+    match children.push(Named {
+        role,
+        name,
+        running,
+    }) {
         Ok(()) => Ok(()),
         Err(failed) => {
             let mut child = failed.value;
@@ -165,6 +176,15 @@ fn name_of(alloc: Global, words: &[Text]) -> io::Result<Text> {
         None => "",
     };
     Ok(Text::new(String::from_str(alloc, name)?))
+}
+
+/// These words, and then those.
+fn joined(alloc: Global, words: &[Text], more: &[Text]) -> Result<Vec<Text>, AllocError> {
+    let mut all = Vec::with_capacity(alloc, words.len().saturating_add(more.len()))?;
+    for word in words.iter().chain(more) {
+        all.push(Text::new(String::from_str(alloc, word.as_str())?))?;
+    }
+    Ok(all)
 }
 
 /// Watches over the child that was started last. The first one brings the watcher with it.
@@ -189,12 +209,17 @@ fn unwatch(rt: &HostRuntime, watcher: &mut Option<Watcher>, child: &Named) -> io
     }
 }
 
-/// Tells where this program itself can't be found.
-fn explain(rt: &HostRuntime, program: &ChildProgram) {
-    if let ChildProgram::Own = program {
-        if fs::symlink_metadata(rt, OWN).is_err() {
+/// Tells which program can't be started, where the words name one, or where this program itself can't be
+/// found.
+fn explain(rt: &HostRuntime, program: &ChildProgram, own: &ChildWords) {
+    match (own.program.first(), program) {
+        (Some(name), _) => {
+            let _ = tell_unstarted(rt, name);
+        }
+        (None, ChildProgram::Own) if fs::symlink_metadata(rt, OWN).is_err() => {
             let _ = tell_no_program(rt, OWN);
         }
+        _ => {}
     }
 }
 
@@ -204,20 +229,20 @@ fn no_child() -> io::Error {
 
 /// The child of a role.
 fn child_in(children: &mut [Named], role: u32) -> Option<&mut Named> {
-    children.iter_mut().find(|child| child.running.role == role)
+    children.iter_mut().find(|child| child.role == role)
 }
 
 impl Spawner for RealSpawner {
     ghost child = { child_of };
 
-    fn start(&mut self, role: u32, limit: Option<u32>, words: &[Text]) -> Result<(), Failed> {
+    fn start(&mut self, role: u32, limit: Option<u32>, own: &ChildWords) -> Result<(), Failed> {
         match start(
             &self.rt,
             &self.program,
             &mut self.children,
             role,
             limit,
-            words,
+            own,
         ) {
             Ok(()) => {
                 // Without a watcher the children are as good.
@@ -226,7 +251,7 @@ impl Spawner for RealSpawner {
                 Ok(())
             }
             Err(_) => {
-                explain(&self.rt, &self.program);
+                explain(&self.rt, &self.program, own);
                 Err(self.counts.fail(role, false))
             }
         }
@@ -263,7 +288,7 @@ impl Spawner for RealSpawner {
     fn finish(&mut self, role: u32) -> Result<u8, Failed> {
         let status = match child_in(&mut self.children, role) {
             Some(child) => {
-                let status = child.running.finish(&self.rt);
+                let status = child.running.finish_with_status(&self.rt);
                 // One that was silent still runs.
                 if !matches!(&status, Err(error) if is_silence(error)) {
                     let _ = unwatch(&self.rt, &mut self.watcher, child);

@@ -5,18 +5,31 @@ ghost use Rattle.anb_stage.specs.declared.TheConstants.{ROLES};
 
 use crate::{ChildProgram, RealSpawner};
 use anb_base::{Failed, Text};
-use anb_stage::Spawner;
+use anb_stage::{ChildWords, Spawner};
 use std::alloc::{AllocError, Global};
 use std::test::Fail;
 use std::{fs, str};
 
-/// The words of a shell that runs this line.
-fn words(alloc: Global, line: &str) -> Result<Vec<Text>, AllocError> {
+/// These words.
+fn texts(alloc: Global, all: &[&str]) -> Result<Vec<Text>, AllocError> {
     let mut words = Vec::new(alloc);
-    for word in ["-c", line] {
+    for word in all {
         words.push(Text::new(String::from_str(alloc, word)?))?;
     }
     Ok(words)
+}
+
+/// The words of a child of a program.
+fn child_words(alloc: Global, program: &[&str], words: &[&str]) -> Result<ChildWords, AllocError> {
+    Ok(ChildWords {
+        program: texts(alloc, program)?,
+        words: texts(alloc, words)?,
+    })
+}
+
+/// The words of a shell that runs this line.
+fn words(alloc: Global, line: &str) -> Result<ChildWords, AllocError> {
+    child_words(alloc, &[], &["-c", line])
 }
 
 /// A spawner of this program.
@@ -27,13 +40,13 @@ fn spawner(rt: HostRuntime, program: &str) -> Result<RealSpawner, AllocError>
     Ok(RealSpawner::new(rt, ChildProgram::Named(Text::new(program))))
 }
 
-fn start(children: &mut RealSpawner, role: u32, words: &[Text]) -> Result<(), Fail>
+fn start(children: &mut RealSpawner, role: u32, own: &ChildWords) -> Result<(), Fail>
     requires { role < ROLES }
     ensures started { OnOk result (get_or children.new.phases role 0 ≡ 1) }
     ensures others { (other : ℕ) → other ≢ role
         → get_or children.new.phases other 0 ≡ get_or children.old.phases other 0 }
 {
-    match children.start(role, None, words) {
+    match children.start(role, None, own) {
         Ok(()) => Ok(()),
         Err(Failed) => Err("not started".into()),
     }
@@ -51,7 +64,7 @@ fn ends(rt: HostRuntime, line: &str) -> Result<Result<u8, Failed>, Fail> {
 #[test]
 fn children_say_back_what_they_hear(rt: HostRuntime) -> Result<(), Fail> {
     let mut cats = spawner(rt, "/bin/cat")?;
-    let none = Vec::new(rt.alloc());
+    let none = child_words(rt.alloc(), &[], &[])?;
     start(&mut cats, 0, &none)?;
     start(&mut cats, 1, &none)?;
     let mut buf = [0u8; 3];
@@ -69,6 +82,16 @@ fn a_child_ends_with_its_status(rt: HostRuntime) -> Result<(), Fail> {
     assert_eq!(rt; ends(rt, "exit 7")?, Ok(7));
     assert_eq!(rt; ends(rt, "cat; head -c 1000000 /dev/zero")?, Ok(0));
     assert_eq!(rt; ends(rt, "kill -9 $$")?, Err(Failed));
+    Ok(())
+}
+
+#[test]
+fn words_may_name_the_program(rt: HostRuntime) -> Result<(), Fail> {
+    let mut shells = spawner(rt, "/no/such/program")?;
+    let own = child_words(rt.alloc(), &["/bin/sh", "-c"], &["exit 7"])?;
+    start(&mut shells, 0, &own)?;
+    assert_eq!(rt; shells.finish(0), Ok(7));
+    shells.end();
     Ok(())
 }
 

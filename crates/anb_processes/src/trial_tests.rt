@@ -1,0 +1,92 @@
+//! Children of cases: what they write and take, and how they end.
+
+ghost use Rattle.std.specs.Prelude.{◌≡◌, ℕ, IfOk};
+ghost use Rattle.anb_processes.specs.Trials.{trial_of};
+
+use crate::{RealChild, RealTrials};
+use anb_base::{Failed, Sink, Source, Text, read_full, write_whole};
+use anb_partner::{ChildEnd, Trials};
+use std::alloc::{AllocError, Global};
+use std::test::Fail;
+
+/// These words.
+fn words(alloc: Global, texts: &[&str]) -> Result<Vec<Text>, AllocError> {
+    let mut words = Vec::new(alloc);
+    for text in texts {
+        words.push(Text::new(String::from_str(alloc, text)?))?;
+    }
+    Ok(words)
+}
+
+/// The child of the first case, which has these words.
+fn started(trials: &mut RealTrials, words: &[Text]) -> Result<RealChild, Fail>
+    requires { (trial_of trials.old 0).phase ≡ 0 }
+    ensures { IfOk result (λ _. (trial_of trials.new 0).phase ≡ 1) }
+{
+    match trials.start(0, words) {
+        Ok(child) => Ok(child),
+        Err(Failed) => Err("not started".into()),
+    }
+}
+
+/// How a shell that runs this line ends, and whether it was silent for a second.
+fn end_of(rt: HostRuntime, line: &str) -> Result<(Result<ChildEnd, Failed>, bool), Fail> {
+    let mut trials = RealTrials::new(rt);
+    trials.wait_at_most(1);
+    let words = words(rt.alloc(), &["sh", "-c", line])?;
+    let child = started(&mut trials, &words)?;
+    let end = trials.finish(0, child);
+    let was_silent = trials.was_silent(0);
+    trials.end();
+    Ok((end, was_silent))
+}
+
+#[test]
+fn a_childs_end_is_told(rt: HostRuntime) -> Result<(), Fail> {
+    assert_eq!(rt; end_of(rt, "exit 7")?, (Ok(ChildEnd::Status(7)), false));
+    assert_eq!(rt;
+        end_of(rt, "kill -15 $$")?,
+        (Ok(ChildEnd::Signal(15)), false)
+    );
+    assert_eq!(rt; end_of(rt, "exec sleep 100")?, (Err(Failed), true));
+    Ok(())
+}
+
+#[test]
+fn a_child_hears_and_says(rt: HostRuntime) -> Result<(), Fail> {
+    let mut trials = RealTrials::new(rt);
+    let mut child = started(&mut trials, &words(rt.alloc(), &["cat"])?)?;
+    let mut buf = [0u8; 3];
+    assert_eq!(rt; child.write(b"ab"), Ok(2));
+    assert_eq!(rt; child.read(&mut buf), Ok(2));
+    assert_eq!(rt; buf, *b"ab\0");
+    trials.close(&mut child);
+    assert_eq!(rt; child.read(&mut buf), Ok(0));
+    assert_eq!(rt; trials.finish(0, child), Ok(ChildEnd::Status(0)));
+    trials.end();
+    Ok(())
+}
+
+#[test]
+fn a_child_may_speak_before_it_hears(rt: HostRuntime) -> Result<(), Fail> {
+    let mut trials = RealTrials::new(rt);
+    trials.wait_at_most(5);
+    let line = "head -c 200000 /dev/zero; cat > /dev/null";
+    let mut child = started(&mut trials, &words(rt.alloc(), &["sh", "-c", line])?)?;
+    let mut bytes = vec![in rt.alloc(); 1u8; 200_000]?;
+    assert_eq!(rt; write_whole(&mut child, &bytes), Ok(()));
+    assert_eq!(rt; read_full(&mut child, &mut bytes), Ok(200_000));
+    assert_eq!(rt; bytes.first(), Some(&0));
+    assert_eq!(rt; trials.finish(0, child), Ok(ChildEnd::Status(0)));
+    trials.end();
+    Ok(())
+}
+
+#[test]
+fn a_program_that_is_not_there_is_not_started(rt: HostRuntime) -> Result<(), Fail> {
+    let mut trials = RealTrials::new(rt);
+    let words = words(rt.alloc(), &["/no/such/program"])?;
+    assert!(rt; trials.start(0, &words).is_err());
+    trials.end();
+    Ok(())
+}

@@ -1,0 +1,215 @@
+//! The children of the machine, one for each case.
+
+ghost use Rattle.std.specs.Prelude.{◌≡◌, ◌<◌, ◌≤◌, ℕ, length, replicate, IfOk};
+ghost use Rattle.anb_processes.specs.Trials.{fresh_case, trial_of};
+
+use crate::RealChild;
+use crate::case::Case;
+use crate::notes::tell_left;
+use crate::running::{Running, is_silence, silence};
+use crate::watcher::Watcher;
+use anb_base::{Failed, Text};
+use anb_partner::{ChildEnd, Trials};
+use std::alloc::{AllocError, Global};
+use std::io;
+use std::io::ErrorKind;
+use std::marker::Model;
+use std::os::unix::prelude::ExitStatusExt;
+use std::process::ExitStatus;
+use std::time::Duration;
+
+/// How many cases may have a child.
+const CASES: usize = 4_096;
+
+/// Starts a program for each case as a child of this one, over pipes: its words as they stand, with no
+/// shell between; a name without a slash is looked for as a shell does. Its standard error is that of
+/// this program. It tells nothing of the bytes, the words and the ends. Each case's count rises by one
+/// with each fault, which is also the answer for a child that was silent for too long. Beyond 4,096
+/// cases no child can be started.
+#[derive(Drop)]
+pub struct RealTrials {
+    rt: HostRuntime,
+    cases: Vec<Case>,
+    limit: Option<Duration>,
+    /// What kills a child where a signal ends this program. There is none without a shell.
+    watcher: Option<Watcher>,
+}
+
+impl Model for RealTrials {
+    ghost use Rattle.std.specs.Prelude.{List};
+    ghost use Rattle.anb_processes.specs.Trials as trials;
+
+    ghost Value = { List trials.Case };
+
+    ghost view = { λ s. s.cases.items };
+}
+
+impl RealTrials {
+    /// Cases none of which has a child.
+    pub fn new(rt: HostRuntime) -> Self
+        ensures { (case : ℕ) → (trial_of result case).phase ≡ 0 }
+    {
+        RealTrials {
+            rt,
+            cases: fresh_cases(rt.alloc()),
+            limit: None,
+            watcher: None,
+        }
+    }
+
+    /// Ends what watches over the children, which have all been finished.
+    pub fn end(self) {
+        if let Some(watcher) = self.watcher {
+            // One that fails has ended.
+            let _ = watcher.end();
+        }
+    }
+}
+
+/// As many cases as there may be; none where there is no memory for them.
+fn fresh_cases(alloc: Global) -> Vec<Case>
+    ensures { (case : ℕ) → (trial_of result.items case).phase ≡ 0 }
+{
+    match some_cases(alloc, CASES) {
+        Ok(cases) => cases,
+        Err(_) => Vec::new(alloc),
+    }
+}
+
+/// So many cases of which nothing was asked.
+fn some_cases(alloc: Global, count: usize) -> Result<Vec<Case>, AllocError>
+    ensures { IfOk result (λ cases. cases.items ≡ replicate count fresh_case) }
+{
+    let mut cases = Vec::with_capacity(alloc, count)?;
+    for _ in 0..count {
+        cases.push(Case::fresh())?;
+    }
+    Ok(cases)
+}
+
+/// Starts a child with these words, the first of which names its program.
+fn start(rt: &HostRuntime, limit: Option<Duration>, words: &[Text]) -> io::Result<Running> {
+    let [program, words @ ..] = words else {
+        return Err(io::Error::from(ErrorKind::InvalidInput));
+    };
+    if program.as_str().is_empty() {
+        return Err(io::Error::from(ErrorKind::InvalidInput));
+    }
+    let mut running = Running::start(rt, program.as_str(), limit, words)?;
+    running.keep(rt.alloc());
+    Ok(running)
+}
+
+/// Watches over a child too. The first one brings the watcher with it.
+fn watch(rt: &HostRuntime, watcher: &mut Option<Watcher>, process: u32) -> io::Result<()> {
+    if watcher.is_none() {
+        *watcher = Watcher::start(rt)?;
+    }
+    match watcher {
+        Some(watcher) => watcher.add(rt, process),
+        None => Ok(()),
+    }
+}
+
+/// No longer watches over a child, which has ended.
+fn unwatch(rt: &HostRuntime, watcher: &mut Option<Watcher>, process: u32) -> io::Result<()> {
+    match watcher {
+        Some(watcher) => watcher.remove(rt, process),
+        None => Ok(()),
+    }
+}
+
+/// Ends a child's input, waits for its end, and answers it. A child that was silent before isn't waited
+/// for, and one that hasn't ended is killed.
+fn end_of(rt: &HostRuntime, running: &mut Running, was_silent: bool) -> io::Result<ChildEnd> {
+    let ended = match was_silent {
+        true => Err(silence()),
+        false => running.finish(rt),
+    };
+    // Where it has ended, this does nothing.
+    running.kill();
+    match ended {
+        Ok(status) => told_end(status),
+        Err(error) => Err(error),
+    }
+}
+
+/// How a child ended that has this status.
+fn told_end(status: ExitStatus) -> io::Result<ChildEnd> {
+    match (status.code(), status.signal()) {
+        (Some(code), _) => match u8::try_from(code) {
+            Ok(code) => Ok(ChildEnd::Status(code)),
+            Err(_) => Err(io::Error::from(ErrorKind::InvalidData)),
+        },
+        (None, Some(signal)) => match u8::try_from(signal) {
+            Ok(signal) => Ok(ChildEnd::Signal(signal)),
+            Err(_) => Err(io::Error::from(ErrorKind::InvalidData)),
+        },
+        (None, None) => Err(io::Error::from(ErrorKind::InvalidData)),
+    }
+}
+
+/// No longer watches over a child that has ended, or tells that it is left.
+fn let_go(rt: &HostRuntime, watcher: &mut Option<Watcher>, running: &Running) {
+    // What can't be told isn't.
+    if running.is_left() {
+        let _ = tell_left(rt, running.id());
+    } else {
+        let _ = unwatch(rt, watcher, running.id());
+    }
+}
+
+impl Trials for RealTrials {
+    type Child = RealChild;
+
+    ghost trial = { trial_of };
+
+    fn start(&mut self, case: u32, words: &[Text]) -> Result<RealChild, Failed> {
+        if case as usize >= self.cases.len() {
+            return Err(Failed);
+        }
+        let started = start(&self.rt, self.limit, words);
+        let case = &mut self.cases[case as usize];
+        match started {
+            Ok(running) => {
+                // Without a watcher the child is as good.
+                let _ = watch(&self.rt, &mut self.watcher, running.id());
+                case.phase = 1;
+                Ok(RealChild::new(self.rt, running, case.reads, case.writes))
+            }
+            Err(_) => Err(case.fail(false)),
+        }
+    }
+
+    fn close(&mut self, child: &mut RealChild) {
+        child.close();
+    }
+
+    fn finish(&mut self, case: u32, child: RealChild) -> Result<ChildEnd, Failed> {
+        let reads = child.read_faults();
+        let writes = child.write_faults();
+        let was_silent = child.is_silent();
+        let mut running = child.into_running();
+        let ended = end_of(&self.rt, &mut running, was_silent);
+        let_go(&self.rt, &mut self.watcher, &running);
+        let case = &mut self.cases[case as usize];
+        case.reads = reads;
+        case.writes = writes;
+        case.phase = 2;
+        match ended {
+            Ok(end) => Ok(end),
+            Err(error) => Err(case.fail(is_silence(&error))),
+        }
+    }
+
+    fn wait_at_most(&mut self, seconds: u32) {
+        self.limit = Some(Duration::from_secs(u64::from(seconds)));
+    }
+
+    fn was_silent(&self, case: u32) -> bool {
+        if case as usize >= self.cases.len() {
+            return false;
+        }
+        self.cases[case as usize].silent
+    }
+}
