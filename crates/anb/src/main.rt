@@ -1,14 +1,14 @@
 //! The program: it hands its words, the files, the store, the wire, standard error and the child
-//! programs of the machine to `run_recording`, and ends with the number of the status.
+//! programs of the machine to `run_with_program`, and ends with the number of the status.
 #![tactic(auto)]
 
 use anb_base::Text;
 use anb_command::tell;
-use anb_processes::{RealSpawner, child_program};
+use anb_processes::{RealSpawner, RealTrials, child_program};
 use anb_real::{
     RealShelf, RealStore, RealWire, StandardError, fill_standard_descriptors, seed, words,
 };
-use anb_run::{Status, run_recording};
+use anb_run::{Status, run_with_program};
 use std::process::ExitCode;
 
 fn main(rt: HostRuntime) -> ExitCode {
@@ -27,22 +27,25 @@ fn status(rt: HostRuntime, skipped: usize) -> Status {
     let mut shelf = RealShelf::new(rt);
     let mut spawner = RealSpawner::new(rt, child_program(rt));
     let mut store = RealStore::new(rt);
+    let mut trials = RealTrials::new(rt);
     let mut wire = RealWire::new(rt);
     if parks(&words) {
         wire.end_at_silence();
     }
-    let status = run_recording(
+    let status = run_with_program(
         rt.alloc(),
         &words,
         &mut shelf,
         &mut spawner,
         &mut store,
+        &mut trials,
         &mut wire,
         &mut err,
         seed(rt),
     );
     // The children end before the line is told, so one that can't be written leaves none behind.
     spawner.end();
+    trials.end();
     err.finish();
     wire.finish();
     status

@@ -1,2 +1,3 @@
 mod Usage
 mod Idle
+mod Testing

@@ -4,9 +4,10 @@ use Rattle.std.specs.Prelude.{ℕ, List, Option, Some, None}
 use Rattle.anb_base.specs.Wires.{WireState}
 use Rattle.anb_status.specs.declared.status.Status.{Status}
 use Rattle.anb_command.specs.Fetches.{Files}
-use Rattle.anb_words.specs.Words.{Asked, fmt, describe, play, enact, replay, host, rehearse, drill, help, page, branch, certify, why, park, resume, chart, role_chart, check, trace, all_values, role_values, judge}
+use Rattle.anb_words.specs.Words.{Asked, fmt, describe, play, enact, replay, host, rehearse, drill, help, page, branch, certify, why, park, resume, chart, role_chart, check, check_values, trace, all_values, role_values, judge}
 use Rattle.anb_branch_commands.specs.BranchCommand.{CompletesBranch, DoesBranch}
 use Rattle.anb_check_commands.specs.CheckCommand.{CompletesCheck, DoesCheck}
+use Rattle.anb_check_commands.specs.CheckValues.{CompletesCheckValues, DoesCheckValues}
 use Rattle.anb_host_commands.specs.HostCommand.{CompletesHost, DoesHost}
 use Rattle.anb_judge_commands.specs.JudgeCommand.{CompletesJudge, DoesJudge}
 use Rattle.anb_park_commands.specs.ParkCommand.{CompletesPark, DoesPark}
@@ -66,6 +67,8 @@ Does (Some (resume narration role parked key place)) told seed old new status =
 Does (Some (chart narration)) told seed old new status = DoesChart narration told old new status
 Does (Some (role_chart narration role)) told seed old new status = DoesRoleChart narration role told old new status
 Does (Some (check narration)) told seed old new status = DoesCheck narration told old new status
+Does (Some (check_values narration role values)) told seed old new status =
+    DoesCheckValues narration role values told old new status
 Does (Some (all_values narration)) told seed old new status = DoesValues narration told seed old new status
 Does (Some (role_values narration role values)) told seed old new status =
     DoesRoleValues narration role values told old new status
@@ -105,6 +108,8 @@ Completes (Some (resume narration role parked key place)) told seed old new stat
 Completes (Some (chart narration)) told seed old new status = CompletesChart narration told status
 Completes (Some (role_chart narration role)) told seed old new status = CompletesRoleChart narration role told status
 Completes (Some (check narration)) told seed old new status = CompletesCheck narration told status
+Completes (Some (check_values narration role values)) told seed old new status =
+    CompletesCheckValues narration role values told status
 Completes (Some (all_values narration)) told seed old new status = CompletesValues narration told seed status
 Completes (Some (role_values narration role values)) told seed old new status =
     CompletesRoleValues narration role values told status

@@ -2,3 +2,4 @@ pub mod Commands
 pub mod Stages
 pub mod Stores
 pub mod Recordings
+pub mod Programs

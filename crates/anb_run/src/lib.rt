@@ -4,7 +4,8 @@
 //! error sink why it didn't. What it does and when it completes are relations by what is asked for,
 //! with a case for each command; the other clauses hold of every command. [`run_all`] does the same
 //! where child programs may be started, for the one command that does so, [`run_with_store`] where
-//! records may go to files, and [`run_recording`] where plays may be recorded too.
+//! records may go to files, [`run_recording`] where plays may be recorded, and [`run_with_program`] where a
+//! program may be tested too.
 #![tactic(auto)]
 
 ghost use Rattle.std.specs.Prelude.{◌≡◌, ◌↔◌, None};
@@ -26,6 +27,7 @@ ghost use Rattle.anb_file_laws.specs.Narrow.{EnactedMessagesAreNarrow};
 ghost use Rattle.anb_park_commands.specs.Splits.{SplitPlaysAreWhole};
 
 mod all;
+mod programs;
 mod recording;
 mod storing;
 
@@ -34,7 +36,7 @@ use anb_base::{Shelf, Sink, Text, Wire};
 use anb_branch_commands::{arms_are_played, branch};
 use anb_certify_commands::{certify, why};
 use anb_chart_commands::{chart, chart_for};
-use anb_check_commands::check;
+use anb_check_commands::{check, check_values};
 use anb_command::{Command, tell};
 pub use anb_command::{Due, Halt, NarrationNo, Status};
 use anb_file_laws::{certified_files_play, compiled_files_play, enacted_messages_are_narrow};
@@ -46,6 +48,7 @@ use anb_role_commands::{enact, play, replay};
 use anb_text_commands::{describe, fmt, help, page};
 use anb_trace_commands::trace;
 use anb_values_commands::{role_values, values};
+pub use programs::run_with_program;
 pub use recording::run_recording;
 use std::alloc::Global;
 pub use storing::run_with_store;
@@ -124,6 +127,13 @@ pub fn run<F: Shelf, W: Wire, E: Sink>(
         }
         Some(Command::Trace(words)) => trace(alloc, shelf, wire, words, seed),
         Some(Command::Check { narration }) => check(alloc, shelf, wire, narration),
+        Some(
+            Command::CheckValues {
+                narration,
+                role,
+                values,
+            },
+        ) => check_values(alloc, shelf, wire, narration, role, values),
         Some(Command::Values { narration }) => values(alloc, shelf, wire, narration, seed),
         Some(
             Command::RoleValues {

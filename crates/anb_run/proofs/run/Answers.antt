@@ -5,7 +5,7 @@ use Rattle.anb_command.proofs.OverWire.{untouched}
 use Rattle.anb_command.proofs.Reported.{told_before, told_behind}
 use Rattle.anb_run.proofs.Idle.{fetches_none}
 use Rattle.anb_run.proofs.run.Goals as goal
-use Rattle.anb_run.proofs.run.Goals.{in-None, in-Some-Fmt, in-Some-Describe, in-Some-Play, in-Some-Enact, in-Some-Replay, in-Some-Host, in-Some-Rehearse, in-Some-Drill, in-Some-Help, in-Some-Page, in-Some-Branch, in-Some-Certify, in-Some-Why, in-Some-Park, in-Some-Resume, in-Some-Chart, in-Some-RoleChart, in-Some-Check, in-Some-Trace, in-Some-Values, in-Some-RoleValues, in-Some-Judge}
+use Rattle.anb_run.proofs.run.Goals.{in-None, in-Some-Fmt, in-Some-Describe, in-Some-Play, in-Some-Enact, in-Some-Replay, in-Some-Host, in-Some-Rehearse, in-Some-Drill, in-Some-Help, in-Some-Page, in-Some-Branch, in-Some-Certify, in-Some-Why, in-Some-Park, in-Some-Resume, in-Some-Chart, in-Some-RoleChart, in-Some-Check, in-Some-CheckValues, in-Some-Trace, in-Some-Values, in-Some-RoleValues, in-Some-Judge}
 
 pub returns-clause-faults : goal.returns-clause-faults
 returns-clause-faults g c = elim c.match-read.branch [
@@ -30,6 +30,7 @@ returns-clause-faults g c = elim c.match-read.branch [
   | in-Some-Check w ↦ rw (sym c.read.ensures, w.in-Some-Check.is, w.in-Some-Check.field-0-is, w.shelf-is, w.wire-is, w.status-is) (w.check-status.ensures.faults)
   | in-Some-Values w ↦ rw (sym c.read.ensures, w.in-Some-Values.is, w.in-Some-Values.field-0-is, w.shelf-is, w.wire-is, w.status-is) (w.values-status.ensures.faults)
   | in-Some-RoleValues w ↦ rw (sym c.read.ensures, w.in-Some-RoleValues.is, w.in-Some-RoleValues.field-0-is, w.shelf-is, w.wire-is, w.status-is) (w.role_values-status.ensures.faults)
+  | in-Some-CheckValues w ↦ rw (sym c.read.ensures, w.in-Some-CheckValues.is, w.in-Some-CheckValues.field-0-is, w.shelf-is, w.wire-is, w.status-is) (w.check_values-status.ensures.faults)
   | in-Some-Trace w ↦ rw (sym c.read.ensures, w.in-Some-Trace.is, w.in-Some-Trace.field-0-is, w.shelf-is, w.wire-is, w.status-is) (w.trace-status.ensures.faults)
   | in-Some-Judge w ↦ rw (sym c.read.ensures, w.in-Some-Judge.is, w.in-Some-Judge.field-0-is, w.shelf-is, w.wire-is, w.status-is) (w.judge-status.ensures.faults)
 ]
@@ -57,6 +58,7 @@ returns-clause-fetches g c = elim c.match-read.branch [
   | in-Some-Check w ↦ rw (sym c.read.ensures, w.in-Some-Check.is, w.in-Some-Check.field-0-is, w.shelf-is) (w.check-status.ensures.fetches)
   | in-Some-Values w ↦ rw (sym c.read.ensures, w.in-Some-Values.is, w.in-Some-Values.field-0-is, w.shelf-is) (w.values-status.ensures.fetches)
   | in-Some-RoleValues w ↦ rw (sym c.read.ensures, w.in-Some-RoleValues.is, w.in-Some-RoleValues.field-0-is, w.shelf-is) (w.role_values-status.ensures.fetches)
+  | in-Some-CheckValues w ↦ rw (sym c.read.ensures, w.in-Some-CheckValues.is, w.in-Some-CheckValues.field-0-is, w.shelf-is) (w.check_values-status.ensures.fetches)
   | in-Some-Trace w ↦ rw (sym c.read.ensures, w.in-Some-Trace.is, w.in-Some-Trace.field-0-is, w.shelf-is) (w.trace-status.ensures.fetches)
   | in-Some-Judge w ↦ rw (sym c.read.ensures, w.in-Some-Judge.is, w.in-Some-Judge.field-0-is, w.shelf-is) (w.judge-status.ensures.fetches)
 ]
@@ -84,6 +86,7 @@ returns-clause-touches g c = elim c.match-read.branch [
   | in-Some-Check w ↦ rw (sym c.read.ensures, w.in-Some-Check.is, w.in-Some-Check.field-0-is, w.wire-is, w.status-is) (w.check-status.ensures.touches)
   | in-Some-Values w ↦ rw (sym c.read.ensures, w.in-Some-Values.is, w.in-Some-Values.field-0-is, w.wire-is, w.status-is) (w.values-status.ensures.touches)
   | in-Some-RoleValues w ↦ rw (sym c.read.ensures, w.in-Some-RoleValues.is, w.in-Some-RoleValues.field-0-is, w.wire-is, w.status-is) (w.role_values-status.ensures.touches)
+  | in-Some-CheckValues w ↦ rw (sym c.read.ensures, w.in-Some-CheckValues.is, w.in-Some-CheckValues.field-0-is, w.wire-is, w.status-is) (w.check_values-status.ensures.touches)
   | in-Some-Trace w ↦ rw (sym c.read.ensures, w.in-Some-Trace.is, w.in-Some-Trace.field-0-is, w.wire-is, w.status-is) (w.trace-status.ensures.touches)
   | in-Some-Judge w ↦ rw (sym c.read.ensures, w.in-Some-Judge.is, w.in-Some-Judge.field-0-is, w.wire-is, w.status-is) (w.judge-status.ensures.touches)
 ]
@@ -113,6 +116,7 @@ returns-clause-reported g c = elim c.match-read.branch [
   | in-Some-Judge w ↦ rw (w.shelf-is, w.wire-is, w.status-is) w.judge-status.ensures.reported
   | in-Some-Values w ↦ rw (w.shelf-is, w.wire-is, w.status-is) w.values-status.ensures.reported
   | in-Some-RoleValues w ↦ rw (w.shelf-is, w.wire-is, w.status-is) w.role_values-status.ensures.reported
+  | in-Some-CheckValues w ↦ rw (w.shelf-is, w.wire-is, w.status-is) w.check_values-status.ensures.reported
 ]
 
 pub returns-clause-completes : goal.returns-clause-completes
@@ -140,4 +144,5 @@ returns-clause-completes g c = elim c.match-read.branch [
   | in-Some-Check w ↦ rw (sym c.read.ensures, w.in-Some-Check.is, w.in-Some-Check.field-0-is, w.shelf-is, w.wire-is, w.status-is) (w.check-status.ensures.completes)
   | in-Some-Values w ↦ rw (sym c.read.ensures, w.in-Some-Values.is, w.in-Some-Values.field-0-is, w.shelf-is, w.wire-is, w.status-is) (w.values-status.ensures.completes)
   | in-Some-RoleValues w ↦ rw (sym c.read.ensures, w.in-Some-RoleValues.is, w.in-Some-RoleValues.field-0-is, w.shelf-is, w.wire-is, w.status-is) (w.role_values-status.ensures.completes)
+  | in-Some-CheckValues w ↦ rw (sym c.read.ensures, w.in-Some-CheckValues.is, w.in-Some-CheckValues.field-0-is, w.shelf-is, w.wire-is, w.status-is) (w.check_values-status.ensures.completes)
 ]
