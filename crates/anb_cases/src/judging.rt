@@ -1,8 +1,10 @@
 //! What came of a run, beside what its case expects.
 
 use crate::case::{Case, No};
+use crate::children::{asked, heard};
 use crate::running::Ran;
 use anb_base::{MemWire, read_full};
+use anb_partner::MemTrials;
 use anb_store::MemStore;
 use std::alloc::{AllocError, Global};
 
@@ -47,10 +49,35 @@ pub(crate) fn difference(
     if let Some(difference) = store_difference(alloc, case, &ran.store)? {
         return Ok(Some(difference));
     }
+    if let Some(difference) = children_difference(alloc, case, &ran.trials)? {
+        return Ok(Some(difference));
+    }
     match &mut ran.wire {
         Some(wire) => wire_difference(alloc, case, wire, fit),
         None => Ok(None),
     }
+}
+
+/// The same of the children of a tested program: what they heard, and with which words they were started,
+/// where the case says it. Where it says no children none is there.
+fn children_difference(
+    alloc: Global,
+    case: Case,
+    trials: &MemTrials,
+) -> Result<Option<String>, No> {
+    if let Some(words) = case.text(alloc, "asked")? {
+        let asked = asked(alloc, trials)?;
+        if asked.as_slice() != words.as_bytes() {
+            return Ok(Some(told(alloc, "asked", &asked)?));
+        }
+    }
+    if let Some(bytes) = case.bytes(alloc, "heard")? {
+        let heard = heard(alloc, trials)?;
+        if heard.as_slice() != bytes.as_slice() {
+            return Ok(Some(told(alloc, "heard", &heard)?));
+        }
+    }
+    Ok(None)
 }
 
 /// The same of the files that are kept: the one that the last word names, where one is expected.

@@ -4,6 +4,7 @@
 #![tactic(auto)]
 
 mod case;
+mod children;
 mod filling;
 mod judging;
 mod parts;

@@ -8,7 +8,7 @@ const INDENT: &str = "    ";
 
 /// The keys of a group, a row or a case whose values are bytes: text, or with `hex` behind the key
 /// hexadecimal digits.
-const BYTES: [&str; 11] = [
+const BYTES: [&str; 12] = [
     "n",
     "v",
     "t",
@@ -20,10 +20,11 @@ const BYTES: [&str; 11] = [
     "kept",
     "kept values",
     "kept transcript",
+    "heard",
 ];
 
 /// The other keys.
-const WORDS: [&str; 15] = [
+const WORDS: [&str; 18] = [
     "words",
     "piece",
     "room",
@@ -39,6 +40,9 @@ const WORDS: [&str; 15] = [
     "line begins",
     "keep",
     "reached",
+    "children",
+    "children fail",
+    "asked",
 ];
 
 /// A value under a key.

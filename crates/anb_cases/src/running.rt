@@ -1,11 +1,14 @@
 //! One run of a case, over a shelf, a store and a wire in memory.
 
-ghost use Rattle.std.specs.Prelude.{◌≡◌, IfOk};
+ghost use Rattle.std.specs.Prelude.{◌≡◌, ℕ, IfOk};
+ghost use Rattle.anb_partner.specs.Memory.{trials_of};
 
 use crate::case::{Case, No};
+use crate::children::children;
 use crate::unfailing::run_unfailing;
 use anb_base::{Bytes, MemShelf, MemWire, NeverFails, NoMemory, Text};
-use anb_run::run_recording;
+use anb_partner::MemTrials;
+use anb_run::run_with_program;
 use anb_stage::MemSpawner;
 use anb_store::MemStore;
 use hex::FromHex;
@@ -30,6 +33,7 @@ pub(crate) struct Ran {
     pub(crate) number: u8,
     pub(crate) wire: Option<MemWire>,
     pub(crate) store: MemStore,
+    pub(crate) trials: MemTrials,
     pub(crate) err: MemWire,
 }
 
@@ -42,6 +46,7 @@ pub(crate) fn run_case(alloc: Global, case: Case, turn: Turn) -> Result<Ran, No>
     let fails = case.numbers(alloc, "sink fails")?;
     let mut err = MemWire::new(alloc, none(alloc), PLENTY, PLENTY, fails)?;
     let mut store = MemStore::new(alloc, case.numbers(alloc, "store fails")?);
+    let mut trials = children(alloc, case)?;
     if case.is_set("unfailing wire")? {
         let mut wire = NeverFails::new(input);
         let number = unfailing_status(alloc, &words, &mut shelf, &mut wire, &mut err, seed);
@@ -49,17 +54,26 @@ pub(crate) fn run_case(alloc: Global, case: Case, turn: Turn) -> Result<Ran, No>
             number,
             wire: None,
             store,
+            trials,
             err,
         });
     }
     let mut wire = wire_of(alloc, case, turn, input)?;
     let number = status_of(
-        alloc, &words, &mut shelf, &mut store, &mut wire, &mut err, seed,
+        alloc,
+        &words,
+        &mut shelf,
+        &mut store,
+        &mut trials,
+        &mut wire,
+        &mut err,
+        seed,
     )?;
     Ok(Ran {
         number,
         wire: Some(wire),
         store,
+        trials,
         err,
     })
 }
@@ -71,13 +85,26 @@ fn status_of(
     words: &[Text],
     shelf: &mut MemShelf,
     store: &mut MemStore,
+    trials: &mut MemTrials,
     wire: &mut MemWire,
     err: &mut MemWire,
     seed: Option<[u8; 32]>,
-) -> Result<u8, NoMemory> {
+) -> Result<u8, NoMemory>
+    requires { (case : ℕ) → (trials_of trials.old case).phase ≡ 0 }
+{
     // No role has a child that could be started.
     let mut spawner = MemSpawner::new(alloc, Vec::new(alloc), Vec::new(alloc), 0, Vec::new(alloc))?;
-    let status = run_recording(alloc, words, shelf, &mut spawner, store, wire, err, seed);
+    let status = run_with_program(
+        alloc,
+        words,
+        shelf,
+        &mut spawner,
+        store,
+        trials,
+        wire,
+        err,
+        seed,
+    );
     Ok(status.number())
 }
 
