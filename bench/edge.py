@@ -43,6 +43,7 @@ from edge_runs import (
 )
 from edge_records import RECORDS
 from edge_stages import STAGES
+from edge_probes import PROBES
 
 
 def closed_streams(program):
@@ -582,6 +583,7 @@ def commands(program):
         ["trace", *role, "transcript"],
         ["judge", *role, "transcript"],
         ["stage", "ping.anb", "."],
+        ["probe", *role, "--", "cat"],
         ["values", "ping.anb"],
         ["help"],
     ]
@@ -642,6 +644,7 @@ QUICK = (
     dropped_bytes,
     *RECORDS,
     *STAGES,
+    *PROBES,
 )
 
 LONG = (unread_bytes, small_role_file, small_narration, no_memory_for_words, long_refusals, shared_error_pipe)

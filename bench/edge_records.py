@@ -154,7 +154,7 @@ def killed_plays(program):
         peer.close()
         want("the lines so far", program.read(f"r{turn}/transcript"), whole[1])
         want("their replay", program.run("replay", *ROLE, f"r{turn}/values", f"r{turn}/transcript")[1][0], 19)
-    return f"{kills} kills behind the first message"
+    return f"{kills} kills after the first message"
 
 
 RECORDS = (records_in_files, silent_records, killed_records, recorded_plays, killed_plays)

@@ -25,7 +25,7 @@ ANSWERS, PLAYS = "head -c 6", f"{SAYS}; {HEARS}"
 
 REPORT = b"1 6162\n2 6162\nrelayed 2\n"
 
-# How long a child may write behind its last message, and what a stage takes beside it, in seconds.
+# How long a child may write after its last message, and what a stage takes beside it, in seconds.
 DROPPING, SHORT = 2.0, 10.0
 
 # What A and B do, and the status and the lines.
@@ -154,6 +154,35 @@ def named_children(program):
     return f"{says}; without /proc"
 
 
+def cast_roles(program):
+    """a role that has a program is played by it, and all others as without it"""
+    write_ping(program)
+    write_child(program, PLAYS, 'echo "$@" > words; ' + ANSWERS)
+    write_child(program, PLAYS, "exit 9", "other")
+    program.write_script("spare", "#!/bin/sh\necho spare >> pids\nshift\nexec ./child \"$@\"\n")
+
+    def staged(*casts, child=None):
+        program.write("pids", "")
+        before = f"export ANB_CHILD={child};" if child else ""
+        behind = [word for role, what in casts for word in ("--as", role, what)]
+        return program.run("stage", "ping.anb", ".", *behind, before=before)[1]
+
+    want("a program for B", staged(("B", "./child")), ended(0))
+    want("children of that program", len(pids(program)), 1)
+    want("its words", program.read("words"), b"play ping.anb B ./B.values\n")
+    want("a program with words", staged(("B", "  ./spare -x  ")), ended(0))
+    want("children of that one", pids(program)[0], "spare")
+    want("a program that is looked for", staged(("B", "sh ./child")), ended(0))
+    want("a program for B beside ANB_CHILD", staged(("B", "./child"), child="./other"), ended(0))
+    want("programs for both", staged(("B", "./child"), ("A", "./other"), child="./nothing"), ended(0))
+    want("no such program", staged(("B", "./nothing -x")), ended(31, "can't start ./nothing\nchild B failed"))
+    want("no such role", staged(("C", "./child")), ended(5, "no role C"))
+    want("that nothing was started", pids(program), [])
+    for what, casts in (("a role that stands twice", (("B", "./child"), ("B", "./child"))), ("no program", (("B", " "),))):
+        want(what, staged(*casts), ended(1, "the words fit no command"))
+    return "with words, beside ANB_CHILD, for one role and for both; 4 refused"
+
+
 def ended_children(program):
     """a child that has ended is found to have ended, whoever holds its pipes"""
     write_ping(program)
@@ -179,7 +208,7 @@ def ended_children(program):
 
 
 def dropped_output(program):
-    """behind its last message a child may write four mebibytes in two seconds, in however many pieces"""
+    """after its last message a child may write four mebibytes in two seconds, in however many pieces"""
     write_ping(program)
     bytewise = "import os; [os.write(1, b'x') and os.sched_yield() for _ in range(5000)]"
     slowly = "while :; do echo x; sleep 0.1; done"
@@ -366,6 +395,7 @@ STAGES = (
     children_of_stages,
     children_end_first,
     named_children,
+    cast_roles,
     ended_children,
     dropped_output,
     silent_children,
