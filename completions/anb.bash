@@ -2,15 +2,15 @@
 
 _anb_kinds() {
     case $1 in
-        check | chart | fmt | why) echo narration ;;
+        chart | fmt | why) echo narration ;;
         explain | compile) echo narration role ;;
-        play | branch | host) echo narration role values ;;
+        play | branch | host | probe) echo narration role values ;;
         park) echo narration role values file ;;
         resume) echo narration role file file ;;
         replay | trace | judge) echo narration role values file ;;
         stage) echo narration folder ;;
         rehearse) echo narration values file ;;
-        values) echo narration role values ;;
+        check | values) echo narration role values ;;
         drill) echo number ;;
         enact) echo file values ;;
         certify) echo narration role file ;;
@@ -18,25 +18,36 @@ _anb_kinds() {
     esac
 }
 
-_anb_commands='check chart explain fmt why play values branch park resume host replay trace judge stage rehearse drill compile enact certify help'
+_anb_commands='check chart explain fmt why play probe values branch park resume host replay trace judge stage rehearse drill compile enact certify help'
 
 # The options that can follow these words of a command, which stand after all others.
 _anb_options() {
     local command=$1 arm='' place='' record=''
     shift
+    [[ $command == probe ]] && _anb_probing "$@" && return
     [[ $command == chart && $# == 0 ]] && echo --role
     case $command in
         branch) arm=--arm place='--dial --listen' ;;
         play | host | park | resume | enact) place='--dial --listen' ;;
-        stage) place=--timeout ;;
+        stage) place='--as --timeout' ;;
     esac
     case $command in play | enact | branch | park | resume) record=--record ;; esac
     [[ $1 == --arm ]] && shift 2 && arm=''
+    while [[ $1 == --as ]] && (($# >= 3)); do shift 3; done
     case $# in
         0) echo "$arm" "$place" "$record" ;;
         2) [[ $1 == --dial || $1 == --listen ]] && echo --timeout "$record" ;;
         4) [[ $3 == --timeout ]] && echo "$record" ;;
     esac
+}
+
+# The words of probe that can follow these, before the program.
+_anb_probing() {
+    local words='--all --case --timeout --'
+    [[ $1 == --all ]] && shift && words='--case --timeout --'
+    [[ $1 == --case ]] && shift 2 && words='--timeout --'
+    [[ $1 == --timeout ]] && shift 2 && words=--
+    (($#)) || echo "$words"
 }
 
 # The file that a word of the line names: without quotes, and with the home folder for ~ and $HOME.
@@ -112,10 +123,16 @@ _anb() {
         number) ;;
         *)
             ((${#kinds[@]})) || return
+            if [[ ${words[1]} == probe && " ${words[*]:5:at-5} " == *' -- '* ]]; then
+                _anb_files ''
+                [[ ${words[at - 1]} == -- ]] && mapfile -t -O ${#COMPREPLY[@]} COMPREPLY < <(compgen -c -- "$word")
+                return
+            fi
+            [[ ${words[at - 2]} == --as ]] && _anb_files '' && return
             case ${words[at - 1]} in
-                --role) _anb_offer "$(_anb_roles "${words[2]}")" ;;
+                --role | --as) _anb_offer "$(_anb_roles "${words[2]}")" ;;
                 --arm) _anb_offer '1 2 3 4 5 6 7 8' ;;
-                --dial | --listen | --timeout) ;;
+                --dial | --listen | --timeout | --case) ;;
                 --record)
                     case ${words[1]} in
                         play | enact | branch) compopt -o filenames 2>/dev/null; mapfile -t COMPREPLY < <(compgen -d -- "$(_anb_file "$word")") ;;

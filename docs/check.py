@@ -18,12 +18,16 @@ the messages are those of the narration that the common actions and the arm are.
 
 Pages: in a fenced block that begins with a line `$ ...` each such line is a command for sh, and what follows is what
 it writes, errors too. The commands run in a folder of their own with a copy of examples/, block by block, with `anb` on
-the path. A fenced block with two words behind its fence, as ```anb mine.anb, is a file that the reader writes.
+the path. A fenced block with two words after its fence, such as ```anb mine.anb, is a file that the reader writes. A
+narration that is shown for itself is the text of an example. README has at most 110 lines. The examples of the manual
+page end with 0, and its narration is one.
 
-Words: what `help` lists is what REFERENCE and the manual page list, and the manual page says what each file is; README
-names each command, and completions are tried in their shells (docs/check_completions.py). The overview of `--help` has
-the commands in the groups that README, REFERENCE and the manual page have; the page of `help` on each command begins
-with the words that `help` lists, and its example ends with one of the page's statuses; and the version is CHANGELOG's.
+Words: what `help` lists is what REFERENCE and the manual page list, and both say what each file is; README names each
+command, pages and completions have the options of `help`, and completions are tried in their shells
+(docs/check_completions.py). The program ends with each status of REFERENCE, and its line (docs/check_statuses.py). The
+overview of `--help` has the commands in the groups that README, REFERENCE and the manual page have; the page of `help`
+on each command begins with the words that `help` lists, and its example ends with one of the page's statuses; and the
+version is CHANGELOG's.
 
 The edge to the machine: the rows of bench/edge.py that take little time.
 
@@ -45,21 +49,36 @@ import tempfile
 
 import charts
 import check_completions
+import check_statuses
 import house
 import narration
 
 ROOT = pathlib.Path(__file__).resolve().parent.parent
 EXAMPLES = ROOT / "examples"
 EXPECTED = EXAMPLES / "expected"
-PAGES = ["README.md", "docs/TUTORIAL.md", "docs/REFERENCE.md"]
+PAGES = ["README.md", "docs/TUTORIAL.md", "docs/REFERENCE.md", "docs/LIBRARY.md", "docs/EDGE.md"]
+# How many lines README has at most: the first ten minutes.
+README_LINES = 110
 # What the gate runs of the examples: the files, the commands, and what they print.
 GATE = ROOT / "crates" / "anb_examples"
 # What names each command of the program.
 LISTS = ["README.md", "docs/REFERENCE.md", "anb.1", "completions/anb.bash", "completions/_anb", "completions/anb.fish"]
 # The words of commands that stand for no file.
-NO_FILES = {"role", "name", "n", "folder", "place", "seconds", "file"}
+NO_FILES = {"role", "name", "n", "folder", "place", "seconds", "file", "program", "word"}
+# The options of a place, which `help` lists as one word.
+PLACES = {"--dial", "--listen"}
 # What the program takes beside the words that `help` lists.
 ASKS = ["anb help <command>", "anb --help", "anb --version"]
+# Where REFERENCE says what each file is that the words name.
+FILES = {
+    "narration": "## Narrations",
+    "values": "**Values.**",
+    "rolefile": "**Role files.**",
+    "transcript": "**Transcripts.**",
+    "schedule": "**Schedules.**",
+    "record": "**Records.**",
+    "key": "key of a parked session",
+}
 # What makes the files of the pages' examples.
 MADE = """anb compile examples/mutual/mutual.anb B > b.role
 printf 'a key of my own' > my.key
@@ -496,6 +515,28 @@ def check_words(program):
     gaps = [f"{name}: {form}" for name, forms in told.items() for form in sorted(set(wanted) ^ set(map(plain, forms)))]
     named = {word for line in wanted.values() for word in re.findall(r"<(\w+)>", line)} - NO_FILES - {"command"}
     gaps += [f"anb.1: nothing on the file {word}" for word in sorted(named) if f".I {word}\n" not in files]
+    gaps += [f"docs/REFERENCE.md: nothing on the file {word}" for word in sorted(named) if FILES.get(word, word) not in reference]
+    print(*gaps, sep="\n", end="\n" * bool(gaps))
+    return len(gaps)
+
+
+def options_of(name):
+    """The options that a page or a completion names."""
+    text = re.sub(r"\\f[A-Z]", "", (ROOT / name).read_text()).replace("\\-", "-")
+    told = set(re.findall(r"(?<![\w-])--[a-z]+\b", text))
+    if name.endswith(".fish"):
+        told = {f"--{option}" for line in text.splitlines() if line.startswith("complete ") for option in re.findall(r" -l (\w+)", line)}
+    return told
+
+
+def check_options(program):
+    """Pages and completions have the options of `help` and of places; no completion has another."""
+    wanted = set(re.findall(r"--[a-z]+", "\n".join([run(program, "help"), *ASKS]))) | PLACES
+    gaps = []
+    for name in LISTS[1:]:
+        others = options_of(name) - wanted if name.startswith("completions/") else set()
+        gaps += [f"{name}: nothing on {option}" for option in sorted(wanted - options_of(name))]
+        gaps += [f"{name}: the program has no {option}" for option in sorted(others)]
     print(*gaps, sep="\n", end="\n" * bool(gaps))
     return len(gaps)
 
@@ -578,6 +619,13 @@ def check_completions_of(program):
     return len(found)
 
 
+def check_statuses_of(program):
+    """The program ends with each status as REFERENCE has it."""
+    found = list(check_statuses.faults(program))
+    print(*found, sep="\n", end="\n" * bool(found))
+    return len(found)
+
+
 def check_house():
     """crates.txt and the pages agree with the sources."""
     found = house.faults()
@@ -626,6 +674,41 @@ def check_page(name, program, write):
         (ROOT / name).write_text("\n".join(lines) + "\n")
     shutil.rmtree(folder)
     return commands, faults
+
+
+def check_shown():
+    """README isn't too long, and each narration that a page shows for itself is the text of an example."""
+    gaps = []
+    lines = (ROOT / "README.md").read_text().splitlines()
+    if len(lines) > README_LINES:
+        gaps.append(f"README.md: {len(lines)} lines, more than {README_LINES}")
+    there = {without_comment(path.read_text()) for path in EXAMPLES.glob("*/*.anb")}
+    for name in PAGES:
+        for at, words, block in blocks_of((ROOT / name).read_text().splitlines()):
+            if len(words) < 2 and block and block[0].startswith("Protocol: ") and "\n".join(block) + "\n" not in there:
+                gaps.append(f"{name}:{at + 1}: the text of no example")
+    print(*gaps, sep="\n", end="\n" * bool(gaps))
+    return len(gaps)
+
+
+def check_manual(program):
+    """What the manual page shows: a narration, and examples that end with 0."""
+    text = (ROOT / "anb.1").read_text().replace("\\-", "-").replace("\\e", "\\")
+    files, examples = (text.partition(f".SH {name}\n")[2].partition("\n.SH ")[0] for name in ("FILES", "EXAMPLES"))
+    folder = scratch(program)
+    (folder / "shown.anb").write_text(re.search(r"^\.nf\n(Protocol:.*?)^\.fi$", files, re.M | re.S)[1])
+    scripts = ["anb check shown.anb", *re.findall(r"^\.nf\n(.*?)^\.fi$", examples, re.M | re.S)]
+    gaps = []
+    for script in scripts:
+        script = "".join(line.strip() + "\n" for line in script.splitlines())
+        # What runs beside is waited for, and its status counts too; it ends where a command fails.
+        end = "trap 'jobs -p > beside; kill $(cat beside) 2> /dev/null' EXIT"
+        found = outputs_of([f"set -e; {end}\n{script}jobs -p > beside; for job in $(cat beside); do wait $job; done", "echo done"], folder, program)
+        if "done\n" not in found:
+            gaps.append(f"anb.1: an example fails: {script.strip()}\n{''.join(found)}")
+    shutil.rmtree(folder)
+    print(*gaps, sep="\n", end="\n" * bool(gaps))
+    return len(gaps)
 
 
 def check_edge(program):
@@ -682,7 +765,8 @@ def main():
         sys.exit(__doc__)
     program, write = pathlib.Path(words[0]).resolve(), "--write" in sys.argv
     examples, faults = check_examples(program, write)
-    faults += check_lists(program) + check_words(program) + check_pages_of(program) + check_completions_of(program)
+    faults += check_lists(program) + check_words(program) + check_options(program) + check_pages_of(program)
+    faults += check_completions_of(program) + check_statuses_of(program) + check_manual(program) + check_shown()
     faults += check_index(program, write) + check_gate(write) + check_house()
     commands = 0
     for name in PAGES:

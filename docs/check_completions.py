@@ -39,6 +39,7 @@ Actions:
 ROLES = "A B S"
 ARMS = "1 2 3 4 5 6 7 8"
 PLAY, PARK, BRANCH = "anb play m.anb A A.values", "anb park m.anb A A.values key", "anb branch m.anb A A.values"
+PROBE = "anb probe m.anb A all.values"
 # The line up to the word to complete, and what is offered there.
 TABLE = [
     ("anb --help", ""),
@@ -50,7 +51,9 @@ TABLE = [
     ("anb certify 'my file.anb'", ROLES),
     (r"anb play my\ file.anb", ROLES),
     (PLAY, "--dial --listen --record"),
+    (f"{PLAY} --dial", ""),
     (f"{PLAY} --dial 127.0.0.1:4070", "--timeout --record"),
+    (f"{PLAY} --dial 127.0.0.1:4070 --timeout", ""),
     (f"{PLAY} --listen 127.0.0.1:0 --timeout 5", "--record"),
     (f"{PLAY} --record r", ""),
     (PARK, "--dial --listen --record"),
@@ -66,11 +69,29 @@ TABLE = [
     ("anb chart m.anb", "--role"),
     ("anb chart m.anb --role", ROLES),
     ("anb chart m.anb --role A", ""),
-    ("anb check m.anb", ""),
+    ("anb check m.anb", ROLES),
     ("anb values m.anb", ROLES),
-    ("anb stage m.anb .", "--timeout"),
+    ("anb stage m.anb .", "--as --timeout"),
+    ("anb stage m.anb . --as", ROLES),
+    ("anb stage m.anb . --as A ./a", "--as --timeout"),
+    ("anb stage m.anb . --as A ./a --as", ROLES),
+    ("anb stage m.anb . --timeout", ""),
+    ("anb stage m.anb . --as A ./a --as B ./b --timeout 5", ""),
     ("anb stage m.anb . --timeout 5", ""),
     ("anb replay m.anb A A.values a.transcript", ""),
+    ("anb probe m.anb", ROLES),
+    (PROBE, "--all --case --timeout --"),
+    (f"{PROBE} --all", "--case --timeout --"),
+    (f"{PROBE} --all --case 3", "--timeout --"),
+    (f"{PROBE} --case", ""),
+    (f"{PROBE} --timeout", ""),
+    (f"{PROBE} --timeout 5", "--"),
+    ("anb enact a.role A.values", "--dial --listen --record"),
+    ("anb host m.anb A A.values --listen 127.0.0.1:0 --timeout 5", ""),
+    ("anb resume m.anb A a.record key", "--dial --listen --record"),
+    ("anb judge m.anb", ROLES),
+    ("anb check m.anb A A.values", ""),
+    ("anb fmt m.anb", ""),
 ]
 
 
@@ -91,7 +112,8 @@ def in_fish(lines, folder):
     """What fish offers after each line. It offers options where a word begins with a minus."""
     found = []
     for line, wanted in lines.items():
-        asked = f"{line} -" if wanted.startswith("--") or not wanted else f"{line} "
+        is_value = line.split()[-1].startswith("--") and not wanted.startswith("--")
+        asked = f"{line} " if is_value or wanted and not wanted.startswith("--") else f"{line} -"
         done = subprocess.run(["fish", "--no-config", "-c", "source $argv[1]; complete -C $argv[2]", COMPLETIONS / "anb.fish", asked], cwd=folder,
                               env={**os.environ, "HOME": str(folder)}, stdin=subprocess.DEVNULL, capture_output=True, text=True, timeout=60)
         found.append([it.split("\t")[0] for it in done.stdout.splitlines()])

@@ -10,7 +10,9 @@
 - What a page calls `crate/specs/File`, or `crate, src/file.rt`, is there; and in docs/THEOREMS.md each clause of a row
   is a clause of the crates that the row names, and each edit that it says refuses something is one of theirs.
 - docs/REFERENCE.md and anb.1 have each status of the program, and the 125 of the script `./anb`.
-- What a page links to is there, down to the heading; docs/REFERENCE.md and docs/THEOREMS.md list their parts; and each row that docs/EDGE.md names is one of bench/edge.py.
+- What a page links to is there, down to the heading; docs/REFERENCE.md and docs/THEOREMS.md list their parts; and each
+  row that docs/EDGE.md names is one of bench/edge.py.
+- No row, item or paragraph of a page begins as an earlier one, as it may after a merge.
 """
 
 import functools
@@ -144,9 +146,19 @@ def unlisted():
                 yield f"docs/{name}: its contents don't list {heading}"
 
 
+def doubled():
+    """The lines of pages that begin as an earlier one does, but for short ones and those of fenced blocks."""
+    for page in [*PAGES, ROOT / "CHANGELOG.md"]:
+        there = set()
+        for line in re.sub(r"^```.*?^```", "", page.read_text(), flags=re.M | re.S).splitlines():
+            if len(line) > 60 and line[:100] in there:
+                yield f"{page.relative_to(ROOT)}: stands twice: {line[:60]}"
+            there.add(line[:100])
+
+
 def lost_rows():
     """The rows of docs/EDGE.md that bench/edge.py doesn't have."""
-    said = "".join((ROOT / "bench" / name).read_text() for name in ("edge.py", "edge_records.py", "edge_stages.py"))
+    said = "".join((ROOT / "bench" / name).read_text() for name in ("edge.py", "edge_records.py", "edge_stages.py", "edge_probes.py"))
     for line in (ROOT / "docs" / "EDGE.md").read_text().splitlines():
         for name in re.findall(r"`(\w+)`", line.rpartition(" | ")[2]) if line.startswith("| ") else []:
             if f"def {name}(" not in said:
@@ -211,6 +223,7 @@ def faults():
         *lost_statuses(),
         *lost_links(),
         *unlisted(),
+        *doubled(),
         *lost_rows(),
     ]
 

@@ -124,7 +124,7 @@ def build(pieces, *values):
 
 
 def first_length(data):
-    """The length that stands in front in LEB128, and what is behind it."""
+    """The length that stands in front in LEB128, and what is after it."""
     length = 0
     for place, byte in enumerate(data[:10]):
         length |= (byte & 127) << (7 * place)
@@ -134,7 +134,7 @@ def first_length(data):
 
 
 def first_field(kind, data):
-    """The value of a field in front, and what is behind it. Other forms than the one of `field_bytes` pass here."""
+    """The value of a field in front, and what is after it. Other forms than the one of `field_bytes` pass here."""
     if kind == "len":
         length, data = first_length(data)
         return data[:length], data[length:]

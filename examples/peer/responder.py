@@ -2,7 +2,7 @@
 """Role B of examples/mutual/mutual.anb in Python, as an implementation that `anb` can test.
 
     python3 responder.py 127.0.0.1:4070    awaits one connection there
-    python3 responder.py -                 speaks over standard streams
+    python3 responder.py -                 speaks over standard streams; words after the - are passed over
 
 Prints `done` on standard error, or what it refused; the status is then 1.
 """
@@ -66,4 +66,4 @@ def main(where, **parts):
 
 
 if __name__ == "__main__":
-    sys.exit(not main(*sys.argv[1:]))
+    sys.exit(not main(sys.argv[1]))

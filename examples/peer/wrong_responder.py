@@ -3,6 +3,7 @@
 
     python3 wrong_responder.py swapped 127.0.0.1:4070   gives the two challenges back in the wrong order
     python3 wrong_responder.py lax 127.0.0.1:4070       doesn't look at the confirmation
+    python3 wrong_responder.py lax -                    the same over standard streams, where `anb probe` finds it out
 """
 
 import sys

@@ -8,13 +8,13 @@ syntax keyword anbSort Agent Number Key
 syntax keyword anbSuite sha256 sha512
 syntax keyword anbField len net hex rest
 syntax match anbOperator /\<\(h\|mac\|scrypt\|wrap\)\>\ze\s*(/
-syntax match anbFormat /\<\(\(h\|mac\|scrypt\|wrap\)\>\)\@!\a\w*\>\ze\s*(/
+syntax match anbFormat /\<\(\(h\|mac\|scrypt\|wrap\)\>\)\@!\a\w*\>\ze\s*[(=]/
 syntax match anbArrow /->/
 syntax match anbEscape /\\\(["\\]\|x\x\x\)/ contained
 syntax region anbLiteral start=/"/ skip=/\\["\\]/ end=/"/ oneline contains=anbEscape
 syntax match anbComment /#.*$/ contains=anbTodo
 syntax keyword anbTodo TODO FIXME contained
-" What stands behind Goals isn't read.
+" What stands after Goals isn't read.
 syntax region anbGoals matchgroup=anbSection start=/\<Goals\>/ end=/\%$/
 
 highlight default link anbSection Statement
