@@ -1,5 +1,5 @@
 -- What comes of a play that is recorded: its status, and what is in the folder.
-use Rattle.std.specs.Prelude.{◌≡◌, ◌≢◌, ◌⊎◌, ℕ, Bool, List, [], ◌++◌, Option, Some, Ok, if◌then◌else◌}
+use Rattle.std.specs.Prelude.{◌≡◌, ◌≢◌, ◌⊎◌, ℕ, Bool, true, List, [], ◌++◌, Option, Some, Ok, if◌then◌else◌}
 use Rattle.std.specs.List.{AllByRecursion}
 use Rattle.anb_base.specs.Bytes.{IsBytes}
 use Rattle.anb_base.specs.Moves.{Rose}
@@ -22,7 +22,9 @@ use Rattle.anb_values.specs.Fit.{Fit}
 use Rattle.anb_values_text.specs.Texts.{values_text}
 use Rattle.anb_command.specs.Causes.{HasCause}
 use Rattle.anb_command.specs.Prepared.{status_of}
+use Rattle.anb_command.specs.Reaches.{Reaches}
 use Rattle.anb_command.specs.Steps.{Answer, given}
+use Rattle.anb_command.specs.Touches.{Touches}
 use Rattle.anb_record_commands.specs.Names.{transcript_in, values_in}
 use Rattle.anb_record_commands.specs.declared.ended.Missing.{Missing}
 use Rattle.anb_record_commands.specs.declared.ended.Missing.TheVariants as missing
@@ -132,6 +134,10 @@ module _ (old new : WireState) (folder : List ℕ) (store store_now : StoreState
       pub why_missed : IsMissing folder store store_now old new end missed
       -- a refusal leaves the store
       pub early : phase_of end ≡ before_reach → store_now ≡ store
+      -- the place is reached and the wire touched as that end says, whatever is told
+      pub place : Place
+      pub reached : Reaches (Some place) (phase_of end) old.reached new.reached
+      pub touches : Touches true (phase_of end) old new
       pub recorded : (phase_of end ≡ before_reach → ⊥) → end ≢ NoMemory → missed ≡ missing.Nothing → Has end
 
     -- it ends and completes as without a folder, or memory was wanting, and the recording is all there

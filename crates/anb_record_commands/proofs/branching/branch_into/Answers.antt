@@ -17,6 +17,9 @@ returns-clause-does g c =
       told_so = c.told.ensures;
       why_missed = e.why_missed;
       early = e.early;
+      place = place_by c.args.words.play.endpoint;
+      reached = e.reached;
+      touches = e.touches;
       recorded = e.recorded;
     }
 
