@@ -1,0 +1,2 @@
+mod Transcribing
+mod Filing

@@ -1,0 +1,5 @@
+pub mod Entries
+pub mod Sessions
+pub mod Laws
+-- for proofs alone
+pub mod Following
