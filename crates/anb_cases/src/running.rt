@@ -8,7 +8,7 @@ use crate::children::children;
 use crate::unfailing::run_unfailing;
 use anb_base::{Bytes, MemShelf, MemWire, NeverFails, NoMemory, Text};
 use anb_partner::MemTrials;
-use anb_run::run_in_session;
+use anb_run::run_with_program;
 use anb_stage::MemSpawner;
 use anb_store::MemStore;
 use hex::FromHex;
@@ -94,7 +94,7 @@ fn status_of(
 {
     // No role has a child that could be started.
     let mut spawner = MemSpawner::new(alloc, Vec::new(alloc), Vec::new(alloc), 0, Vec::new(alloc))?;
-    let status = run_in_session(
+    let status = run_with_program(
         alloc,
         words,
         shelf,

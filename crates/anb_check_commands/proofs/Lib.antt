@@ -1,3 +1,4 @@
+pub mod ArmByArm
 pub mod Checked
 pub mod Verdicts
 pub mod Lacks

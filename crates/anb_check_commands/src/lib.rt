@@ -2,6 +2,7 @@
 //! nothing from the wire.
 #![tactic(auto)]
 
+mod arms;
 mod asking;
 mod checking;
 mod finding;

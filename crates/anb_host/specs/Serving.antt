@@ -47,11 +47,6 @@ module _ (plays : ℕ → Run) where
         (stamps past (length written) (take k events)
         ++ replicate (length z) (length written + length (out (told plays past (take k events))))))
 
-    -- this is so of the events of which all was taken
-    abbrev pub FollowsAfter : (List HostEvent → Type 0) → Type 0
-    FollowsAfter Then =
-        (k : ℕ) × (z : List ℕ) × (k ≤ budget) × IsBehind z × Reads k z × Then (take k events)
-
     -- all that the first k events are answered is written
     abbrev pub Answers : (k : ℕ) → Type 0
     Answers k = Put old.written new.written (out (told plays past (take k events)))

@@ -31,7 +31,6 @@ use Rattle.anb_branch_commands.specs.Laws.{ArmsAreNarrations}
 use Rattle.anb_branch_commands.proofs.Preparing.{job_seated}
 use Rattle.anb_branch_commands.proofs.Seats.{known_at}
 use Rattle.anb_record_commands.specs.BranchInto.{arm_values}
-use Rattle.anb_record_commands.specs.HostInto.{RecordedSessionsReplay}
 use Rattle.anb_record_commands.specs.Laws.{RecordedArmsReplay, RecordedPlaysReplay, replayed_as}
 use Rattle.anb_record_commands.specs.Names.{transcript_in, values_in}
 use Rattle.anb_record_commands.specs.Outcomes.{IsReadAgain, ReplaysTo, Valued, text_of}
@@ -93,13 +92,13 @@ job_again files later narration name values recorded host_seed other_seed job (i
 
 -- how the replay of these lines ends
 module _ (job : Job) (run : Run) (are : (arrivals : List (List ℕ)) → AllByRecursion IsBytes arrivals → PlayOf job arrivals (run arrivals)) (lines : List TranscriptLine) where
-  compares : (end : ReplayEnd) (due : Status) → end ≢ replayed.NoMemory → Replays run lines end → due ≡ status_of end → Compares 0 (record { job = job; lines = lines }) due
+  compares : (end : ReplayEnd) (due : Status) → end ≢ replayed.NoMemory → Replays run lines end → due ≡ status_of end → Compares (record { job = job; lines = lines }) due
   compares end due some replays is = record { plays = run; are = are; end = end; some = some; replays = replays; is = is }
 
   some_one : (one other : Status) → Some one ≡ Some other → other ≡ one
   some_one one other is = cc
 
-  compares_end : (end : PlayEnd) (due : Status) → ReplaysAs run lines end → replayed_as (length lines) (prepared.status_of end) ≡ Some due → Compares 0 (record { job = job; lines = lines }) due
+  compares_end : (end : PlayEnd) (due : Status) → ReplaysAs run lines end → replayed_as (length lines) (prepared.status_of end) ≡ Some due → Compares (record { job = job; lines = lines }) due
   compares_end ended.Done due replays is = compares replayed.Follows due (λ no. cc) replays (some_one _ due is)
   compares_end (ended.Stopped halt) due replays is = compares (replayed.Stopped halt (last_arrival lines)) due (λ no. cc) replays (some_one _ due is)
   compares_end (ended.Waiting e) due replays is = compares (replayed.Short (length lines + 1)) due (λ no. cc) replays.0 (some_one _ due is)
@@ -109,7 +108,7 @@ module _ (job : Job) (run : Run) (are : (arrivals : List (List ℕ)) → AllByRe
   compares_end ended.WriteFault due replays is = absurd (cc)
   compares_end ended.NoMemory due replays is = absurd (cc)
 
-  compares_as : (end due : Status) → ReplaysTo run lines end → replayed_as (length lines) end ≡ Some due → Compares 0 (record { job = job; lines = lines }) due
+  compares_as : (end due : Status) → ReplaysTo run lines end → replayed_as (length lines) end ≡ Some due → Compares (record { job = job; lines = lines }) due
   compares_as end due (inl (how, is_end, replays)) is = compares_end how due replays (ap (replayed_as (length lines)) (sym is_end) ∙ is)
   compares_as end due (inr (place, is_end, none)) is = absurd (let never : None ≡ Some due = ap (replayed_as (length lines)) (sym is_end) ∙ is in cc)
 
@@ -136,16 +135,3 @@ arms_replay read narrations alike files later branched role values folder name t
     (narrations files branched role values told host_seed job asks text tells place arm straight arm_at straight_at name has) are plain replays
     (subst IsReadAgain values_are reads) same (subst (λ (g : Valued). later (values_in folder) ≡ Some (text_of g)) values_are values_there) (subst (λ (g : Valued). length (text_of g) ≤ VALUES_LIMIT) values_are values_short)
     lines_there lines_short is
-
--- a session of a host
-pub sessions_replay : WrittenLinesAreRead → RecordedSessionsReplay
-sessions_replay read files later narration name values folder host_seed other_seed job session run lines end asks are plain replays some reads same values_there values_short lines_there lines_short =
-    inr (
-      record { job = job; lines = lines },
-      inr (
-        job,
-        job_again files later narration name values (values_in folder) host_seed other_seed job asks reads same values_there values_short,
-        inr (lines, inr (lines_text lines, record { holds = lines_there; short = lines_short }, read lines plain), refl),
-      ),
-      record { plays = run; are = are; end = end; some = some; replays = replays; is = refl },
-    )

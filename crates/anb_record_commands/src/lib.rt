@@ -17,6 +17,6 @@ mod words;
 pub use branching::branch_into;
 pub use enacting::enact_into;
 pub use ended::Missing;
-pub use laws::{recorded_arms_replay, recorded_plays_replay, recorded_sessions_replay};
+pub use laws::{recorded_arms_replay, recorded_plays_replay};
 pub use playing::play_into;
 pub use words::RecordingWords;

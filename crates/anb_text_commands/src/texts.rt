@@ -171,10 +171,9 @@ pub const HOST: &str = concat!(
 
 /// The page on `replay`.
 pub const REPLAY: &str = concat!(
-    "anb replay <narration> <role> <values> <transcript> [--session <n>]\n",
+    "anb replay <narration> <role> <values> <transcript>\n",
     "Compares a transcript with what the role does. Its lines are `> <hex>` for what the role\n",
-    "sends and `< <hex>` for what arrives. The session of a host has draws of its own: its\n",
-    "number is from 0 to 4294967295, and 0 where none is said.\n",
+    "sends and `< <hex>` for what arrives.\n",
     "Statuses: 0; 4 to 8 as play has them; 10 the role stops; 17 a line can't be read; 18 a line\n",
     "differs; 19 the transcript ends too early; 2, 3 a file; 9 the output; 99.\n",
     "Example: anb replay examples/ping/ping.anb A examples/ping/A.values examples/ping/A.transcript\n",
@@ -192,9 +191,9 @@ pub const JUDGE: &str = concat!(
 
 /// The page on `trace`.
 pub const TRACE: &str = concat!(
-    "anb trace <narration> <role> <values> <transcript> [--session <n>]\n",
+    "anb trace <narration> <role> <values> <transcript>\n",
     "Plays the role over the arrivals of a transcript, and tells step by step what happens, up\n",
-    "to the reason of a stop; then the first line that isn't due. For sessions see replay.\n",
+    "to the reason of a stop; then the first line that isn't due.\n",
     "Statuses: 0; 4 to 8, 10 and 17 to 19 as replay has them; 2, 3 a file; 9, 15 the output; 99.\n",
     "Example: anb trace examples/ping/ping.anb A examples/ping/A.values examples/ping/A.transcript\n",
 );

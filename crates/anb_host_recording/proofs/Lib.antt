@@ -1,2 +1,0 @@
-mod Transcribing
-mod Filing
