@@ -1,19 +1,11 @@
 -- From a verdict to what `check` does.
-use Rattle.std.proofs.Common.{◌≡◌, ◌⊎◌, ℕ, ◌+◌, Bool, true, false, List, [], ◌∷◌, take, Option, Some, None, refl, ap, sym, ◌∙◌, subst, inl, inr}
+use Rattle.std.proofs.Common.{◌≡◌, ◌⊎◌, ℕ, Bool, true, false, List, [], take, Option, Some, None, refl, ap, sym, ◌∙◌, subst, inl, inr}
 use Rattle.anb_base.specs.Moves.{Put}
 use Rattle.anb_base.proofs.Moving.{put_nothing}
-use Rattle.anb_choice.specs.Branching.{IsRefusal as IsNoChoice}
-use Rattle.anb_choice.specs.Laws.{ChoicesAreUnique, NoneIsBoth as NoChoiceIsRefused}
-use Rattle.anb_choice.specs.Lawful.{BranchedValue}
-use Rattle.anb_outcomes.specs.declared.choices.BranchNo.{BranchNo}
-use Rattle.anb_protocol.specs.Protocols.{ProtocolValue}
-use Rattle.anb_read.specs.Refusals.{IsRefusal}
-use Rattle.anb_read.specs.declared.refusal.ReadNo.{ReadNo}
-use Rattle.anb_status.specs.declared.status.NarrationNo.TheVariants.{Read}
 use Rattle.anb_read.specs.Laws.{NarrationsAreUnique, RefusalsAreUnique, NoneIsBoth}
 use Rattle.anb_command.specs.declared.limits.TheConstants.{NARRATION_LIMIT}
 use Rattle.anb_status.specs.declared.status.Status.{Status}
-use Rattle.anb_status.specs.declared.status.Status.TheVariants.{BadNarration, Done, FileFault, FileLong, Unreached, WriteFault, NoMemory}
+use Rattle.anb_status.specs.declared.status.Status.TheVariants.{Done, FileFault, FileLong, Unreached, WriteFault, NoMemory}
 use Rattle.anb_command.specs.Fetches.{Files, IfTold}
 use Rattle.anb_command.specs.Files.{FileIs, HasFile, HasLonger, NarrationIs, ProtocolIs}
 use Rattle.anb_command.specs.Roles.{SendableOf}
@@ -23,50 +15,20 @@ use Rattle.anb_command.specs.Writing.{IsWritten}
 use Rattle.anb_command.proofs.Chains.{told_map}
 use Rattle.anb_command.proofs.Ones.{file_one, is_one, narration_one, not_both, protocol_one, same_given, same_refusal, send_one, then_one}
 use Rattle.anb_command.proofs.Written.{faulty}
-use Rattle.anb_check_commands.specs.CheckCommand.{AreArms, CompletesCheck, IsShownVerdict, IsTelling, IsVerdict, IsUnreadSaid, IsVerdictOnFile, SaidOf, SendableOfText, Tells}
+use Rattle.anb_check_commands.specs.CheckCommand.{CompletesCheck, IsShownVerdict, IsTelling, IsVerdict, IsVerdictOnFile, SendableOfText, Tells}
 use Rattle.anb_check_commands.specs.Telling.{IsLast, IsTold, ended_by}
 
-module _ (narrations : NarrationsAreUnique) (refusals : RefusalsAreUnique) (none : NoneIsBoth) (choices : ChoicesAreUnique) (no_choice : NoChoiceIsRefused) (narration : List ℕ) where
+module _ (narrations : NarrationsAreUnique) (refusals : RefusalsAreUnique) (none : NoneIsBoth) (narration : List ℕ) where
   text_one : (x : List ℕ) → HasOneAnswer (SendableOfText x)
   text_one x =
       then_one (NarrationIs x) _ (narration_one narrations refusals none x) (λ n.
       then_one (ProtocolIs n) SendableOf (protocol_one n) (λ p. then_one _ _ (send_one p) (λ u. is_one p)))
 
-  -- a text that tells a choice is refused as no narration
-
-  unread_text : (x : List ℕ) → ((why : ReadNo) × IsRefusal x why) → (status : Status) × SendableOfText x (refused status)
-  unread_text x (why, is) = (BadNarration (Read why), inl (BadNarration (Read why), (why, refl, is), refl))
-
-  is_unread : (x : List ℕ) (s : Status) (said : List ℕ) → ((why : ReadNo) × IsRefusal x why) → SendableOfText x (refused s) → SaidOf narration x s said → (no : BranchNo) × IsNoChoice x no
-  is_unread x s said (why, is) due said_of =
-      let same : s ≡ BadNarration (Read why) = same_refusal s (BadNarration (Read why)) (text_one x (refused s) (refused (BadNarration (Read why))) due (inl (BadNarration (Read why), (why, refl, is), refl))) in
-      let unread : IsUnreadSaid narration x why said = subst (λ (t : Status). SaidOf narration x t said) same said_of in
-      (unread.2.0, unread.2.1)
-
-  -- arms have one status
-
-  same_arms : (number : ℕ) (ps : List ProtocolValue) (s t : Status) (said other : List ℕ) → AreArms number ps s said → AreArms number ps t other → s ≡ t
-  same_arms number [] s t said other (done, is) (done', js) = done ∙ sym done'
-  same_arms number (p ∷ ps) s t said other (inl (own, lacks, is)) (inl (own', lacks', js)) = same_refusal s t (send_one p (refused s) (refused t) lacks.0 lacks'.0)
-  same_arms number (p ∷ ps) s t said other (inl (own, lacks, is)) (inr (own', others, report, later, js)) = not_both s tt (send_one p (refused s) (given tt) lacks.0 report.0)
-  same_arms number (p ∷ ps) s t said other (inr (own, others, report, later, is)) (inl (own', lacks, js)) = not_both t tt (send_one p (refused t) (given tt) lacks.0 report.0)
-  same_arms number (p ∷ ps) s t said other (inr (own, others, report, later, is)) (inr (own', others', report', later', js)) = same_arms (number + 1) ps s t others others' later later'
-
   same_plain : (x : List ℕ) (s t : Status) (said other : List ℕ) → IsVerdict narration x s said → IsVerdict narration x t other → s ≡ t
   same_plain x s t said other (inl (due, is)) (inl (also, js)) = same_refusal s t (text_one x (refused s) (refused t) due also)
-  same_plain x s t said other (inl (due, is)) (inr (inl (p, also, done, report))) = not_both s p (text_one x (refused s) (given p) due also)
-  same_plain x s t said other (inl (due, is)) (inr (inr (b, tells, arms))) =
-      let no = is_unread x s said tells.0 due is in absurd (no_choice x b no.0 tells.1.0 tells.1.1 no.1)
-  same_plain x s t said other (inr (inl (p, due, done, report))) (inl (also, js)) = not_both t p (text_one x (refused t) (given p) also due)
-  same_plain x s t said other (inr (inl (p, due, done, report))) (inr (inl (q, also, done', report'))) = done ∙ sym done'
-  same_plain x s t said other (inr (inl (p, due, done, report))) (inr (inr (b, tells, arms))) =
-      let unread = unread_text x tells.0 in not_both unread.0 p (text_one x (refused unread.0) (given p) unread.1 due)
-  same_plain x s t said other (inr (inr (b, tells, arms))) (inl (due, is)) =
-      let no = is_unread x t other tells.0 due is in absurd (no_choice x b no.0 tells.1.0 tells.1.1 no.1)
-  same_plain x s t said other (inr (inr (b, tells, arms))) (inr (inl (p, due, done, report))) =
-      let unread = unread_text x tells.0 in not_both unread.0 p (text_one x (refused unread.0) (given p) unread.1 due)
-  same_plain x s t said other (inr (inr (b, tells, arms))) (inr (inr (c, tells', arms'))) =
-      same_arms 1 b.arms s t said other arms (subst (λ (d : BranchedValue). AreArms 1 d.arms t other) (choices x c b tells'.1.0 tells.1.0) arms')
+  same_plain x s t said other (inl (due, is)) (inr (p, also, done, report)) = not_both s p (text_one x (refused s) (given p) due also)
+  same_plain x s t said other (inr (p, due, done, report)) (inl (also, js)) = not_both t p (text_one x (refused t) (given p) also due)
+  same_plain x s t said other (inr (p, due, done, report)) (inr (q, also, done', report')) = done ∙ sym done'
 
   same_verdict : (x : List ℕ) (s t : Status) (out other : List ℕ) → IsShownVerdict narration x s out → IsShownVerdict narration x t other → s ≡ t
   same_verdict x s t out other one two = same_plain x s t one.said two.said one.verdict two.verdict

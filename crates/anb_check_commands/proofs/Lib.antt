@@ -1,4 +1,3 @@
-pub mod ArmByArm
 pub mod Checked
 pub mod Verdicts
 pub mod Lacks

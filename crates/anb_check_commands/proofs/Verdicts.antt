@@ -8,17 +8,18 @@ use Rattle.anb_read.specs.declared.refusal.ReadNo.{ReadNo}
 use Rattle.anb_protocol.specs.Checks.{fault}
 use Rattle.anb_protocol.specs.Protocols.{ProtocolValue, protocol_of}
 use Rattle.anb_protocol.specs.declared.refusals.ResolveNo.{ResolveNo}
+use Rattle.anb_mistakes.specs.Unread.{IsUnreadText}
 use Rattle.anb_mistakes.specs.Unresolved.{IsUnresolvedText}
 use Rattle.anb_status.specs.declared.status.NarrationNo.TheVariants.{Read, Resolve}
 use Rattle.anb_status.specs.declared.status.Status.{Status}
 use Rattle.anb_status.specs.declared.status.Status.TheVariants.{BadNarration}
 use Rattle.anb_status.specs.Statuses.{why_ill_formed}
-use Rattle.anb_check_commands.specs.CheckCommand.{IsUnreadSaid, IsVerdict, SaidOf}
+use Rattle.anb_check_commands.specs.CheckCommand.{IsVerdict, SaidOf}
 use Rattle.anb_check_commands.specs.Telling.{IsVerdictOnNarration, IsVerdictOnProtocol}
 
 module _ (name x : List ℕ) where
   -- a text that is no narration
-  pub unread : (why : ReadNo) (said : List ℕ) → IsRefusal x why → IsUnreadSaid name x why said → IsVerdict name x (BadNarration (Read why)) said
+  pub unread : (why : ReadNo) (said : List ℕ) → IsRefusal x why → IsUnreadText name x why said → IsVerdict name x (BadNarration (Read why)) said
   unread why said is text = inl (inl (BadNarration (Read why), (why, refl, is), refl), text)
 
   module _ (n : Narration) (told : Text n x) where
@@ -31,7 +32,7 @@ module _ (name x : List ℕ) where
     of_protocol s said well (inl (action, sender, is, refuses, reason)) =
         inl (inr (n, told, inr (protocol_of n, (well, refl), inl (s, refuses, refl))), subst (λ (t : Status). SaidOf name x t said) (sym is) (n, told, reason))
     of_protocol s said well (inr (sendable, done, report)) =
-        inr (inl (protocol_of n, inr (n, told, inr (protocol_of n, (well, refl), inr (tt, sendable, refl))), done, report))
+        inr (protocol_of n, inr (n, told, inr (protocol_of n, (well, refl), inr (tt, sendable, refl))), done, report)
 
     -- a text that is one
     pub of_narration : (s : Status) (said : List ℕ) → IsVerdictOnNarration name x n s said → IsVerdict name x s said

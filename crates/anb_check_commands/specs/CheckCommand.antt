@@ -1,19 +1,12 @@
 -- What `check` does: it says where and why a narration's text is refused, or reports on its roles.
-use Rattle.std.specs.Prelude.{◌≡◌, ◌⊎◌, ℕ, ◌+◌, true, false, List, [], ◌∷◌, ◌++◌, length, take, Option, Some, slice_get}
+use Rattle.std.specs.Prelude.{◌≡◌, ◌⊎◌, ℕ, true, false, List, [], length, take, Option, Some, slice_get}
 use Rattle.std.specs.List.{AllByRecursion}
 use Rattle.anb_base.specs.Moves.{Put}
 use Rattle.anb_base.specs.Wires.{WireState}
 use Rattle.anb_base.specs.declared.TheConstants.{ARRIVAL, WIDE}
 use Rattle.anb_syntax.specs.Grammar.{Narration}
 use Rattle.anb_syntax.specs.Text.{Text}
-use Rattle.anb_read.specs.Refusals.{IsRefusal}
-use Rattle.anb_read.specs.declared.refusal.ReadNo.{ReadNo}
-use Rattle.anb_protocol.specs.Plays.{IsSendable}
 use Rattle.anb_protocol.specs.Protocols.{ProtocolValue, protocol_of}
-use Rattle.anb_outcomes.specs.declared.choices.BranchNo.{BranchNo}
-use Rattle.anb_choice.specs.Branching.{BranchedText, IsRefusal as IsNoChoice}
-use Rattle.anb_choice.specs.Lawful.{BranchedValue, IsLawful}
-use Rattle.anb_check_commands.specs.ChoiceLines.{arm_line, choice_line}
 use Rattle.anb_code.specs.CodeValue.{CodeValue}
 use Rattle.anb_code.specs.Verified.{IsVerifiedCode}
 use Rattle.anb_compile.specs.Fitting.{FitRoles}
@@ -31,7 +24,7 @@ use Rattle.anb_status.specs.declared.status.Status.{Status}
 use Rattle.anb_status.specs.declared.status.Status.TheVariants.{Done, FileFault, BadNarration, CannotSend, Unreached, WriteFault, NoMemory}
 use Rattle.anb_command.specs.Fetches.{Files, IfTold}
 use Rattle.anb_command.specs.Files.{FileIs, NarrationIs, ProtocolIs}
-use Rattle.anb_command.specs.Roles.{AllSend, SendableOf}
+use Rattle.anb_command.specs.Roles.{SendableOf}
 use Rattle.anb_status.specs.Statuses.{is_fault, why_ill_formed}
 use Rattle.anb_command.specs.Steps.{Answer, refused, given, InTurn}
 
@@ -45,17 +38,10 @@ abbrev pub IsLackSaid : (name x : List ℕ) → ProtocolValue → (action : ℕ)
 IsLackSaid name x p action said =
     (line : List ℕ) × (lists : List ℕ) × IsLackText p line lists × IsUnsentText name x action line lists said
 
--- What is said of a text that is no narration and tells no lawful choice: the place and what would mend it; and
--- where its tokens are in the order of a text with a choice, what that is refused for.
-abbrev pub IsUnreadSaid : (name x : List ℕ) → ReadNo → List ℕ → Type 0
-IsUnreadSaid name x why said =
-    (plain : List ℕ) × IsUnreadText name x why plain
-    × ((no : BranchNo) × IsNoChoice x no × (said ≡ plain ++ choice_line no))
-
 -- What is said of a text, in a file of this name, that is refused with this status: the place and what
 -- would mend it; and of a narration in which a role can't send, the place and what it lacks.
 abbrev pub SaidOf : (name x : List ℕ) → Status → List ℕ → Type 0
-SaidOf name x (BadNarration (Read why)) said = IsUnreadSaid name x why said
+SaidOf name x (BadNarration (Read why)) said = IsUnreadText name x why said
 SaidOf name x (BadNarration (Resolve why)) said =
     (n : Narration) × Text n x × IsUnresolvedText name x n why (why_ill_formed why) said
 SaidOf name x (CannotSend action role) said = (n : Narration) × Text n x × IsLackSaid name x (protocol_of n) action said
@@ -76,36 +62,11 @@ pub record IsReport (p : ProtocolValue) (said : List ℕ) : Type 0 where
   pub takes : AreTaken p taken
   pub is : said ≡ report p codes taken
 
--- ---- texts with a choice
-
--- a report on an arm whose roles can all send
-abbrev pub IsReported : ProtocolValue → List ℕ → Type 0
-IsReported p own = IsSendable p × IsReport p own
-
--- the refusal of an arm in which a role can't send, and what the sender has and lacks
-abbrev pub IsLacking : ProtocolValue → Status → List ℕ → Type 0
-IsLacking p status own =
-    AllSend p (refused status) × ((line : List ℕ) × (lists : List ℕ) × IsLackText p line lists × (own ≡ line ++ 10 ∷ lists))
-
--- The status of these arms, the first of which has this number, and what is said of them: a report on each, or on
--- those before the first in which a role can't send, and what is said of that one.
-abbrev pub AreArms : (number : ℕ) → List ProtocolValue → Status → List ℕ → Type 0
-AreArms number [] status said = (status ≡ Done) × (said ≡ [])
-AreArms number (p ∷ ps) status said =
-    ((own : List ℕ) × IsLacking p status own × (said ≡ arm_line number ++ own))
-    ⊎ ((own : List ℕ) × (others : List ℕ) × IsReported p own × AreArms (number + 1) ps status others
-    × (said ≡ arm_line number ++ (own ++ others)))
-
--- the text is no narration, and tells a lawful choice
-abbrev pub TellsChoice : List ℕ → BranchedValue → Type 0
-TellsChoice x b = ((why : ReadNo) × IsRefusal x why) × BranchedText x b × IsLawful b
-
 -- the status of a text, and what is said of it
 abbrev pub IsVerdict : (name x : List ℕ) → Status → List ℕ → Type 0
 IsVerdict name x status said =
     (SendableOfText x (refused status) × SaidOf name x status said)
-    ⊎ (((p : ProtocolValue) × SendableOfText x (given p) × (status ≡ Done) × IsReport p said)
-    ⊎ ((b : BranchedValue) × TellsChoice x b × AreArms 1 b.arms status said))
+    ⊎ ((p : ProtocolValue) × SendableOfText x (given p) × (status ≡ Done) × IsReport p said)
 
 -- What is written of it: what is said, with control bytes, and what isn't UTF-8, as `\x1b`. So a terminal
 -- gets no control byte of a file or of its name.

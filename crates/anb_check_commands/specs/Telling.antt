@@ -1,12 +1,11 @@
 -- For proofs alone: what is told of a verdict.
-use Rattle.std.specs.Prelude.{◌≡◌, ◌⊎◌, ℕ, false, List, ◌∷◌, ◌++◌, Option, Some, None}
+use Rattle.std.specs.Prelude.{◌≡◌, ◌⊎◌, ℕ, false, List, Option, Some, None}
 use Rattle.anb_base.specs.declared.TheConstants.{ARRIVAL, WIDE}
 use Rattle.anb_syntax.specs.Grammar.{Narration}
 use Rattle.anb_protocol.specs.Checks.{fault}
 use Rattle.anb_protocol.specs.Plays.{IsSendable}
 use Rattle.anb_protocol.specs.Protocols.{ProtocolValue, protocol_of}
 use Rattle.anb_protocol.specs.declared.refusals.ResolveNo.{ResolveNo}
-use Rattle.anb_lack.specs.Lacking.{IsLackText}
 use Rattle.anb_mistakes.specs.Unresolved.{IsUnresolvedText}
 use Rattle.anb_status.specs.declared.status.NarrationNo.TheVariants.{Resolve}
 use Rattle.anb_status.specs.declared.status.Status.{Status}
@@ -17,7 +16,7 @@ use Rattle.anb_command.specs.Roles.{AllSend, Part, PartOf}
 use Rattle.anb_status.specs.Statuses.{after_reach, is_fault, why_ill_formed}
 use Rattle.anb_command.specs.Steps.{Answer, InTurn, refused}
 use Rattle.anb_command.specs.Writing.{IsWritten}
-use Rattle.anb_check_commands.specs.CheckCommand.{IsLackSaid, IsLacking, IsReport, IsReported}
+use Rattle.anb_check_commands.specs.CheckCommand.{IsLackSaid, IsReport}
 
 -- a status that comes when all is written
 pub record IsLast (status : Status) : Type 0 where
@@ -64,12 +63,3 @@ IsVerdictOnNarration name x n status said =
     ((why : ResolveNo) × (fault ARRIVAL WIDE n ≡ Some why) × (status ≡ BadNarration (Resolve why))
     × IsUnresolvedText name x n why (why_ill_formed why) said)
     ⊎ ((fault ARRIVAL WIDE n ≡ None) × IsVerdictOnProtocol name x (protocol_of n) status said)
-
--- what is said of an arm, with the status of one in which a role can't send
-abbrev pub IsVerdictOnArm : ProtocolValue → Option Status → List ℕ → Type 0
-IsVerdictOnArm p None said = IsReported p said
-IsVerdictOnArm p (Some status) said = IsLacking p status said
-
--- what the sender has and lacks of the first action that can't be sent
-abbrev pub IsLackOf : ProtocolValue → List ℕ → Type 0
-IsLackOf p said = (line : List ℕ) × (lists : List ℕ) × IsLackText p line lists × (said ≡ line ++ 10 ∷ lists)

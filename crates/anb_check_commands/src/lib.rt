@@ -2,7 +2,6 @@
 //! nothing from the wire.
 #![tactic(auto)]
 
-mod arms;
 mod asking;
 mod checking;
 mod finding;

@@ -7,7 +7,6 @@ ghost use Rattle.anb_syntax.specs.Grammar.{IsSpellable};
 ghost use Rattle.anb_syntax.specs.Sizes.{size};
 ghost use Rattle.anb_syntax.specs.Text.{Text as IsTextOf};
 ghost use Rattle.anb_syntax.specs.Views.{narration_of};
-ghost use Rattle.anb_read.specs.Refusals.{IsRefusal};
 ghost use Rattle.anb_command.specs.declared.limits.TheConstants.{NARRATION_LIMIT};
 ghost use Rattle.anb_status.specs.Statuses.{why_ill_formed};
 ghost use Rattle.anb_compile.specs.Fitting.{FitRoles};
@@ -15,9 +14,7 @@ ghost use Rattle.anb_compile.specs.Unsent.{IsFirstUnsentOfAll};
 ghost use Rattle.anb_check_commands.specs.CheckCommand.{AreTaken, IsLackSaid, IsReport, IsShownVerdict, IsVerdict};
 ghost use Rattle.anb_check_commands.specs.Telling.{IsLast, IsVerdictOnNarration, IsVerdictOnProtocol};
 
-use crate::arms::{verdict_on_arms, with_choice_line};
 use anb_base::{Bytes, NoMemory, Text};
-use anb_choice::{BranchNo, split};
 use anb_code::RoleCode;
 use anb_command::{NarrationNo, Status, ill_formed};
 use anb_compile::{CompileNo, compile_all};
@@ -64,33 +61,10 @@ fn plain_verdict_on(alloc: Global, name: &Text, text: &[u8]) -> Result<Verdict, 
     match read(alloc, text) {
         Ok(narration) => verdict_on_narration(alloc, name, text, &narration),
         Err(ReadNo::NoMemory) => Err(NoMemory),
-        Err(why) => verdict_on_unread(alloc, name, text, why),
-    }
-}
-
-/// The verdict on a text that is no narration, for this reason: on the arms of its choice, where it
-/// tells a lawful one.
-fn verdict_on_unread(
-    alloc: Global,
-    name: &Text,
-    text: &[u8],
-    why: ReadNo,
-) -> Result<Verdict, NoMemory>
-    requires within { length text.now ≤ NARRATION_LIMIT }
-    requires refused { IsRefusal text.now why }
-    ensures is { IfOk result (λ v. IsVerdict name.now text.now v.status v.said) }
-    ensures last { IfOk result (λ v. IsLast v.status) }
-{
-    match split(alloc, text) {
-        Ok(branched) => verdict_on_arms(alloc, branched.arms.as_slice()),
-        Err(BranchNo::NoMemory) => Err(NoMemory),
-        Err(no) => {
-            let plain = unread_text(alloc, name, text, why)?;
-            Ok(Verdict {
-                said: with_choice_line(alloc, &plain, &no)?,
-                status: Status::BadNarration(NarrationNo::Read(why)),
-            })
-        }
+        Err(why) => Ok(Verdict {
+            said: unread_text(alloc, name, text, why)?,
+            status: Status::BadNarration(NarrationNo::Read(why)),
+        }),
     }
 }
 
@@ -124,7 +98,7 @@ fn verdict_on_narration(
 }
 
 /// Why a narration isn't well formed.
-pub(crate) fn reason_of(alloc: Global, why: &ResolveNo) -> Result<Vec<u8>, NoMemory>
+fn reason_of(alloc: Global, why: &ResolveNo) -> Result<Vec<u8>, NoMemory>
     ensures { IfOk result (λ v. v.items ≡ why_ill_formed why.now) }
 {
     let mut digits = Buffer::new();
@@ -184,11 +158,7 @@ fn lack_said(
 }
 
 /// The report on a protocol, by codes of its roles and by what these take.
-pub(crate) fn report_on(
-    alloc: Global,
-    protocol: &Protocol,
-    codes: &[RoleCode],
-) -> Result<Bytes, NoMemory>
+fn report_on(alloc: Global, protocol: &Protocol, codes: &[RoleCode]) -> Result<Bytes, NoMemory>
     requires { FitRoles protocol.now codes.now }
     ensures { IfOk result (λ said. IsReport protocol.now said) }
 {
