@@ -8,7 +8,7 @@ _anb_kinds() {
         park) echo narration role values file ;;
         resume) echo narration role file file ;;
         replay | trace | judge) echo narration role values file ;;
-        stage) echo narration folder ;;
+        stage) echo narration values ;;
         rehearse) echo narration values file ;;
         check | values) echo narration role values ;;
         drill) echo number ;;
@@ -117,7 +117,6 @@ _anb() {
         narration) _anb_files .anb ;;
         values) _anb_files .values ;;
         file) _anb_files '' ;;
-        folder) compopt -o filenames 2>/dev/null; mapfile -t COMPREPLY < <(compgen -d -- "$(_anb_file "$word")") ;;
         role) _anb_offer "$(_anb_roles "${words[2]}")" ;;
         command) _anb_offer "$_anb_commands" ;;
         number) ;;

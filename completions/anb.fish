@@ -157,11 +157,10 @@ set -l with_role check explain compile play probe values branch host park resume
 complete -c anb -n "__anb_at 1 chart fmt why stage rehearse $with_role" -k -a '(__fish_complete_suffix .anb)'
 complete -c anb -n "__anb_at 2 $with_role" -a '(__anb_roles)' -d Role
 complete -c anb -n '__anb_at 3 check play probe values branch host park replay trace judge' -k -a '(__fish_complete_suffix .values)'
-complete -c anb -n '__anb_at 2 rehearse enact' -k -a '(__fish_complete_suffix .values)'
+complete -c anb -n '__anb_at 2 rehearse stage enact' -k -a '(__fish_complete_suffix .values)'
 complete -c anb -n '__anb_at 1 enact' -F
 complete -c anb -n '__anb_at 3 rehearse certify resume' -F
 complete -c anb -n '__anb_at 4 park resume replay trace judge' -F
-complete -c anb -n '__anb_at 2 stage' -a '(__fish_complete_directories)'
 
 set -l with_place play branch host park resume enact
 complete -c anb -n '__anb_option role chart' -x -l role -a '(__anb_roles)' -d 'The role whose notes are drawn'

@@ -4,15 +4,16 @@ ghost use Rattle.std.specs.Prelude.{◌≡◌, ◌<◌, ◌≤◌, ℕ, get_or};
 ghost use Rattle.anb_processes.specs.Children.{child_of};
 
 use crate::counts::Counts;
-use crate::notes::{tell_end, tell_left, tell_no_program, tell_unstarted};
+use crate::folder::Folder;
+use crate::notes::{tell_end, tell_left, tell_no_program, tell_record, tell_unstarted};
 use crate::running::{Running, is_silence};
 use crate::watcher::Watcher;
-use anb_base::{Failed, Text};
+use anb_base::{Bytes, Failed, Text};
 use anb_stage::{ChildWords, Spawner};
 use std::alloc::{AllocError, Global};
 use std::io::ErrorKind;
 use std::marker::Model;
-use std::process::ExitStatus;
+use std::process::{ExitStatus, Stdio};
 use std::time::Duration;
 use std::{fs, io};
 
@@ -60,10 +61,17 @@ pub struct RealSpawner {
     rt: HostRuntime,
     program: ChildProgram,
     children: Vec<Named>,
-    /// What kills the children where a signal ends this program. There is none without a shell.
+    /// Where the files of children's values stand, once there is one.
+    folder: Option<Folder>,
+    /// That of the record, where there is one: their values and their standard error stand there.
+    record: Option<Folder>,
+    /// What kills the children and removes the folder where a signal ends this program. There is none
+    /// without a shell.
     watcher: Option<Watcher>,
     /// The role whose output was last found at its end.
     at_end: Option<u32>,
+    /// The role whose child was last started, read, written or finished.
+    last: Option<u32>,
     counts: Counts,
 }
 
@@ -85,22 +93,53 @@ impl RealSpawner {
             rt,
             program,
             children: Vec::new(alloc),
+            folder: None,
+            record: None,
             watcher: None,
             at_end: None,
+            last: None,
             counts: Counts::new(),
+        }
+    }
+
+    /// From now on the files of children stand in the folder of a record, which is kept: their values, and
+    /// their standard error, for which the files are there. Where there is no memory for its name no child can
+    /// be started.
+    pub fn record_in(&mut self, folder: &Text)
+        ensures { self.new.phases ≡ self.old.phases }
+    {
+        match String::from_str(self.rt.alloc(), folder.as_str()) {
+            Ok(path) => self.record = Some(Folder::of_record(path)),
+            Err(_) => self.program = ChildProgram::Unreadable,
+        }
+    }
+
+    /// Tells where the record of the child is that was looked after last.
+    pub fn tell_record(&self) {
+        let Some(record) = &self.record else {
+            return;
+        };
+        for child in self.children.iter() {
+            if Some(child.role) == self.last {
+                let _ = tell_record(&self.rt, record.path(), &child.name);
+            }
         }
     }
 
     /// Kills each child that wasn't finished, and waits for it, so that none is left behind. Then
     /// standard error is told what the child ended with whose output ended too early, which is waited
-    /// for first, for two seconds at most; and each child that can't be killed, which is left.
+    /// for first, for two seconds at most; and each child that can't be killed, which is left. The files
+    /// of their values are removed, and told where they can't be.
     pub fn end(self) {
         let RealSpawner {
             rt,
             program: _,
             mut children,
+            folder,
+            record,
             watcher,
             at_end,
+            last: _,
             counts: _,
         } = self;
         let ended = match at_end {
@@ -109,6 +148,12 @@ impl RealSpawner {
         };
         for child in children.iter_mut() {
             child.running.kill();
+        }
+        if let Some(record) = &record {
+            put_all_left(&rt, record, &children);
+        }
+        if let Some(folder) = folder {
+            folder.remove(&rt);
         }
         if let Some(watcher) = watcher {
             // One that fails has ended.
@@ -122,6 +167,17 @@ impl RealSpawner {
             if child.running.is_left() {
                 let _ = tell_left(&rt, child.running.id());
             }
+        }
+    }
+}
+
+/// Writes down what each child said behind its last message, where it said something.
+fn put_all_left(rt: &HostRuntime, record: &Folder, children: &[Named]) {
+    for child in children {
+        let left = child.running.left_over();
+        if left.bytes > 0 {
+            // What can't be written isn't.
+            let _ = record.put_left(rt, child.name.as_str(), left);
         }
     }
 }
@@ -141,6 +197,9 @@ fn end_of(
 fn start(
     rt: &HostRuntime,
     program: &ChildProgram,
+    record: &Option<Folder>,
+    folder: &mut Option<Folder>,
+    watcher: &mut Option<Watcher>,
     children: &mut Vec<Named>,
     role: u32,
     limit: Option<u32>,
@@ -148,11 +207,20 @@ fn start(
 ) -> io::Result<()> {
     let name = name_of(rt.alloc(), &own.words)?;
     let limit = limit.map(|seconds| Duration::from_secs(u64::from(seconds)));
-    let running = match &*own.program {
-        [] => Running::start(rt, program.path()?, limit, &own.words)?,
-        [first, words @ ..] => {
-            let words = joined(rt.alloc(), words, &own.words)?;
-            Running::start(rt, first.as_str(), limit, &words)?
+    let (path, words) = match &*own.program {
+        [] => (program.path()?, joined(rt.alloc(), &[], &own.words)?),
+        [first, more @ ..] => (first.as_str(), joined(rt.alloc(), more, &own.words)?),
+    };
+    let words = match &own.values {
+        Some(values) => with_file(rt, record, folder, watcher, &name, values, words)?,
+        None => words,
+    };
+    let errors = errors_for(rt, record, &name);
+    let running = match Running::start(rt, path, limit, &words, errors) {
+        Ok(running) => running,
+        Err(error) => {
+            explain(rt, program, own);
+            return Err(error);
         }
     };
     match children.push(Named {
@@ -187,13 +255,65 @@ fn joined(alloc: Global, words: &[Text], more: &[Text]) -> Result<Vec<Text>, All
     Ok(all)
 }
 
+/// Where a role's child tells its faults: in the record, or where this program does.
+fn errors_for(rt: &HostRuntime, record: &Option<Folder>, role: &Text) -> Stdio {
+    match record {
+        Some(record) => match record.errors(rt, role.as_str()) {
+            Ok(errors) => errors,
+            Err(_) => Stdio::from(rt.stderr()),
+        },
+        None => Stdio::from(rt.stderr()),
+    }
+}
+
+/// These words, and behind them the name of a new file with a role's values: in the record, or where that
+/// can't be written, in a folder that is made for them.
+fn with_file(
+    rt: &HostRuntime,
+    record: &Option<Folder>,
+    folder: &mut Option<Folder>,
+    watcher: &mut Option<Watcher>,
+    role: &Text,
+    values: &Bytes,
+    mut words: Vec<Text>,
+) -> io::Result<Vec<Text>> {
+    if let Some(record) = record
+        && let Ok(file) = record.put(rt, role.as_str(), values.as_slice())
+    {
+        words.push(Text::new(file))?;
+        return Ok(words);
+    }
+    if folder.is_none() {
+        // Without a watcher the folder is as good.
+        let _ = start_watcher(rt, watcher);
+        let made = Folder::make(rt)?;
+        if let Some(watcher) = watcher {
+            let _ = watcher.add_folder(rt, made.path());
+        }
+        *folder = Some(made);
+    }
+    if let Some(folder) = folder {
+        let file = folder.put(rt, role.as_str(), values.as_slice())?;
+        words.push(Text::new(file))?;
+    }
+    Ok(words)
+}
+
+/// Starts the watcher, where there is none.
+fn start_watcher(rt: &HostRuntime, watcher: &mut Option<Watcher>) -> io::Result<()> {
+    if watcher.is_none() {
+        *watcher = Watcher::start(rt)?;
+    }
+    Ok(())
+}
+
 /// Watches over the child that was started last. The first one brings the watcher with it.
 fn watch(rt: &HostRuntime, watcher: &mut Option<Watcher>, children: &[Named]) -> io::Result<()> {
     let Some(child) = children.last() else {
         return Ok(());
     };
     if children.len() == 1 {
-        *watcher = Watcher::start(rt)?;
+        start_watcher(rt, watcher)?;
     }
     match watcher {
         Some(watcher) => watcher.add(rt, child.running.id()),
@@ -236,9 +356,13 @@ impl Spawner for RealSpawner {
     ghost child = { child_of };
 
     fn start(&mut self, role: u32, limit: Option<u32>, own: &ChildWords) -> Result<(), Failed> {
+        self.last = Some(role);
         match start(
             &self.rt,
             &self.program,
+            &self.record,
+            &mut self.folder,
+            &mut self.watcher,
             &mut self.children,
             role,
             limit,
@@ -250,14 +374,12 @@ impl Spawner for RealSpawner {
                 self.counts.enter(role, 1);
                 Ok(())
             }
-            Err(_) => {
-                explain(&self.rt, &self.program, own);
-                Err(self.counts.fail(role, false))
-            }
+            Err(_) => Err(self.counts.fail(role, false)),
         }
     }
 
     fn read(&mut self, role: u32, buf: &mut [u8]) -> Result<usize, Failed> {
+        self.last = Some(role);
         let got = match child_in(&mut self.children, role) {
             Some(child) => child.running.read(&self.rt, buf),
             None => Err(no_child()),
@@ -274,6 +396,7 @@ impl Spawner for RealSpawner {
     }
 
     fn write(&mut self, role: u32, piece: &[u8]) -> Result<usize, Failed> {
+        self.last = Some(role);
         let put = match child_in(&mut self.children, role) {
             Some(child) => child.running.write(&self.rt, piece),
             None => Err(no_child()),
@@ -286,6 +409,7 @@ impl Spawner for RealSpawner {
     }
 
     fn finish(&mut self, role: u32) -> Result<u8, Failed> {
+        self.last = Some(role);
         let status = match child_in(&mut self.children, role) {
             Some(child) => {
                 let status = child.running.finish_with_status(&self.rt);

@@ -29,6 +29,7 @@ ghost use Rattle.anb_park_commands.specs.Splits.{SplitPlaysAreWhole};
 mod all;
 mod programs;
 mod recording;
+mod staging;
 mod storing;
 
 pub use all::run_all;
@@ -51,6 +52,7 @@ use anb_values_commands::{role_values, values};
 pub use programs::run_with_program;
 pub use recording::run_recording;
 use std::alloc::Global;
+pub use staging::run_staging;
 pub use storing::run_with_store;
 
 /// Does what the words ask for. The words are those after the program's name. The files are fetched

@@ -1,7 +1,11 @@
 pub mod Words
 pub mod CastRoles
+pub mod Scenes
 pub mod Reports
 pub mod StageCommand
 pub mod Asking
 -- for proofs alone
 pub mod Relaying
+pub mod Records
+pub mod StageInto
+pub mod Telling

@@ -1,0 +1,91 @@
+//! All commands, with a stage that is recorded in a folder.
+ghost use Rattle.std.specs.Prelude.{◌≡◌, ◌↔◌, ◌<◌, ℕ};
+ghost use Rattle.anb_stage.specs.declared.TheConstants.{ROLES};
+ghost use Rattle.anb_command.specs.Fetches.{Fetches};
+ghost use Rattle.anb_status.specs.Lines.{Tells};
+ghost use Rattle.anb_command.specs.Reaches.{Reaches};
+ghost use Rattle.anb_command.specs.Reported.{TellsFaults};
+ghost use Rattle.anb_status.specs.Statuses.{line_of};
+ghost use Rattle.anb_command.specs.Touches.{Touches};
+ghost use Rattle.anb_words.specs.Words.{asked_of};
+ghost use Rattle.anb_status.specs.declared.status.Status.TheVariants.{Usage};
+ghost use Rattle.anb_park_commands.specs.Words.{recorded_of};
+ghost use Rattle.anb_record_commands.specs.Words.{recording_of};
+ghost use Rattle.anb_stage_commands.specs.Words.{staged_into_of, staged_of};
+ghost use Rattle.anb_probe_commands.specs.Words.{probed_of};
+ghost use Rattle.anb_run.specs.Stagings.{DoesStaging, HasStagingCause, IsAskedStaging, staging_files, staging_phase, staging_places, staging_reading};
+
+use crate::run_with_program;
+use anb_base::{Shelf, Sink, Text, Wire};
+use anb_command::{Status, tell};
+use anb_partner::Trials;
+use anb_recording::Journal;
+use anb_stage::Spawner;
+use anb_stage_commands::{StageRecordWords, stage_into};
+use std::alloc::Global;
+
+/// Does what the words ask for, as [`run_with_program`] does, where a stage may be recorded too: where its
+/// words end with `--record` and the name of a folder.
+pub fn run_staging<F: Shelf, P: Spawner, S: Journal, T: Trials, W: Wire, E: Sink>(
+    alloc: Global,
+    words: &[Text],
+    shelf: &mut F,
+    spawner: &mut P,
+    store: &mut S,
+    trials: &mut T,
+    wire: &mut W,
+    err: &mut E,
+    seed: Option<[u8; 32]>,
+) -> Status
+    requires new { (role : ℕ) → role < ROLES → (P.child spawner.old role).phase ≡ 0 }
+    requires untried { (case : ℕ) → (T.trial trials.old case).phase ≡ 0 }
+    ensures does { DoesStaging (probed_of words.now) (recording_of words.now)
+        (recorded_of words.now) (staged_of words.now) (asked_of words.now) (F.files shelf.old) seed
+        (P.child spawner.old) (P.child spawner.new) (T.trial trials.old) (T.trial trials.new)
+        (W.state wire.old) (W.state wire.new) (S.state store.old) (S.state store.new) result
+        (staged_into_of words.now) }
+    ensures usage { (result ≡ Usage) ↔ (IsAskedStaging (staged_into_of words.now)
+        (probed_of words.now) (recording_of words.now) (recorded_of words.now)
+        (staged_of words.now) (asked_of words.now) → ⊥) }
+    ensures faults { HasStagingCause (probed_of words.now) (recording_of words.now)
+        (recorded_of words.now) (staged_of words.now) (asked_of words.now)
+        (F.faults shelf.old) (F.faults shelf.new)
+        (P.child spawner.old) (P.child spawner.new) (T.trial trials.old) (T.trial trials.new)
+        (W.state wire.old) (W.state wire.new) (S.state store.old) (S.state store.new) result
+        (staged_into_of words.now) }
+    ensures reported { TellsFaults (F.faults shelf.old) (F.faults shelf.new)
+        (W.state wire.old) (W.state wire.new) result }
+
+    // What else is touched, and what is told.
+    ensures fetches { Fetches (staging_files (staged_into_of words.now) (probed_of words.now)
+        (recording_of words.now) (recorded_of words.now) (staged_of words.now)
+        (asked_of words.now))
+        (F.files shelf.old) (F.files shelf.new) (F.faults shelf.old) (F.faults shelf.new) }
+    ensures reached { Reaches (staging_places (staged_into_of words.now) (probed_of words.now)
+        (recording_of words.now) (recorded_of words.now) (staged_of words.now)
+        (asked_of words.now))
+        (staging_phase (staged_into_of words.now) (probed_of words.now) (recording_of words.now)
+        (recorded_of words.now) (staged_of words.now) (asked_of words.now) result)
+        (W.state wire.old).reached (W.state wire.new).reached }
+    ensures touches { Touches (staging_reading (staged_into_of words.now) (probed_of words.now)
+        (recording_of words.now) (recorded_of words.now) (staged_of words.now)
+        (asked_of words.now))
+        (staging_phase (staged_into_of words.now) (probed_of words.now) (recording_of words.now)
+        (recorded_of words.now) (staged_of words.now) (asked_of words.now) result)
+        (W.state wire.old) (W.state wire.new) }
+    ensures line { Tells (line_of result)
+        (E.written err.old) (E.written err.new) (E.faults err.old) (E.faults err.new) }
+    ensures beside_line { E.kept err.new ≡ E.kept err.old }
+{
+    match StageRecordWords::read(words) {
+        None => run_with_program(
+            alloc, words, shelf, spawner, store, trials, wire, err, seed,
+        ),
+        Some(words) => {
+            let StageRecordWords { stage, folder } = words;
+            let status = stage_into(alloc, shelf, spawner, store, wire, stage, folder);
+            tell(err, &status);
+            status
+        }
+    }
+}
