@@ -26,6 +26,7 @@ _anb_options() {
     shift
     [[ $command == probe ]] && _anb_probing "$@" && return
     [[ $command == chart && $# == 0 ]] && echo --role
+    [[ $command == replay || $command == trace ]] && (($# == 0)) && echo --session
     case $command in
         branch) arm=--arm place='--dial --listen' ;;
         play | host | park | resume | enact) place='--dial --listen' ;;
@@ -131,7 +132,7 @@ _anb() {
             case ${words[at - 1]} in
                 --role | --as) _anb_offer "$(_anb_roles "${words[2]}")" ;;
                 --arm) _anb_offer '1 2 3 4 5 6 7 8' ;;
-                --dial | --listen | --timeout | --case) ;;
+                --dial | --listen | --timeout | --case | --session) ;;
                 --record)
                     case ${words[1]} in
                         play | enact | branch) compopt -o filenames 2>/dev/null; mapfile -t COMPREPLY < <(compgen -d -- "$(_anb_file "$word")") ;;

@@ -46,7 +46,7 @@ function __anb_option
         test (count $rest) -eq 0 -o "$rest" = --as
         return
     end
-    if test "$argv[1]" = role -o "$argv[1]" = arm -o "$argv[1]" = silence
+    if test "$argv[1]" = role -o "$argv[1]" = arm -o "$argv[1]" = session -o "$argv[1]" = silence
         test (count $rest) -eq 0 -o "$rest" = "--$argv[1]" -o "$argv[1]$rest" = silence--timeout
         return
     end
@@ -164,6 +164,7 @@ complete -c anb -n '__anb_at 4 park resume replay trace judge' -F
 
 set -l with_place play branch host park resume enact
 complete -c anb -n '__anb_option role chart' -x -l role -a '(__anb_roles)' -d 'The role whose notes are drawn'
+complete -c anb -n '__anb_option session replay trace' -x -l session -d 'The number of the session'
 complete -c anb -n '__anb_option arm branch' -x -l arm -a '1 2 3 4 5 6 7 8' -d 'The arm that is taken'
 complete -c anb -n "__anb_option place $with_place" -x -l dial -d 'Connect to host:port'
 complete -c anb -n "__anb_option place $with_place" -x -l listen -d 'Wait for a connection at host:port'

@@ -1,9 +1,8 @@
 //! What came of a run, beside what its case expects.
 
 use crate::case::{Case, No};
-use crate::children;
 use crate::running::Ran;
-use crate::stages;
+use crate::{children, stages};
 use anb_base::{MemWire, NoMemory, read_full};
 use anb_store::MemStore;
 use std::alloc::{AllocError, Global};

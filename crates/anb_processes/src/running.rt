@@ -3,7 +3,6 @@
 ghost use Rattle.std.specs.Prelude.{◌≤◌, length, IfOk};
 
 use crate::kept::Kept;
-use crate::left_over::LeftOver;
 use crate::pauses::{Pauses, is_over};
 use anb_base::Text;
 use std::alloc::Global;
@@ -39,18 +38,16 @@ pub(crate) struct Running {
     /// When it was found to have ended.
     ended: Option<Instant>,
     is_left: bool,
-    /// What it said behind its last message, as far as that was read.
-    left_over: LeftOver,
 }
 
 impl Running {
-    /// Starts the program with these words, and this as its standard error.
+    /// Starts the program with these words. It has this program's standard error as its own, also
+    /// where that was closed.
     pub(crate) fn start(
         rt: &HostRuntime,
         program: &str,
         limit: Option<Duration>,
         words: &[Text],
-        errors: Stdio,
     ) -> io::Result<Self> {
         let mut command = Command::new(rt.alloc(), program)?;
         for word in words {
@@ -59,7 +56,7 @@ impl Running {
         let _ = command
             .stdin(Stdio::piped())
             .stdout(Stdio::piped())
-            .stderr(errors);
+            .stderr(rt.stderr());
         let mut running = Running {
             limit,
             child: command.spawn(rt)?,
@@ -68,7 +65,6 @@ impl Running {
             kept: None,
             ended: None,
             is_left: false,
-            left_over: LeftOver::new(),
         };
         match running.take_pipes() {
             Ok(()) => Ok(running),
@@ -239,10 +235,7 @@ impl Running {
             return 0;
         };
         match output.read(&mut piece) {
-            Ok(n) if n > 0 => {
-                self.left_over.count(&piece[..n]);
-                n
-            }
+            Ok(n) if n > 0 => n,
             Err(error) if is_for_the_moment(error.kind()) => 0,
             _ => {
                 self.output = None;
@@ -287,11 +280,6 @@ impl Running {
 
     pub(crate) fn is_left(&self) -> bool {
         self.is_left
-    }
-
-    /// What it said behind its last message, where it was finished.
-    pub(crate) fn left_over(&self) -> LeftOver {
-        self.left_over
     }
 
     /// The number of its process.

@@ -15,7 +15,7 @@ use std::io;
 use std::io::ErrorKind;
 use std::marker::Model;
 use std::os::unix::prelude::ExitStatusExt;
-use std::process::{ExitStatus, Stdio};
+use std::process::ExitStatus;
 use std::time::Duration;
 
 /// How many cases may have a child.
@@ -95,7 +95,7 @@ fn start(rt: &HostRuntime, limit: Option<Duration>, words: &[Text]) -> io::Resul
     if program.as_str().is_empty() {
         return Err(io::Error::from(ErrorKind::InvalidInput));
     }
-    let mut running = Running::start(rt, program.as_str(), limit, words, Stdio::from(rt.stderr()))?;
+    let mut running = Running::start(rt, program.as_str(), limit, words)?;
     running.keep(rt.alloc());
     Ok(running)
 }

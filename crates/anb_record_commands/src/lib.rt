@@ -16,7 +16,7 @@ mod words;
 
 pub use branching::branch_into;
 pub use enacting::enact_into;
-pub use ended::{Ended, Missing};
+pub use ended::Missing;
 pub use laws::{recorded_arms_replay, recorded_plays_replay};
 pub use playing::play_into;
 pub use words::RecordingWords;

@@ -1,6 +1,6 @@
 //! Messages from sender to receiver.
 
-ghost use Rattle.std.specs.Prelude.{◌≡◌, ◌⊎◌, ◌<◌, ◌≤◌, ◌+◌, ◌^◌, ◌∷◌, [], ℕ, List, length, slice_get, Some, IfErr, IfOk, OnOk, OnErr};
+ghost use Rattle.std.specs.Prelude.{◌≡◌, ◌<◌, ◌≤◌, ◌+◌, ◌^◌, ℕ, List, length, IfErr, IfOk, OnOk, OnErr};
 ghost use Rattle.anb_base.specs.Moves.{Rose, Put, PutPrefix, Stamped};
 ghost use Rattle.anb_base.specs.declared.TheConstants.{ARRIVAL};
 ghost use Rattle.anb_frame.specs.Frames.{frame};
@@ -9,21 +9,19 @@ ghost use Rattle.anb_frame.specs.Answers.{Follows, OnFailed, UnlessFailed};
 ghost use Rattle.anb_stage.specs.Children.{KeptByRead, KeptByWrite, written_to_all};
 ghost use Rattle.anb_stage.specs.Relays.{AreCut, AreHeard, IsReported, SomeInTime, report};
 ghost use Rattle.anb_stage.specs.Steps.{Begins, OthersStayBelow, AreWithin, AreRunning, FitsIn, OnFrame, Takes, IsMissing, Carries, CarryKeeps, FailsCarrying, IsCaused, Carried, FailsCarryingSome, CarryingKeeps, SameFaults};
-ghost use Rattle.anb_stage.specs.Notes.{Note, NotesRefusing, heard_note, notes, said_note};
 ghost use Rattle.anb_stage.specs.declared.TheConstants.{ROLES};
 
 use crate::ends::Ends;
 use crate::sides::{Input, Output};
-use crate::{Log, RelayNo, Spawner};
+use crate::{RelayNo, Spawner};
 use anb_base::{ARRIVAL, Bytes, Failed, Sent};
 use anb_frame::{FrameNo, Taken, put, take};
 use std::alloc::Global;
 
-/// Carries the messages of all actions, through the buffer, and tells the log of them.
-pub(crate) fn carry_all<P: Spawner, L: Log>(
+/// Carries the messages of all actions, through the buffer.
+pub(crate) fn carry_all<P: Spawner>(
     alloc: Global,
     spawner: &mut P,
-    log: &mut L,
     actions: &[Ends],
     buffer: &mut [u8],
 ) -> Result<Vec<Sent>, RelayNo>
@@ -51,19 +49,11 @@ pub(crate) fn carry_all<P: Spawner, L: Log>(
     ensures reported { IfErr result (IsReported (P.child spawner.old) (P.child spawner.new)) }
     ensures kept { (roles : ℕ) → roles ≤ ROLES → AreWithin roles actions.now
         → CarryingKeeps (P.child spawner.old) (P.child spawner.new) roles }
-    ensures told { (roles : ℕ) (outputs : ℕ → List (List ℕ)) (tails : ℕ → Tail) → roles ≤ ROLES
-        → AreWithin roles actions.now → AreCut roles (P.child spawner.old) outputs tails
-        → OnOk result (L.After log.old (notes outputs actions.now) log.new) }
-    ensures told_so_far { (roles : ℕ) (outputs : ℕ → List (List ℕ)) (tails : ℕ → Tail)
-        → roles ≤ ROLES → AreWithin roles actions.now
-        → AreCut roles (P.child spawner.old) outputs tails
-        → IfErr result (λ no. (told : List Note) × NotesRefusing outputs actions.now no told
-        × L.After log.old told log.new) }
 {
     let mut sent = Vec::new(alloc);
     for (i, ends) in actions.iter().enumerate() {
         let action = i as u32 + 1;
-        let bytes = match carry(alloc, spawner, log, *ends, action, buffer) {
+        let bytes = match carry(alloc, spawner, *ends, action, buffer) {
             Ok(bytes) => bytes,
             Err(no) => return Err(no),
         };
@@ -74,12 +64,10 @@ pub(crate) fn carry_all<P: Spawner, L: Log>(
     Ok(sent)
 }
 
-/// Carries the message of one action, through the buffer, and tells the log of it: once it was said, and
-/// once it was heard.
-fn carry<P: Spawner, L: Log>(
+/// Carries the message of one action, through the buffer.
+fn carry<P: Spawner>(
     alloc: Global,
     spawner: &mut P,
-    log: &mut L,
     ends: Ends,
     action: u32,
     buffer: &mut [u8],
@@ -106,24 +94,13 @@ fn carry<P: Spawner, L: Log>(
     ensures quiet { OnOk result (SameFaults (P.child spawner.old) (P.child spawner.new)) }
     ensures reported { IfErr result (IsReported (P.child spawner.old) (P.child spawner.new)) }
     ensures kept { CarryKeeps (P.child spawner.old) (P.child spawner.new) ends.from ends.to }
-    ensures told { IfOk result (λ bytes. L.After log.old (said_note action ends.from bytes
-        ∷ heard_note action ends.to bytes ∷ []) log.new) }
-    ensures told_so_far { (bs : List (List ℕ)) (tail : Tail)
-        → CutLeft ARRIVAL (P.child spawner.old ends.from).left bs tail
-        → OnErr result (L.After log.old [] log.new ⊎ ((bytes : List ℕ)
-        × (slice_get bs 0 ≡ Some bytes)
-        × L.After log.old (said_note action ends.from bytes ∷ []) log.new)) }
 {
     let bytes = match receive(alloc, spawner, ends.from, action, buffer) {
         Ok(bytes) => bytes,
         Err(no) => return Err(no),
     };
-    log.said(action, ends.from, bytes.as_slice());
     match put_to(spawner, ends.to, bytes.as_slice()) {
-        Ok(()) => {
-            log.heard(action, ends.to, bytes.as_slice());
-            Ok(bytes)
-        }
+        Ok(()) => Ok(bytes),
         Err(_) => Err(RelayNo::Fault(ends.to)),
     }
 }

@@ -4,7 +4,6 @@ ghost use Rattle.std.specs.Prelude.{◌≡◌, ◌<◌, ◌≤◌, ◌+◌, ◌^
 ghost use Rattle.anb_base.specs.declared.TheConstants.{ARRIVAL};
 ghost use Rattle.anb_frame.specs.Cuts.{Tail};
 ghost use Rattle.anb_stage.specs.Words.{asked_lists};
-ghost use Rattle.anb_stage.specs.Notes.{Note, NotesRefusing, notes};
 ghost use Rattle.anb_stage.specs.Relays.{AreCut, report, IsRelayed, IsRefused};
 ghost use Rattle.anb_stage.specs.Steps.{AreWithin};
 ghost use Rattle.anb_stage.specs.declared.TheConstants.{ROLES};
@@ -13,18 +12,17 @@ use crate::carrying::carry_all;
 use crate::ends::Ends;
 use crate::finishing::finish_all;
 use crate::starting::start_all;
-use crate::{ChildWords, Log, RelayNo, Spawner};
+use crate::{ChildWords, RelayNo, Spawner};
 use anb_base::Sent;
 use std::alloc::Global;
 
 /// Starts all children, carries the messages of all actions, and finishes all children.
-pub(crate) fn relay_all<P: Spawner, L: Log>(
+pub(crate) fn relay_all<P: Spawner>(
     alloc: Global,
     words: &[ChildWords],
     limit: Option<u32>,
     actions: &[Ends],
     spawner: &mut P,
-    log: &mut L,
     buffer: &mut [u8],
 ) -> Result<Vec<Sent>, RelayNo>
     requires roles { length words.now ≤ ROLES }
@@ -40,19 +38,12 @@ pub(crate) fn relay_all<P: Spawner, L: Log>(
         (P.child spawner.new) (asked_lists limit words.now) actions.now) }
     ensures refused { IfErr result (IsRefused (length words.now) (P.child spawner.old)
         (P.child spawner.new) (asked_lists limit words.now) actions.now) }
-    ensures told { (outputs : ℕ → List (List ℕ)) (tails : ℕ → Tail)
-        → AreCut (length words.now) (P.child spawner.old) outputs tails
-        → OnOk result (L.After log.old (notes outputs actions.now) log.new) }
-    ensures told_so_far { (outputs : ℕ → List (List ℕ)) (tails : ℕ → Tail)
-        → AreCut (length words.now) (P.child spawner.old) outputs tails
-        → IfErr result (λ no. (told : List Note) × NotesRefusing outputs actions.now no told
-        × L.After log.old told log.new) }
 {
     match start_all(spawner, limit, words) {
         Ok(()) => {}
         Err(no) => return Err(no),
     }
-    let sent = match carry_all(alloc, spawner, log, actions, buffer) {
+    let sent = match carry_all(alloc, spawner, actions, buffer) {
         Ok(sent) => sent,
         Err(no) => return Err(no),
     };

@@ -22,7 +22,7 @@ use Rattle.anb_command.proofs.Chains.{told_map}
 use Rattle.anb_command.proofs.Failing.{IsFailure-map}
 use Rattle.anb_command.proofs.Ones.{IsQuiet, RefusesQuietly, not_both, one_settled, quiet_as, same_refusal, then_one, then_quiet}
 use Rattle.anb_command.proofs.Written.{faulty, refusal, the_one, written}
-use Rattle.anb_stage_commands.specs.Scenes.{Scene, SceneInFiles}
+use Rattle.anb_stage_commands.specs.Scenes.{IsReadForScene, Scene, SceneInFiles}
 use Rattle.anb_stage_commands.specs.Words.{Staged}
 use Rattle.anb_stage_commands.specs.StageCommand.{AreToldOf, DoesStage, StageOf, StageText, answer_of, fault_status, status_after, status_of}
 use Rattle.anb_stage_commands.specs.Relaying.{FailsInFile, FailsRelaying, Relays, RelaysInFile, Stay}
@@ -78,10 +78,10 @@ module _ (narrations : NarrationsAreUnique) (refusals : RefusalsAreUnique) (none
         let text_is : given text ≡ answer p (due_in p) = rw nothing (ap given (relays.tells outputs tails (told p f).cut)) in
         written Text (one_settled Text one) w now text status (inr (p, f, text_is)) is
 
-    refused_file : (status : Status) → IsFailure status (λ file. Unit {0}) (SceneInFiles files s (refused status)) → IsWriting Text status w w
+    refused_file : (status : Status) → IsFailure status (IsReadForScene files s) (SceneInFiles files s (refused status)) → IsWriting Text status w w
     refused_file status fails =
         refusal Text (one_settled Text one) w w status (λ file. Unit {0}) quiet (
-        IsFailure-map status (λ file. Unit {0}) (λ file. Unit {0}) _ _ (λ file is. is) (λ f. inl (status, f, refl)) fails
+        IsFailure-map status (IsReadForScene files s) (λ file. Unit {0}) _ _ (λ file read. tt) (λ f. inl (status, f, refl)) fails
         ) (put_nothing w)
 
     by_fault : (name : List ℕ) (limit : Option ℕ) (silent : Bool) → IsWriting Text (fault_status name limit silent) w w
@@ -110,7 +110,7 @@ module _ (narrations : NarrationsAreUnique) (refusals : RefusalsAreUnique) (none
     answers_text p text status f relays is = the_one Text one w now status (whole p text status f relays is)
 
     pub answers_refusal : (status : Status)
-        → (IsFailure status (λ file. Unit {0}) (SceneInFiles files s (refused status)) × Stay s old new)
+        → (IsFailure status (IsReadForScene files s) (SceneInFiles files s (refused status)) × Stay s old new)
         ⊎ ((p : Scene) × SceneInFiles files s (given p) × FailsRelaying s old new p status) → IsWritingOne Text status w w
     answers_refusal status (inl (f, stay)) = the_one Text one w w status (refused_file status f)
     answers_refusal status (inr (p, f, r)) = the_one Text one w w status (fails p status f r)

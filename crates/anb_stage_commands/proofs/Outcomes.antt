@@ -26,7 +26,7 @@ use Rattle.anb_command.proofs.Chains.{told_map}
 use Rattle.anb_command.proofs.Ones.{not_both, same_given}
 use Rattle.anb_stage_commands.proofs.Casting.{scene_one}
 use Rattle.anb_stage_commands.specs.Reports.{report_text}
-use Rattle.anb_stage_commands.specs.Scenes.{Scene, SceneInFiles}
+use Rattle.anb_stage_commands.specs.Scenes.{IsReadForScene, Scene, SceneInFiles}
 use Rattle.anb_stage_commands.specs.Words.{Staged, staged_files}
 use Rattle.anb_stage_commands.specs.StageCommand.{AllGoWell, CompletesStage, HasStageCause, IsIdle, IsRefusedAs, IsRelayedAs, IsReport, IsStaged, NoChildRose, fault_status, status_after}
 use Rattle.anb_stage_commands.specs.Relaying.{FailsInFile, FailsRelaying, HasCauseBefore, HasChildCause, IsBefore, Relays, RelaysInFile, Stay}
@@ -117,12 +117,14 @@ module _ (s : Staged) (told : Option Files) (old new : ℕ → Child) where
       → FailsInFile s old new told status
   fails_in_file p status is fails = told_map told (λ files f. inr (p, f, fails)) is
 
+-- where each file that fails is read
 pub refused_file : (s : Staged) (told : Option Files) (children : ℕ → Child) (status : Status) (P : List ℕ → Type 0)
-    → IsFailure status P (IfTold told (λ files. SceneInFiles files s (refused status))) → FailsInFile s children children told status
-refused_file s None children status P fails = tt
-refused_file s (Some files) children (FileFault file) P fails = inl (tt, λ role within. refl)
-refused_file s (Some files) children NoMemory P fails = inl (tt, λ role within. refl)
-refused_file s (Some files) children status P fails = inl (fails, λ role within. refl)
+    → IsFailure status P (IfTold told (λ files. SceneInFiles files s (refused status)))
+    → ((file : List ℕ) → P file → IfTold told (λ files. IsReadForScene files s file)) → FailsInFile s children children told status
+refused_file s None children status P fails read = tt
+refused_file s (Some files) children (FileFault file) P fails read = inl (read file fails, λ role within. refl)
+refused_file s (Some files) children NoMemory P fails read = inl (tt, λ role within. refl)
+refused_file s (Some files) children status P fails read = inl (fails, λ role within. refl)
 
 -- ---- what is written
 
@@ -147,9 +149,9 @@ module _ (s : Staged) (old new : ℕ → Child) (told : Option Files) where
   pub staged_refused : (status : Status) (w : Option (List ℕ)) → FailsInFile s old new told status → IfTold told (λ files. IsStaged s old new w w files status)
   staged_refused status w fails = told_map told (λ files f. by files f) fails where
     by : (files : Files)
-        → (IsFailure status (λ file. Unit {0}) (SceneInFiles files s (refused status)) × Stay s old new)
+        → (IsFailure status (IsReadForScene files s) (SceneInFiles files s (refused status)) × Stay s old new)
         ⊎ ((p : Scene) × SceneInFiles files s (given p) × FailsRelaying s old new p status)
-        → (IsFailure status (λ file. Unit {0}) (SceneInFiles files s (refused status)) × IsIdle s old new w w)
+        → (IsFailure status (IsReadForScene files s) (SceneInFiles files s (refused status)) × IsIdle s old new w w)
         ⊎ ((p : Scene) × SceneInFiles files s (given p) × (IsRefusedAs s old new w w p status ⊎ IsRelayedAs s old new w w p status))
     by files (inl x) = inl (x.0, record { children = x.1; unwritten = refl })
     by files (inr (p, f, inl r)) = inr (p, f, inl (record { refusal = r.refusal; is = r.is; refuses = r.refuses; unwritten = refl }))
@@ -203,7 +205,7 @@ module _ (narrations : NarrationsAreUnique) (refusals : RefusalsAreUnique) (none
   not_missing r e = cc
 
   idle : (files : Files) (p : Scene) (status : Status) → SceneInFiles files s (given p) → Cause status
-      → IsFailure status (λ file. Unit {0}) (SceneInFiles files s (refused status)) → AnswersAs status
+      → IsFailure status (IsReadForScene files s) (SceneInFiles files s (refused status)) → AnswersAs status
   unfolding Cause AnswersAs
   idle files p (FileFault file) f cause fails = absurd (quiet.files file cause.0 cause.1)
   idle files p NoMemory f cause fails = inr refl
@@ -246,7 +248,7 @@ module _ (narrations : NarrationsAreUnique) (refusals : RefusalsAreUnique) (none
     same files p q f g = same_given p q (scene_one narrations refusals none fits files s (given p) (given q) f g)
 
     by : (files : Files)
-        → (IsFailure status (λ file. Unit {0}) (SceneInFiles files s (refused status)) × IsIdle s old new w now)
+        → (IsFailure status (IsReadForScene files s) (SceneInFiles files s (refused status)) × IsIdle s old new w now)
         ⊎ ((p : Scene) × SceneInFiles files s (given p) × (IsRefusedAs s old new w now p status ⊎ IsRelayedAs s old new w now p status))
         → (p : Scene) → SceneInFiles files s (given p) → AllGoWell p old → (status ≡ Done) ⊎ (status ≡ NoMemory)
     by files (inl x) p f well = idle files p status f cause x.0

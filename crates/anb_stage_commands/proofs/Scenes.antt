@@ -55,7 +55,7 @@ module _ (p : ProtocolValue) (fitted : Fitted) where
     long_here label before long = sym before ∙ long_on ∙ ap (λ l. option_or l (long_from p fitted (n + 1) (drop (n + 1) roles))) long
 
     pub words_next : (s : Staged) (old new all : List (List (List ℕ))) (text : List ℕ) → old ++ words_from p fitted s n (drop n roles) ≡ all
-        → new ≡ old ++ asked_for s (Some text) name ∷ [] → text ≡ own_text p fitted n → new ++ words_from p fitted s (n + 1) (drop (n + 1) roles) ≡ all
+        → new ≡ old ++ asked_for s (Some text) name ∷ [] → text ≡ own_text p n fitted → new ++ words_from p fitted s (n + 1) (drop (n + 1) roles) ≡ all
     words_next s old new all text before put is =
         ap (λ l. l ++ words_from p fitted s (n + 1) (drop (n + 1) roles)) put
         ∙ append_assoc old (asked_for s (Some text) name ∷ []) (words_from p fitted s (n + 1) (drop (n + 1) roles))

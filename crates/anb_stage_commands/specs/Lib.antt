@@ -6,6 +6,3 @@ pub mod StageCommand
 pub mod Asking
 -- for proofs alone
 pub mod Relaying
-pub mod Records
-pub mod StageInto
-pub mod Telling

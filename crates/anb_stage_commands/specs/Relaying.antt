@@ -11,7 +11,7 @@ use Rattle.anb_status.specs.declared.status.Status.TheVariants.{Usage, FileFault
 use Rattle.anb_command.specs.Fetches.{Files, IfTold, IsOneOf}
 use Rattle.anb_status.specs.Statuses.{before_reach, phase_of}
 use Rattle.anb_command.specs.Steps.{IsFailure, given, refused}
-use Rattle.anb_stage_commands.specs.Scenes.{Scene, SceneInFiles}
+use Rattle.anb_stage_commands.specs.Scenes.{IsReadForScene, Scene, SceneInFiles}
 use Rattle.anb_stage_commands.specs.Reports.{report_text}
 use Rattle.anb_stage_commands.specs.StageCommand.{HasChildFault, status_after}
 use Rattle.anb_stage_commands.specs.Words.{Staged, staged_files}
@@ -62,7 +62,7 @@ module _ (s : Staged) (old new : ℕ → Child) where
 
     abbrev pub FailsInFile : Status → Type 0
     FailsInFile status = IfTold told (λ files.
-        (IsFailure status (λ file. Unit {0}) (SceneInFiles files s (refused status)) × Stay)
+        (IsFailure status (IsReadForScene files s) (SceneInFiles files s (refused status)) × Stay)
         ⊎ ((z : Scene) × SceneInFiles files s (given z) × FailsRelaying z status))
 
   -- a fault of a file, or of a child

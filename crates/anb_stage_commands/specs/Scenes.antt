@@ -1,17 +1,17 @@
 -- What is asked of the children of a narration's roles, by its files.
-use Rattle.std.specs.Prelude.{◌≡◌, ℕ, ◌+◌, Bool, true, false, List, [], ◌∷◌, Option, Some, None}
+use Rattle.std.specs.Prelude.{◌≡◌, ◌⊎◌, ℕ, ◌+◌, Bool, true, false, List, [], ◌∷◌, Option, Some, None}
 use Rattle.std.specs.Option.{option_or}
 use Rattle.anb_protocol.specs.Protocols.{ProtocolValue}
 use Rattle.anb_protocol.specs.Texts.{known_names, known_texts}
 use Rattle.anb_values.specs.declared.fitted.Fitted.{Fitted}
 use Rattle.anb_values.specs.declared.refusal.ValuesNo.TheVariants.{Long}
 use Rattle.anb_status.specs.declared.status.Status.TheVariants.{BadValues}
-use Rattle.anb_command.specs.Fetches.{Files}
+use Rattle.anb_command.specs.Fetches.{Files, IsOneOf}
 use Rattle.anb_command.specs.Files.{ValuesInFile}
 use Rattle.anb_command.specs.Steps.{Answer, AnswersWith, InTurn, given, refused}
 use Rattle.anb_values_commands.specs.RoleValuesCommand.{first_long, own, own_text}
 use Rattle.anb_stage_commands.specs.CastRoles.{CastInFile}
-use Rattle.anb_stage_commands.specs.Words.{Staged, asked_for, names_file, words_for}
+use Rattle.anb_stage_commands.specs.Words.{Staged, asked_for, names_file, own_files, words_for}
 
 -- a protocol, and what is asked of the child of each of its roles
 pub record Scene : Type 0 where
@@ -48,3 +48,8 @@ module _ (files : Files) (s : Staged) where
 
   abbrev pub SceneInFiles : Answer Scene → Type 0
   SceneInFiles = InTurn (CastInFile files s) (SceneBy (names_file s.values))
+
+  -- a file is read: the narration's, and behind it, where all is well with its roles, that of the values
+  abbrev pub IsReadForScene : List ℕ → Type 0
+  IsReadForScene file =
+      (file ≡ s.narration) ⊎ (IsOneOf (own_files s) file × ((p : ProtocolValue) × CastInFile files s (given p)))

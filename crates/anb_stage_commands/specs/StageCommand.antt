@@ -16,7 +16,7 @@ use Rattle.anb_command.specs.Causes.{HasCause}
 use Rattle.anb_command.specs.Fetches.{Files, IfTold}
 use Rattle.anb_command.specs.Steps.{Answer, InTurn, IsFailure, given, refused}
 use Rattle.anb_command.specs.Writing.{IsWritingOne, IsWritten}
-use Rattle.anb_stage_commands.specs.Scenes.{Scene, SceneInFiles}
+use Rattle.anb_stage_commands.specs.Scenes.{IsReadForScene, Scene, SceneInFiles}
 use Rattle.anb_stage_commands.specs.Reports.{report_text}
 use Rattle.anb_stage_commands.specs.Words.{Staged}
 
@@ -94,7 +94,7 @@ module _ (s : Staged) (old new : ℕ → Child) (written written_now : Option (L
   -- which can all send, and the relay among their children is refused, or is whole and reported.
   abbrev pub IsStaged : Files → Status → Type 0
   IsStaged files status =
-      (IsFailure status (λ file. Unit {0}) (SceneInFiles files s (refused status))
+      (IsFailure status (IsReadForScene files s) (SceneInFiles files s (refused status))
       × IsIdle)
       ⊎ ((z : Scene) × SceneInFiles files s (given z)
       × (IsRefusedAs z status ⊎ IsRelayedAs z status))

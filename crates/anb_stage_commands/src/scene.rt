@@ -9,7 +9,7 @@ ghost use Rattle.anb_stage.specs.Words.{asked_lists};
 ghost use Rattle.anb_stage.specs.declared.TheConstants.{ROLES};
 ghost use Rattle.anb_stage_commands.specs.Asking.{scene_of, staged};
 ghost use Rattle.anb_stage_commands.specs.CastRoles.{CastInFile, IsCast};
-ghost use Rattle.anb_stage_commands.specs.Scenes.{AreShort, SceneBy, SceneInFiles, words_from};
+ghost use Rattle.anb_stage_commands.specs.Scenes.{AreShort, IsReadForScene, SceneBy, SceneInFiles, words_from};
 ghost use Rattle.anb_stage_commands.specs.Words.{asked_for, names_file, own_files, staged_files};
 
 use crate::StageWords;
@@ -43,7 +43,8 @@ pub(crate) fn scene_in_files<F: Shelf>(
         length scene.words.items ≡ length scene.protocol.roles) }
     ensures refused { IfErr result (λ status. IsFailure status
         (λ file. IsOneOf (staged_files (staged words.entry)) file
-        × Rose (F.faults shelf.old file) (F.faults shelf.new file))
+        × Rose (F.faults shelf.old file) (F.faults shelf.new file)
+        × IfTold (F.files shelf.old) (λ files. IsReadForScene files (staged words.entry) file))
         (IfTold (F.files shelf.old) (λ files.
         SceneInFiles files (staged words.entry) (refused status)))) }
     ensures early { IfErr result IsEarly }

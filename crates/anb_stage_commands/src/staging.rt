@@ -134,7 +134,7 @@ pub(crate) fn has_few_roles(protocol: &Protocol)
 }
 
 /// Copies of these names.
-pub(crate) fn copied(alloc: Global, names: &[Text]) -> Result<Vec<Text>, NoMemory>
+fn copied(alloc: Global, names: &[Text]) -> Result<Vec<Text>, NoMemory>
     ensures { IfOk result (λ copies. copies.items ≡ names.now) }
 {
     let mut copies = Vec::new(alloc);
@@ -145,7 +145,7 @@ pub(crate) fn copied(alloc: Global, names: &[Text]) -> Result<Vec<Text>, NoMemor
 }
 
 /// The status of a relay that was refused, where the roles have these names.
-pub(crate) fn refusal<P: Spawner>(mut names: Vec<Text>, limit: Option<u32>, spawner: &P, no: RelayNo) -> Status
+fn refusal<P: Spawner>(mut names: Vec<Text>, limit: Option<u32>, spawner: &P, no: RelayNo) -> Status
     requires few { length names.items ≤ ROLES }
     requires named { IsNamed (length names.items) no }
     ensures { (p : ProtocolValue) → names.items ≡ p.roles
