@@ -1,5 +1,4 @@
 pub mod Inner
-pub mod Retagging
 pub mod Attempts
 -- for proofs alone
 pub mod Parts

@@ -1,5 +1,5 @@
 //! What is tried of one check.
-ghost use Rattle.std.specs.Prelude.{◌≡◌, ◌+◌, ◌<◌, ◌^◌, length, IfOk};
+ghost use Rattle.std.specs.Prelude.{◌≡◌, ◌+◌, ◌<◌, length, IfOk};
 ghost use Rattle.anb_compile.specs.Fitting.{FitsRole};
 ghost use Rattle.anb_suite.specs.Suites.{HasCheck};
 ghost use Rattle.anb_attempts.specs.Attempts.{IsPartOfCase, IsPartOfCases, IsPartOfCheck};
@@ -31,7 +31,6 @@ pub(crate) fn part_of_check(
     requires role { role < length p.now.roles }
     requires fits { FitsRole p.now role code.now }
     requires check { HasCheck code.now check }
-    requires scene { scene < 2 ^ 63 }
     ensures { IfOk result (λ part.
         IsPartOfCheck p.now role code.now changes.now scene check (part_value part)) }
 {
@@ -50,8 +49,7 @@ fn part_of_cases(
     scene: usize,
     case: Case,
 ) -> Result<Part, NoMemory>
-    requires role { role < length p.now.roles }
-    requires scene { scene < 2 ^ 63 }
+    requires { role < length p.now.roles }
     ensures { IfOk result (λ part.
         IsPartOfCases p.now role changes.now scene case (part_value part)) }
 {
@@ -59,7 +57,7 @@ fn part_of_cases(
     let within = cases_within(alloc, p, spare, &case)?;
     let mut part = part_of_case(alloc, p, role, changes, scene, case)?;
     for inner in within {
-        let next = scene_behind(scene, &part);
+        let next = scene_behind(scene, &part)?;
         let more = part_of_case(alloc, p, role, changes, next, inner)?;
         join(&mut part, more)?;
     }
@@ -67,11 +65,13 @@ fn part_of_cases(
 }
 
 /// The number of the scene after those of a part.
-fn scene_behind(scene: usize, part: &Part) -> usize
-    requires { scene < 2 ^ 63 }
-    ensures { result ≡ scene + length part.now.scenes.items }
+fn scene_behind(scene: usize, part: &Part) -> Result<usize, NoMemory>
+    ensures { IfOk result (λ next. next ≡ scene + length part.now.scenes.items) }
 {
-    scene + part.scenes.len()
+    match scene.checked_add(part.scenes.len()) {
+        Some(next) => Ok(next),
+        None => Err(NoMemory),
+    }
 }
 
 /// The same of a check's case.

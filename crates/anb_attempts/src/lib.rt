@@ -21,7 +21,6 @@ mod opening;
 mod parts;
 mod placing;
 mod points;
-mod retagging;
 mod scenes;
 mod trying;
 mod ways;

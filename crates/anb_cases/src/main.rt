@@ -9,7 +9,6 @@ mod filling;
 mod judging;
 mod parts;
 mod running;
-mod stages;
 mod theme;
 mod turns;
 mod unfailing;

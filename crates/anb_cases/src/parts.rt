@@ -24,7 +24,7 @@ const BYTES: [&str; 12] = [
 ];
 
 /// The other keys.
-const WORDS: [&str; 20] = [
+const WORDS: [&str; 18] = [
     "words",
     "piece",
     "room",
@@ -42,8 +42,6 @@ const WORDS: [&str; 20] = [
     "reached",
     "children",
     "children fail",
-    "roles",
-    "roles fail",
     "asked",
 ];
 

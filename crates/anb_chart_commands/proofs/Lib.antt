@@ -1,4 +1,2 @@
-pub mod ChartLines
 pub mod Charted
-pub mod Parting
 pub mod RoleCharted

@@ -1,4 +1,1 @@
-pub mod ChoiceCharts
 pub mod ReportCommands
--- for proofs alone
-pub mod Views

@@ -1,4 +1,3 @@
-pub mod Beyond
 pub mod Items
 pub mod Laws
 pub mod Mends

@@ -5,7 +5,6 @@
 mod cases;
 mod counting;
 mod files;
-mod frames;
 mod partners;
 mod playing;
 mod probing;

@@ -1,30 +1,28 @@
 //! The cases, each on a child of its own, and their lines.
-ghost use Rattle.std.specs.Prelude.{◌≡◌, ◌≢◌, ◌<◌, ◌+◌, ◌++◌, ℕ, length, slice_get, Some, IfOk, IfErr, OnOk};
+ghost use Rattle.std.specs.Prelude.{◌≡◌, ◌≢◌, ◌≤◌, ◌<◌, ◌+◌, ◌⊎◌, ℕ, [], length, map, slice_get, Some, IfOk, IfErr, OnOk};
 ghost use Rattle.anb_attempts.specs.declared.attempts.TheConstants.{MOST};
 ghost use Rattle.anb_partner.specs.Trials.{OthersStay};
-ghost use Rattle.anb_probe_commands.specs.Plays.{IsNotStarted, IsTried};
-ghost use Rattle.anb_probe_commands.specs.Playing.{Broke, BrokeIn, CanPlay, IsCaseCut, IsCut, IsPlaced, IsPlayedOut, Wrote, end_in, text_of};
-ghost use Rattle.anb_probe_commands.specs.Reports.{shown_frames};
+ghost use Rattle.anb_verdict.specs.Texts.{case_lines};
+ghost use Rattle.anb_probe_commands.specs.Plays.{ArePlayed, IsNotStarted, IsTried};
+ghost use Rattle.anb_probe_commands.specs.Reports.{played_lines};
+ghost use Rattle.anb_probe_commands.specs.Playing.{Broke, BrokeIn, CanPlay, IsCaseCut, IsCut, IsPlaced, Wrote};
 ghost use Rattle.anb_probe_commands.specs.Tasks.{probing_by};
 
 use crate::cases::Prepared;
 use crate::files::Task;
-use crate::frames::put_frames_in;
 use crate::partners::partner_at;
 use crate::writing::{PlayNo, write_lines};
 use anb_attempts::Attempt;
-use anb_base::{NoMemory, Text, Wire};
-use anb_partner::{Conversation, ConverseNo, Trials};
-use anb_transcript::Transcript;
+use anb_base::{Text, Wire};
+use anb_partner::{ConverseNo, Trials};
 use anb_tries::{Tried, try_case};
 use anb_verdict::{Verdict, case_lines};
 use std::alloc::Global;
 
-/// What came of a case: the verdict, what the child heard and said, and how far it got.
-#[derive(Drop)]
+/// What came of a case, and how far it got.
+#[derive(Clone, Copy, Drop)]
 pub(crate) struct Outcome {
     pub(crate) verdict: Verdict,
-    pub(crate) lines: Transcript,
     pub(crate) reached: usize,
 }
 
@@ -40,12 +38,14 @@ pub(crate) fn play_cases<T: Trials, W: Wire>(
     requires can { CanPlay (probing_by task.now.protocol task.now.role task.now.values task.now.seed)
         prepared.now }
     requires untried { (case : ℕ) → (T.trial trials.old case).phase ≡ 0 }
-    ensures played { IfOk result (λ verdicts. IsPlayedOut
+    ensures played { IfOk result (λ verdicts. (reached : ℕ) × ArePlayed
         (probing_by task.now.protocol task.now.role task.now.values task.now.seed)
-        prepared.now program.now (T.trial trials.old) (T.trial trials.new)
-        (W.state wire.old) (W.state wire.new) verdicts.items) }
+        prepared.now.scenes.items program.now prepared.now.cases.items reached verdicts.items
+        (length verdicts.items) (T.trial trials.old) (T.trial trials.new)) }
     ensures all { IfOk result (λ verdicts.
         length verdicts.items ≡ length prepared.now.cases.items) }
+    ensures wrote { IfOk result (λ verdicts. Wrote (W.state wire.old) (W.state wire.new)
+        (played_lines task.now.protocol task.now.role 1 prepared.now.cases.items verdicts.items)) }
     ensures cut { IfErr result (IsCut
         (probing_by task.now.protocol task.now.role task.now.values task.now.seed)
         prepared.now program.now (T.trial trials.old) (T.trial trials.new)
@@ -97,10 +97,9 @@ fn play_case<T: Trials, W: Wire>(
         → slice_get prepared.now.cases.items number ≡ Some a
         → IsTried (probing_by task.now.protocol task.now.role task.now.values task.now.seed)
         prepared.now.scenes.items program.now a reached
-        (T.trial trials.old number) (T.trial trials.new number) (end_in o) o.reached
+        (T.trial trials.old number) (T.trial trials.new number) o.verdict o.reached
         × Wrote (W.state wire.old) (W.state wire.new)
-        (text_of (probing_by task.now.protocol task.now.role task.now.values task.now.seed)
-        prepared.now (number + 1) a (end_in o))) }
+        (case_lines task.now.protocol task.now.role (number + 1) a.title o.verdict)) }
     ensures cut { IfErr result (IsCaseCut
         (probing_by task.now.protocol task.now.role task.now.values task.now.seed)
         prepared.now program.now number reached
@@ -114,7 +113,7 @@ fn play_case<T: Trials, W: Wire>(
     match try_attempt(
         alloc, trials, task, prepared, number, attempt, program, reached,
     ) {
-        Ok(outcome) => match write_case(alloc, wire, task, prepared, number, attempt, &outcome) {
+        Ok(outcome) => match write_case(alloc, wire, task, number, attempt, outcome.verdict) {
             Ok(()) => Ok(outcome),
             Err(no) => Err(no),
         },
@@ -128,71 +127,26 @@ fn write_case<W: Wire>(
     alloc: Global,
     wire: &mut W,
     task: &Task,
-    prepared: &Prepared,
     number: u32,
     attempt: &Attempt,
-    outcome: &Outcome,
+    verdict: Verdict,
 ) -> Result<(), PlayNo>
     requires { number < MOST }
     ensures wrote { OnOk result (Wrote (W.state wire.old) (W.state wire.new)
-        (text_of (probing_by task.now.protocol task.now.role task.now.values task.now.seed)
-        prepared.now (number + 1) attempt.now (end_in outcome.now))) }
+        (case_lines task.now.protocol task.now.role (number + 1) attempt.now.title verdict)) }
     ensures broke { IfErr result (BrokeIn
-        (text_of (probing_by task.now.protocol task.now.role task.now.values task.now.seed)
-        prepared.now (number + 1) attempt.now (end_in outcome.now))
+        (case_lines task.now.protocol task.now.role (number + 1) attempt.now.title verdict)
         (W.state wire.old) (W.state wire.new)) }
 {
-    let text = case_text(alloc, task, prepared, number + 1, attempt, outcome);
-    write_lines(wire, text)
-}
-
-/// The lines of the case with this number, from 1; and behind them its frames, where they are shown.
-fn case_text(
-    alloc: Global,
-    task: &Task,
-    prepared: &Prepared,
-    number: u32,
-    attempt: &Attempt,
-    outcome: &Outcome,
-) -> Result<Vec<u8>, NoMemory>
-    ensures { IfOk result (λ text. text.items
-        ≡ text_of (probing_by task.now.protocol task.now.role task.now.values task.now.seed)
-        prepared.now number attempt.now (end_in outcome.now)) }
-{
-    let verdict = outcome.verdict;
-    let title = &attempt.title;
-    let mut text = case_lines(alloc, &task.protocol, task.role, number, title, verdict)?;
-    put_shown(alloc, &mut text, task, prepared, attempt, outcome)?;
-    Ok(text)
-}
-
-/// Appends the frames of a case, where they are shown.
-fn put_shown(
-    alloc: Global,
-    out: &mut Vec<u8>,
-    task: &Task,
-    prepared: &Prepared,
-    attempt: &Attempt,
-    outcome: &Outcome,
-) -> Result<(), NoMemory>
-    ensures { OnOk result (out.new.items ≡ out.old.items
-        ++ shown_frames task.now.protocol task.now.role prepared.now.scenes.items
-        prepared.now.is_shown attempt.now (end_in outcome.now)) }
-{
-    if !prepared.is_shown {
-        return Ok(());
-    }
-    let lines = outcome.lines.lines();
-    let scenes = &prepared.scenes;
-    put_frames_in(
+    let lines = case_lines(
         alloc,
-        out,
         &task.protocol,
         task.role,
-        scenes,
-        attempt.scene,
-        lines,
-    )
+        number + 1,
+        &attempt.title,
+        verdict,
+    );
+    write_lines(wire, lines)
 }
 
 /// Tries the program in one attempt.
@@ -213,7 +167,7 @@ fn try_attempt<T: Trials>(
     ensures tried { IfOk result (λ o. IsTried
         (probing_by task.now.protocol task.now.role task.now.values task.now.seed)
         prepared.now.scenes.items program.now attempt.now reached
-        (T.trial trials.old number) (T.trial trials.new number) (end_in o) o.reached) }
+        (T.trial trials.old number) (T.trial trials.new number) o.verdict o.reached) }
     ensures not_started { IfErr result (λ no. no ≡ ConverseNo.NotStarted
         → IsNotStarted (T.trial trials.old number) (T.trial trials.new number)) }
     ensures none_left { (T.trial trials.new number).phase ≢ 1 }
@@ -236,18 +190,11 @@ fn try_attempt<T: Trials>(
     ) {
         Ok(
             Tried {
-                conversation,
+                conversation: _conversation,
                 verdict,
                 reached,
             },
-        ) => {
-            let Conversation { lines, .. } = conversation;
-            Ok(Outcome {
-                verdict,
-                lines,
-                reached,
-            })
-        }
+        ) => Ok(Outcome { verdict, reached }),
         Err(no) => Err(no),
     }
 }

@@ -6,7 +6,6 @@ mod case;
 mod child;
 mod chosen;
 mod counts;
-mod folder;
 mod kept;
 mod notes;
 mod pauses;

@@ -1,4 +1,3 @@
 mod Usage
 mod Idle
 mod Testing
-mod Following

@@ -1,13 +1,11 @@
-//! What a child is started with.
+//! The words that a child is started with.
 
-use anb_base::{Bytes, Text};
+use anb_base::Text;
 
 /// The words of a child's program, which are none where it is the spawner's own, and the words that it
-/// gets behind them. The first word of a program names it. Where there are values, they stand in a file of
-/// the child's own, whose name is the last of its words.
+/// gets behind them. The first word of a program names it.
 #[derive(Drop)]
 pub struct ChildWords {
     pub program: Vec<Text>,
     pub words: Vec<Text>,
-    pub values: Option<Bytes>,
 }

@@ -1,6 +1,5 @@
 mod Behind
 mod Casting
 mod Lists
-mod Scenes
 pub mod Outcomes
 pub mod Answering

@@ -1,6 +1,5 @@
 pub mod Words
 pub mod CastRoles
-pub mod Scenes
 pub mod Reports
 pub mod StageCommand
 pub mod Asking

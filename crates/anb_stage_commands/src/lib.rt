@@ -3,7 +3,6 @@
 
 mod casts;
 mod report;
-mod scene;
 mod staging;
 mod words;
 

@@ -26,7 +26,7 @@ loop-inner-preserved c =
     let more = part_value c.in_ok-more.more in
     let n = length c.args.p.now.atoms in
     let Is : ℕ → Case → PartValue → Type 0 = IsPartOfCase c.args.p.now c.args.role c.args.changes.now in
-    let here = subst (λ (k : ℕ). Is k inner more) c.scene_behind-next.ensures c.in_ok-more.ensures in (
+    let here = subst (λ (k : ℕ). Is k inner more) c.in_ok-next.ensures c.in_ok-more.ensures in (
       inv.0 ++ inner ∷ [],
       subst (AreWithin c.args.p.now n case) (ap (λ l. inv.0 ++ l) c.in-Some.ensures.steps.0 ∙ sym (append_assoc inv.0 (inner ∷ []) c.next.new.self.rest.items)) inv.1,
       comes_of_more Is c.args.scene (case ∷ inv.0) inner (part_value c.loop-inner.part) more (part_value c.join.new.part) inv.2 here c.in_ok-join.ensures,
