@@ -1,9 +1,10 @@
 -- What holds of each scene and each attempt of a suite.
-use Rattle.std.proofs.Common.{◌≡◌, ℕ, ◌+◌, ◌<◌, List, [], ◌∷◌, ◌++◌, length, map, Bool, Option, sym, ap, ◌∙◌, subst, inl, inr, arith, length-append}
+use Rattle.std.proofs.Common.{◌≡◌, ℕ, ◌+◌, ◌<◌, List, [], ◌∷◌, ◌++◌, length, map, Bool, Option, Some, None, sym, ap, ◌∙◌, subst, inl, inr, arith, length-append}
 use Rattle.std.specs.List.{AllByRecursion, AllZip}
 use Rattle.std.specs.Option.{option_map}
 use Rattle.std.specs.Prelude.{IfSome}
 use Rattle.anb_lemmas.proofs.Each.{each_in_both, each_as}
+use Rattle.anb_term.specs.Tree.{Tree}
 use Rattle.anb_term.specs.View.{tree_of}
 use Rattle.anb_code.specs.CodeValue.{CodeValue}
 use Rattle.anb_partner.specs.Plans.{MayStand}
@@ -22,7 +23,8 @@ use Rattle.anb_attempts.specs.declared.attempts.Scene.{Scene}
 use Rattle.anb_attempts.specs.declared.attempts.Suite.{Suite}
 use Rattle.anb_attempts.specs.declared.points.Point.{Point}
 use Rattle.anb_attempts.specs.declared.points.Point.TheVariants.{Check, Opening}
-use Rattle.anb_attempts.specs.Attempts.{AreParts, CaseMayStand, HasAdded, IsAttempt, IsOpeningAttempt, IsPartOf, IsPartOfCase, IsPartOfCheck, IsPartOfFound, IsPartOfPoint, IsSceneOf, IsSceneOfOpening, OpeningMayStand, PartValue, Place, SceneMayStand, changes_tried}
+use Rattle.anb_attempts.specs.Attempts.{AreParts, CaseMayStand, HasAdded, IsAttempt, IsOpeningAttempt, IsPartOf, IsPartOfCase, IsPartOfCheck, IsPartOfFound, IsPartOfOpened, IsPartOfPoint, IsPartOfTag, IsPartOfTried, IsSceneOf, IsSceneOfOpening, IsSceneOfTag, OpeningMayStand, PartValue, Place, SceneMayStand, TagMayStand, changes_tried}
+use Rattle.anb_attempts.specs.Retagging.{RetaggingValue, retagging_at}
 use Rattle.anb_attempts.proofs.Adding.{attempts_in, scenes_in}
 
 -- an attempt's scene is below a number
@@ -115,6 +117,13 @@ module _ (p : ProtocolValue) (role : ℕ) where
     right = subst (λ o. IfSome (option_map tree_of o) (MayStand p)) (sym is.right) stands.wrong;
   }
 
+  tag_stands : (case : OpeningCase) (pair : Tree) (scene : Scene) → TagMayStand p case pair → IsSceneOfTag case pair scene → SceneMayStand p scene
+  tag_stands case pair scene stands is = record {
+    arrivals = subst (λ v. AllByRecursion (MayStand p) (map tree_of v.items)) (sym is.arrivals) stands.arrivals;
+    messages = subst (λ v. AllByRecursion (MayStand p) (map tree_of v.items)) (sym is.messages) stands.messages;
+    right = subst (λ o. IfSome o (MayStand p)) (sym is.right) stands.wrong;
+  }
+
   ways_below : (n : ℕ) (at : Place) (ways : List Wrong) (attempts : List Attempt) → AllZip (IsOpeningAttempt p role n at) ways attempts → AllByRecursion (IsBelow (n + 1)) attempts
   ways_below n at [] [] all = tt
   ways_below n at [] (a ∷ rest) all = absurd all
@@ -122,15 +131,28 @@ module _ (p : ProtocolValue) (role : ℕ) where
   ways_below n at (w ∷ ws) (a ∷ rest) all = ((let e = all.0.scene_is in omega (arith, e)), ways_below n at ws rest all.1)
 
   module _ (all : Bool) (parsed : Option ℕ) where
+    tried_stands : (n : ℕ) (tag : Option RetaggingValue) (case : OpeningCase) (part : PartValue) → IsPartOfTried p role all parsed tag n case part → AllByRecursion (SceneMayStand p) part.scenes
+    tried_stands n None case part (inl t) = subst (AllByRecursion (SceneMayStand p)) (sym t.scenes) (opening_stands parsed case t.scene t.stands t.is, tt)
+    tried_stands n None case part (inr t) = subst (AllByRecursion (SceneMayStand p)) (sym t.1.scenes) tt
+    tried_stands n (Some tag) case part (inl t) = subst (AllByRecursion (SceneMayStand p)) (sym t.scenes) (tag_stands case tag.pair t.scene t.stands t.is, tt)
+    tried_stands n (Some tag) case part (inr t) = subst (AllByRecursion (SceneMayStand p)) (sym t.1.scenes) tt
+
+    tried_below : (n : ℕ) (tag : Option RetaggingValue) (case : OpeningCase) (part : PartValue) → IsPartOfTried p role all parsed tag n case part → AllByRecursion (IsBelow (n + length part.scenes)) part.attempts
+    tried_below n None case part (inl t) =
+        let e : length part.scenes ≡ 1 = ap length t.scenes in each_below (n + 1) (n + length part.scenes) part.attempts (ap (λ k. n + k) (sym e)) (ways_below n _ _ part.attempts t.attempts)
+    tried_below n None case part (inr t) = subst (AllByRecursion (IsBelow (n + length part.scenes))) (sym t.1.attempts) tt
+    tried_below n (Some tag) case part (inl t) =
+        let e : length part.scenes ≡ 1 = ap length t.scenes in
+        let s : t.attempt.scene ≡ n = t.falsely.scene_is in
+        subst (AllByRecursion (IsBelow (n + length part.scenes))) (sym t.attempts) (omega (arith, s, e), tt)
+    tried_below n (Some tag) case part (inr t) = subst (AllByRecursion (IsBelow (n + length part.scenes))) (sym t.1.attempts) tt
+
     opened_stands : (n : ℕ) (found : OpeningFinding) (part : PartValue) → IsPartOfFound p role all parsed n found part → AllByRecursion (SceneMayStand p) part.scenes
-    opened_stands n (opening.Case case) part (inl t) = subst (AllByRecursion (SceneMayStand p)) (sym t.scenes) (opening_stands parsed case t.scene t.stands t.is, tt)
-    opened_stands n (opening.Case case) part (inr t) = subst (AllByRecursion (SceneMayStand p)) (sym t.1.scenes) tt
+    opened_stands n (opening.Case case) part t = tried_stands n (retagging_at p parsed (tree_of case.opened)) case part t
     opened_stands n (opening.NoCase none) part gap = subst (AllByRecursion (SceneMayStand p)) (sym gap.scenes) tt
 
     opened_below : (n : ℕ) (found : OpeningFinding) (part : PartValue) → IsPartOfFound p role all parsed n found part → AllByRecursion (IsBelow (n + length part.scenes)) part.attempts
-    opened_below n (opening.Case case) part (inl t) =
-        let e : length part.scenes ≡ 1 = ap length t.scenes in each_below (n + 1) (n + length part.scenes) part.attempts (ap (λ k. n + k) (sym e)) (ways_below n _ _ part.attempts t.attempts)
-    opened_below n (opening.Case case) part (inr t) = subst (AllByRecursion (IsBelow (n + length part.scenes))) (sym t.1.attempts) tt
+    opened_below n (opening.Case case) part t = tried_below n (retagging_at p parsed (tree_of case.opened)) case part t
     opened_below n (opening.NoCase none) part gap = subst (AllByRecursion (IsBelow (n + length part.scenes))) (sym gap.attempts) tt
 
 -- ---- those of all points

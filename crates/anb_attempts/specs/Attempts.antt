@@ -28,7 +28,7 @@ use Rattle.anb_suite.specs.declared.cases.Case.{Case}
 use Rattle.anb_suite.specs.declared.cases.Finding.{Finding}
 use Rattle.anb_suite.specs.declared.cases.Finding.TheVariants as finding
 use Rattle.anb_spoil.specs.Rows.{is_default, rows_of}
-use Rattle.anb_spoil.specs.Words.{argument_of, change_words, row_words}
+use Rattle.anb_spoil.specs.Words.{argument_of, change_words, false_tag_words, row_words}
 use Rattle.anb_spoil.specs.declared.changes.Change.{Change}
 use Rattle.anb_spoil.specs.declared.changes.Change.TheVariants.{LastByte, WithoutLast, FirstByte, ByteMore, ZeroInFront}
 use Rattle.anb_spoil.specs.declared.rows.Row.{Row}
@@ -47,6 +47,7 @@ use Rattle.anb_verdict.specs.declared.missing.Other.TheVariants.{Makes}
 use Rattle.anb_verdict.specs.declared.title.Title.{Title}
 use Rattle.anb_verdict.specs.declared.title.Title.TheVariants.{Narrated, Changed}
 use Rattle.anb_attempts.specs.Inner.{AreWithin}
+use Rattle.anb_attempts.specs.Retagging.{RetaggingValue, retagging_at}
 use Rattle.anb_attempts.specs.declared.attempts.TheConstants.{MOST}
 use Rattle.anb_attempts.specs.declared.attempts.Attempt.{Attempt}
 use Rattle.anb_attempts.specs.declared.attempts.Gap.{Gap}
@@ -87,6 +88,14 @@ pub record IsSceneOfOpening (parsed : Option ℕ) (case : OpeningCase) (scene : 
   pub right : scene.right ≡ Some case.opened
   pub due : scene.due ≡ option_map (λ format. case.event) parsed
 
+-- And that of the same case where what is opened gets a false tag, which is made of this value. It is known that the role
+-- stops, since what has a false tag is never opened.
+pub record IsSceneOfTag (case : OpeningCase) (pair : Tree) (scene : Scene) : Type 0 where
+  pub arrivals : scene.arrivals ≡ case.arrivals
+  pub messages : scene.messages ≡ case.messages
+  pub right : option_map tree_of scene.right ≡ Some pair
+  pub due : scene.due ≡ Some case.event
+
 -- the honest one
 pub record IsNarrated (p : ProtocolValue) (role : ℕ) (scene : Scene) : Type 0 where
   pub arrivals : map tree_of scene.arrivals.items ≡ heard (events_of p role)
@@ -111,6 +120,9 @@ CaseMayStand p case = TermsMayStand p (map tree_of case.arrivals.items) (map tre
 
 abbrev pub OpeningMayStand : ProtocolValue → OpeningCase → Type 0
 OpeningMayStand p case = TermsMayStand p (map tree_of case.arrivals.items) (map tree_of case.messages.items) (tree_of case.opened)
+
+abbrev pub TagMayStand : ProtocolValue → OpeningCase → (pair : Tree) → Type 0
+TagMayStand p case pair = TermsMayStand p (map tree_of case.arrivals.items) (map tree_of case.messages.items) pair
 
 -- ---- attempts
 
@@ -170,7 +182,8 @@ why_words After = codes "a check behind it fails then"
 
 -- ---- attempts at an opening
 
--- In what ways bytes of a format are made wrong: by default one length that isn't minimal is enough; and sealed bytes.
+-- In what ways bytes of a format are made wrong: by default one length that isn't minimal is enough; and sealed bytes, where
+-- the protocol has no format that their false tag could be made with.
 abbrev pub is_tried : (all : Bool) → List Piece → Row → Bool
 is_tried all pieces row = all || is_default pieces row
 
@@ -197,6 +210,7 @@ abbrev pub lack_by : Wrong → verdict.Place → Option Missing
 lack_by (wrong.Changed change) place = Some (Tag place)
 lack_by (wrong.Spoilt format (At i piece)) place = lack_of_piece piece place
 lack_by (wrong.Spoilt format Behind) place = Some BytesBehind
+lack_by (wrong.FalseTag suite way format) place = Some (Tag place)
 
 pub record Lacks (at : Place) (way : Wrong) (missing : Option Missing) : Type 0 where
   pub place : verdict.Place
@@ -221,6 +235,7 @@ module _ (p : ProtocolValue) (role : ℕ) where
   way_words at (wrong.Changed change) = change_words change 2
   way_words at (wrong.Spoilt format row) =
       option_map_or (λ (f : FormatValue). row_words f.pieces row (name_at at f.pieces row)) (slice_get p.formats format) []
+  way_words at (wrong.FalseTag suite way format) = false_tag_words
 
   -- An attempt that makes what is opened at a place wrong in a way.
   pub record IsOpeningAttempt (scene : ℕ) (at : Place) (way : Wrong) (attempt : Attempt) : Type 0 where
@@ -331,9 +346,29 @@ module _ (p : ProtocolValue) (role : ℕ) where
   IsPartOfOpened all parsed number case part =
       IsOpened all parsed number case part ⊎ ((OpeningMayStand p case → ⊥) × IsGap (opening_place case) Large part)
 
+  -- of the same with a false tag: a scene with this number, and one attempt
+  pub record IsRetagged (tag : RetaggingValue) (number : ℕ) (case : OpeningCase) (part : PartValue) : Type 0 where
+    pub stands : TagMayStand p case tag.pair
+    pub scene : Scene
+    pub is : IsSceneOfTag case tag.pair scene
+    pub attempt : Attempt
+    pub falsely : IsOpeningAttempt p role number (opening_place case) tag.way attempt
+    pub scenes : part.scenes ≡ scene ∷ []
+    pub attempts : part.attempts ≡ attempt ∷ []
+    pub gaps : part.gaps ≡ []
+
+  abbrev pub IsPartOfTag : RetaggingValue → (number : ℕ) → OpeningCase → PartValue → Type 0
+  IsPartOfTag tag number case part =
+      IsRetagged tag number case part ⊎ ((TagMayStand p case tag.pair → ⊥) × IsGap (opening_place case) Large part)
+
+  -- a false tag where there is one, and else the other ways
+  abbrev pub IsPartOfTried : (all : Bool) → (parsed : Option ℕ) → Option RetaggingValue → (number : ℕ) → OpeningCase → PartValue → Type 0
+  IsPartOfTried all parsed None number case part = IsPartOfOpened all parsed number case part
+  IsPartOfTried all parsed (Some tag) number case part = IsPartOfTag tag number case part
+
   -- and a gap where there is no case
   abbrev pub IsPartOfFound : (all : Bool) → (parsed : Option ℕ) → (number : ℕ) → OpeningFinding → PartValue → Type 0
-  IsPartOfFound all parsed number (opening.Case case) part = IsPartOfOpened all parsed number case part
+  IsPartOfFound all parsed number (opening.Case case) part = IsPartOfTried all parsed (retagging_at p parsed (tree_of case.opened)) number case part
   IsPartOfFound all parsed number (opening.NoCase none) part = IsGap (obstacle_place none) (why_not none.why) part
 
   abbrev pub IsPartOfOpening : CodeValue → (all : Bool) → (number instruction : ℕ) → PartValue → Type 0

@@ -1,4 +1,5 @@
 pub mod Inner
+pub mod Retagging
 pub mod Attempts
 -- for proofs alone
 pub mod Parts

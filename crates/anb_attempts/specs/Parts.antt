@@ -4,13 +4,18 @@ use Rattle.anb_attempts.specs.declared.attempts.Suite.{Suite}
 use Rattle.anb_attempts.specs.declared.inner.Inner.{Inner}
 use Rattle.anb_attempts.specs.declared.inner.InnerOperands.{InnerOperands}
 use Rattle.anb_attempts.specs.declared.parts.Part.{Part}
+use Rattle.anb_attempts.specs.declared.retagging.Retagging.{Retagging}
 use Rattle.anb_attempts.specs.Inner.{InnerOperandsValue, InnerValue}
+use Rattle.anb_attempts.specs.Retagging.{RetaggingValue}
 use Rattle.anb_term.specs.Tree.{trees_of}
 use Rattle.anb_term.specs.View.{tree_of}
 use Rattle.anb_attempts.specs.Attempts.{PartValue}
 
 abbrev pub part_value : Part → PartValue
 part_value part = record { scenes = part.scenes.items; attempts = part.attempts.items; gaps = part.gaps.items }
+
+abbrev pub retagging_value : Retagging → RetaggingValue
+retagging_value tag = record { pair = tree_of tag.pair; way = tag.way }
 
 abbrev pub inner_value : Inner → InnerValue
 inner_value inner = record { term = tree_of inner.term; part = tree_of inner.part }

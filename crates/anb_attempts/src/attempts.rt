@@ -14,7 +14,8 @@ pub struct Scene {
     pub arrivals: Vec<Term>,
     /// What is said over these arrivals by who goes on to the end, in order.
     pub messages: Vec<Term>,
-    /// The narrated term in whose place the spare name stands, where there is one.
+    /// The term of which a wrong value is made for the spare name, where there is one: the narrated one in
+    /// whose place that stands; or for a false tag a format of the protocol that has it and its key.
     pub right: Option<Term>,
     /// The event at which the role stops whatever the wrong value is, if it isn't the right one, and
     /// whatever the role draws; where that is known.

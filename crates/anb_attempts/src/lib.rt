@@ -21,6 +21,7 @@ mod opening;
 mod parts;
 mod placing;
 mod points;
+mod retagging;
 mod scenes;
 mod trying;
 mod ways;

@@ -5,21 +5,24 @@ ghost use Rattle.anb_compile.specs.Fitting.{FitsRole};
 ghost use Rattle.anb_format.specs.Formats.{FormatValue};
 ghost use Rattle.anb_openings.specs.Openings.{HasOpening};
 ghost use Rattle.anb_verdict.specs.Places.{place_value};
-ghost use Rattle.anb_attempts.specs.Attempts.{name_at, way_words, why_not, IsOpeningAttempt, IsPartOfOpened, IsPartOfOpening, SaysChanged};
-ghost use Rattle.anb_attempts.specs.Parts.{part_value};
+ghost use Rattle.anb_attempts.specs.Attempts.{name_at, way_words, why_not, IsOpeningAttempt, IsPartOfOpened, IsPartOfOpening, IsPartOfTag, IsPartOfTried, SaysChanged};
+ghost use Rattle.anb_attempts.specs.Parts.{part_value, retagging_value};
+ghost use Rattle.anb_attempts.specs.Retagging.{retagging_at};
+ghost use Rattle.anb_term.specs.View.{tree_of};
 
 use crate::attempts::{Attempt, Why};
 use crate::changing::{USUAL_SIZE, changed_title};
 use crate::parts::{Part, one_gap, one_scene};
 use crate::placing::{copy_of, place_at};
-use crate::scenes::{scene_of_opening, terms_may_stand};
+use crate::retagging::{Retagging, retagging_at};
+use crate::scenes::{scene_of_opening, scene_of_tag, terms_may_stand};
 use crate::ways::{lack_by, ways_of};
 use anb_base::{Bytes, NoMemory, Text};
 use anb_code::RoleCode;
 use anb_format::Format;
 use anb_openings::{Obstacle, OpeningCase, OpeningFinding, opened_format, opening_finding};
 use anb_protocol::Protocol;
-use anb_spoil::{Row, Wrong, argument_of, put_row_words};
+use anb_spoil::{Row, Wrong, argument_of, false_tag_words, put_row_words};
 use anb_verdict::{Place, Title, operand_text};
 use std::alloc::Global;
 
@@ -41,7 +44,7 @@ pub(crate) fn part_of_opening(
 {
     let parsed = opened_format(code, instruction);
     match opening_finding(alloc, p, role, code, instruction)? {
-        OpeningFinding::Case(case) => part_of_opened(alloc, p, role, all, parsed, scene, case),
+        OpeningFinding::Case(case) => part_of_found(alloc, p, role, all, parsed, scene, case),
         OpeningFinding::NoCase(none) => {
             let place = place_at(alloc, p, role, &none.arrivals, none.event)?;
             one_gap(alloc, place, why_not(none.why))
@@ -60,7 +63,50 @@ fn why_not(why: Obstacle) -> Why
     }
 }
 
-/// The same of an opening's case.
+/// The same of an opening's case: with a false tag, or in the other ways.
+fn part_of_found(
+    alloc: Global,
+    p: &Protocol,
+    role: u32,
+    all: bool,
+    parsed: Option<u16>,
+    scene: usize,
+    case: OpeningCase,
+) -> Result<Part, NoMemory>
+    requires { role < length p.now.roles }
+    ensures { IfOk result (λ part. IsPartOfTried p.now role all parsed
+        (retagging_at p.now parsed (tree_of case.opened)) scene case (part_value part)) }
+{
+    match retagging_at(alloc, p, parsed, &case.opened)? {
+        Some(tag) => part_of_tag(alloc, p, role, scene, case, tag),
+        None => part_of_opened(alloc, p, role, all, parsed, scene, case),
+    }
+}
+
+/// The same of an opening's case with a false tag.
+fn part_of_tag(
+    alloc: Global,
+    p: &Protocol,
+    role: u32,
+    scene: usize,
+    case: OpeningCase,
+    tag: Retagging,
+) -> Result<Part, NoMemory>
+    requires { role < length p.now.roles }
+    ensures { IfOk result (λ part.
+        IsPartOfTag p.now role (retagging_value tag) scene case (part_value part)) }
+{
+    let place = place_at(alloc, p, role, &case.arrivals, case.event)?;
+    if !terms_may_stand(alloc, p, &case.arrivals, &case.messages, &tag.pair)? {
+        return one_gap(alloc, place, Why::Large);
+    }
+    let attempt = attempt_in(alloc, p, role, scene, &place, tag.way)?;
+    let mut attempts = Vec::new(alloc);
+    attempts.push(attempt)?;
+    one_scene(alloc, scene_of_tag(case, tag.pair), attempts)
+}
+
+/// The same of an opening's case in the other ways.
 fn part_of_opened(
     alloc: Global,
     p: &Protocol,
@@ -139,6 +185,10 @@ fn title_of(
         Wrong::Changed(change) => changed_title(alloc, place, change, USUAL_SIZE),
         Wrong::Spoilt(format, row) => {
             let words = row_words_at(alloc, p, role, place, format, row)?;
+            Ok(Title::Changed(copy_of(alloc, place)?, Bytes::new(words)))
+        }
+        Wrong::FalseTag(_suite, _way, _format) => {
+            let words = Vec::from_slice(alloc, false_tag_words().as_bytes())?;
             Ok(Title::Changed(copy_of(alloc, place)?, Bytes::new(words)))
         }
     }

@@ -3,7 +3,7 @@ ghost use Rattle.std.specs.Prelude.{◌≡◌, ◌↔◌, ◌<◌, ◌∷◌, []
 ghost use Rattle.std.specs.List.{AllByRecursion};
 ghost use Rattle.anb_term.specs.View.{tree_of};
 ghost use Rattle.anb_partner.specs.Plans.{MayStand};
-ghost use Rattle.anb_attempts.specs.Attempts.{IsBegun, IsDue, IsNarrated, IsSceneOf, IsSceneOfOpening, SceneMayStand, TermsMayStand};
+ghost use Rattle.anb_attempts.specs.Attempts.{IsBegun, IsDue, IsNarrated, IsSceneOf, IsSceneOfOpening, IsSceneOfTag, SceneMayStand, TermsMayStand};
 
 use crate::attempts::{Attempt, Scene, Suite};
 use crate::differing::differ_in_place;
@@ -94,6 +94,18 @@ pub(crate) fn scene_of_opening(parsed: Option<u16>, case: OpeningCase) -> Scene
         messages: case.messages,
         right: Some(case.opened),
         due,
+    }
+}
+
+/// The same where what is opened gets a false tag, which is made of this value.
+pub(crate) fn scene_of_tag(case: OpeningCase, pair: Term) -> Scene
+    ensures { IsSceneOfTag case (tree_of pair) result }
+{
+    Scene {
+        arrivals: case.arrivals,
+        messages: case.messages,
+        right: Some(pair),
+        due: Some(case.event),
     }
 }
 

@@ -86,8 +86,8 @@ fn is_tried(all: bool, format: &Format, row: Row) -> bool
     all || is_default(format, row)
 }
 
-/// Those of sealed bytes: the last byte is one of the body where there is any, and the first one always
-/// one of the tag.
+/// Those of sealed bytes that get no false tag: the last byte is one of the body where there is any, and
+/// the first one always one of the tag.
 fn tag_ways(alloc: Global, all: bool) -> Result<Vec<Wrong>, NoMemory>
     ensures { IfOk result (λ ways. ways.items ≡ tag_ways all) }
 {
@@ -113,6 +113,7 @@ fn lack_at(way: Wrong, place: Place) -> Option<Missing>
         Wrong::Changed(_change) => Some(Missing::Tag(place)),
         Wrong::Spoilt(_format, Row::At(_place, spoiling)) => lack_of_piece(spoiling, place),
         Wrong::Spoilt(_format, Row::Behind) => Some(Missing::BytesBehind),
+        Wrong::FalseTag(_suite, _way, _format) => Some(Missing::Tag(place)),
     }
 }
 

@@ -5,6 +5,7 @@ pub mod Stepping
 pub mod Valued
 pub mod Shutting
 pub mod Spoiling
+pub mod Retagging
 pub mod Spared
 pub mod Going
 pub mod Gone

@@ -4,9 +4,9 @@ use Rattle.anb_base.specs.declared.content.Suite.{Suite}
 use Rattle.anb_format.specs.Formats.{FormatValue}
 use Rattle.anb_term.specs.declared.term.Op.{Op}
 use Rattle.anb_term.specs.declared.term.Op.TheVariants.{Seal, Wrap, Format}
-use Rattle.anb_term.specs.Tree.{Tree, node, trees_of}
+use Rattle.anb_term.specs.Tree.{Tree, node, trees_of, IsFormed}
 use Rattle.anb_term.specs.Value.{Meaning}
-use Rattle.anb_algebra.specs.ByteMeaning.{byte_meaning}
+use Rattle.anb_algebra.specs.ByteMeaning.{byte_meaning, has_operator}
 use Rattle.anb_plays.specs.Plans.{Event, known}
 use Rattle.anb_plays.specs.Plays.{stopped}
 use Rattle.anb_plays.specs.Codes.{Act}
@@ -15,7 +15,8 @@ use Rattle.anb_plays.specs.Honest.{honest, made, LabelsAreFormed}
 use Rattle.anb_probe.specs.Laws.{AreValuesOf, run_over}
 use Rattle.anb_spoil.specs.Tags.{falsely_sealed, falsely_wrapped}
 use Rattle.anb_spoil.specs.Wrongs.{wrong_by}
-use Rattle.anb_spoil.specs.declared.wrongs.Wrong.TheVariants.{Spoilt}
+use Rattle.anb_spoil.specs.declared.tags.Closing.TheVariants as closing
+use Rattle.anb_spoil.specs.declared.wrongs.Wrong.TheVariants.{Spoilt, FalseTag}
 use Rattle.anb_spoil.specs.declared.rows.Row.{Row}
 use Rattle.anb_openings.specs.Steps.{Progress, begun, writing, after_all}
 use Rattle.anb_openings.specs.Openings.{OpeningValue, IsOpening, IsOpeningCase}
@@ -79,4 +80,25 @@ FalseWrapStops = (formats : List FormatValue) (suite : Suite) (names : ℕ) (pla
     → IsPlayed (byte_meaning formats suite) names plan code instruction Wrap ks r case atoms draw
     → (k d m : Tree) → case.opened ≡ node Wrap (trees_of (k ∷ d ∷ m ∷ []))
     → atoms names ≡ falsely_wrapped suite (bytes_of formats suite atoms k) (bytes_of formats suite atoms d) (bytes_of formats suite atoms m)
+    → (run_over (byte_meaning formats suite) atoms draw plan code case.arrivals).end ≡ stopped case.event instruction
+
+-- a closed term and its key, the first two parts of a value of a format
+abbrev pub pair : (place fields : ℕ) → (closed key : Tree) → List Tree → Tree
+pair place fields closed key rest = node (Format place fields) (trees_of (closed ∷ key ∷ rest))
+
+-- and so does what is made of the bytes of these two with a false tag
+abbrev pub RetaggedSealStops : Type 0
+RetaggedSealStops = (formats : List FormatValue) (suite : Suite) (names : ℕ) (plan : List Event) (code : List Act) (instruction : ℕ) (ks : List ℕ) (r : ℕ) (case : OpeningValue) (atoms draw : ℕ → List ℕ)
+    → IsPlayed (byte_meaning formats suite) names plan code instruction Seal ks r case atoms draw
+    → (k m : Tree) → case.opened ≡ node Seal (trees_of (k ∷ m ∷ []))
+    → (place fields : ℕ) (rest : List Tree) → IsFormed (has_operator formats) (pair place fields case.opened k rest)
+    → wrong_by formats (FalseTag suite closing.Seal place) (bytes_of formats suite atoms (pair place fields case.opened k rest)) ≡ Some (atoms names)
+    → (run_over (byte_meaning formats suite) atoms draw plan code case.arrivals).end ≡ stopped case.event instruction
+
+abbrev pub RetaggedWrapStops : Type 0
+RetaggedWrapStops = (formats : List FormatValue) (suite : Suite) (names : ℕ) (plan : List Event) (code : List Act) (instruction : ℕ) (ks : List ℕ) (r : ℕ) (case : OpeningValue) (atoms draw : ℕ → List ℕ)
+    → IsPlayed (byte_meaning formats suite) names plan code instruction Wrap ks r case atoms draw
+    → (k d m : Tree) → case.opened ≡ node Wrap (trees_of (k ∷ d ∷ m ∷ []))
+    → (place fields : ℕ) (rest : List Tree) → IsFormed (has_operator formats) (pair place fields case.opened k rest)
+    → wrong_by formats (FalseTag suite closing.Wrap place) (bytes_of formats suite atoms (pair place fields case.opened k rest)) ≡ Some (atoms names)
     → (run_over (byte_meaning formats suite) atoms draw plan code case.arrivals).end ≡ stopped case.event instruction

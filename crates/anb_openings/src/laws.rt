@@ -1,5 +1,5 @@
 //! Laws of cases of openings, each a function that does nothing.
-ghost use Rattle.anb_openings.specs.Laws.{ShutStops, TakenGoesOn, SpoiltStops, FalseSealStops, FalseWrapStops};
+ghost use Rattle.anb_openings.specs.Laws.{ShutStops, TakenGoesOn, SpoiltStops, FalseSealStops, FalseWrapStops, RetaggedSealStops, RetaggedWrapStops};
 
 use anb_plays::laws::{exec_is_run, honest_agree};
 use anb_term::Algebra;
@@ -34,4 +34,15 @@ pub fn false_seal_stops()
 /// A law: and wrapped ones, where it unwraps them.
 pub fn false_wrap_stops()
     ensures { FalseWrapStops }
+{}
+
+/// A law: and so do bytes with a false tag that are made of the sealed ones and their key, as the first
+/// two parts of a value of a format.
+pub fn retagged_seal_stops()
+    ensures { RetaggedSealStops }
+{}
+
+/// A law: and the same of wrapped ones.
+pub fn retagged_wrap_stops()
+    ensures { RetaggedWrapStops }
 {}

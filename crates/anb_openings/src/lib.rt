@@ -19,5 +19,8 @@ mod walking;
 
 pub use cases::{NoCase, Obstacle, OpeningCase, OpeningFinding};
 pub use finding::opening_finding;
-pub use laws::{false_seal_stops, false_wrap_stops, shut_stops, spoilt_stops, taken_goes_on};
+pub use laws::{
+    false_seal_stops, false_wrap_stops, retagged_seal_stops, retagged_wrap_stops, shut_stops,
+    spoilt_stops, taken_goes_on,
+};
 pub use undoing::{opened_format, openings};

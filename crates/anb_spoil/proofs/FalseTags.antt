@@ -1,12 +1,14 @@
 -- A false tag isn't opened, and what it masks is the message.
 use Rattle.std.proofs.Common.{◌≡◌, ◌≢◌, ◌<◌, ◌≤◌, ◌+◌, ℕ, List, [], ◌∷◌, ◌++◌, length, take, drop, Option, Some, None, Result, IfOk, refl, ap, sym, subst, ◌∙◌, arith, length-append}
-use Rattle.std.proofs.lemmas.List.{drop_at, take_at}
+use Rattle.std.proofs.lemmas.List.{drop_at, length-drop, length-take-le, take_at}
 use Rattle.std.proofs.lemmas.Result.{IfOk-weaker}
 use Rattle.anb_base.specs.declared.content.Suite.{Suite}
 use Rattle.anb_seal.specs.Primitives.{closed, hash_of, key_for, masked, opened, sealed, tag_of, unsealed, unwrapped, wrapped}
 use Rattle.anb_seal.proofs.Closed.{front_is_tag, length-closed, length-masked, length-tag_of, masked_twice, opened_closes, rest_is_message}
 use Rattle.anb_spoil.specs.Changes.{last_changed}
-use Rattle.anb_spoil.specs.Tags.{falsely_closed, falsely_sealed, falsely_wrapped}
+use Rattle.anb_spoil.specs.Tags.{falsely_closed, falsely_sealed, falsely_wrapped, held_in, retagged, retagged_under, stream_purpose}
+use Rattle.anb_spoil.specs.declared.tags.Closing.{Closing}
+use Rattle.anb_spoil.specs.declared.tags.Closing.TheVariants.{Seal, Wrap}
 use Rattle.anb_spoil.proofs.Changing.{last_differs, length-last_changed}
 
 length-false_tag : (suite : Suite) (tag_key head m : List ℕ) → length (last_changed (tag_of suite tag_key head m)) ≡ 32
@@ -104,3 +106,45 @@ sealed_long suite k m = omega (arith, length-closed suite (key_for suite 1 k) (k
 pub wrapped_long : (suite : Suite) (k d m : List ℕ) → 32 ≤ length (wrapped suite k d m)
 unfolding wrapped
 wrapped_long suite k d m = omega (arith, length-closed suite (key_for suite 3 k) (key_for suite 4 k) (hash_of suite d) m)
+
+-- ---- of the right bytes
+
+retagged_closed : (suite : Suite) (stream_key tag_key head m : List ℕ) → retagged_under suite stream_key (closed suite stream_key tag_key head m) ≡ falsely_closed suite stream_key tag_key head m
+retagged_closed suite stream_key tag_key head m =
+    let c = closed suite stream_key tag_key head m in
+    ap (λ (x : List ℕ). last_changed (take 32 c) ++ masked suite stream_key (last_changed (take 32 c)) x) (rest_is_message suite stream_key tag_key head c m refl)
+    ∙ ap (λ (t : List ℕ). last_changed t ++ masked suite stream_key (last_changed t) m) (front_is_tag suite stream_key tag_key head c m refl)
+
+pub retagged_seal : (suite : Suite) (k m : List ℕ) → retagged suite Seal k (sealed suite k m) ≡ falsely_sealed suite k m
+unfolding retagged sealed falsely_sealed
+retagged_seal suite k m = retagged_closed suite (key_for suite 1 k) (key_for suite 2 k) [] m
+
+pub retagged_wrap : (suite : Suite) (k d m : List ℕ) → retagged suite Wrap k (wrapped suite k d m) ≡ falsely_wrapped suite k d m
+unfolding retagged wrapped falsely_wrapped
+retagged_wrap suite k d m = retagged_closed suite (key_for suite 3 k) (key_for suite 4 k) (hash_of suite d) m
+
+-- closed bytes with another tag are others
+under_differs : (suite : Suite) (stream_key c : List ℕ) → 32 ≤ length c → retagged_under suite stream_key c ≢ c
+under_differs suite stream_key c long same =
+    let tag = last_changed (take 32 c) in
+    let size : length (take 32 c) ≡ 32 = length-take-le 32 c long in
+    let front : take 32 (retagged_under suite stream_key c) ≡ tag = take_at tag (masked suite stream_key tag (held_in suite stream_key c)) 32 (length-last_changed (take 32 c) ∙ size) in
+    omega (arith, ap length (last_differs (take 32 c) (sym front ∙ ap (take 32) same)), size)
+
+pub retagged_differs : (suite : Suite) (closing : Closing) (k c : List ℕ) → 32 ≤ length c → retagged suite closing k c ≢ c
+unfolding retagged
+retagged_differs suite Seal k c long = under_differs suite (key_for suite 1 k) c long
+retagged_differs suite Wrap k c long = under_differs suite (key_for suite 3 k) c long
+
+-- as it is made
+pub retagged_from : (suite : Suite) (closing : Closing) (k c tag first key m : List ℕ) → tag ≡ last_changed (take 32 c) → first ≡ key_for suite (stream_purpose closing) k → key ≡ key_for suite (stream_purpose closing) k → m ≡ held_in suite first c
+    → tag ++ masked suite key tag m ≡ retagged suite closing k c
+unfolding retagged
+retagged_from suite closing k c tag first key m is_tag is_first is_key is_m =
+    let purposed = key_for suite (stream_purpose closing) k in
+    let held : m ≡ held_in suite purposed c = is_m ∙ ap (λ (x : List ℕ). held_in suite x c) is_first in
+    ap (λ (x : List ℕ). tag ++ masked suite x tag m) is_key ∙ ap (λ (x : List ℕ). tag ++ masked suite purposed tag x) held ∙ ap (λ (t : List ℕ). t ++ masked suite purposed t (held_in suite purposed c)) is_tag
+
+-- what is held is no longer than the whole
+pub held_short : (suite : Suite) (key c m : List ℕ) → m ≡ held_in suite key c → length m ≤ length c
+held_short suite key c m e = omega (arith, ap length e, length-masked suite key (take 32 c) (drop 32 c), length-drop 32 c)

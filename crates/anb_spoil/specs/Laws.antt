@@ -1,21 +1,23 @@
 -- What holds of spoilt bytes, whatever the bytes are.
-use Rattle.std.specs.Prelude.{◌≡◌, ◌≢◌, ℕ, List, length, take, drop, Some, None, Bool, true, false, Contains}
+use Rattle.std.specs.Prelude.{◌≡◌, ◌≢◌, ℕ, List, ◌∷◌, length, take, drop, Some, None, Bool, true, false, Contains, slice_get}
 use Rattle.std.specs.List.{AllByRecursion}
 use Rattle.anb_base.specs.Bytes.{IsBytes}
 use Rattle.anb_base.specs.declared.content.Suite.{Suite}
 use Rattle.anb_format.specs.Formats.{FormatValue, IsParts, IsSound, field_count}
-use Rattle.anb_format.specs.Reading.{arguments_at}
+use Rattle.anb_format.specs.Reading.{arguments_at, parts_of}
 use Rattle.anb_format.specs.declared.pieces.Piece.{Piece}
-use Rattle.anb_seal.specs.Primitives.{key_for, masked, unsealed, unwrapped}
+use Rattle.anb_seal.specs.Primitives.{key_for, masked, sealed, unsealed, unwrapped, wrapped}
 use Rattle.anb_spoil.specs.Changes.{changed_by}
 use Rattle.anb_spoil.specs.Rows.{rows_of, spoilt}
-use Rattle.anb_spoil.specs.Tags.{falsely_sealed, falsely_wrapped}
+use Rattle.anb_spoil.specs.Tags.{falsely_sealed, falsely_wrapped, retagged}
 use Rattle.anb_spoil.specs.Wrongs.{respoilt, wrong_by}
 use Rattle.anb_spoil.specs.declared.changes.Change.{Change}
 use Rattle.anb_spoil.specs.declared.rows.Row.{Row}
 use Rattle.anb_spoil.specs.declared.rows.Row.TheVariants.{At}
 use Rattle.anb_spoil.specs.declared.rows.Spoiling.TheVariants.{Semicolon, Comma}
+use Rattle.anb_spoil.specs.declared.tags.Closing.TheVariants.{Seal, Wrap}
 use Rattle.anb_spoil.specs.declared.wrongs.Wrong.{Wrong}
+use Rattle.anb_spoil.specs.declared.wrongs.Wrong.TheVariants.{Changed, Spoilt, FalseTag}
 
 -- what a change makes of bytes differs from them
 abbrev pub ChangesDiffer : Type 0
@@ -50,10 +52,18 @@ abbrev pub SpoiltIsRefused : Type 0
 SpoiltIsRefused = (pieces : List Piece) → IsSound pieces → (row : Row) (right wrong : List ℕ) → respoilt pieces row right ≡ Some wrong
     → (others : List (List ℕ)) → IsParts pieces wrong others → ⊥
 
+-- it isn't the right value; with a false tag it isn't the closed bytes that are a part of that
+abbrev pub IsAnother : List FormatValue → Wrong → (right made : List ℕ) → Type 0
+IsAnother formats (Changed change) right made = made ≢ right
+IsAnother formats (Spoilt place row) right made = made ≢ right
+IsAnother formats (FalseTag suite closing place) right made =
+    (format : FormatValue) (c k : List ℕ) (parts : List (List ℕ)) → slice_get formats place ≡ Some format
+    → parts_of format.pieces right ≡ Some (c ∷ k ∷ parts) → made ≢ c
+
 -- what a right value is made differs from it
 abbrev pub WrongsDiffer : Type 0
 WrongsDiffer = (formats : List FormatValue) → AllByRecursion (λ (format : FormatValue). IsSound format.pieces) formats
-    → (wrong : Wrong) (right made : List ℕ) → wrong_by formats wrong right ≡ Some made → made ≢ right
+    → (wrong : Wrong) (right made : List ℕ) → wrong_by formats wrong right ≡ Some made → IsAnother formats wrong right made
 
 -- false tags aren't opened, under the very key; but whoever doesn't compare tags has the message
 pub record FalseTagsStayShut : Type 0 where
@@ -63,3 +73,8 @@ pub record FalseTagsStayShut : Type 0 where
 pub record FalseTagsHoldTheMessage : Type 0 where
   pub seals : (suite : Suite) (k m : List ℕ) → let c = falsely_sealed suite k m in masked suite (key_for suite 1 k) (take 32 c) (drop 32 c) ≡ m
   pub wraps : (suite : Suite) (k d m : List ℕ) → let c = falsely_wrapped suite k d m in masked suite (key_for suite 3 k) (take 32 c) (drop 32 c) ≡ m
+
+-- closed bytes with another tag are their message with a false tag
+pub record RetaggedIsFalse : Type 0 where
+  pub seals : (suite : Suite) (k m : List ℕ) → retagged suite Seal k (sealed suite k m) ≡ falsely_sealed suite k m
+  pub wraps : (suite : Suite) (k d m : List ℕ) → retagged suite Wrap k (wrapped suite k d m) ≡ falsely_wrapped suite k d m

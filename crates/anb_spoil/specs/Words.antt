@@ -19,6 +19,10 @@ change_words FirstByte n = codes "with its first byte changed"
 change_words ByteMore n = codes "with a byte more"
 change_words ZeroInFront n = codes "with a zero byte in front"
 
+-- a false tag
+abbrev pub false_tag_words : List ℕ
+false_tag_words = codes "with another tag, and its stream"
+
 -- what stands before the name of a field's argument, and behind it
 abbrev pub around_name : Spoiling → List ℕ × List ℕ
 around_name OtherByte = (codes "with another byte in ", [])

@@ -1,5 +1,5 @@
 //! Laws of spoilt bytes, each a function that does nothing.
-ghost use Rattle.anb_spoil.specs.Laws.{ChangesDiffer, FalseTagsHoldTheMessage, FalseTagsStayShut, RowsAreAll, RowsAreNear, RowsAreRefused, SpoiltIsRefused, WrongsDiffer};
+ghost use Rattle.anb_spoil.specs.Laws.{ChangesDiffer, FalseTagsHoldTheMessage, FalseTagsStayShut, RetaggedIsFalse, RowsAreAll, RowsAreNear, RowsAreRefused, SpoiltIsRefused, WrongsDiffer};
 
 /// A law: what a change makes of bytes differs from them.
 pub fn changes_differ()
@@ -36,12 +36,18 @@ pub fn false_tags_hold_the_message()
     ensures { FalseTagsHoldTheMessage }
 {}
 
+/// A law: sealed or wrapped bytes that get another tag are their message with a false tag.
+pub fn retagged_is_false()
+    ensures { RetaggedIsFalse }
+{}
+
 /// A law: bytes of a format that are spoilt in the way of a row are no bytes of that format.
 pub fn spoilt_is_refused()
     ensures { SpoiltIsRefused }
 {}
 
-/// A law: what a right value is made differs from it.
+/// A law: what a right value is made differs from it; and with a false tag it differs from the closed
+/// bytes that it is made of.
 pub fn wrongs_differ()
     ensures { WrongsDiffer }
 {}

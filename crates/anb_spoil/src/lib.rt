@@ -18,11 +18,11 @@ mod wrongs;
 
 pub use changes::{CHANGES, Change, MORE_CHANGES, changed};
 pub use laws::{
-    changes_differ, false_tags_hold_the_message, false_tags_stay_shut, rows_are_all, rows_are_near,
-    rows_are_refused, spoilt_is_refused, wrongs_differ,
+    changes_differ, false_tags_hold_the_message, false_tags_stay_shut, retagged_is_false,
+    rows_are_all, rows_are_near, rows_are_refused, spoilt_is_refused, wrongs_differ,
 };
 pub use rows::{Row, Spoiling, is_default, rows_of};
 pub use spoils::spoil;
-pub use tags::{seal_falsely, wrap_falsely};
-pub use words::{FALSE_TAG, argument_of, change_words, put_row_words};
+pub use tags::{Closing, retag, seal_falsely, wrap_falsely};
+pub use words::{argument_of, change_words, false_tag_words, put_row_words};
 pub use wrongs::{Wrong, wrong_for};

@@ -2,7 +2,7 @@
 ghost use Rattle.std.specs.Prelude.{◌≡◌, ◌<◌, ◌≤◌, ◌+◌, ◌^◌, ◌++◌, None, length, take, IfOk, OnOk};
 ghost use Rattle.anb_seal.specs.Primitives.{cut, key_for, mac_of, masked, sealed, unsealed, unwrapped, wrapped};
 ghost use Rattle.anb_seal.specs.Streams.{xored};
-ghost use Rattle.anb_spoil.specs.Tags.{falsely_sealed, falsely_wrapped};
+ghost use Rattle.anb_spoil.specs.Tags.{falsely_sealed, falsely_wrapped, held_in, retagged, stream_purpose};
 
 use crate::changes::last_changed;
 use anb_base::{Bytes, NoMemory, Suite};
@@ -19,6 +19,63 @@ const DRAW: usize = 32;
 const SEAL_STREAM: u8 = 1;
 
 const WRAP_STREAM: u8 = 3;
+
+/// In which way bytes are closed.
+#[derive(Clone, Copy, Debug, PartialEq, Eq, Drop)]
+pub enum Closing {
+    Seal,
+    Wrap,
+}
+
+/// Gives bytes that are sealed, or wrapped, under a key another tag: their own with its last byte xor
+/// 1. Their message is masked anew by the stream of that tag, so a reader that doesn't compare the tag
+/// gets exactly the message. Whatever the context of wrapped bytes is, it is asked of the tag alone.
+pub fn retag(
+    alloc: Global,
+    suite: Suite,
+    closing: Closing,
+    k: &[u8],
+    c: &[u8],
+) -> Result<Bytes, NoMemory>
+    requires tag { 32 ≤ length c.now }
+    requires short { length c.now < 2 ^ 32 }
+    ensures { IfOk result (λ made. made ≡ retagged suite closing k.now c.now) }
+{
+    let stream_key = key_for(alloc, suite, stream_purpose(closing), k)?;
+    let message = held_in(alloc, suite, stream_key.as_slice(), c)?;
+    let (tag, _) = c.split_at(TAG);
+    let another = last_changed(alloc, tag)?;
+    masked_after(
+        alloc,
+        suite,
+        another,
+        stream_key.as_slice(),
+        message.as_slice(),
+    )
+}
+
+/// The purpose of the key that the stream is made of.
+fn stream_purpose(closing: Closing) -> u8
+    ensures { result ≡ stream_purpose closing }
+{
+    match closing {
+        Closing::Seal => SEAL_STREAM,
+        Closing::Wrap => WRAP_STREAM,
+    }
+}
+
+/// The message that closed bytes hold, whatever their tag is.
+fn held_in(alloc: Global, suite: Suite, stream_key: &[u8], c: &[u8]) -> Result<Bytes, NoMemory>
+    requires tag { 32 ≤ length c.now }
+    requires short { length c.now < 2 ^ 32 }
+    ensures { IfOk result (λ m. m ≡ held_in suite stream_key.now c.now) }
+{
+    let (tag, body) = c.split_at(TAG);
+    let tag = Vec::from_slice(alloc, tag)?;
+    let masked = masked_after(alloc, suite, tag, stream_key, body)?;
+    let (_, message) = masked.as_slice().split_at(TAG);
+    Ok(Bytes::new(Vec::from_slice(alloc, message)?))
+}
 
 /// Seals a message under a key with a false tag: that of the message with its last byte xor 1. The
 /// message is masked by the stream of the false tag, so a reader that doesn't compare the tag gets

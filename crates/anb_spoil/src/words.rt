@@ -1,6 +1,6 @@
 //! How a report names changes, rows and false tags.
 ghost use Rattle.std.specs.Prelude.{◌≡◌, ◌++◌, OnOk};
-ghost use Rattle.anb_spoil.specs.Words.{argument_of, around_name, change_words, field_words, literal_words, piece_words, row_words};
+ghost use Rattle.anb_spoil.specs.Words.{argument_of, around_name, change_words, false_tag_words, field_words, literal_words, piece_words, row_words};
 
 use crate::pieces::field_count;
 use crate::{Change, Row, Spoiling};
@@ -9,7 +9,11 @@ use anb_format::{Format, Piece, literal_text};
 use std::alloc::Global;
 
 /// How a report names a false tag.
-pub const FALSE_TAG: &str = "with another tag, and its stream";
+pub fn false_tag_words() -> &'static str
+    ensures { result.now ≡ false_tag_words }
+{
+    "with another tag, and its stream"
+}
 
 /// How a report names what the change makes of a value of this many bytes.
 pub fn change_words(change: Change, size: usize) -> &'static str

@@ -7,8 +7,9 @@ use Rattle.anb_term.specs.declared.term.Term.{Term}
 use Rattle.anb_verdict.specs.Places.{place_value}
 use Rattle.anb_attempts.specs.declared.attempts.Why.{Why}
 use Rattle.anb_attempts.specs.declared.parts.Part.{Part}
-use Rattle.anb_attempts.specs.Attempts.{IsGap, IsPartOfOpened, IsPartOfOpening, Place, obstacle_place, place_at, why_not}
+use Rattle.anb_attempts.specs.Attempts.{IsGap, IsPartOfOpening, IsPartOfTried, Place, obstacle_place, place_at, why_not}
 use Rattle.anb_attempts.specs.Parts.{part_value}
+use Rattle.anb_attempts.specs.Retagging.{retagging_at}
 use Rattle.anb_attempts.proofs.Turns.{if_one}
 use Rattle.anb_attempts.proofs.opening.part_of_opening.Goals as goal
 
@@ -19,8 +20,8 @@ returns-in-Case c =
     let code = c.args.code.now in
     let case = c.in-Case.case in
     let found = subst (λ (f : OpeningFinding). IsOpeningFinding p role code c.args.instruction f) c.in-Case.is c.in_ok-case.ensures in
-    if_one c.part_of_opened.result _ (λ (part : Part). IsPartOfOpening p role code c.args.all c.args.scene c.args.instruction (part_value part)) c.part_of_opened.ensures
-    (λ part h. (opening.Case case, found, subst (λ (o : Option ℕ). IsPartOfOpened p role c.args.all o c.args.scene case (part_value part)) c.opened_format-parsed.ensures h))
+    if_one c.part_of_found.result _ (λ (part : Part). IsPartOfOpening p role code c.args.all c.args.scene c.args.instruction (part_value part)) c.part_of_found.ensures
+    (λ part h. (opening.Case case, found, subst (λ (o : Option ℕ). IsPartOfTried p role c.args.all o (retagging_at p o (tree_of case.opened)) c.args.scene case (part_value part)) c.opened_format-parsed.ensures h))
 
 pub returns-in_ok-place-in-NoCase : goal.returns-in_ok-place-in-NoCase
 returns-in_ok-place-in-NoCase c =
