@@ -6,6 +6,7 @@ mod case;
 mod child;
 mod chosen;
 mod counts;
+mod folder;
 mod kept;
 mod notes;
 mod pauses;

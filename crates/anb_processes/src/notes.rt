@@ -44,6 +44,18 @@ pub(crate) fn tell_unstarted(rt: &HostRuntime, name: &Text) -> io::Result<()> {
     tell(rt, line.as_str())
 }
 
+/// Tells that a folder or a file can't be written.
+pub(crate) fn tell_unwritten(rt: &HostRuntime, path: &str) -> io::Result<()> {
+    let line = format!(in rt.alloc(); "anb: can't write {path}\n")?;
+    tell(rt, line.as_str())
+}
+
+/// Tells that a folder is left.
+pub(crate) fn tell_unremoved(rt: &HostRuntime, path: &str) -> io::Result<()> {
+    let line = format!(in rt.alloc(); "anb: can't remove {path}\n")?;
+    tell(rt, line.as_str())
+}
+
 fn tell(rt: &HostRuntime, line: &str) -> io::Result<()> {
     rt.stderr().write_all(line.as_bytes())
 }

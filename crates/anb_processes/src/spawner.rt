@@ -4,10 +4,11 @@ ghost use Rattle.std.specs.Prelude.{◌≡◌, ◌<◌, ◌≤◌, ℕ, get_or};
 ghost use Rattle.anb_processes.specs.Children.{child_of};
 
 use crate::counts::Counts;
+use crate::folder::Folder;
 use crate::notes::{tell_end, tell_left, tell_no_program, tell_unstarted};
 use crate::running::{Running, is_silence};
 use crate::watcher::Watcher;
-use anb_base::{Failed, Text};
+use anb_base::{Bytes, Failed, Text};
 use anb_stage::{ChildWords, Spawner};
 use std::alloc::{AllocError, Global};
 use std::io::ErrorKind;
@@ -60,7 +61,10 @@ pub struct RealSpawner {
     rt: HostRuntime,
     program: ChildProgram,
     children: Vec<Named>,
-    /// What kills the children where a signal ends this program. There is none without a shell.
+    /// Where the files of children's values stand, once there is one.
+    folder: Option<Folder>,
+    /// What kills the children and removes the folder where a signal ends this program. There is none
+    /// without a shell.
     watcher: Option<Watcher>,
     /// The role whose output was last found at its end.
     at_end: Option<u32>,
@@ -85,6 +89,7 @@ impl RealSpawner {
             rt,
             program,
             children: Vec::new(alloc),
+            folder: None,
             watcher: None,
             at_end: None,
             counts: Counts::new(),
@@ -93,12 +98,14 @@ impl RealSpawner {
 
     /// Kills each child that wasn't finished, and waits for it, so that none is left behind. Then
     /// standard error is told what the child ended with whose output ended too early, which is waited
-    /// for first, for two seconds at most; and each child that can't be killed, which is left.
+    /// for first, for two seconds at most; and each child that can't be killed, which is left. The files
+    /// of their values are removed, and told where they can't be.
     pub fn end(self) {
         let RealSpawner {
             rt,
             program: _,
             mut children,
+            folder,
             watcher,
             at_end,
             counts: _,
@@ -109,6 +116,9 @@ impl RealSpawner {
         };
         for child in children.iter_mut() {
             child.running.kill();
+        }
+        if let Some(folder) = folder {
+            folder.remove(&rt);
         }
         if let Some(watcher) = watcher {
             // One that fails has ended.
@@ -141,6 +151,8 @@ fn end_of(
 fn start(
     rt: &HostRuntime,
     program: &ChildProgram,
+    folder: &mut Option<Folder>,
+    watcher: &mut Option<Watcher>,
     children: &mut Vec<Named>,
     role: u32,
     limit: Option<u32>,
@@ -148,11 +160,19 @@ fn start(
 ) -> io::Result<()> {
     let name = name_of(rt.alloc(), &own.words)?;
     let limit = limit.map(|seconds| Duration::from_secs(u64::from(seconds)));
-    let running = match &*own.program {
-        [] => Running::start(rt, program.path()?, limit, &own.words)?,
-        [first, words @ ..] => {
-            let words = joined(rt.alloc(), words, &own.words)?;
-            Running::start(rt, first.as_str(), limit, &words)?
+    let (path, words) = match &*own.program {
+        [] => (program.path()?, joined(rt.alloc(), &[], &own.words)?),
+        [first, more @ ..] => (first.as_str(), joined(rt.alloc(), more, &own.words)?),
+    };
+    let words = match &own.values {
+        Some(values) => with_file(rt, folder, watcher, &name, values, words)?,
+        None => words,
+    };
+    let running = match Running::start(rt, path, limit, &words) {
+        Ok(running) => running,
+        Err(error) => {
+            explain(rt, program, own);
+            return Err(error);
         }
     };
     match children.push(Named {
@@ -187,13 +207,46 @@ fn joined(alloc: Global, words: &[Text], more: &[Text]) -> Result<Vec<Text>, All
     Ok(all)
 }
 
+/// These words, and behind them the name of a new file with a role's values.
+fn with_file(
+    rt: &HostRuntime,
+    folder: &mut Option<Folder>,
+    watcher: &mut Option<Watcher>,
+    role: &Text,
+    values: &Bytes,
+    mut words: Vec<Text>,
+) -> io::Result<Vec<Text>> {
+    if folder.is_none() {
+        // Without a watcher the folder is as good.
+        let _ = start_watcher(rt, watcher);
+        let made = Folder::make(rt)?;
+        if let Some(watcher) = watcher {
+            let _ = watcher.add_folder(rt, made.path());
+        }
+        *folder = Some(made);
+    }
+    if let Some(folder) = folder {
+        let file = folder.put(rt, role.as_str(), values.as_slice())?;
+        words.push(Text::new(file))?;
+    }
+    Ok(words)
+}
+
+/// Starts the watcher, where there is none.
+fn start_watcher(rt: &HostRuntime, watcher: &mut Option<Watcher>) -> io::Result<()> {
+    if watcher.is_none() {
+        *watcher = Watcher::start(rt)?;
+    }
+    Ok(())
+}
+
 /// Watches over the child that was started last. The first one brings the watcher with it.
 fn watch(rt: &HostRuntime, watcher: &mut Option<Watcher>, children: &[Named]) -> io::Result<()> {
     let Some(child) = children.last() else {
         return Ok(());
     };
     if children.len() == 1 {
-        *watcher = Watcher::start(rt)?;
+        start_watcher(rt, watcher)?;
     }
     match watcher {
         Some(watcher) => watcher.add(rt, child.running.id()),
@@ -239,6 +292,8 @@ impl Spawner for RealSpawner {
         match start(
             &self.rt,
             &self.program,
+            &mut self.folder,
+            &mut self.watcher,
             &mut self.children,
             role,
             limit,
@@ -250,10 +305,7 @@ impl Spawner for RealSpawner {
                 self.counts.enter(role, 1);
                 Ok(())
             }
-            Err(_) => {
-                explain(&self.rt, &self.program, own);
-                Err(self.counts.fail(role, false))
-            }
+            Err(_) => Err(self.counts.fail(role, false)),
         }
     }
 

@@ -4,7 +4,7 @@ ghost use Rattle.std.specs.Prelude.{◌≡◌, ◌≢◌, ◌<◌, ℕ, get_or, 
 ghost use Rattle.anb_stage.specs.declared.TheConstants.{ROLES};
 
 use crate::{ChildProgram, RealSpawner};
-use anb_base::{Failed, Text};
+use anb_base::{Bytes, Failed, Text};
 use anb_stage::{ChildWords, Spawner};
 use std::alloc::{AllocError, Global};
 use std::test::Fail;
@@ -24,6 +24,7 @@ fn child_words(alloc: Global, program: &[&str], words: &[&str]) -> Result<ChildW
     Ok(ChildWords {
         program: texts(alloc, program)?,
         words: texts(alloc, words)?,
+        values: None,
     })
 }
 
@@ -91,6 +92,20 @@ fn words_may_name_the_program(rt: HostRuntime) -> Result<(), Fail> {
     let own = child_words(rt.alloc(), &["/bin/sh", "-c"], &["exit 7"])?;
     start(&mut shells, 0, &own)?;
     assert_eq!(rt; shells.finish(0), Ok(7));
+    shells.end();
+    Ok(())
+}
+
+#[test]
+fn values_stand_in_a_file(rt: HostRuntime) -> Result<(), Fail> {
+    let mut shells = spawner(rt, "/bin/sh")?;
+    let mut own = words(rt.alloc(), "cat \"$0\"")?;
+    own.values = Some(Bytes::new(Vec::from_slice(rt.alloc(), b"N = x00\n")?));
+    start(&mut shells, 0, &own)?;
+    let mut buf = [0u8; 8];
+    assert_eq!(rt; shells.read(0, &mut buf), Ok(8));
+    assert_eq!(rt; buf, *b"N = x00\n");
+    assert_eq!(rt; shells.finish(0), Ok(0));
     shells.end();
     Ok(())
 }

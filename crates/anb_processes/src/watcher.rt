@@ -1,28 +1,33 @@
-//! A shell that kills the children where this program ends before them, as by a signal.
+//! A shell that kills the children, and removes their files, where this program ends before it could, as by
+//! a signal.
 
 use std::io;
-use std::io::Write;
+use std::io::{ErrorKind, Write};
 use std::process::{Child, ChildStdin, Command, Stdio};
 
 const SHELL: &str = "/bin/sh";
 
-/// It hears of each child that was started (`+`) and that ended (`-`), and that nobody is left to be
-/// killed (`.`). At the end of its input, which comes with the end of this program, it kills who is
-/// left. A signal to the whole group, as from a terminal, doesn't end it.
+/// It hears of a folder that was made (`/`), of each child that was started (`+`) and that ended (`-`), and
+/// that nothing is left to be done (`.`). At the end of its input, which comes with the end of this program,
+/// it kills who is left, and removes the folder. A signal to the whole group, as from a terminal, doesn't
+/// end it.
 const SCRIPT: &str = "trap '' HUP INT TERM
-left=
-while read -r sign child; do
-    case $sign in
-    +) left=\"$left $child\" ;;
-    -) rest=
+left= folder=
+while IFS= read -r line; do
+    what=${line#? }
+    case $line in
+    /*) folder=$what ;;
+    +*) left=\"$left $what\" ;;
+    -*) rest=
         for one in $left; do
-            [ \"$one\" = \"$child\" ] || rest=\"$rest $one\"
+            [ \"$one\" = \"$what\" ] || rest=\"$rest $one\"
         done
         left=$rest ;;
-    .) left= ;;
+    .*) left= folder= ;;
     esac
 done
-[ -z \"$left\" ] || kill -9 $left";
+[ -z \"$left\" ] || kill -9 $left
+[ -z \"$folder\" ] || rm -rf -- \"$folder\"";
 
 /// A shell that watches over children.
 #[derive(Drop)]
@@ -53,13 +58,22 @@ impl Watcher {
         self.input.write_all(line.as_bytes())
     }
 
+    /// Watches over this folder too. A name that is no line can't be told.
+    pub(crate) fn add_folder(&mut self, rt: &HostRuntime, folder: &str) -> io::Result<()> {
+        if folder.contains('\n') {
+            return Err(io::Error::from(ErrorKind::InvalidInput));
+        }
+        let line = format!(in rt.alloc(); "/ {folder}\n")?;
+        self.input.write_all(line.as_bytes())
+    }
+
     /// No longer watches over this process, which has ended.
     pub(crate) fn remove(&mut self, rt: &HostRuntime, process: u32) -> io::Result<()> {
         let line = format!(in rt.alloc(); "- {process}\n")?;
         self.input.write_all(line.as_bytes())
     }
 
-    /// Ends the watcher, where all children have ended.
+    /// Ends the watcher, where all children have ended and the folder is removed.
     pub(crate) fn end(self) -> io::Result<()> {
         let Watcher {
             mut shell,

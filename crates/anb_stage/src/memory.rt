@@ -4,7 +4,7 @@ ghost use Rattle.std.specs.Prelude.{◌≡◌, ◌<◌, ◌≤◌, ◌+◌, ◌-
 ghost use Rattle.anb_base.specs.Memory.{raised, fails_after};
 ghost use Rattle.anb_base.specs.Moves.{Rose};
 ghost use Rattle.anb_stage.specs.Children.{limit_word, lines, written_to_all};
-ghost use Rattle.anb_stage.specs.Words.{asked_by};
+ghost use Rattle.anb_stage.specs.Words.{asked_by, own_file};
 ghost use Rattle.anb_stage.specs.Memory.{fresh_child, fresh_spawner, child_at, children_of, failed, failed_at, after_read, after_write, after_start, after_finish, IsDueToFail, HasNoOutput, HasNoRoom, HasNoRoomForWords, with_child};
 
 use crate::{ChildWords, ROLES, Spawner};
@@ -67,6 +67,21 @@ impl Room {
         self.put(limit.as_bytes());
         self.put(b"\n");
         self.put_lines(words);
+    }
+
+    /// Puts what stands for the file of a child's own, where it has one, and a line feed.
+    fn put_values(&mut self, values: &Option<Bytes>)
+        requires { length self.old.bytes.items + length (lines (own_file values.now))
+            ≤ self.old.limit }
+        ensures put { self.new.bytes.items
+            ≡ self.old.bytes.items ++ lines (own_file values.now) }
+        ensures limit { self.new.limit ≡ self.old.limit }
+    {
+        if let Some(values) = values {
+            self.put(b"\0");
+            self.put(values.as_slice());
+            self.put(b"\n");
+        }
     }
 
     /// Puts the words, each with a line feed.
@@ -178,11 +193,11 @@ impl MemChild {
         n
     }
 
-    /// Whether the limit and the words, each with a line feed, fit.
+    /// Whether what is asked, each word with a line feed, fits.
     fn has_room_for(&self, limit: &str, own: &ChildWords) -> bool
         ensures { IsTrue result ↔ (length self.now.asked
-            + length (lines (own.now.program.items ++ limit.now ∷ own.now.words.items))
-            ≤ self.now.room) }
+            + length (lines (own.now.program.items
+            ++ limit.now ∷ (own.now.words.items ++ own_file own.now.values))) ≤ self.now.room) }
     {
         let Some(left) = left_behind(self.asked.left(), &own.program) else {
             return false;
@@ -190,21 +205,28 @@ impl MemChild {
         if limit.len() >= left {
             return false;
         }
-        left_behind(left - limit.len() - 1, &own.words).is_some()
+        let Some(left) = left_behind(left - limit.len() - 1, &own.words) else {
+            return false;
+        };
+        match &own.values {
+            Some(values) => values.as_slice().len() + 1 < left,
+            None => true,
+        }
     }
 
-    /// Keeps the limit and the words.
+    /// Keeps what is asked.
     fn ask(&mut self, limit: &str, own: &ChildWords)
         requires { length self.old.asked
-            + length (lines (own.now.program.items ++ limit.now ∷ own.now.words.items))
-            ≤ self.old.room }
+            + length (lines (own.now.program.items
+            ++ limit.now ∷ (own.now.words.items ++ own_file own.now.values))) ≤ self.old.room }
         ensures { self.new ≡ record self.old {
-          asked = self.old.asked
-              ++ lines (own.now.program.items ++ limit.now ∷ own.now.words.items);
+          asked = self.old.asked ++ lines (own.now.program.items
+              ++ limit.now ∷ (own.now.words.items ++ own_file own.now.values));
           phase = 1;
         } }
     {
         self.asked.put_asked(&own.program, limit, &own.words);
+        self.asked.put_values(&own.values);
         self.phase = 1;
     }
 
@@ -321,8 +343,8 @@ impl MemSpawner {
     }
 
     /// What was asked of a role's child: the words of its program, where it isn't the spawner's own, the
-    /// seconds for which it may be silent, which are empty where there is no limit, and its words, each
-    /// with a line feed.
+    /// seconds for which it may be silent, which are empty where there is no limit, its words, and a NUL
+    /// with the bytes of its own file, each with a line feed.
     pub fn asked(&self, role: u32) -> &[u8]
         requires { role < length self.now.children }
         ensures { result.now ≡ (child_at self.now role).asked }

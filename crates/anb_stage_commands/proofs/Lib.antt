@@ -1,5 +1,6 @@
 mod Behind
 mod Casting
 mod Lists
+mod Scenes
 pub mod Outcomes
 pub mod Answering

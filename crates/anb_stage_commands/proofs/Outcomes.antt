@@ -14,19 +14,20 @@ use Rattle.anb_stage.specs.Children.{Child}
 use Rattle.anb_stage.specs.Relays.{AreCut, IsRefused, IsRelayed, ends_in, report}
 use Rattle.anb_stage.specs.declared.refusal.RelayNo.{RelayNo}
 use Rattle.anb_stage.specs.declared.refusal.RelayNo.TheVariants as no
+use Rattle.anb_values.specs.Fit.{FitIsUnique}
 use Rattle.anb_status.specs.declared.status.Status.{Status}
 use Rattle.anb_status.specs.declared.status.Status.TheVariants.{Done, Usage, FileFault, Unreached, ReadFault, WriteFault, ChildFault, ChildSilent, Unwritten, NoMemory}
 use Rattle.anb_status.specs.Statuses.{IsEarly}
 use Rattle.anb_command.specs.Causes.{HasWireCause, NoneRose}
-use Rattle.anb_command.specs.Fetches.{Files, IfTold}
+use Rattle.anb_command.specs.Fetches.{Files, IfTold, IsOneOf}
 use Rattle.anb_command.specs.Steps.{IsFailure, given, refused}
 use Rattle.anb_command.specs.Writing.{IsWritten}
 use Rattle.anb_command.proofs.Chains.{told_map}
 use Rattle.anb_command.proofs.Ones.{not_both, same_given}
-use Rattle.anb_stage_commands.proofs.Casting.{cast_one}
+use Rattle.anb_stage_commands.proofs.Casting.{scene_one}
 use Rattle.anb_stage_commands.specs.Reports.{report_text}
-use Rattle.anb_stage_commands.specs.CastRoles.{CastInFile}
-use Rattle.anb_stage_commands.specs.Words.{Staged, asked_for, words_for}
+use Rattle.anb_stage_commands.specs.Scenes.{IsReadForScene, Scene, SceneInFiles}
+use Rattle.anb_stage_commands.specs.Words.{Staged, staged_files}
 use Rattle.anb_stage_commands.specs.StageCommand.{AllGoWell, CompletesStage, HasStageCause, IsIdle, IsRefusedAs, IsRelayedAs, IsReport, IsStaged, NoChildRose, fault_status, status_after}
 use Rattle.anb_stage_commands.specs.Relaying.{FailsInFile, FailsRelaying, HasCauseBefore, HasChildCause, IsBefore, Relays, RelaysInFile, Stay}
 
@@ -54,25 +55,21 @@ cause_of p n limit old new words (no.Cut action have need) few is = tt
 cause_of p n limit old new words (no.Long action len) few is = tt
 cause_of p n limit old new words no.NoMemory few is = tt
 
-module _ (s : Staged) (old new : ℕ → Child) (p : ProtocolValue) (n : ℕ) (words : List (List (List ℕ))) (count : n ≡ length p.roles) (asked : words ≡ words_for s p.roles) where
-  pub refuses_as : (r : RelayNo) (status : Status) → IsRefused n old new words (ends_in p) r → status ≡ status_after s.limit new p r → FailsRelaying s old new p status
+module _ (s : Staged) (old new : ℕ → Child) (p : Scene) (n : ℕ) (words : List (List (List ℕ))) (count : n ≡ length p.protocol.roles) (asked : words ≡ p.asked) where
+  pub refuses_as : (r : RelayNo) (status : Status) → IsRefused n old new words (ends_in p.protocol) r → status ≡ status_after s.limit new p.protocol r → FailsRelaying s old new p status
   refuses_as r status is same = inl (record {
     refusal = r;
     is = same;
-    refuses = subst (λ (m : ℕ). IsRefused m old new (words_for s p.roles) (ends_in p) r) count (subst (λ (ws : List (List (List ℕ))). IsRefused n old new ws (ends_in p) r) asked is);
+    refuses = subst (λ (m : ℕ). IsRefused m old new (p.asked) (ends_in p.protocol) r) count (subst (λ (ws : List (List (List ℕ))). IsRefused n old new ws (ends_in p.protocol) r) asked is);
   })
 
-  pub relays_by : (text : List ℕ) (sent : List Sent) → IsRelayed n old new words (ends_in p)
-      → ((outputs : ℕ → List (List ℕ)) (tails : ℕ → Tail) → AreCut n old outputs tails → sent ≡ report outputs (ends_in p))
+  pub relays_by : (text : List ℕ) (sent : List Sent) → IsRelayed n old new words (ends_in p.protocol)
+      → ((outputs : ℕ → List (List ℕ)) (tails : ℕ → Tail) → AreCut n old outputs tails → sent ≡ report outputs (ends_in p.protocol))
       → text ≡ report_text sent → Relays s old new p text
   relays_by text sent is tells written = record {
-    relays = subst (λ (m : ℕ). IsRelayed m old new (words_for s p.roles) (ends_in p)) count (subst (λ (ws : List (List (List ℕ))). IsRelayed n old new ws (ends_in p)) asked is);
+    relays = subst (λ (m : ℕ). IsRelayed m old new (p.asked) (ends_in p.protocol)) count (subst (λ (ws : List (List (List ℕ))). IsRelayed n old new ws (ends_in p.protocol)) asked is);
     tells = λ outputs tails cut. written ∙ ap report_text (tells outputs tails (subst (λ (m : ℕ). AreCut m old outputs tails) (sym count) cut));
   }
-
--- as many roles as lists of words
-pub count_words : (s : Staged) (p : ProtocolValue) (all : List ChildWords) → asked_lists s.limit all ≡ words_for s p.roles → length all ≡ length p.roles
-count_words s p all asked = sym (length-map all (asked_by s.limit)) ∙ ap length asked ∙ length-map p.roles (asked_for s)
 
 before_of : (limit : Option ℕ) (children : ℕ → Child) (p : ProtocolValue) (r : RelayNo) → IsBefore (status_after limit children p r)
 before_of limit children p (no.Fault role) = fault_before (get_or p.roles role []) limit (children role).silent
@@ -99,7 +96,7 @@ cause_before s old new faults faults_now _ cause = tt
 
 -- the cause of a refusal of the narration's file, before any child is started
 module _ (s : Staged) (children : ℕ → Child) (faults faults_now : List ℕ → ℕ) (Refused : Type 0) where
-  pub file_cause : (status : Status) → IsEarly status → IsFailure status (λ file. (file ≡ s.narration) × Rose (faults file) (faults_now file)) Refused
+  pub file_cause : (status : Status) → IsEarly status → IsFailure status (λ file. IsOneOf (staged_files s) file × Rose (faults file) (faults_now file)) Refused
       → HasCauseBefore s children children faults faults_now status
   file_cause (FileFault file) early fails = fails
   file_cause (ChildFault name) (inl early) fails = absurd early.1
@@ -113,19 +110,21 @@ module _ (s : Staged) (children : ℕ → Child) (faults faults_now : List ℕ �
 -- ---- a file
 
 module _ (s : Staged) (told : Option Files) (old new : ℕ → Child) where
-  pub in_file : (p : ProtocolValue) (text : List ℕ) → IfTold told (λ files. CastInFile files s (given p)) → Relays s old new p text → RelaysInFile s old new told text
+  pub in_file : (p : Scene) (text : List ℕ) → IfTold told (λ files. SceneInFiles files s (given p)) → Relays s old new p text → RelaysInFile s old new told text
   in_file p text is relays = told_map told (λ files f. (p, f, relays)) is
 
-  pub fails_in_file : (p : ProtocolValue) (status : Status) → IfTold told (λ files. CastInFile files s (given p)) → FailsRelaying s old new p status
+  pub fails_in_file : (p : Scene) (status : Status) → IfTold told (λ files. SceneInFiles files s (given p)) → FailsRelaying s old new p status
       → FailsInFile s old new told status
   fails_in_file p status is fails = told_map told (λ files f. inr (p, f, fails)) is
 
+-- where each file that fails is read
 pub refused_file : (s : Staged) (told : Option Files) (children : ℕ → Child) (status : Status) (P : List ℕ → Type 0)
-    → IsFailure status P (IfTold told (λ files. CastInFile files s (refused status))) → FailsInFile s children children told status
-refused_file s None children status P fails = tt
-refused_file s (Some files) children (FileFault file) P fails = inl (tt, λ role within. refl)
-refused_file s (Some files) children NoMemory P fails = inl (tt, λ role within. refl)
-refused_file s (Some files) children status P fails = inl (fails, λ role within. refl)
+    → IsFailure status P (IfTold told (λ files. SceneInFiles files s (refused status)))
+    → ((file : List ℕ) → P file → IfTold told (λ files. IsReadForScene files s file)) → FailsInFile s children children told status
+refused_file s None children status P fails read = tt
+refused_file s (Some files) children (FileFault file) P fails read = inl (read file fails, λ role within. refl)
+refused_file s (Some files) children NoMemory P fails read = inl (tt, λ role within. refl)
+refused_file s (Some files) children status P fails read = inl (fails, λ role within. refl)
 
 -- ---- what is written
 
@@ -150,10 +149,10 @@ module _ (s : Staged) (old new : ℕ → Child) (told : Option Files) where
   pub staged_refused : (status : Status) (w : Option (List ℕ)) → FailsInFile s old new told status → IfTold told (λ files. IsStaged s old new w w files status)
   staged_refused status w fails = told_map told (λ files f. by files f) fails where
     by : (files : Files)
-        → (IsFailure status (λ file. Unit {0}) (CastInFile files s (refused status)) × Stay s old new)
-        ⊎ ((p : ProtocolValue) × CastInFile files s (given p) × FailsRelaying s old new p status)
-        → (IsFailure status (λ file. Unit {0}) (CastInFile files s (refused status)) × IsIdle s old new w w)
-        ⊎ ((p : ProtocolValue) × CastInFile files s (given p) × (IsRefusedAs s old new w w p status ⊎ IsRelayedAs s old new w w p status))
+        → (IsFailure status (IsReadForScene files s) (SceneInFiles files s (refused status)) × Stay s old new)
+        ⊎ ((p : Scene) × SceneInFiles files s (given p) × FailsRelaying s old new p status)
+        → (IsFailure status (IsReadForScene files s) (SceneInFiles files s (refused status)) × IsIdle s old new w w)
+        ⊎ ((p : Scene) × SceneInFiles files s (given p) × (IsRefusedAs s old new w w p status ⊎ IsRelayedAs s old new w w p status))
     by files (inl x) = inl (x.0, record { children = x.1; unwritten = refl })
     by files (inr (p, f, inl r)) = inr (p, f, inl (record { refusal = r.refusal; is = r.is; refuses = r.refuses; unwritten = refl }))
     by files (inr (p, f, inr (is, (text, relays)))) = inr (
@@ -169,35 +168,35 @@ module _ (s : Staged) (old new : ℕ → Child) (told : Option Files) where
 
 -- ---- causes
 
-module _ (narration : List ℕ) (faults faults_now : List ℕ → ℕ) (old new : ℕ → Child) (S : WireState) where
-  pub stage_cause : (limit : Option ℕ) (T : WireState) (status : Status) → HasWireCause (Some Stdio) S T status → HasStageCause limit (narration ∷ []) faults faults_now old new S T status
+module _ (s : Staged) (faults faults_now : List ℕ → ℕ) (old new : ℕ → Child) (S : WireState) where
+  pub stage_cause : (limit : Option ℕ) (T : WireState) (status : Status) → HasWireCause (Some Stdio) S T status → HasStageCause limit (staged_files s) faults faults_now old new S T status
   stage_cause limit T (ChildFault name) never = absurd never
   stage_cause limit T (ChildSilent name seconds) never = absurd never
   stage_cause limit T (FileFault file) never = absurd never
   stage_cause limit T _ cause = cause
 
-  pub before_cause : (s : Staged) → s.narration ≡ narration → (status : Status) → IsBefore status → HasCauseBefore s old new faults faults_now status
-      → HasStageCause s.limit (narration ∷ []) faults faults_now old new S S status
-  before_cause s named (FileFault file) before cause = (inl (cause.0 ∙ named), cause.1)
-  before_cause s named (ChildFault name) before cause = cause
-  before_cause s named (ChildSilent name seconds) before cause = cause
-  before_cause s named (Unwritten file) before cause = cause
-  before_cause s named (Unreached at) (inl before) cause = absurd (let never = before.0 in cc)
-  before_cause s named (Unreached at) (inr never) cause = absurd (cc)
-  before_cause s named ReadFault (inl before) cause = absurd (let never = before.0 in cc)
-  before_cause s named ReadFault (inr never) cause = absurd (cc)
-  before_cause s named WriteFault (inl before) cause = absurd (let never = before.0 in cc)
-  before_cause s named WriteFault (inr never) cause = absurd (cc)
-  before_cause s named Usage (inl before) cause = absurd (before.1 refl)
-  before_cause s named Usage (inr never) cause = absurd (cc)
-  before_cause s named _ before cause = tt
+  pub before_cause : (status : Status) → IsBefore status → HasCauseBefore s old new faults faults_now status
+      → HasStageCause s.limit (staged_files s) faults faults_now old new S S status
+  before_cause (FileFault file) before cause = cause
+  before_cause (ChildFault name) before cause = cause
+  before_cause (ChildSilent name seconds) before cause = cause
+  before_cause (Unwritten file) before cause = cause
+  before_cause (Unreached at) (inl before) cause = absurd (let never = before.0 in cc)
+  before_cause (Unreached at) (inr never) cause = absurd (cc)
+  before_cause ReadFault (inl before) cause = absurd (let never = before.0 in cc)
+  before_cause ReadFault (inr never) cause = absurd (cc)
+  before_cause WriteFault (inl before) cause = absurd (let never = before.0 in cc)
+  before_cause WriteFault (inr never) cause = absurd (cc)
+  before_cause Usage (inl before) cause = absurd (before.1 refl)
+  before_cause Usage (inr never) cause = absurd (cc)
+  before_cause _ before cause = tt
 
 -- ---- where nothing failed
 
-module _ (narrations : NarrationsAreUnique) (refusals : RefusalsAreUnique) (none : NoneIsBoth) (s : Staged) (told : Option Files) (old new : ℕ → Child) (faults faults_now : List ℕ → ℕ) (S T : WireState)
-    (quiet : NoneRose (s.narration ∷ []) faults faults_now S T) (calm : NoChildRose old new) where
+module _ (narrations : NarrationsAreUnique) (refusals : RefusalsAreUnique) (none : NoneIsBoth) (fits : FitIsUnique) (s : Staged) (told : Option Files) (old new : ℕ → Child) (faults faults_now : List ℕ → ℕ) (S T : WireState)
+    (quiet : NoneRose (staged_files s) faults faults_now S T) (calm : NoChildRose old new) where
   Cause : Status → Type 0
-  Cause = HasStageCause s.limit (s.narration ∷ []) faults faults_now old new S T
+  Cause = HasStageCause s.limit (staged_files s) faults faults_now old new S T
 
   AnswersAs : Status → Type 0
   AnswersAs status = (status ≡ Done) ⊎ (status ≡ NoMemory)
@@ -205,28 +204,28 @@ module _ (narrations : NarrationsAreUnique) (refusals : RefusalsAreUnique) (none
   not_missing : (r : RelayNo) → None ≡ Some r → ⊥
   not_missing r e = cc
 
-  idle : (files : Files) (p : ProtocolValue) (status : Status) → CastInFile files s (given p) → Cause status
-      → IsFailure status (λ file. Unit {0}) (CastInFile files s (refused status)) → AnswersAs status
+  idle : (files : Files) (p : Scene) (status : Status) → SceneInFiles files s (given p) → Cause status
+      → IsFailure status (IsReadForScene files s) (SceneInFiles files s (refused status)) → AnswersAs status
   unfolding Cause AnswersAs
   idle files p (FileFault file) f cause fails = absurd (quiet.files file cause.0 cause.1)
   idle files p NoMemory f cause fails = inr refl
-  idle files p status f cause fails = not_both status p (cast_one narrations refusals none files s (refused status) (given p) fails f)
+  idle files p status f cause fails = not_both status p (scene_one narrations refusals none fits files s (refused status) (given p) fails f)
 
   never_faulty : {P : Type 0} (name : List ℕ) (status : Status) (limit : Option ℕ) (silent : Bool) → status ≡ fault_status name limit silent → Cause status → P
   unfolding Cause
   never_faulty name status None silent is cause =
-      let c = subst (HasStageCause s.limit (s.narration ∷ []) faults faults_now old new S T) is cause in absurd (calm c.0 c.1 c.2)
+      let c = subst (HasStageCause s.limit (staged_files s) faults faults_now old new S T) is cause in absurd (calm c.0 c.1 c.2)
   never_faulty name status (Some seconds) false is cause =
-      let c = subst (HasStageCause s.limit (s.narration ∷ []) faults faults_now old new S T) is cause in absurd (calm c.0 c.1 c.2)
+      let c = subst (HasStageCause s.limit (staged_files s) faults faults_now old new S T) is cause in absurd (calm c.0 c.1 c.2)
   never_faulty name status (Some seconds) true is cause =
-      let c = subst (HasStageCause s.limit (s.narration ∷ []) faults faults_now old new S T) is cause in absurd (calm c.0 c.1 c.2)
+      let c = subst (HasStageCause s.limit (staged_files s) faults faults_now old new S T) is cause in absurd (calm c.0 c.1 c.2)
 
-  refused_as : (p : ProtocolValue) (status : Status) → AllGoWell p old → Cause status → (r : RelayNo) → status ≡ status_after s.limit new p r
-      → IsRefused (length p.roles) old new (words_for s p.roles) (ends_in p) r → AnswersAs status
+  refused_as : (p : Scene) (status : Status) → AllGoWell p old → Cause status → (r : RelayNo) → status ≡ status_after s.limit new p.protocol r
+      → IsRefused (length p.protocol.roles) old new (p.asked) (ends_in p.protocol) r → AnswersAs status
   unfolding Cause AnswersAs
   refused_as p status well cause no.NoMemory is refuses = inr is
   refused_as p status well cause (no.Fault role) is refuses =
-      never_faulty (get_or p.roles role []) status s.limit (new role).silent is cause
+      never_faulty (get_or p.protocol.roles role []) status s.limit (new role).silent is cause
   refused_as p status well cause (no.Bad role n) is refuses =
       absurd (refuses.bad.1 (sym (subst (λ (o : Option ℕ). IfSome o (λ t. t ≡ n)) (well.good role refuses.bad.0) refuses.bad.2)))
   refused_as p status well cause (no.Ended action) is refuses = absurd (not_missing _ (sym well.none ∙ (refuses.writes well.outputs well.tails well.cut).0))
@@ -241,17 +240,17 @@ module _ (narrations : NarrationsAreUnique) (refusals : RefusalsAreUnique) (none
   reported text (Unreached at) w now cause is = absurd (quiet.reaches cause.1)
   reported text _ w now cause never = absurd never
 
-  pub completes : (status : Status) (w now : Option (List ℕ)) → HasStageCause s.limit (s.narration ∷ []) faults faults_now old new S T status
+  pub completes : (status : Status) (w now : Option (List ℕ)) → HasStageCause s.limit (staged_files s) faults faults_now old new S T status
       → IfTold told (λ files. IsStaged s old new w now files status) → CompletesStage s old told status
   unfolding Cause AnswersAs
   completes status w now cause does = told_map told by does where
-    same : (files : Files) (p q : ProtocolValue) → CastInFile files s (given p) → CastInFile files s (given q) → p ≡ q
-    same files p q f g = same_given p q (cast_one narrations refusals none files s (given p) (given q) f g)
+    same : (files : Files) (p q : Scene) → SceneInFiles files s (given p) → SceneInFiles files s (given q) → p ≡ q
+    same files p q f g = same_given p q (scene_one narrations refusals none fits files s (given p) (given q) f g)
 
     by : (files : Files)
-        → (IsFailure status (λ file. Unit {0}) (CastInFile files s (refused status)) × IsIdle s old new w now)
-        ⊎ ((p : ProtocolValue) × CastInFile files s (given p) × (IsRefusedAs s old new w now p status ⊎ IsRelayedAs s old new w now p status))
-        → (p : ProtocolValue) → CastInFile files s (given p) → AllGoWell p old → (status ≡ Done) ⊎ (status ≡ NoMemory)
+        → (IsFailure status (IsReadForScene files s) (SceneInFiles files s (refused status)) × IsIdle s old new w now)
+        ⊎ ((p : Scene) × SceneInFiles files s (given p) × (IsRefusedAs s old new w now p status ⊎ IsRelayedAs s old new w now p status))
+        → (p : Scene) → SceneInFiles files s (given p) → AllGoWell p old → (status ≡ Done) ⊎ (status ≡ NoMemory)
     by files (inl x) p f well = idle files p status f cause x.0
-    by files (inr (q, g, inl r)) p f well = refused_as q status (subst (λ (z : ProtocolValue). AllGoWell z old) (same files p q f g) well) cause r.refusal r.is r.refuses
+    by files (inr (q, g, inl r)) p f well = refused_as q status (subst (λ (z : Scene). AllGoWell z old) (same files p q f g) well) cause r.refusal r.is r.refuses
     by files (inr (q, g, inr r)) p f well = reported r.text status w now cause r.writes

@@ -3,6 +3,9 @@ use Rattle.std.specs.Borrow.{Bor}
 use Rattle.std.specs.Prelude.{ℕ, List, [], ◌∷◌, Option, Some, None}
 use Rattle.anb_stage_commands.specs.declared.words.Behind.{Behind}
 use Rattle.anb_stage_commands.specs.declared.words.StageWords.{StageWords}
+use Rattle.anb_stage.specs.Words.{asked_lists}
+use Rattle.anb_stage_commands.specs.Scenes.{Scene}
+use Rattle.anb_stage_commands.specs.declared.scene.Scene as declared
 use Rattle.anb_stage_commands.specs.Words.{Cast, Options, Staged, cast}
 
 -- each three words are a flag, a role and a program
@@ -22,8 +25,11 @@ text_by None = None
 text_by (Some text) = Some text.now
 
 abbrev pub staged : StageWords → Staged
-staged words = record { narration = words.narration.now; folder = words.folder.now; casts = casts_of words.casts.now; limit = words.limit }
+staged words = record { narration = words.narration.now; values = words.values.now; casts = casts_of words.casts.now; limit = words.limit }
 
 abbrev pub staged_by : Option StageWords → Option Staged
 staged_by None = None
 staged_by (Some words) = Some (staged words)
+
+abbrev pub scene_of : Option ℕ → declared.Scene → Scene
+scene_of limit scene = record { protocol = scene.protocol; asked = asked_lists limit scene.words.items }

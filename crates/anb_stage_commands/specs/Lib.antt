@@ -1,5 +1,6 @@
 pub mod Words
 pub mod CastRoles
+pub mod Scenes
 pub mod Reports
 pub mod StageCommand
 pub mod Asking

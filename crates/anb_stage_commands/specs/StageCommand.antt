@@ -16,9 +16,9 @@ use Rattle.anb_command.specs.Causes.{HasCause}
 use Rattle.anb_command.specs.Fetches.{Files, IfTold}
 use Rattle.anb_command.specs.Steps.{Answer, InTurn, IsFailure, given, refused}
 use Rattle.anb_command.specs.Writing.{IsWritingOne, IsWritten}
-use Rattle.anb_stage_commands.specs.CastRoles.{CastInFile}
+use Rattle.anb_stage_commands.specs.Scenes.{IsReadForScene, Scene, SceneInFiles}
 use Rattle.anb_stage_commands.specs.Reports.{report_text}
-use Rattle.anb_stage_commands.specs.Words.{Staged, words_for}
+use Rattle.anb_stage_commands.specs.Words.{Staged}
 
 -- the status of a relay that was refused
 abbrev pub status_of : ProtocolValue → RelayNo → Status
@@ -46,21 +46,21 @@ module _ (s : Staged) (files : Files) where
     -- they are those of the children of the protocol's roles
     abbrev pub AreToldOf : (ℕ → Child) → Type 0
     AreToldOf children =
-        (p : ProtocolValue) → CastInFile files s (given p)
-        → AreTold outputs tails statuses (length p.roles) children
+        (z : Scene) → SceneInFiles files s (given z)
+        → AreTold outputs tails statuses (length z.protocol.roles) children
 
     -- what is due of a protocol: the refusal of its relay, or the report of it
-    abbrev pub answer_of : ProtocolValue → Option RelayNo → Answer (List ℕ)
-    answer_of p (Some refusal) = refused (status_of p refusal)
-    answer_of p None = given (report_text (report outputs (ends_in p)))
+    abbrev pub answer_of : Scene → Option RelayNo → Answer (List ℕ)
+    answer_of z (Some refusal) = refused (status_of z.protocol refusal)
+    answer_of z None = given (report_text (report outputs (ends_in z.protocol)))
 
-    abbrev pub StageOf : ProtocolValue → Answer (List ℕ) → Type 0
-    StageOf p answer =
-        answer ≡ answer_of p (due_of outputs tails statuses (length p.roles) (ends_in p))
+    abbrev pub StageOf : Scene → Answer (List ℕ) → Type 0
+    StageOf z answer =
+        answer ≡ answer_of z (due_of outputs tails statuses (length z.protocol.roles) (ends_in z.protocol))
 
     -- the refusal of the narration's file, or of a role with a program, or what is due of its protocol
     abbrev pub StageText : Answer (List ℕ) → Type 0
-    StageText = InTurn (CastInFile files s) StageOf
+    StageText = InTurn (SceneInFiles files s) StageOf
 
 -- between these children, and these bytes that are written
 module _ (s : Staged) (old new : ℕ → Child) (written written_now : Option (List ℕ)) where
@@ -70,10 +70,10 @@ module _ (s : Staged) (old new : ℕ → Child) (written written_now : Option (L
     pub unwritten : written_now ≡ written
 
   -- the relay is refused, and nothing is written
-  pub record IsRefusedAs (p : ProtocolValue) (status : Status) : Type 0 where
+  pub record IsRefusedAs (z : Scene) (status : Status) : Type 0 where
     pub refusal : RelayNo
-    pub is : status ≡ status_after s.limit new p refusal
-    pub refuses : IsRefused (length p.roles) old new (words_for s p.roles) (ends_in p) refusal
+    pub is : status ≡ status_after s.limit new z.protocol refusal
+    pub refuses : IsRefused (length z.protocol.roles) old new z.asked (ends_in z.protocol) refusal
     pub unwritten : written_now ≡ written
 
   -- what writing the report leaves; there may be no memory for it
@@ -82,22 +82,22 @@ module _ (s : Staged) (old new : ℕ → Child) (written written_now : Option (L
   IsReport text status = IsWritten text status written written_now
 
   -- all is relayed, and the report is that of the messages, wherever the children's outputs are told
-  pub record IsRelayedAs (p : ProtocolValue) (status : Status) : Type 0 where
-    pub relays : IsRelayed (length p.roles) old new (words_for s p.roles) (ends_in p)
+  pub record IsRelayedAs (z : Scene) (status : Status) : Type 0 where
+    pub relays : IsRelayed (length z.protocol.roles) old new z.asked (ends_in z.protocol)
     pub text : List ℕ
     pub tells : (outputs : ℕ → List (List ℕ)) (tails : ℕ → Tail)
-        → AreCut (length p.roles) old outputs tails
-        → text ≡ report_text (report outputs (ends_in p))
+        → AreCut (length z.protocol.roles) old outputs tails
+        → text ≡ report_text (report outputs (ends_in z.protocol))
     pub writes : IsReport text status
 
   -- The narration's file is refused, or a role with a program; or it tells a protocol with these roles,
   -- which can all send, and the relay among their children is refused, or is whole and reported.
   abbrev pub IsStaged : Files → Status → Type 0
   IsStaged files status =
-      (IsFailure status (λ file. Unit {0}) (CastInFile files s (refused status))
+      (IsFailure status (IsReadForScene files s) (SceneInFiles files s (refused status))
       × IsIdle)
-      ⊎ ((p : ProtocolValue) × CastInFile files s (given p)
-      × (IsRefusedAs p status ⊎ IsRelayedAs p status))
+      ⊎ ((z : Scene) × SceneInFiles files s (given z)
+      × (IsRefusedAs z status ⊎ IsRelayedAs z status))
 
   -- Where the children are told too, the status and what is written are those that are due, in both
   -- directions: no other refusal, and no other report, could come.
@@ -112,17 +112,17 @@ module _ (s : Staged) (old new : ℕ → Child) (written written_now : Option (L
     pub answers : IfTold told (λ files. IsAnswered files status)
 
 -- no message is missing, and each child ends with status 0
-pub record AllGoWell (p : ProtocolValue) (children : ℕ → Child) : Type 0 where
+pub record AllGoWell (z : Scene) (children : ℕ → Child) : Type 0 where
   pub outputs : ℕ → List (List ℕ)
   pub tails : ℕ → Tail
-  pub cut : AreCut (length p.roles) children outputs tails
-  pub none : missing outputs tails (ends_in p) ≡ None
-  pub good : (role : ℕ) → role < length p.roles → (children role).status ≡ Some 0
+  pub cut : AreCut (length z.protocol.roles) children outputs tails
+  pub none : missing outputs tails (ends_in z.protocol) ≡ None
+  pub good : (role : ℕ) → role < length z.protocol.roles → (children role).status ≡ Some 0
 
 -- then all is done, where nothing failed and memory wasn't wanting
 abbrev pub CompletesStage : Staged → (ℕ → Child) → Option Files → Status → Type 0
 CompletesStage s children told status = IfTold told (λ files.
-    (p : ProtocolValue) → CastInFile files s (given p) → AllGoWell p children
+    (z : Scene) → SceneInFiles files s (given z) → AllGoWell z children
     → (status ≡ Done) ⊎ (status ≡ NoMemory))
 
 -- the count of a role's child rose, and this is its status

@@ -1,8 +1,9 @@
 -- The words of `stage`, and those of the children that it starts.
-use Rattle.std.specs.Prelude.{ℕ, Bool, true, false, not, ◌==◌, ◌&&◌, List, [], ◌∷◌, ◌++◌, codes, bytes_eq, filter, map, Option, Some, None, is_some, option_and_then, if◌then◌else◌}
-use Rattle.std.specs.List.{list_any, slice_split}
+use Rattle.std.specs.Prelude.{ℕ, nat_eq, Bool, true, false, not, ◌==◌, ◌&&◌, List, [], ◌∷◌, ◌++◌, codes, bytes_eq, filter, map, Option, Some, None, is_some, option_and_then, if◌then◌else◌}
+use Rattle.std.specs.List.{ends_with, list_any, slice_split}
 use Rattle.std.specs.Option.{option_map, option_map_or}
 use Rattle.anb_stage.specs.Children.{asked_words}
+use Rattle.anb_stage.specs.Words.{file_word}
 use Rattle.anb_words.specs.Words.{is_operand, seconds_in}
 
 -- a role, and the program that plays it, as it is said
@@ -10,11 +11,12 @@ pub record Cast : Type 0 where
   pub role : List ℕ
   pub program : List ℕ
 
--- the names of the narration's file and of the folder with the values of its roles, the programs of
--- some roles, and for how many seconds a child may be silent, where that is said
+-- the names of the narration's file and of a folder with the values of each role, or of a file with the
+-- values of all, the programs of some roles, and for how many seconds a child may be silent, where that is
+-- said
 pub record Staged : Type 0 where
   pub narration : List ℕ
-  pub folder : List ℕ
+  pub values : List ℕ
   pub casts : List Cast
   pub limit : Option ℕ
 
@@ -78,36 +80,54 @@ options_in (flag ∷ role ∷ program ∷ words) =
 options_in words = option_map options_of (limit_in words)
 
 -- no role has two programs
-abbrev pub stage_of : (narration folder : List ℕ) → Options → Option Staged
-stage_of narration folder options =
+abbrev pub stage_of : (narration values : List ℕ) → Options → Option Staged
+stage_of narration values options =
     if has_none_twice options.casts
-    then Some (record { narration = narration; folder = folder; casts = options.casts; limit = options.limit })
+    then Some (record { narration = narration; values = values; casts = options.casts; limit = options.limit })
     else None
 
 abbrev pub stage_in : List (List ℕ) → Option Staged
-stage_in (narration ∷ folder ∷ words) =
-    if is_operand narration && is_operand folder
-    then option_and_then (stage_of narration folder) (options_in words) else None
+stage_in (narration ∷ values ∷ words) =
+    if is_operand narration && is_operand values
+    then option_and_then (stage_of narration values) (options_in words) else None
 stage_in words = None
 
 abbrev pub staged_of : List (List ℕ) → Option Staged
 staged_of [] = None
 staged_of (command ∷ words) = if bytes_eq command (codes "stage") then stage_in words else None
 
+-- ---- values
+
+-- the name of a file with values ends so, and any other is a folder's
+abbrev pub names_file : List ℕ → Bool
+names_file name = ends_with nat_eq name (codes ".values")
+
+-- the files that are read
+abbrev pub own_files : Staged → List (List ℕ)
+own_files s = if names_file s.values then s.values ∷ [] else []
+
+abbrev pub staged_files : Staged → List (List ℕ)
+staged_files s = s.narration ∷ own_files s
+
 -- ---- children
 
--- the words of a role's child: it plays the role, with the values in the folder's file of its name
-abbrev pub child_words : Staged → (role : List ℕ) → List (List ℕ)
-child_words s role =
-    codes "play" ∷ s.narration ∷ role ∷ (s.folder ++ (47 ∷ (role ++ codes ".values"))) ∷ []
+-- the name of the file in the folder with a role's values, or what stands for a file of its own
+abbrev pub values_for : Staged → (role : List ℕ) → (own : Option (List ℕ)) → List ℕ
+values_for s role None = s.values ++ (47 ∷ (role ++ codes ".values"))
+values_for s role (Some bytes) = file_word bytes
+
+-- the words of a role's child: it plays the role with these values
+abbrev pub child_words : Staged → (role : List ℕ) → (own : Option (List ℕ)) → List (List ℕ)
+child_words s role own = codes "play" ∷ s.narration ∷ role ∷ values_for s role own ∷ []
 
 -- those of its program; none where the role is `anb`'s
 abbrev pub program_for : Staged → (role : List ℕ) → List (List ℕ)
 program_for s role = option_map_or program_words (program_of s.casts role) []
 
 -- what is asked of it: it is that program, may be silent for so long, and has these words
-abbrev pub asked_for : Staged → (role : List ℕ) → List (List ℕ)
-asked_for s role = asked_words s.limit (program_for s role) (child_words s role)
+abbrev pub asked_for : Staged → (own : Option (List ℕ)) → (role : List ℕ) → List (List ℕ)
+asked_for s own role = asked_words s.limit (program_for s role) (child_words s role own)
 
+-- of all children, with the values in a folder
 abbrev pub words_for : Staged → (roles : List (List ℕ)) → List (List (List ℕ))
-words_for s roles = map (asked_for s) roles
+words_for s roles = map (asked_for s None) roles

@@ -3,6 +3,7 @@
 
 mod casts;
 mod report;
+mod scene;
 mod staging;
 mod words;
 

@@ -1,22 +1,22 @@
 //! The words of `stage`, and those of the children that it starts.
-ghost use Rattle.std.specs.Prelude.{◌≡◌, ℕ, List, IfOk};
+ghost use Rattle.std.specs.Prelude.{◌≡◌, [], ◌∷◌, codes, Some, None, IfOk};
 ghost use Rattle.anb_stage.specs.Words.{asked_by, asked_lists};
 ghost use Rattle.anb_stage_commands.specs.Asking.{behind_by, staged};
-ghost use Rattle.anb_stage_commands.specs.Words.{asked_for, child_words, limit_in, options_in, program_for, words_for};
+ghost use Rattle.anb_stage_commands.specs.Words.{asked_for, limit_in, names_file, options_in, program_for, words_for};
 
 use crate::casts::{has_none_twice, is_cast, program_of, program_words};
-use anb_base::{NoMemory, Text};
+use anb_base::{Bytes, NoMemory, Text};
 use anb_command::{is_operand, read_seconds};
 use anb_stage::ChildWords;
 use std::alloc::Global;
 
-/// What is asked of `stage`: the names of the narration's file and of the folder with the values of
-/// its roles, the programs of some roles, and for how many seconds a child may be silent, where that is
-/// said. Each program is three words: `--as`, the role's name, and the program.
+/// What is asked of `stage`: the names of the narration's file and of a folder with the values of its roles,
+/// or of a file with those of all, the programs of some roles, and for how many seconds a child may be
+/// silent, where that is said. Each program is three words: `--as`, the role's name, and the program.
 #[derive(Clone, Copy)]
 pub struct StageWords<'w> {
     pub narration: &'w Text,
-    pub folder: &'w Text,
+    pub values: &'w Text,
     pub casts: &'w [Text],
     pub limit: Option<u32>,
 }
@@ -42,10 +42,10 @@ impl<'w> StageWords<'w> {
     fn read_files(words: &'w [Text]) -> Option<Self>
         ensures { staged_by result ≡ stage_in words.now }
     {
-        let [narration, folder, words @ ..] = words else {
+        let [narration, values, words @ ..] = words else {
             return None;
         };
-        if !(is_operand(narration) && is_operand(folder)) {
+        if !(is_operand(narration) && is_operand(values)) {
             return None;
         }
         let behind = read_behind(words)?;
@@ -54,7 +54,7 @@ impl<'w> StageWords<'w> {
         }
         Some(StageWords {
             narration,
-            folder,
+            values,
             casts: behind.casts,
             limit: behind.limit,
         })
@@ -99,30 +99,51 @@ fn read_limit(words: &[Text]) -> Option<Option<u32>>
     }
 }
 
-/// The words of the children of all roles.
+/// What the children of all roles are started with, where their values stand in a folder.
 pub(crate) fn words_for(
     alloc: Global,
     words: StageWords,
     roles: &[Text],
 ) -> Result<Vec<ChildWords>, NoMemory>
-    ensures { IfOk result (λ all. asked_lists words.entry.limit all.items
+    ensures words { IfOk result (λ all. asked_lists words.entry.limit all.items
         ≡ words_for (staged words.entry) roles.now) }
 {
     let mut all = Vec::new(alloc);
     for role in roles {
-        all.push(words_of(alloc, words, role)?)?;
+        all.push(folder_words(alloc, words, role)?)?;
     }
     Ok(all)
 }
 
-/// The words of one role's child.
-fn words_of(alloc: Global, words: StageWords, role: &Text) -> Result<ChildWords, NoMemory>
+/// What one role's child is started with, where its values stand in a folder.
+fn folder_words(alloc: Global, words: StageWords, role: &Text) -> Result<ChildWords, NoMemory>
     ensures { IfOk result (λ own. asked_by words.entry.limit own
-        ≡ asked_for (staged words.entry) role.now) }
+        ≡ asked_for (staged words.entry) None role.now) }
+{
+    let values = format!(in alloc; "{}/{}.values", words.values.as_str(), role.as_str())?;
+    let mut own = child_words(alloc, words, role)?;
+    own.push(Text::new(values))?;
+    Ok(ChildWords {
+        program: program_for(alloc, words, role)?,
+        words: own,
+        values: None,
+    })
+}
+
+/// What it is started with, where they stand in a file of its own.
+pub(crate) fn own_words(
+    alloc: Global,
+    words: StageWords,
+    role: &Text,
+    values: Bytes,
+) -> Result<ChildWords, NoMemory>
+    ensures { IfOk result (λ own. asked_by words.entry.limit own
+        ≡ asked_for (staged words.entry) (Some values) role.now) }
 {
     Ok(ChildWords {
         program: program_for(alloc, words, role)?,
         words: child_words(alloc, words, role)?,
+        values: Some(values),
     })
 }
 
@@ -137,15 +158,21 @@ fn program_for(alloc: Global, words: StageWords, role: &Text) -> Result<Vec<Text
     }
 }
 
-/// The words behind them.
+/// The words behind them, up to the values.
 fn child_words(alloc: Global, words: StageWords, role: &Text) -> Result<Vec<Text>, NoMemory>
-    ensures { IfOk result (λ own. own.items ≡ child_words (staged words.entry) role.now) }
+    ensures { IfOk result (λ own. own.items
+        ≡ codes "play" ∷ words.entry.narration.now ∷ role.now ∷ []) }
 {
-    let values = format!(in alloc; "{}/{}.values", words.folder.as_str(), role.as_str())?;
     let mut own = Vec::with_capacity(alloc, 4)?;
     own.push(Text::new(String::from_str(alloc, "play")?))?;
     own.push(words.narration.copy(alloc)?)?;
     own.push(role.copy(alloc)?)?;
-    own.push(Text::new(values))?;
     Ok(own)
+}
+
+/// Whether a name is that of a file with values.
+pub(crate) fn names_file(name: &Text) -> bool
+    ensures { result ≡ names_file name.now }
+{
+    name.as_str().as_bytes().ends_with(b".values")
 }

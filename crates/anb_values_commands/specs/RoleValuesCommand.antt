@@ -8,7 +8,7 @@ use Rattle.anb_protocol.specs.Protocols.{ProtocolValue, role_name}
 use Rattle.anb_protocol.specs.Texts.{known_names, known_texts}
 use Rattle.anb_values.specs.declared.fitted.Fitted.{Fitted}
 use Rattle.anb_values.specs.declared.refusal.ValuesNo.TheVariants.{Long}
-use Rattle.anb_values_text.specs.Texts.{IsTextOf}
+use Rattle.anb_values_text.specs.Texts.{IsTextOf, values_text}
 use Rattle.anb_status.specs.declared.status.Status.{Status}
 use Rattle.anb_status.specs.declared.status.Status.TheVariants.{BadValues}
 use Rattle.anb_status.specs.Statuses.{OnFileFault}
@@ -30,6 +30,10 @@ own p role fitted = record {
   seed = option_map (λ seed. role_seed seed (role_name p role)) fitted.seed;
 }
 
+-- the text of that file
+abbrev pub own_text : ProtocolValue → ℕ → Fitted → List ℕ
+own_text p role fitted = values_text (known_texts p role) (own p role fitted).values (own p role fitted).seed
+
 -- the label of the first value that is longer than an arrival may be
 abbrev pub first_long : (labels values : List (List ℕ)) → Option (List ℕ)
 first_long [] values = None
@@ -37,7 +41,7 @@ first_long (label ∷ labels) [] = None
 first_long (label ∷ labels) (value ∷ values) =
     if is_long value then Some label else first_long labels values
 
--- the role's own file; or the first value of it that no reader would take
+-- the role's own file, which is read as what it has; or the first value of it that no reader would take
 abbrev pub OwnIs : ProtocolValue → ℕ → Fitted → Answer (List ℕ) → Type 0
 OwnIs p role fitted (refused status) =
     (label : List ℕ) × (status ≡ BadValues (Long label))

@@ -124,7 +124,12 @@ pub fn values_for<F: Shelf>(
 }
 
 /// The text of a role's own values, from those of all names.
-fn own_text(alloc: Global, protocol: &Protocol, role: u32, fitted: &Fitted) -> Result<Bytes, Status>
+pub fn own_text(
+    alloc: Global,
+    protocol: &Protocol,
+    role: u32,
+    fitted: &Fitted,
+) -> Result<Bytes, Status>
     requires { role < length protocol.now.roles }
     ensures given { IfOk result (λ text. OwnIs protocol.now role fitted.now (given text)) }
     ensures refused { IfErr result (λ status. IsFailure status (λ file. ⊥)

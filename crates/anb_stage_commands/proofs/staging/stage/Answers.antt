@@ -7,35 +7,35 @@ use Rattle.anb_stage_commands.proofs.staging.stage.Goals as goal
 
 pub returns-in-Ok-clause-does : goal.returns-in-Ok-clause-does
 returns-in-Ok-clause-does g c =
-    does_text c.narrations_are_unique.ensures c.refusals_are_unique.ensures c.none_is_both.ensures c.relays_are_due.ensures (staged c.args.words) (g.P.Spawner.child c.args.spawner.now) (g.P.Spawner.child c.relayed_in_file.new.spawner) (g.F.Shelf.files c.args.shelf.now)
+    does_text c.narrations_are_unique.ensures c.refusals_are_unique.ensures c.none_is_both.ensures c.one_fit.ensures c.relays_are_due.ensures (staged c.args.words) (g.P.Spawner.child c.args.spawner.now) (g.P.Spawner.child c.relayed_in_file.new.spawner) (g.F.Shelf.files c.args.shelf.now)
     c.in-Ok.text.items c.write_text.result (g.W.Wire.state c.args.wire.now).written (g.W.Wire.state c.write_text.new.wire).written c.in-Ok.ensures.relayed
     (rw c.deref.ensures.value at c.write_text.ensures.writes)
 
 pub returns-in-Ok-clause-faults : goal.returns-in-Ok-clause-faults
 returns-in-Ok-clause-faults g c =
-    stage_cause c.args.words.narration.now (g.F.Shelf.faults c.args.shelf.now) (g.F.Shelf.faults c.relayed_in_file.new.shelf) (g.P.Spawner.child c.args.spawner.now)
+    stage_cause (staged c.args.words) (g.F.Shelf.faults c.args.shelf.now) (g.F.Shelf.faults c.relayed_in_file.new.shelf) (g.P.Spawner.child c.args.spawner.now)
     (g.P.Spawner.child c.relayed_in_file.new.spawner) (g.W.Wire.state c.args.wire.now) c.args.words.limit (g.W.Wire.state c.write_text.new.wire) c.write_text.result c.write_text.ensures.wire.cause
 
 pub returns-in-Ok-clause-completes : goal.returns-in-Ok-clause-completes
 returns-in-Ok-clause-completes g c = λ quiet calm.
-    completes c.narrations_are_unique.ensures c.refusals_are_unique.ensures c.none_is_both.ensures (staged c.args.words) (g.F.Shelf.files c.args.shelf.now)
+    completes c.narrations_are_unique.ensures c.refusals_are_unique.ensures c.none_is_both.ensures c.one_fit.ensures (staged c.args.words) (g.F.Shelf.files c.args.shelf.now)
     (g.P.Spawner.child c.args.spawner.now) (g.P.Spawner.child c.relayed_in_file.new.spawner) (g.F.Shelf.faults c.args.shelf.now) (g.F.Shelf.faults c.relayed_in_file.new.shelf)
     (g.W.Wire.state c.args.wire.now) (g.W.Wire.state c.write_text.new.wire) quiet calm c.write_text.result (g.W.Wire.state c.args.wire.now).written
     (g.W.Wire.state c.write_text.new.wire).written (returns-in-Ok-clause-faults g c) (returns-in-Ok-clause-does g c).stages
 
 pub returns-in-Err-clause-does : goal.returns-in-Err-clause-does
 returns-in-Err-clause-does g c =
-    does_refused c.narrations_are_unique.ensures c.refusals_are_unique.ensures c.none_is_both.ensures c.relays_are_due.ensures (staged c.args.words) (g.P.Spawner.child c.args.spawner.now) (g.P.Spawner.child c.relayed_in_file.new.spawner) (g.F.Shelf.files c.args.shelf.now)
+    does_refused c.narrations_are_unique.ensures c.refusals_are_unique.ensures c.none_is_both.ensures c.one_fit.ensures c.relays_are_due.ensures (staged c.args.words) (g.P.Spawner.child c.args.spawner.now) (g.P.Spawner.child c.relayed_in_file.new.spawner) (g.F.Shelf.files c.args.shelf.now)
     c.in-Err.status (g.W.Wire.state c.args.wire.now).written c.in-Err.ensures.failed
 
 pub returns-in-Err-clause-faults : goal.returns-in-Err-clause-faults
 returns-in-Err-clause-faults g c =
-    before_cause c.args.words.narration.now (g.F.Shelf.faults c.args.shelf.now) (g.F.Shelf.faults c.relayed_in_file.new.shelf) (g.P.Spawner.child c.args.spawner.now)
-    (g.P.Spawner.child c.relayed_in_file.new.spawner) (g.W.Wire.state c.args.wire.now) (staged c.args.words) refl c.in-Err.status c.in-Err.ensures.before c.in-Err.ensures.cause
+    before_cause (staged c.args.words) (g.F.Shelf.faults c.args.shelf.now) (g.F.Shelf.faults c.relayed_in_file.new.shelf) (g.P.Spawner.child c.args.spawner.now)
+    (g.P.Spawner.child c.relayed_in_file.new.spawner) (g.W.Wire.state c.args.wire.now) c.in-Err.status c.in-Err.ensures.before c.in-Err.ensures.cause
 
 pub returns-in-Err-clause-completes : goal.returns-in-Err-clause-completes
 returns-in-Err-clause-completes g c = λ quiet calm.
-    completes c.narrations_are_unique.ensures c.refusals_are_unique.ensures c.none_is_both.ensures (staged c.args.words) (g.F.Shelf.files c.args.shelf.now)
+    completes c.narrations_are_unique.ensures c.refusals_are_unique.ensures c.none_is_both.ensures c.one_fit.ensures (staged c.args.words) (g.F.Shelf.files c.args.shelf.now)
     (g.P.Spawner.child c.args.spawner.now) (g.P.Spawner.child c.relayed_in_file.new.spawner) (g.F.Shelf.faults c.args.shelf.now) (g.F.Shelf.faults c.relayed_in_file.new.shelf)
     (g.W.Wire.state c.args.wire.now) (g.W.Wire.state c.args.wire.now) quiet calm c.in-Err.status (g.W.Wire.state c.args.wire.now).written
     (g.W.Wire.state c.args.wire.now).written (returns-in-Err-clause-faults g c) (returns-in-Err-clause-does g c).stages

@@ -1,7 +1,7 @@
 use Rattle.std.proofs.Common.{refl, inl, inr}
 use Rattle.anb_command.proofs.Chains.{told_map}
 use Rattle.anb_command.proofs.Failing.{IsFailure-map}
-use Rattle.anb_stage_commands.proofs.staging.cast_in_file.Goals as goal
+use Rattle.anb_stage_commands.proofs.scene.cast_in_file.Goals as goal
 
 pub returns-in-Ok-check_cast-clause-given : goal.returns-in-Ok-check_cast-clause-given
 returns-in-Ok-check_cast-clause-given g c =
