@@ -92,13 +92,13 @@ job_again files later narration name values recorded host_seed other_seed job (i
 
 -- how the replay of these lines ends
 module _ (job : Job) (run : Run) (are : (arrivals : List (List ℕ)) → AllByRecursion IsBytes arrivals → PlayOf job arrivals (run arrivals)) (lines : List TranscriptLine) where
-  compares : (end : ReplayEnd) (due : Status) → end ≢ replayed.NoMemory → Replays run lines end → due ≡ status_of end → Compares (record { job = job; lines = lines }) due
+  compares : (end : ReplayEnd) (due : Status) → end ≢ replayed.NoMemory → Replays run lines end → due ≡ status_of end → Compares 0 (record { job = job; lines = lines }) due
   compares end due some replays is = record { plays = run; are = are; end = end; some = some; replays = replays; is = is }
 
   some_one : (one other : Status) → Some one ≡ Some other → other ≡ one
   some_one one other is = cc
 
-  compares_end : (end : PlayEnd) (due : Status) → ReplaysAs run lines end → replayed_as (length lines) (prepared.status_of end) ≡ Some due → Compares (record { job = job; lines = lines }) due
+  compares_end : (end : PlayEnd) (due : Status) → ReplaysAs run lines end → replayed_as (length lines) (prepared.status_of end) ≡ Some due → Compares 0 (record { job = job; lines = lines }) due
   compares_end ended.Done due replays is = compares replayed.Follows due (λ no. cc) replays (some_one _ due is)
   compares_end (ended.Stopped halt) due replays is = compares (replayed.Stopped halt (last_arrival lines)) due (λ no. cc) replays (some_one _ due is)
   compares_end (ended.Waiting e) due replays is = compares (replayed.Short (length lines + 1)) due (λ no. cc) replays.0 (some_one _ due is)
@@ -108,7 +108,7 @@ module _ (job : Job) (run : Run) (are : (arrivals : List (List ℕ)) → AllByRe
   compares_end ended.WriteFault due replays is = absurd (cc)
   compares_end ended.NoMemory due replays is = absurd (cc)
 
-  compares_as : (end due : Status) → ReplaysTo run lines end → replayed_as (length lines) end ≡ Some due → Compares (record { job = job; lines = lines }) due
+  compares_as : (end due : Status) → ReplaysTo run lines end → replayed_as (length lines) end ≡ Some due → Compares 0 (record { job = job; lines = lines }) due
   compares_as end due (inl (how, is_end, replays)) is = compares_end how due replays (ap (replayed_as (length lines)) (sym is_end) ∙ is)
   compares_as end due (inr (place, is_end, none)) is = absurd (let never : None ≡ Some due = ap (replayed_as (length lines)) (sym is_end) ∙ is in cc)
 

@@ -48,7 +48,7 @@ RecordedPlaysReplay =
     → later (values_in folder) ≡ Some (text_of (job_values job)) → length (text_of (job_values job)) ≤ VALUES_LIMIT
     → later (transcript_in folder) ≡ Some (lines_text lines) → length (lines_text lines) ≤ TRANSCRIPT_LIMIT
     → replayed_as (length lines) end ≡ Some due
-    → ReplayOutcome narration name (values_in folder) (transcript_in folder) other_seed later due
+    → ReplayOutcome narration name (values_in folder) (transcript_in folder) other_seed 0 later due
 
 -- Let the common actions with an arm stand in a file, as a narration, with the two files of a play of
 -- `branch` in that arm. Then `replay` of that narration ends as the play did.
@@ -68,4 +68,4 @@ RecordedArmsReplay =
     → later (values_in folder) ≡ Some (text_of (arm_values job)) → length (text_of (arm_values job)) ≤ VALUES_LIMIT
     → later (transcript_in folder) ≡ Some (lines_text lines) → length (lines_text lines) ≤ TRANSCRIPT_LIMIT
     → replayed_as (length lines) end ≡ Some due
-    → ReplayOutcome name role (values_in folder) (transcript_in folder) other_seed later due
+    → ReplayOutcome name role (values_in folder) (transcript_in folder) other_seed 0 later due

@@ -32,7 +32,7 @@ use Rattle.anb_role_commands.proofs.Draws.{draws_as_made}
 pub count_known : (p : ProtocolValue) (role : ℕ) (code : CodeValue) (initial : List (List ℕ)) → FitsRole p role code → length initial ≡ length (take_texts code.instrs) → length initial ≡ length (known_by p role)
 count_known p role code initial fits each = each ∙ ap length fits.texts ∙ length-map (known_by p role) (term_text p)
 
-plays_in : (p : ProtocolValue) (role : ℕ) (code : CodeValue) (initial : List (List ℕ)) (seed : List ℕ) → FittingCodesPlay p → FitsRole p role code
+pub plays_in : (p : ProtocolValue) (role : ℕ) (code : CodeValue) (initial : List (List ℕ)) (seed : List ℕ) → FittingCodesPlay p → FitsRole p role code
     → length initial ≡ length (known_by p role) → AllByRecursion IsBytes initial → (session : ℕ) → IsRunBy (PlayIn session) (record { protocol = p; role = role; initial = initial; seed = seed }) (play_in code initial seed session)
 plays_in p role code initial seed law fits count bytes session arrivals are_bytes q =
     let both = law role code initial seed session arrivals fits count bytes are_bytes in

@@ -38,7 +38,7 @@ use Rattle.anb_command.proofs.Written.{faulty}
 use Rattle.anb_role_commands.specs.Comparing.{IsComparable, IsCompared, IsReplayed}
 use Rattle.anb_role_commands.specs.Jobs.{Job, JobIs}
 use Rattle.anb_role_commands.specs.PlayCommand.{PlayOf}
-use Rattle.anb_role_commands.specs.Playing.{IsPlayable, play_by}
+use Rattle.anb_role_commands.specs.Playing.{IsPlayableInEach, play_in}
 use Rattle.anb_role_commands.specs.ReplayCommand.{Comparison, ComparisonIs, Compares, CompletesReplay, DoesReplay, IsReadToCompare, OnlyReaches, ReplayOutcome, status_of}
 use Rattle.anb_role_commands.proofs.Tasks.{job_one, job_quiet}
 
@@ -152,16 +152,16 @@ module _ (narration name values transcript : List ℕ) (host_seed : Option (List
     pub play_refused : (s : Status) → IfTold told (λ files. JobIs files narration name values host_seed (refused s)) → IfTold told (λ files. ComparisonIs narration name values transcript host_seed files (refused s))
     play_refused s first = told_map told (λ files f. inl (s, f, refl)) first
 
-    pub transcript_refused : (code : CodeValue) (initial : List (List ℕ)) (seed : List ℕ) (s : Status) → IfTold told (λ files. IsPlayable (JobIs files narration name values host_seed) code initial seed)
+    pub transcript_refused : (code : CodeValue) (initial : List (List ℕ)) (seed : List ℕ) (s : Status) → IfTold told (λ files. IsPlayableInEach (JobIs files narration name values host_seed) code initial seed)
         → IfTold told (λ files. TranscriptInFile files transcript (refused s)) → IfTold told (λ files. ComparisonIs narration name values transcript host_seed files (refused s))
     transcript_refused code initial seed s first next =
-        told_both told (λ files (f : IsPlayable (JobIs files narration name values host_seed) code initial seed) n. inr (f.asked, f.asks, inl (s, n, refl))) first next
+        told_both told (λ files (f : IsPlayableInEach (JobIs files narration name values host_seed) code initial seed) n. inr (f.asked, f.asks, inl (s, n, refl))) first next
 
     pub comparison_ready : (code : CodeValue) (initial : List (List ℕ)) (seed : List ℕ) (lines : List TranscriptLine) → AllByRecursion IsBytes (arrivals_of lines)
-        → IfTold told (λ files. IsPlayable (JobIs files narration name values host_seed) code initial seed)
+        → IfTold told (λ files. IsPlayableInEach (JobIs files narration name values host_seed) code initial seed)
         → IfTold told (λ files. TranscriptInFile files transcript (given lines)) → IfTold told (λ files. IsComparable (ComparisonIs narration name values transcript host_seed files) code initial seed lines)
     comparison_ready code initial seed lines bytes first next =
-        told_both told (λ files (f : IsPlayable (JobIs files narration name values host_seed) code initial seed) n. record {
+        told_both told (λ files (f : IsPlayableInEach (JobIs files narration name values host_seed) code initial seed) n. record {
           asked = record { job = f.asked; lines = lines };
           asks = inr (f.asked, f.asks, inr (lines, n, refl));
           comes = f.comes;
@@ -169,10 +169,10 @@ module _ (narration name values transcript : List ℕ) (host_seed : Option (List
           bytes = bytes;
         }) first next
 
-    pub transcript_read : (code : CodeValue) (initial : List (List ℕ)) (seed : List ℕ) (file : List ℕ) → IfTold told (λ files. IsPlayable (JobIs files narration name values host_seed) code initial seed) → file ≡ transcript
+    pub transcript_read : (code : CodeValue) (initial : List (List ℕ)) (seed : List ℕ) (file : List ℕ) → IfTold told (λ files. IsPlayableInEach (JobIs files narration name values host_seed) code initial seed) → file ≡ transcript
         → IfTold told (λ files. IsReadToCompare narration name values transcript host_seed files file)
     transcript_read code initial seed file first is =
-        told_map told (λ files (f : IsPlayable (JobIs files narration name values host_seed) code initial seed). inr (is, (f.asked, f.asks))) first
+        told_map told (λ files (f : IsPlayableInEach (JobIs files narration name values host_seed) code initial seed). inr (is, (f.asked, f.asks))) first
 
 -- ---- what comes of it
 
@@ -251,7 +251,7 @@ late_end (replayed.Differs n d) never = absurd (cc)
 late_end (replayed.Short event) never = absurd (cc)
 late_end (replayed.Stopped halt n) never = absurd (cc)
 
-module _ (narration name values transcript : List ℕ) (host_seed : Option (List ℕ))
+module _ (narration name values transcript : List ℕ) (host_seed : Option (List ℕ)) (session : ℕ)
     (one : (files : Files) → HasOneAnswer (ComparisonIs narration name values transcript host_seed files)) where
   abbrev Asks : Files → Answer Comparison → Type 0
   Asks files = ComparisonIs narration name values transcript host_seed files
@@ -260,27 +260,27 @@ module _ (narration name values transcript : List ℕ) (host_seed : Option (List
   quiet files = comparison_quiet narration name values transcript host_seed files
 
   abbrev Outcome : Files → Status → Type 0
-  Outcome files s = ReplayOutcome narration name values transcript host_seed files s
+  Outcome files s = ReplayOutcome narration name values transcript host_seed session files s
 
   module _ (laws : ReplaysOne) (code : CodeValue) (initial : List (List ℕ)) (seed : List ℕ) (lines : List TranscriptLine) where
     abbrev R : List (List ℕ) → Played (List ℕ)
-    R = play_by code initial seed
+    R = play_in code initial seed session
 
     module _ (files : Files) (ready : IsComparable (Asks files) code initial seed lines) (end : ReplayEnd) (some : end ≢ replayed.NoMemory) (replays : Replays R lines end) where
-      pub compares : Compares ready.asked (status_of end)
+      pub compares : Compares session ready.asked (status_of end)
       compares = record {
         plays = R;
-        are = λ arrivals bytes. (ready.comes arrivals bytes (R arrivals)).1 refl;
+        are = λ arrivals bytes. (ready.comes session arrivals bytes (R arrivals)).1 refl;
         end = end;
         some = some;
         replays = subst (λ (ls : List TranscriptLine). Replays R ls end) (sym ready.same) replays;
         is = refl;
       }
 
-      same_end : (due : Status) (other : Compares ready.asked due) → other.end ≡ end
+      same_end : (due : Status) (other : Compares session ready.asked due) → other.end ≡ end
       same_end due other =
           let same : (arrivals : List (List ℕ)) → AllByRecursion IsBytes arrivals → R arrivals ≡ other.plays arrivals =
-          λ arrivals bytes. sym ((ready.comes arrivals bytes (other.plays arrivals)).0 (other.are arrivals bytes)) in
+          λ arrivals bytes. sym ((ready.comes session arrivals bytes (other.plays arrivals)).0 (other.are arrivals bytes)) in
           let there : Replays R lines other.end =
           replays_same other.plays R lines ready.bytes same other.end (subst (λ (ls : List TranscriptLine). Replays other.plays ls other.end) ready.same other.replays) in
           let law = laws R lines in
@@ -290,14 +290,14 @@ module _ (narration name values transcript : List ℕ) (host_seed : Option (List
       only_one due (inl refusal) = not_both due ready.asked (one files (refused due) (given ready.asked) refusal ready.asks)
       only_one due (inr (other, asks, others)) =
           let is : other ≡ ready.asked = same_given other ready.asked (one files (given other) (given ready.asked) asks ready.asks) in
-          let here : Compares ready.asked due = subst (λ (c : Comparison). Compares c due) is others in
+          let here : Compares session ready.asked due = subst (λ (c : Comparison). Compares session c due) is others in
           sym (here.is ∙ ap status_of (same_end due here))
 
     late_replay : (files : Files) → IsComparable (Asks files) code initial seed lines → (s : Status) → (phase_of s ≡ before_reach → ⊥) → IsRefusing (Asks files) (IsReadToCompare narration name values transcript host_seed files) s
     late_replay files ready s not_early = late (λ (c : Comparison). PlayOf c.job) (Asks files) (one files) (quiet files) (IsReadToCompare narration name values transcript host_seed files) s ready.asked ready.asks not_early
 
     module _ (told : Option Files) (S T : WireState) (ready : IfTold told (λ files. IsComparable (Asks files) code initial seed lines)) (only : OnlyReaches S T) where
-      does_unreached : DoesReplay narration name values transcript host_seed told S T (Unreached Stdio)
+      does_unreached : DoesReplay narration name values transcript host_seed session told S T (Unreached Stdio)
       does_unreached = record {
         refuses = told_map told (λ files (r : IsComparable (Asks files) code initial seed lines). late_replay files r (Unreached Stdio) (λ never. absurd (cc))) ready;
         is = told_map told (λ files (r : IsComparable (Asks files) code initial seed lines). faulty) ready;
@@ -308,7 +308,7 @@ module _ (narration name values transcript : List ℕ) (host_seed : Option (List
         no_write_fault = λ never. absurd (cc);
       }
 
-      does_end : (end : ReplayEnd) → Replays R lines end → DoesReplay narration name values transcript host_seed told S T (status_of end)
+      does_end : (end : ReplayEnd) → Replays R lines end → DoesReplay narration name values transcript host_seed session told S T (status_of end)
       does_end end replays = record {
         refuses = told_map told (λ files (r : IsComparable (Asks files) code initial seed lines). late_replay files r (status_of end) (late_end end)) ready;
         is = told_map told (λ files (r : IsComparable (Asks files) code initial seed lines) q. inr (r.asked, r.asks, compares files r end (quiet_end end q) replays)) ready;
@@ -319,9 +319,9 @@ module _ (narration name values transcript : List ℕ) (host_seed : Option (List
         no_write_fault = (no_wire_fault end).1;
       }
 
-      pub does_compared : (s : Status) → IsCompared R lines s → DoesReplay narration name values transcript host_seed told S T s
-      does_compared s (inl is) = subst (DoesReplay narration name values transcript host_seed told S T) (sym is) does_unreached
-      does_compared s (inr (end, replays, is)) = subst (DoesReplay narration name values transcript host_seed told S T) (sym is) (does_end end replays)
+      pub does_compared : (s : Status) → IsCompared R lines s → DoesReplay narration name values transcript host_seed session told S T s
+      does_compared s (inl is) = subst (DoesReplay narration name values transcript host_seed session told S T) (sym is) does_unreached
+      does_compared s (inr (end, replays, is)) = subst (DoesReplay narration name values transcript host_seed session told S T) (sym is) (does_end end replays)
 
   -- ---- a refusal
 
@@ -348,7 +348,7 @@ module _ (narration name values transcript : List ℕ) (host_seed : Option (List
 
   pub does_refused : (told : Option Files) (S : WireState) (s : Status) → IsEarly s
       → IsFailure s (λ file. IfTold told (λ files. IsReadToCompare narration name values transcript host_seed files file)) (IfTold told (λ files. Asks files (refused s)))
-      → DoesReplay narration name values transcript host_seed told S S s
+      → DoesReplay narration name values transcript host_seed session told S S s
   does_refused None S s early fails = record {
     refuses = tt;
     is = tt;
@@ -370,11 +370,11 @@ module _ (narration name values transcript : List ℕ) (host_seed : Option (List
 
 -- ---- where nothing failed
 
-pub completes_replay : (narration name values transcript : List ℕ) (host_seed : Option (List ℕ)) (told : Option Files) (S T : WireState) (s : Status)
-    → DoesReplay narration name values transcript host_seed told S T s → (is_fault s ≡ true → s ≡ NoMemory) → CompletesReplay narration name values transcript host_seed told s
-completes_replay narration name values transcript host_seed told S T s does only_memory = told_map told by does.is where
-  by : (files : Files) → (is_fault s ≡ false → ReplayOutcome narration name values transcript host_seed files s)
-      → ((due : Status) → ReplayOutcome narration name values transcript host_seed files due → due ≡ Done) → (s ≡ Done) ⊎ (s ≡ NoMemory)
+pub completes_replay : (narration name values transcript : List ℕ) (host_seed : Option (List ℕ)) (session : ℕ) (told : Option Files) (S T : WireState) (s : Status)
+    → DoesReplay narration name values transcript host_seed session told S T s → (is_fault s ≡ true → s ≡ NoMemory) → CompletesReplay narration name values transcript host_seed session told s
+completes_replay narration name values transcript host_seed session told S T s does only_memory = told_map told by does.is where
+  by : (files : Files) → (is_fault s ≡ false → ReplayOutcome narration name values transcript host_seed session files s)
+      → ((due : Status) → ReplayOutcome narration name values transcript host_seed session files due → due ≡ Done) → (s ≡ Done) ⊎ (s ≡ NoMemory)
   by files is each = from (is_fault s) refl where
     from : (b : Bool) → is_fault s ≡ b → (s ≡ Done) ⊎ (s ≡ NoMemory)
     from true fault = inr (only_memory fault)

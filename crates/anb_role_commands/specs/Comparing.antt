@@ -12,16 +12,15 @@ use Rattle.anb_status.specs.declared.status.Status.{Status}
 use Rattle.anb_status.specs.declared.status.Status.TheVariants.{Unreached}
 use Rattle.anb_command.specs.Prepared.{IsRunBy}
 use Rattle.anb_command.specs.Steps.{Answer, given}
-use Rattle.anb_role_commands.specs.PlayCommand.{PlayOf}
-use Rattle.anb_role_commands.specs.Playing.{play_by}
+use Rattle.anb_role_commands.specs.Playing.{PlayIn, play_in}
 use Rattle.anb_role_commands.specs.ReplayCommand.{Comparison, status_of}
 
--- there is something to compare, the code plays it, and these are its lines
+-- there is something to compare, the code plays it in each session, and these are its lines
 pub record IsComparable (Prepares : Answer Comparison → Type 0) (code : CodeValue) (initial : List (List ℕ)) (seed : List ℕ)
     (lines : List TranscriptLine) : Type 0 where
   pub asked : Comparison
   pub asks : Prepares (given asked)
-  pub comes : IsRunBy PlayOf asked.job (play_by code initial seed)
+  pub comes : (session : ℕ) → IsRunBy (PlayIn session) asked.job (play_in code initial seed session)
   pub same : asked.lines ≡ lines
   pub bytes : AllByRecursion IsBytes (arrivals_of lines)
 

@@ -1,4 +1,4 @@
--- What `replay` does: a transcript compared with the play of a role.
+-- What `replay` does: a transcript compared with the play of a role in a session.
 use Rattle.std.specs.Prelude.{◌≡◌, ◌≢◌, ◌⊎◌, ℕ, false, List, Option}
 use Rattle.std.specs.List.{AllByRecursion}
 use Rattle.anb_base.specs.Bytes.{IsBytes}
@@ -24,7 +24,7 @@ use Rattle.anb_command.specs.Refusing.{IsRefusing}
 use Rattle.anb_status.specs.Statuses.{OnUnreached, is_fault}
 use Rattle.anb_command.specs.Steps.{Answer, refused, given, InTurn, AnswersWith}
 use Rattle.anb_role_commands.specs.Jobs.{IsRead, Job, JobIs}
-use Rattle.anb_role_commands.specs.PlayCommand.{PlayOf}
+use Rattle.anb_role_commands.specs.Playing.{PlayIn}
 
 -- what a role plays, and the lines that are compared with it
 pub record Comparison : Type 0 where
@@ -39,10 +39,10 @@ status_of (replayed.Short event) = Short event
 status_of (replayed.Stopped halt line) = Stopped (record { event = halt.event; at = 0 })
 status_of replayed.NoMemory = NoMemory
 
--- what comes of the lines over the plays of the job, which this function gives
-pub record Compares (asked : Comparison) (status : Status) : Type 0 where
+-- what comes of the lines over the plays of the job in this session, which this function gives
+pub record Compares (session : ℕ) (asked : Comparison) (status : Status) : Type 0 where
   pub plays : List (List ℕ) → Played (List ℕ)
-  pub are : (arrivals : List (List ℕ)) → AllByRecursion IsBytes arrivals → PlayOf asked.job arrivals (plays arrivals)
+  pub are : (arrivals : List (List ℕ)) → AllByRecursion IsBytes arrivals → PlayIn session asked.job arrivals (plays arrivals)
   pub end : ReplayEnd
   pub some : end ≢ replayed.NoMemory
   pub replays : Replays plays asked.lines end
@@ -66,29 +66,31 @@ module _ (narration name values transcript : List ℕ) (host_seed : Option (List
       IsRead files narration name values file
       ⊎ ((file ≡ transcript) × ((job : Job) × JobIs files narration name values host_seed (given job)))
 
-  -- the status where no fault comes: that of a refusal, or of a comparison
-  abbrev pub ReplayOutcome : Files → Status → Type 0
-  ReplayOutcome files status =
-      ComparisonIs files (refused status)
-      ⊎ ((asked : Comparison) × ComparisonIs files (given asked) × Compares asked status)
+  -- in this session
+  module _ (session : ℕ) where
+    -- the status where no fault comes: that of a refusal, or of a comparison
+    abbrev pub ReplayOutcome : Files → Status → Type 0
+    ReplayOutcome files status =
+        ComparisonIs files (refused status)
+        ⊎ ((asked : Comparison) × ComparisonIs files (given asked) × Compares session asked status)
 
-  module _ (told : Option Files) where
-    pub record DoesReplay (old new : WireState) (status : Status) : Type 0 where
-      pub refuses : IfTold told (λ files. IsRefusing (ComparisonIs files) (IsReadToCompare files) status)
-      -- the status is an outcome, and each outcome is the status
-      pub is : IfTold told (λ files. is_fault status ≡ false → ReplayOutcome files status)
-      pub only : IfTold told (λ files.
-          is_fault status ≡ false → (due : Status) → ReplayOutcome files due → status ≡ due)
-      -- the place is tried only where there is something to compare
-      pub unreached : IfTold told (λ files.
-          OnUnreached status (λ _. (asked : Comparison) × ComparisonIs files (given asked)))
-      -- whatever the status
-      pub only_reaches : OnlyReaches old new
-      pub no_read_fault : status ≢ ReadFault
-      pub no_write_fault : status ≢ WriteFault
+    module _ (told : Option Files) where
+      pub record DoesReplay (old new : WireState) (status : Status) : Type 0 where
+        pub refuses : IfTold told (λ files. IsRefusing (ComparisonIs files) (IsReadToCompare files) status)
+        -- the status is an outcome, and each outcome is the status
+        pub is : IfTold told (λ files. is_fault status ≡ false → ReplayOutcome files status)
+        pub only : IfTold told (λ files.
+            is_fault status ≡ false → (due : Status) → ReplayOutcome files due → status ≡ due)
+        -- the place is tried only where there is something to compare
+        pub unreached : IfTold told (λ files.
+            OnUnreached status (λ _. (asked : Comparison) × ComparisonIs files (given asked)))
+        -- whatever the status
+        pub only_reaches : OnlyReaches old new
+        pub no_read_fault : status ≢ ReadFault
+        pub no_write_fault : status ≢ WriteFault
 
-    -- where nothing failed and no other outcome is there, it is done, or memory was wanting
-    abbrev pub CompletesReplay : Status → Type 0
-    CompletesReplay status =
-        IfTold told (λ files. ((due : Status) → ReplayOutcome files due → due ≡ Done)
-        → (status ≡ Done) ⊎ (status ≡ NoMemory))
+      -- where nothing failed and no other outcome is there, it is done, or memory was wanting
+      abbrev pub CompletesReplay : Status → Type 0
+      CompletesReplay status =
+          IfTold told (λ files. ((due : Status) → ReplayOutcome files due → due ≡ Done)
+          → (status ≡ Done) ⊎ (status ≡ NoMemory))

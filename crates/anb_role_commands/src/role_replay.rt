@@ -14,7 +14,7 @@ ghost use Rattle.anb_status.specs.Statuses.{IsEarly, before_reach, phase_of};
 ghost use Rattle.anb_command.specs.Steps.{IsFailure, refused};
 ghost use Rattle.anb_command.specs.Touches.{Touches};
 ghost use Rattle.anb_role_commands.specs.Comparing.{IsComparable, IsCompared, IsReplayed};
-ghost use Rattle.anb_role_commands.specs.Playing.{play_by};
+ghost use Rattle.anb_role_commands.specs.Playing.{play_in};
 ghost use Rattle.anb_role_commands.specs.ReplayCommand.{ComparisonIs, CompletesReplay};
 ghost use Rattle.anb_role_commands.specs.ReplayCommand.{DoesReplay, IsReadToCompare, OnlyReaches, status_of};
 
@@ -36,22 +36,23 @@ struct Comparison {
     transcript: Transcript,
 }
 
-/// Compares the transcript in the file with the role's play. Nothing is read or written.
+/// Compares the transcript in the file with the role's play in this session. Nothing is read or written.
 pub fn replay<F: Shelf, W: Wire>(
     alloc: Global,
     shelf: &mut F,
     wire: &mut W,
     words: ReplayWords,
+    session: u32,
     host_seed: Option<[u8; 32]>,
 ) -> Status
     ensures does { DoesReplay words.entry.narration.now words.entry.name.now words.entry.values.now
-        words.entry.transcript.now host_seed (F.files shelf.old)
+        words.entry.transcript.now host_seed session (F.files shelf.old)
         (W.state wire.old) (W.state wire.new) result }
     ensures completes { NoneRose (words.entry.narration.now ∷ words.entry.values.now
         ∷ words.entry.transcript.now ∷ [])
         (F.faults shelf.old) (F.faults shelf.new) (W.state wire.old) (W.state wire.new)
         → CompletesReplay words.entry.narration.now words.entry.name.now words.entry.values.now
-        words.entry.transcript.now host_seed (F.files shelf.old) result }
+        words.entry.transcript.now host_seed session (F.files shelf.old) result }
     ensures faults { HasCause (words.entry.narration.now ∷ words.entry.values.now
         ∷ words.entry.transcript.now ∷ [])
         (Some place.Stdio) (F.faults shelf.old) (F.faults shelf.new)
@@ -72,7 +73,7 @@ pub fn replay<F: Shelf, W: Wire>(
     one_reading();
     one_replay();
     match prepare_comparison(alloc, shelf, words, host_seed) {
-        Ok(comparison) => compare_over(alloc, wire, &comparison),
+        Ok(comparison) => compare_over(alloc, wire, &comparison, session),
         Err(status) => status,
     }
 }
@@ -130,35 +131,41 @@ fn prepare_comparison<F: Shelf>(
 }
 
 /// Reaches the standard streams and compares. A stop tells no instruction.
-fn compare_over<W: Wire>(alloc: Global, wire: &mut W, comparison: &Comparison) -> Status
+fn compare_over<W: Wire>(
+    alloc: Global,
+    wire: &mut W,
+    comparison: &Comparison,
+    session: u32,
+) -> Status
     requires count { length comparison.now.prepared.initial
         ≡ length (take_texts comparison.now.prepared.code.instrs) }
     requires short { All (λ value. length value ≤ ARRIVAL) comparison.now.prepared.initial }
     requires few { length comparison.now.transcript + 1 < 2 ^ 32 }
     requires arrivals { All (λ arrival. length arrival ≤ ARRIVAL) (arrivals_of comparison.now.transcript) }
-    ensures compared { IsCompared (play_by comparison.now.prepared.code
-        comparison.now.prepared.initial comparison.now.prepared.seed)
+    ensures compared { IsCompared (play_in comparison.now.prepared.code
+        comparison.now.prepared.initial comparison.now.prepared.seed session)
         comparison.now.transcript result }
     ensures only_reaches { OnlyReaches (W.state wire.old) (W.state wire.new) }
     ensures wire { OverWire place.Stdio false result (W.state wire.old) (W.state wire.new) }
 {
     match reach_stdio(wire) {
-        Ok(()) => compare(alloc, &comparison.prepared, &comparison.transcript),
+        Ok(()) => compare(alloc, &comparison.prepared, session, &comparison.transcript),
         Err(status) => status,
     }
 }
 
-/// Compares the transcript with what the code does.
-pub fn compare(alloc: Global, prepared: &Prepared, transcript: &Transcript) -> Status
+/// Compares the transcript with what the code does in this session.
+pub fn compare(alloc: Global, prepared: &Prepared, session: u32, transcript: &Transcript) -> Status
     requires count { length prepared.now.initial ≡ length (take_texts prepared.now.code.instrs) }
     requires short { All (λ value. length value ≤ ARRIVAL) prepared.now.initial }
     requires few { length transcript.now + 1 < 2 ^ 32 }
     requires arrivals { All (λ arrival. length arrival ≤ ARRIVAL) (arrivals_of transcript.now) }
-    ensures { IsReplayed (play_by prepared.now.code prepared.now.initial prepared.now.seed)
+    ensures { IsReplayed (play_in prepared.now.code prepared.now.initial prepared.now.seed session)
         transcript.now result }
 {
     let initial = prepared.initial.as_slice();
-    let mut machine = match Machine::start(alloc, &prepared.code, initial, &prepared.seed, 0) {
+    let seed = &prepared.seed;
+    let mut machine = match Machine::start(alloc, &prepared.code, initial, seed, session) {
         Ok(machine) => machine,
         Err(NoMemory) => return Status::NoMemory,
     };

@@ -21,9 +21,9 @@ use Rattle.anb_trace.specs.Traces.{Rest, end_line, told}
 use Rattle.anb_trace.specs.Tracing.{HasWritten, IsActReady, IsWithin, Tells, TellsWork, TellsWritten, behind}
 use Rattle.anb_trace.specs.Words.{SubjectValue, instr_lines, why}
 
-module _ (s : SubjectValue) (seed : List ℕ) (instr : Instr) (first at : ℕ) (old : Standing) (text : Told) (new : Standing) where
+module _ (s : SubjectValue) (seed : List ℕ) (session : ℕ) (instr : Instr) (first at : ℕ) (old : Standing) (text : Told) (new : Standing) where
   abbrev tells : Act → Type 0
-  tells act = (rest : Rest) → told s (draw_of seed 0) act instr old.registers.items first old.events at old.drawn old.arrivals.now rest ≡ text.text.items ++ cond text.goes_on (behind new rest) []
+  tells act = (rest : Rest) → told s (draw_of seed session) act instr old.registers.items first old.events at old.drawn old.arrivals.now rest ≡ text.text.items ++ cond text.goes_on (behind new rest) []
 
   goes : (x y : List ℕ) → text.goes_on ≡ true → text.text.items ≡ x → x ++ y ≡ text.text.items ++ cond text.goes_on y []
   goes x y on is = rw (on, is) refl
@@ -55,9 +55,9 @@ if_ok P Q f (Ok a) is = f a is
 if_ok P Q f (Err other) is = tt
 
 -- what is told of one
-module _ (s : SubjectValue) (seed : List ℕ) (instr : Instr) (first at : ℕ) (old new : Standing) (r : Result Told NoMemory) where
+module _ (s : SubjectValue) (seed : List ℕ) (session : ℕ) (instr : Instr) (first at : ℕ) (old new : Standing) (r : Result Told NoMemory) where
   abbrev Each : Type 0
-  Each = IfOk r (λ part. Tells s seed instr first at old part new)
+  Each = IfOk r (λ part. Tells s seed session instr first at old part new)
       × IfOk r (λ part. HasWritten (act_of s.code.formats instr) old part new)
       × IfOk r (λ part. IsWithin new (at + 1))
 
@@ -67,8 +67,8 @@ module _ (s : SubjectValue) (seed : List ℕ) (instr : Instr) (first at : ℕ) (
     by : (act : Act) → act_of s.code.formats instr ≡ act → IsWorkReady (has_operator s.code.formats) (length old.registers.items) act
         → IfOk r (λ part. TellsWork s act instr first at old part new) → Each
     by (works w) act ready all = (
-      if_ok _ _ (λ part t. subst (tells s seed instr first at old part new) (sym act) (did s seed instr first at old part new w t)) r all,
-      if_ok _ _ (λ part t. subst (λ (a : Act). HasWritten a old part new) (sym act) (did_some s seed instr first at old part new w ready t)) r all,
+      if_ok _ _ (λ part t. subst (tells s seed session instr first at old part new) (sym act) (did s seed session instr first at old part new w t)) r all,
+      if_ok _ _ (λ part t. subst (λ (a : Act). HasWritten a old part new) (sym act) (did_some s seed session instr first at old part new w ready t)) r all,
       if_ok _ _ (λ part (t : TellsWork s (works w) instr first at old part new). (omega (arith, within.0, t.0), omega (arith, within.1, t.1))) r all,
     )
     by takes act ready all = absurd ready

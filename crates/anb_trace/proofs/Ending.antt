@@ -115,10 +115,10 @@ module _ (s : SubjectValue) (draw : ℕ → List ℕ) where
       (act_of s.code.formats instr) table events drawn arrivals
 
 pub traces_tell : TracesTellRuns
-traces_tell s initial seed arrivals verified count =
+traces_tell s initial seed session arrivals verified count =
     let code = s.code in
     let has = has_operator code.formats in
     let takes_first : HasTakes has (acts_of code) 0 (length initial) = subst (HasTakes has (acts_of code) 0) (sym count) (has_takes ARRIVAL WIDE code verified) in
-    let same = exec_is_run (meaning_of code) (bytes_are_lawful code.formats code.suite) (draw_of seed 0) (acts_of code) initial arrivals takes_first in
+    let same = exec_is_run (meaning_of code) (bytes_are_lawful code.formats code.suite) (draw_of seed session) (acts_of code) initial arrivals takes_first in
     behind_lines s (known_lines s initial) _ 0 arrivals _
-    (subst (λ (p : Played (List ℕ)). TellsRun s 0 arrivals (told_all s (draw_of seed 0) code.instrs initial 0 0 0 0 arrivals) p) same (all_tell s (draw_of seed 0) code.instrs initial 0 0 0 0 arrivals))
+    (subst (λ (p : Played (List ℕ)). TellsRun s 0 arrivals (told_all s (draw_of seed session) code.instrs initial 0 0 0 0 arrivals) p) same (all_tell s (draw_of seed session) code.instrs initial 0 0 0 0 arrivals))

@@ -27,17 +27,17 @@ use Rattle.anb_trace.specs.Traces.{end_line, told_all}
 use Rattle.anb_trace.specs.Tracing.{HasWritten, IsActReady, Tells}
 use Rattle.anb_trace.specs.Words.{SubjectValue}
 
-module _ (s : SubjectValue) (seed : List ℕ) where
+module _ (s : SubjectValue) (seed : List ℕ) (session : ℕ) where
   -- what is told from where it stands
   abbrev pub coming : Standing → (first at : ℕ) → List ℕ
-  coming t first at = told_all s (draw_of seed 0) (drop at s.code.instrs) t.registers.items first t.events at t.drawn t.arrivals.now
+  coming t first at = told_all s (draw_of seed session) (drop at s.code.instrs) t.registers.items first t.events at t.drawn t.arrivals.now
 
   -- what is left is verified
   abbrev pub IsLeft : Standing → ℕ → Type 0
   IsLeft t at = IsVerified (has_operator s.code.formats) (map (act_of s.code.formats) (drop at s.code.instrs)) (length t.registers.items)
 
   pub at_end : (t : Standing) (first at : ℕ) → length s.code.instrs ≤ at → coming t first at ≡ end_line done []
-  at_end t first at all = ap (λ (l : List Instr). told_all s (draw_of seed 0) l t.registers.items first t.events at t.drawn t.arrivals.now) (drop_all at s.code.instrs all)
+  at_end t first at all = ap (λ (l : List Instr). told_all s (draw_of seed session) l t.registers.items first t.events at t.drawn t.arrivals.now) (drop_all at s.code.instrs all)
 
   module _ (at : ℕ) (x : Instr) (there : slice_get s.code.instrs at ≡ Some x) (first : ℕ) (old : Standing) where
     next : drop at s.code.instrs ≡ x ∷ drop (at + 1) s.code.instrs
@@ -63,11 +63,11 @@ module _ (s : SubjectValue) (seed : List ℕ) where
           subst (IsVerified (has_operator s.code.formats) acts) (sym (written on))
           (rest_verified (has_operator s.code.formats) (act_of s.code.formats x) acts (length old.registers.items) (left_here left))
 
-      module _ (tells : Tells s seed x first at old part new) where
+      module _ (tells : Tells s seed session x first at old part new) where
         pub told_next : coming old first at ≡ part.text.items ++ cond part.goes_on (coming new (first + count_written s.code.formats x) (at + 1)) []
         told_next =
-            ap (λ (l : List Instr). told_all s (draw_of seed 0) l old.registers.items first old.events at old.drawn old.arrivals.now) next
-            ∙ tells (λ table events drawn arrivals. told_all s (draw_of seed 0) (drop (at + 1) s.code.instrs) table (first + count_written s.code.formats x) events (at + 1) drawn arrivals)
+            ap (λ (l : List Instr). told_all s (draw_of seed session) l old.registers.items first old.events at old.drawn old.arrivals.now) next
+            ∙ tells (λ table events drawn arrivals. told_all s (draw_of seed session) (drop (at + 1) s.code.instrs) table (first + count_written s.code.formats x) events (at + 1) drawn arrivals)
 
         pub goes_on : part.goes_on ≡ true → coming old first at ≡ part.text.items ++ coming new (first + count_written s.code.formats x) (at + 1)
         goes_on on = told_next ∙ ap (λ (b : Bool). part.text.items ++ cond b (coming new (first + count_written s.code.formats x) (at + 1)) []) on
@@ -76,8 +76,8 @@ module _ (s : SubjectValue) (seed : List ℕ) where
         stops off = told_next ∙ ap (λ (b : Bool). part.text.items ++ cond b (coming new (first + count_written s.code.formats x) (at + 1)) []) off ∙ append-nil part.text.items
 
 -- all is left at the beginning
-pub left_first : (s : SubjectValue) (seed : List ℕ) → IsVerifiedCode ARRIVAL WIDE s.code → (t : Standing) → length t.registers.items ≡ length (take_texts s.code.instrs) → IsLeft s seed t 0
-left_first s seed verified t count =
+pub left_first : (s : SubjectValue) (seed : List ℕ) (session : ℕ) → IsVerifiedCode ARRIVAL WIDE s.code → (t : Standing) → length t.registers.items ≡ length (take_texts s.code.instrs) → IsLeft s seed session t 0
+left_first s seed session verified t count =
     let has = has_operator s.code.formats in
     let code = s.code in
     subst (IsVerified has (acts_of code)) (sym count) (takes_ready has (acts_of code) 0 (length (take_texts code.instrs)) (has_takes ARRIVAL WIDE code verified))

@@ -27,11 +27,11 @@ pub record TellsRun (s : SubjectValue) (events : ℕ) (arrivals : List (List ℕ
   pub messages : sent_in said ≡ p.sent
   pub arrived : came_in said ++ p.left ≡ arrivals
 
--- a trace tells the code's run
+-- a trace tells the code's run in its session
 abbrev pub TracesTellRuns : Type 0
-TracesTellRuns = (s : SubjectValue) (initial : List (List ℕ)) (seed : List ℕ) (arrivals : List (List ℕ))
+TracesTellRuns = (s : SubjectValue) (initial : List (List ℕ)) (seed : List ℕ) (session : ℕ) (arrivals : List (List ℕ))
     → IsVerifiedCode ARRIVAL WIDE s.code → length initial ≡ length (take_texts s.code.instrs)
-    → TellsRun s 0 arrivals (trace s initial seed arrivals) (run_bytes s.code initial seed 0 arrivals)
+    → TellsRun s 0 arrivals (trace s initial seed session arrivals) (run_bytes s.code initial seed session arrivals)
 
 -- what leads inward from a difference does so step by step, to one in which none stands, and nothing else does
 abbrev pub InnermostIsOne : Type 0

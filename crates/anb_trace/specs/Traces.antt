@@ -49,6 +49,6 @@ module _ (s : SubjectValue) (draw : ℕ → List ℕ) where
 abbrev pub known_lines : SubjectValue → List (List ℕ) → List ℕ
 known_lines s initial = codes "event 0\n  known\n" ++ value_lines s.protocol s.terms initial
 
--- the trace of a code's run, in session 0
-abbrev pub trace : SubjectValue → (initial : List (List ℕ)) → (seed : List ℕ) → (arrivals : List (List ℕ)) → List ℕ
-trace s initial seed arrivals = known_lines s initial ++ told_all s (draw_of seed 0) s.code.instrs initial 0 0 0 0 arrivals
+-- the trace of a code's run in a session
+abbrev pub trace : SubjectValue → (initial : List (List ℕ)) → (seed : List ℕ) → (session : ℕ) → (arrivals : List (List ℕ)) → List ℕ
+trace s initial seed session arrivals = known_lines s initial ++ told_all s (draw_of seed session) s.code.instrs initial 0 0 0 0 arrivals

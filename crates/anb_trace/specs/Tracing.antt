@@ -28,9 +28,9 @@ abbrev pub behind : Standing → Rest → List ℕ
 behind s rest = rest s.registers.items s.events s.drawn s.arrivals.now
 
 -- what was told of an instruction, the next of so many, and where it stands then; behind the last one nothing is said
-abbrev pub Tells : SubjectValue → (seed : List ℕ) → Instr → (first at : ℕ) → (old : Standing) → Told → (new : Standing) → Type 0
-Tells s seed instr first at old part new =
-    (rest : Rest) → told s (draw_of seed 0) (act_of s.code.formats instr) instr old.registers.items first old.events at old.drawn old.arrivals.now rest
+abbrev pub Tells : SubjectValue → (seed : List ℕ) → (session : ℕ) → Instr → (first at : ℕ) → (old : Standing) → Told → (new : Standing) → Type 0
+Tells s seed session instr first at old part new =
+    (rest : Rest) → told s (draw_of seed session) (act_of s.code.formats instr) instr old.registers.items first old.events at old.drawn old.arrivals.now rest
     ≡ part.text.items ++ (if part.goes_on then behind new rest else [])
 
 -- the counts are no further than the place
@@ -48,10 +48,10 @@ HasWritten act old part new = part.goes_on ≡ true → length new.registers.ite
 
 -- ---- by what an instruction does
 
-pub record TellsDraw (s : SubjectValue) (seed : List ℕ) (instr : Instr) (first : ℕ) (old : Standing) (part : Told) (new : Standing) : Type 0 where
+pub record TellsDraw (s : SubjectValue) (seed : List ℕ) (session : ℕ) (instr : Instr) (first : ℕ) (old : Standing) (part : Told) (new : Standing) : Type 0 where
   pub goes_on : part.goes_on ≡ true
-  pub text : part.text.items ≡ instr_lines s instr first (draw_of seed 0 old.drawn ∷ [])
-  pub registers : new.registers.items ≡ old.registers.items ++ draw_of seed 0 old.drawn ∷ []
+  pub text : part.text.items ≡ instr_lines s instr first (draw_of seed session old.drawn ∷ [])
+  pub registers : new.registers.items ≡ old.registers.items ++ draw_of seed session old.drawn ∷ []
   pub events : new.events ≡ old.events
   pub drawn : new.drawn ≡ old.drawn + 1
   pub arrivals : new.arrivals.now ≡ old.arrivals.now

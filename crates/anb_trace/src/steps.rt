@@ -46,6 +46,7 @@ pub(crate) fn step(
     alloc: Global,
     subject: &Subject<'_>,
     seed: &[u8; 32],
+    session: u32,
     standing: &mut Standing<'_>,
     instr: &Instr,
     at: usize,
@@ -60,8 +61,8 @@ pub(crate) fn step(
     requires ready { IsActReady (has_operator subject.now.code.now.formats)
         (length standing.old.registers.items) (act_of subject.now.code.now.formats instr.now) }
     requires fields { HasFewFields subject.now.code.now.formats instr.now }
-    ensures tells { IfOk result (λ told. Tells (subject_in subject.now) seed.now instr.now
-        first at standing.old told standing.new) }
+    ensures tells { IfOk result (λ told. Tells (subject_in subject.now) seed.now session
+        instr.now first at standing.old told standing.new) }
     ensures written { IfOk result (λ told. HasWritten
         (act_of subject.now.code.now.formats instr.now) standing.old told standing.new) }
     ensures within { IfOk result (λ told. IsWithin standing.new (at + 1)) }
@@ -71,7 +72,7 @@ pub(crate) fn step(
             text: Vec::new(alloc),
             goes_on: true,
         }),
-        Instr::Fresh => draws(alloc, subject, seed, standing, instr, at, first),
+        Instr::Fresh => draws(alloc, subject, seed, session, standing, instr, at, first),
         Instr::Recv => receives(alloc, subject, standing),
         Instr::Send(register) => sends(alloc, subject, standing, *register),
         _ => works(alloc, subject, standing, instr, at, first),
@@ -83,6 +84,7 @@ fn draws(
     alloc: Global,
     subject: &Subject<'_>,
     seed: &[u8; 32],
+    session: u32,
     standing: &mut Standing<'_>,
     instr: &Instr,
     at: usize,
@@ -94,11 +96,11 @@ fn draws(
         (take at subject.now.code.now.instrs) }
     requires few { at + 1 < 2 ^ 32 }
     requires drawn { standing.old.drawn ≤ at }
-    ensures told { IfOk result (λ told. TellsDraw (subject_in subject.now) seed.now instr.now
-        first standing.old told standing.new) }
+    ensures told { IfOk result (λ told. TellsDraw (subject_in subject.now) seed.now session
+        instr.now first standing.old told standing.new) }
 {
     let before = standing.registers.len();
-    let nonce = Vec::from_slice(alloc, &draw(seed, 0, standing.drawn))?;
+    let nonce = Vec::from_slice(alloc, &draw(seed, session, standing.drawn))?;
     standing.registers.push(Bytes::new(nonce))?;
     standing.drawn += 1;
     let mut text = Vec::new(alloc);

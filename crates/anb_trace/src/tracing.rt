@@ -20,7 +20,7 @@ use anb_text::{WriteNo, write_bytes, write_part};
 use std::alloc::Global;
 
 /// Writes the trace of a code's run over these arrivals, with these initial values and the draws of
-/// session 0. In memory are all registers, and what is told of one instruction at a time.
+/// the session. In memory are all registers, and what is told of one instruction at a time.
 pub fn write_trace<K: Sink>(
     alloc: Global,
     snk: &mut K,
@@ -29,12 +29,14 @@ pub fn write_trace<K: Sink>(
     explanation: &Explanation,
     initial: &[Bytes],
     seed: &[u8; 32],
+    session: u32,
     arrivals: &[Bytes],
 ) -> Result<(), WriteNo>
     requires ours { AreOurs protocol.now code.now explanation.now }
     requires count { length initial.now ≡ length (take_texts code.now.instrs) }
     ensures written { IsWritten
-        (trace (subject_of protocol.now code.now explanation.now) initial.now seed.now arrivals.now)
+        (trace (subject_of protocol.now code.now explanation.now) initial.now seed.now session
+        arrivals.now)
         result (K.written snk.old) (K.written snk.new) (K.faults snk.old) (K.faults snk.new) }
     ensures kept { K.kept snk.new ≡ K.kept snk.old }
 {
@@ -48,7 +50,7 @@ pub fn write_trace<K: Sink>(
         Err(no) => return Err(no),
     }
     match copies(alloc, initial) {
-        Ok(registers) => write_run(alloc, snk, &subject, registers, seed, arrivals),
+        Ok(registers) => write_run(alloc, snk, &subject, registers, seed, session, arrivals),
         Err(NoMemory) => Err(WriteNo::NoMemory),
     }
 }
@@ -83,12 +85,13 @@ fn write_run<K: Sink>(
     subject: &Subject<'_>,
     registers: Vec<Bytes>,
     seed: &[u8; 32],
+    session: u32,
     arrivals: &[Bytes],
 ) -> Result<(), WriteNo>
     requires ours { IsOurs subject.now }
     requires count { length registers.items ≡ length (take_texts subject.now.code.now.instrs) }
     ensures written { IsWritten
-        (told_all (subject_in subject.now) (draw_of seed.now 0) subject.now.code.now.instrs
+        (told_all (subject_in subject.now) (draw_of seed.now session) subject.now.code.now.instrs
         registers.items 0 0 0 0 arrivals.now)
         result (K.written snk.old) (K.written snk.new) (K.faults snk.old) (K.faults snk.new) }
     ensures kept { K.kept snk.new ≡ K.kept snk.old }
@@ -106,6 +109,7 @@ fn write_run<K: Sink>(
             alloc,
             subject,
             seed,
+            session,
             &mut standing,
             instr,
             at,

@@ -19,7 +19,7 @@ use Rattle.anb_command.proofs.Chains.{told_map}
 use Rattle.anb_command.proofs.Preparing.{told_both}
 use Rattle.anb_role_commands.specs.Jobs.{JobIs}
 use Rattle.anb_role_commands.specs.ReplayCommand.{ComparisonIs, IsReadToCompare}
-use Rattle.anb_role_commands.proofs.Preparing.{count_known, job_given, plays_as}
+use Rattle.anb_role_commands.proofs.Preparing.{count_known, job_given, plays_in}
 use Rattle.anb_trace_commands.specs.Tracing.{IsTraceable, job_by}
 
 module _ (narration name values transcript : List ℕ) (host_seed : Option (List ℕ)) (told : Option Files) (p : ProtocolValue) (role : ℕ) where
@@ -42,7 +42,7 @@ module _ (narration name values transcript : List ℕ) (host_seed : Option (List
     traceable law count bytes lines arrivals next =
         told_both told (λ files job n. record {
           asks = inr (job_by p role initial seed, job, inr (lines, n, refl));
-          comes = plays_as p role same initial seed law fits_same (count_known p role same initial fits_same count) bytes;
+          comes = plays_in p role same initial seed law fits_same (count_known p role same initial fits_same count) bytes;
           bytes = arrivals;
         }) job_asked next
 

@@ -41,9 +41,9 @@ module _ (S T : WireState) (at_place : HasReached Stdio S T) (U : WireState) (wr
   late_so s (inr (inl (is, rose))) early = let never : after_reach ≡ before_reach = ap phase_of (sym is) ∙ early in absurd (cc)
   late_so s (inr (inr (is, quiet))) early = let never : at_any_time ≡ before_reach = ap phase_of (sym is) ∙ early in absurd (cc)
 
-  module _ (p : ProtocolValue) (role : ℕ) (code : CodeValue) (initial : List (List ℕ)) (seed : List ℕ) (lines : List TranscriptLine) where
-    pub come_from : (s : Status) → HasComeOf p role code initial seed lines s T.written U.written → HasComeOf p role code initial seed lines s S.written U.written
-    come_from s come = subst (λ (w : Option (List ℕ)). HasComeOf p role code initial seed lines s w U.written) (ap (λ (w : WireState). w.written) at_place.same) come
+  module _ (p : ProtocolValue) (role : ℕ) (code : CodeValue) (initial : List (List ℕ)) (seed : List ℕ) (session : ℕ) (lines : List TranscriptLine) where
+    pub come_from : (s : Status) → HasComeOf p role code initial seed session lines s T.written U.written → HasComeOf p role code initial seed session lines s S.written U.written
+    come_from s come = subst (λ (w : Option (List ℕ)). HasComeOf p role code initial seed session lines s w U.written) (ap (λ (w : WireState). w.written) at_place.same) come
 
 -- ---- a place that wasn't
 
@@ -54,5 +54,5 @@ module _ (S T : WireState) (s : Status) (tried : (s ≡ Unreached Stdio) × DidN
   pub unreached_over : OverWire Stdio false s S T
   unreached_over = subst (λ (t : Status). OverWire Stdio false t S T) (sym tried.0) (not_reached Stdio S T tried.1 false)
 
-  pub unreached_come : (p : ProtocolValue) (role : ℕ) (code : CodeValue) (initial : List (List ℕ)) (seed : List ℕ) (lines : List TranscriptLine) → HasComeOf p role code initial seed lines s S.written T.written
-  unreached_come p role code initial seed lines = subst (λ (t : Status). HasComeOf p role code initial seed lines t S.written T.written) (sym tried.0) (written_unreached Stdio S T tried.1)
+  pub unreached_come : (p : ProtocolValue) (role : ℕ) (code : CodeValue) (initial : List (List ℕ)) (seed : List ℕ) (session : ℕ) (lines : List TranscriptLine) → HasComeOf p role code initial seed session lines s S.written T.written
+  unreached_come p role code initial seed session lines = subst (λ (t : Status). HasComeOf p role code initial seed session lines t S.written T.written) (sym tried.0) (written_unreached Stdio S T tried.1)

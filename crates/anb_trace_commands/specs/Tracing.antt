@@ -20,28 +20,27 @@ use Rattle.anb_command.specs.Prepared.{IsRunBy}
 use Rattle.anb_command.specs.Steps.{Answer, given}
 use Rattle.anb_role_commands.specs.Comparing.{IsReplayed}
 use Rattle.anb_role_commands.specs.Jobs.{Job}
-use Rattle.anb_role_commands.specs.PlayCommand.{PlayOf}
-use Rattle.anb_role_commands.specs.Playing.{play_by}
+use Rattle.anb_role_commands.specs.Playing.{PlayIn, play_in}
 use Rattle.anb_role_commands.specs.ReplayCommand.{Comparison, status_of}
 use Rattle.anb_trace_commands.specs.TraceCommand.{differing_line, subject_by}
 
 abbrev pub job_by : ProtocolValue → ℕ → (initial : List (List ℕ)) → (seed : List ℕ) → Job
 job_by p role initial seed = record { protocol = p; role = role; initial = initial; seed = seed }
 
--- this is asked for, and the code plays it
+-- this is asked for, and the code plays it in each session
 pub record IsTraceable (Asks : Answer Comparison → Type 0) (p : ProtocolValue) (role : ℕ) (code : CodeValue) (initial : List (List ℕ)) (seed : List ℕ) (lines : List TranscriptLine) : Type 0 where
   pub asks : Asks (given (record { job = job_by p role initial seed; lines = lines }))
-  pub comes : IsRunBy PlayOf (job_by p role initial seed) (play_by code initial seed)
+  pub comes : (session : ℕ) → IsRunBy (PlayIn session) (job_by p role initial seed) (play_in code initial seed session)
   pub bytes : AllByRecursion IsBytes (arrivals_of lines)
 
-module _ (p : ProtocolValue) (role : ℕ) (code : CodeValue) (initial : List (List ℕ)) (seed : List ℕ) (lines : List TranscriptLine) where
+module _ (p : ProtocolValue) (role : ℕ) (code : CodeValue) (initial : List (List ℕ)) (seed : List ℕ) (session : ℕ) (lines : List TranscriptLine) where
   -- a text of the code's run, behind a replay that ends with this status
   pub record IsDueAs (status : Status) (text : List ℕ) : Type 0 where
     pub some : status ≢ NoMemory
-    pub replayed : IsReplayed (play_by code initial seed) lines status
+    pub replayed : IsReplayed (play_in code initial seed session) lines status
     pub terms : List Tree
     pub are : register_terms p role code ≡ Some terms
-    pub is : text ≡ trace (subject_by (job_by p role initial seed) code terms) initial seed (arrivals_of lines) ++ differing_line status
+    pub is : text ≡ trace (subject_by (job_by p role initial seed) code terms) initial seed session (arrivals_of lines) ++ differing_line status
 
   -- what is written by then
   abbrev pub HasComeOf : Status → (written written_now : Option (List ℕ)) → Type 0

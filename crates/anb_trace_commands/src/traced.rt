@@ -18,7 +18,7 @@ ghost use Rattle.anb_command.specs.Reported.{TellsFaults};
 ghost use Rattle.anb_status.specs.Statuses.{before_reach, phase_of};
 ghost use Rattle.anb_command.specs.Touches.{Touches};
 ghost use Rattle.anb_role_commands.specs.Comparing.{IsReplayed};
-ghost use Rattle.anb_role_commands.specs.Playing.{play_by};
+ghost use Rattle.anb_role_commands.specs.Playing.{play_in};
 ghost use Rattle.anb_trace_commands.specs.TraceCommand.{CompletesTrace, DoesTrace, differing_line};
 ghost use Rattle.anb_trace_commands.specs.Tracing.{EndsAs, HasComeOf, ended_by};
 
@@ -36,22 +36,23 @@ use anb_values::one_fit;
 use itoa::Buffer;
 use std::alloc::Global;
 
-/// Tells what the role does over the arrivals of a transcript. The status is that of `replay`.
+/// Tells what the role does in this session over the arrivals of a transcript. The status is that of `replay`.
 pub fn trace<F: Shelf, W: Wire>(
     alloc: Global,
     shelf: &mut F,
     wire: &mut W,
     words: ReplayWords,
+    session: u32,
     host_seed: Option<[u8; 32]>,
 ) -> Status
     ensures does { DoesTrace words.entry.narration.now words.entry.name.now words.entry.values.now
-        words.entry.transcript.now host_seed (F.files shelf.old)
+        words.entry.transcript.now host_seed session (F.files shelf.old)
         (W.state wire.old) (W.state wire.new) result }
     ensures completes { NoneRose (words.entry.narration.now ∷ words.entry.values.now
         ∷ words.entry.transcript.now ∷ [])
         (F.faults shelf.old) (F.faults shelf.new) (W.state wire.old) (W.state wire.new)
         → CompletesTrace words.entry.narration.now words.entry.name.now words.entry.values.now
-        words.entry.transcript.now host_seed (F.files shelf.old)
+        words.entry.transcript.now host_seed session (F.files shelf.old)
         (W.state wire.old) (W.state wire.new) result }
     ensures faults { HasCause (words.entry.narration.now ∷ words.entry.values.now
         ∷ words.entry.transcript.now ∷ [])
@@ -74,13 +75,13 @@ pub fn trace<F: Shelf, W: Wire>(
     one_replay();
     traces_tell_runs();
     match prepare(alloc, shelf, words, host_seed) {
-        Ok(tracing) => trace_over(alloc, wire, tracing),
+        Ok(tracing) => trace_over(alloc, wire, tracing, session),
         Err(status) => status,
     }
 }
 
 /// Reaches the standard streams and writes the trace.
-fn trace_over<W: Wire>(alloc: Global, wire: &mut W, tracing: Tracing) -> Status
+fn trace_over<W: Wire>(alloc: Global, wire: &mut W, tracing: Tracing, session: u32) -> Status
     requires within { tracing.role < length tracing.protocol.roles }
     requires fits { FitsRole tracing.protocol tracing.role tracing.prepared.code }
     requires takes { length tracing.prepared.initial
@@ -89,19 +90,19 @@ fn trace_over<W: Wire>(alloc: Global, wire: &mut W, tracing: Tracing) -> Status
     requires few { length tracing.transcript + 1 < 2 ^ 32 }
     requires arrivals { All (λ arrival. length arrival ≤ ARRIVAL) (arrivals_of tracing.transcript) }
     ensures comes { HasComeOf tracing.protocol tracing.role tracing.prepared.code
-        tracing.prepared.initial tracing.prepared.seed tracing.transcript result
+        tracing.prepared.initial tracing.prepared.seed session tracing.transcript result
         (W.state wire.old).written (W.state wire.new).written }
     ensures late { phase_of result ≡ before_reach → ⊥ }
     ensures wire { OverWire place.Stdio false result (W.state wire.old) (W.state wire.new) }
 {
     match reach_stdio(wire) {
-        Ok(()) => trace_now(alloc, wire, tracing),
+        Ok(()) => trace_now(alloc, wire, tracing, session),
         Err(status) => status,
     }
 }
 
 /// Writes the trace to a wire that was reached.
-fn trace_now<W: Wire>(alloc: Global, wire: &mut W, tracing: Tracing) -> Status
+fn trace_now<W: Wire>(alloc: Global, wire: &mut W, tracing: Tracing, session: u32) -> Status
     requires within { tracing.role < length tracing.protocol.roles }
     requires fits { FitsRole tracing.protocol tracing.role tracing.prepared.code }
     requires takes { length tracing.prepared.initial
@@ -110,7 +111,7 @@ fn trace_now<W: Wire>(alloc: Global, wire: &mut W, tracing: Tracing) -> Status
     requires few { length tracing.transcript + 1 < 2 ^ 32 }
     requires arrivals { All (λ arrival. length arrival ≤ ARRIVAL) (arrivals_of tracing.transcript) }
     ensures comes { HasComeOf tracing.protocol tracing.role tracing.prepared.code
-        tracing.prepared.initial tracing.prepared.seed tracing.transcript result
+        tracing.prepared.initial tracing.prepared.seed session tracing.transcript result
         (W.state wire.old).written (W.state wire.new).written }
     ensures ends { EndsAs result (W.state wire.old) (W.state wire.new) }
     ensures only { OnlyWrites (W.state wire.old) (W.state wire.new) }
@@ -125,7 +126,7 @@ fn trace_now<W: Wire>(alloc: Global, wire: &mut W, tracing: Tracing) -> Status
         Ok(explanation) => explanation,
         Err(NoMemory) => return Status::NoMemory,
     };
-    let status = match compared(alloc, &prepared, &transcript) {
+    let status = match compared(alloc, &prepared, session, &transcript) {
         Ok(status) => status,
         Err(NoMemory) => return Status::NoMemory,
     };
@@ -138,6 +139,7 @@ fn trace_now<W: Wire>(alloc: Global, wire: &mut W, tracing: Tracing) -> Status
         wire,
         &protocol,
         &prepared,
+        session,
         &explanation,
         &arrivals,
         &status,
@@ -146,16 +148,22 @@ fn trace_now<W: Wire>(alloc: Global, wire: &mut W, tracing: Tracing) -> Status
 }
 
 /// The status of the replay.
-fn compared(alloc: Global, prepared: &Prepared, transcript: &Transcript) -> Result<Status, NoMemory>
+fn compared(
+    alloc: Global,
+    prepared: &Prepared,
+    session: u32,
+    transcript: &Transcript,
+) -> Result<Status, NoMemory>
     requires count { length prepared.now.initial ≡ length (take_texts prepared.now.code.instrs) }
     requires short { All (λ value. length value ≤ ARRIVAL) prepared.now.initial }
     requires few { length transcript.now + 1 < 2 ^ 32 }
     requires arrivals { All (λ arrival. length arrival ≤ ARRIVAL) (arrivals_of transcript.now) }
     ensures some { IfOk result (λ replayed. replayed ≢ status.NoMemory) }
     ensures replayed { IfOk result (IsReplayed
-        (play_by prepared.now.code prepared.now.initial prepared.now.seed) transcript.now) }
+        (play_in prepared.now.code prepared.now.initial prepared.now.seed session)
+        transcript.now) }
 {
-    match compare(alloc, prepared, transcript) {
+    match compare(alloc, prepared, session, transcript) {
         Status::NoMemory => Err(NoMemory),
         status => Ok(status),
     }
@@ -191,6 +199,7 @@ fn write_lines<W: Wire>(
     wire: &mut W,
     protocol: &Protocol,
     prepared: &Prepared,
+    session: u32,
     explanation: &Explanation,
     arrivals: &[Bytes],
     status: &Status,
@@ -199,7 +208,7 @@ fn write_lines<W: Wire>(
     requires count { length prepared.now.initial ≡ length (take_texts prepared.now.code.instrs) }
     ensures writes { IsWritten
         (trace (subject_of protocol.now prepared.now.code explanation.now) prepared.now.initial
-        prepared.now.seed arrivals.now ++ differing_line status.now) result
+        prepared.now.seed session arrivals.now ++ differing_line status.now) result
         (W.state wire.old).written (W.state wire.new).written
         (W.state wire.old).write_faults (W.state wire.new).write_faults }
     ensures only { OnlyWrites (W.state wire.old) (W.state wire.new) }
@@ -209,6 +218,7 @@ fn write_lines<W: Wire>(
         wire,
         protocol,
         prepared,
+        session,
         explanation,
         arrivals,
         status,
@@ -221,6 +231,7 @@ fn write_both<K: Sink>(
     snk: &mut K,
     protocol: &Protocol,
     prepared: &Prepared,
+    session: u32,
     explanation: &Explanation,
     arrivals: &[Bytes],
     status: &Status,
@@ -229,7 +240,7 @@ fn write_both<K: Sink>(
     requires count { length prepared.now.initial ≡ length (take_texts prepared.now.code.instrs) }
     ensures written { IsWritten
         (trace (subject_of protocol.now prepared.now.code explanation.now) prepared.now.initial
-        prepared.now.seed arrivals.now ++ differing_line status.now) result
+        prepared.now.seed session arrivals.now ++ differing_line status.now) result
         (K.written snk.old) (K.written snk.new) (K.faults snk.old) (K.faults snk.new) }
     ensures kept { K.kept snk.new ≡ K.kept snk.old }
 {
@@ -243,6 +254,7 @@ fn write_both<K: Sink>(
         explanation,
         initial,
         seed,
+        session,
         arrivals,
     ) {
         Ok(()) => {}

@@ -9,8 +9,8 @@ pub returns : goal.returns
 returns c =
     let p = c.args.prepared.now in
     let machine = c.in-Ok.machine in
-    let same = subst (λ (init : List (List ℕ)). (arrivals : List (List ℕ)) → gives machine arrivals ≡ run_bytes p.code init p.seed 0 arrivals) c.as_slice-initial.ensures c.in-Ok.ensures.run in
-    replayed_by (gives machine) (run_bytes p.code p.initial p.seed 0) same c.args.transcript.now c.replay.result c.status_of.result c.replay.ensures c.status_of.ensures
+    let same = subst (λ (init : List (List ℕ)). (arrivals : List (List ℕ)) → gives machine arrivals ≡ run_bytes p.code init p.seed c.args.session arrivals) c.as_slice-initial.ensures c.in-Ok.ensures.run in
+    replayed_by (gives machine) (run_bytes p.code p.initial p.seed c.args.session) same c.args.transcript.now c.replay.result c.status_of.result c.replay.ensures c.status_of.ensures
 
 pub returns-in-Err : goal.returns-in-Err
 returns-in-Err c = (replayed.NoMemory, tt, refl)

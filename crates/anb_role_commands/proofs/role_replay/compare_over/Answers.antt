@@ -1,5 +1,5 @@
 use Rattle.std.proofs.Common.{inl, inr}
-use Rattle.anb_role_commands.specs.Playing.{play_by}
+use Rattle.anb_role_commands.specs.Playing.{play_in}
 use Rattle.anb_role_commands.proofs.Replaying.{reached_only, replayed_wire, tried_only, tried_wire}
 use Rattle.anb_role_commands.proofs.role_replay.compare_over.Goals as goal
 
@@ -12,7 +12,7 @@ returns-in-Ok-clause-only_reaches g c = reached_only (g.W.Wire.state c.args.wire
 pub returns-in-Ok-clause-wire : goal.returns-in-Ok-clause-wire
 returns-in-Ok-clause-wire g c =
     let p = c.args.comparison.now.prepared in
-    replayed_wire (g.W.Wire.state c.args.wire.now) (g.W.Wire.state c.reach_stdio.new.wire) c.in-Ok.ensures.reached (play_by p.code p.initial p.seed) c.args.comparison.now.transcript c.compare.result c.compare.ensures
+    replayed_wire (g.W.Wire.state c.args.wire.now) (g.W.Wire.state c.reach_stdio.new.wire) c.in-Ok.ensures.reached (play_in p.code p.initial p.seed c.args.session) c.args.comparison.now.transcript c.compare.result c.compare.ensures
 
 pub returns-in-Err-clause-compared : goal.returns-in-Err-clause-compared
 returns-in-Err-clause-compared g c = inl c.in-Err.ensures.failed.0

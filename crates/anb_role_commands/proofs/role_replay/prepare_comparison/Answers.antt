@@ -11,7 +11,7 @@ returns-in-Ok-transcript_in_file-clause-ready g c =
     let words = c.args.words in
     let p = c.in-Ok.prepared in
     comparison_ready words.narration.now words.name.now words.values.now words.transcript.now c.args.host_seed (g.F.Shelf.files c.args.shelf.now) p.code p.initial p.seed c.in-Ok-transcript_in_file.transcript
-    c.in-Ok-transcript_in_file.ensures.bytes c.in-Ok.ensures.ready (rw kept at c.in-Ok-transcript_in_file.ensures.given)
+    c.in-Ok-transcript_in_file.ensures.bytes c.in-Ok.ensures.sessions (rw kept at c.in-Ok-transcript_in_file.ensures.given)
 
 pub returns-in-Err-transcript_in_file-clause-refused : goal.returns-in-Err-transcript_in_file-clause-refused
 returns-in-Err-transcript_in_file-clause-refused g c =
@@ -23,9 +23,9 @@ returns-in-Err-transcript_in_file-clause-refused g c =
     (λ file at. (
       third_of_three words.narration.now words.values.now words.transcript.now file at.0,
       Rose-later _ _ _ (kept.never_falls file) at.1,
-      transcript_read words.narration.now words.name.now words.values.now words.transcript.now c.args.host_seed told p.code p.initial p.seed file c.in-Ok.ensures.ready at.0,
+      transcript_read words.narration.now words.name.now words.values.now words.transcript.now c.args.host_seed told p.code p.initial p.seed file c.in-Ok.ensures.sessions at.0,
     ))
-    (λ is. transcript_refused words.narration.now words.name.now words.values.now words.transcript.now c.args.host_seed told p.code p.initial p.seed c.in-Err-transcript_in_file.status c.in-Ok.ensures.ready is)
+    (λ is. transcript_refused words.narration.now words.name.now words.values.now words.transcript.now c.args.host_seed told p.code p.initial p.seed c.in-Err-transcript_in_file.status c.in-Ok.ensures.sessions is)
     (rw kept.same_files at c.in-Err-transcript_in_file.ensures.refused)
 
 pub returns-in-Err-clause-refused : goal.returns-in-Err-clause-refused

@@ -11,7 +11,7 @@ pub returns-in-Ok-clause-does : goal.returns-in-Ok-clause-does
 returns-in-Ok-clause-does g c =
     let words = c.args.words in
     let p = c.in-Ok.comparison.prepared in
-    does_compared words.narration.now words.name.now words.values.now words.transcript.now c.args.host_seed
+    does_compared words.narration.now words.name.now words.values.now words.transcript.now c.args.host_seed c.args.session
     (comparison_one words.narration.now words.name.now words.values.now words.transcript.now c.args.host_seed c.narrations_are_unique.ensures c.refusals_are_unique.ensures c.none_is_both.ensures c.one_fit.ensures c.one_reading.ensures)
     c.one_replay.ensures p.code p.initial p.seed c.in-Ok.comparison.transcript (g.F.Shelf.files c.args.shelf.now) (g.W.Wire.state c.args.wire.now) (g.W.Wire.state c.compare_over.new.wire)
     c.in-Ok.ensures.ready c.compare_over.ensures.only_reaches c.compare_over.result c.compare_over.ensures.compared
@@ -23,7 +23,7 @@ returns-in-Ok-clause-faults g c =
 pub returns-in-Ok-clause-completes : goal.returns-in-Ok-clause-completes
 returns-in-Ok-clause-completes g c = λ none.
     let words = c.args.words in
-    completes_replay words.narration.now words.name.now words.values.now words.transcript.now c.args.host_seed (g.F.Shelf.files c.args.shelf.now) (g.W.Wire.state c.args.wire.now) (g.W.Wire.state c.compare_over.new.wire) c.compare_over.result (returns-in-Ok-clause-does g c)
+    completes_replay words.narration.now words.name.now words.values.now words.transcript.now c.args.host_seed c.args.session (g.F.Shelf.files c.args.shelf.now) (g.W.Wire.state c.args.wire.now) (g.W.Wire.state c.compare_over.new.wire) c.compare_over.result (returns-in-Ok-clause-does g c)
     (only_memory (words.narration.now ∷ words.values.now ∷ words.transcript.now ∷ []) Stdio (g.F.Shelf.faults c.args.shelf.now) (g.F.Shelf.faults c.prepare_comparison.new.shelf) (g.W.Wire.state c.args.wire.now) (g.W.Wire.state c.compare_over.new.wire) none c.compare_over.result (returns-in-Ok-clause-faults g c))
 
 pub returns-in-Ok-clause-reached : goal.returns-in-Ok-clause-reached
@@ -35,7 +35,7 @@ returns-in-Ok-clause-touches g c = c.compare_over.ensures.wire.touches
 pub returns-in-Err-clause-does : goal.returns-in-Err-clause-does
 returns-in-Err-clause-does g c =
     let words = c.args.words in
-    does_refused words.narration.now words.name.now words.values.now words.transcript.now c.args.host_seed
+    does_refused words.narration.now words.name.now words.values.now words.transcript.now c.args.host_seed c.args.session
     (comparison_one words.narration.now words.name.now words.values.now words.transcript.now c.args.host_seed c.narrations_are_unique.ensures c.refusals_are_unique.ensures c.none_is_both.ensures c.one_fit.ensures c.one_reading.ensures)
     (g.F.Shelf.files c.args.shelf.now) (g.W.Wire.state c.args.wire.now) c.in-Err.status c.in-Err.ensures.early (IsFailure-map c.in-Err.status _ _ _ _ (λ file at. at.2) (λ is. is) c.in-Err.ensures.refused)
 
@@ -49,7 +49,7 @@ returns-in-Err-clause-faults g c =
 pub returns-in-Err-clause-completes : goal.returns-in-Err-clause-completes
 returns-in-Err-clause-completes g c = λ none.
     let words = c.args.words in
-    completes_replay words.narration.now words.name.now words.values.now words.transcript.now c.args.host_seed (g.F.Shelf.files c.args.shelf.now) (g.W.Wire.state c.args.wire.now) (g.W.Wire.state c.args.wire.now) c.in-Err.status (returns-in-Err-clause-does g c)
+    completes_replay words.narration.now words.name.now words.values.now words.transcript.now c.args.host_seed c.args.session (g.F.Shelf.files c.args.shelf.now) (g.W.Wire.state c.args.wire.now) (g.W.Wire.state c.args.wire.now) c.in-Err.status (returns-in-Err-clause-does g c)
     (only_memory (words.narration.now ∷ words.values.now ∷ words.transcript.now ∷ []) Stdio (g.F.Shelf.faults c.args.shelf.now) (g.F.Shelf.faults c.prepare_comparison.new.shelf) (g.W.Wire.state c.args.wire.now) (g.W.Wire.state c.args.wire.now) none c.in-Err.status (returns-in-Err-clause-faults g c))
 
 pub returns-in-Err-clause-reached : goal.returns-in-Err-clause-reached

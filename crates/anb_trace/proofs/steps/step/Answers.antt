@@ -13,5 +13,5 @@ returns-in_default c =
     let x = c.args.instr.now in
     let n = c.in_default in
     let ready = work_ready (has_operator code.formats) (length old.registers.items) (act_of code.formats x) (is_work code.formats x n.not-Take n.not-Fresh n.not-Recv n.not-Send) c.requires.ready in
-    let each = step_works (subject_in c.args.subject.now) c.args.seed.now x c.args.first c.args.at old c.works.new.standing c.works.result c.requires.within ready c.works.ensures.told in
+    let each = step_works (subject_in c.args.subject.now) c.args.seed.now c.args.session x c.args.first c.args.at old c.works.new.standing c.works.result c.requires.within ready c.works.ensures.told in
     record { tells = each.0; written = each.1; within = each.2 }

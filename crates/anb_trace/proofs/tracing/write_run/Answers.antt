@@ -22,8 +22,8 @@ loop-at-init g c =
     record {
       placed = refl;
       within = (omega arith, omega arith);
-      left = left_first s c.args.seed.now c.formats-formats.ensures.verified start c.requires.count;
-      due = due_as (coming s c.args.seed.now start 0 0) (coming s c.args.seed.now start 0 0) _ _ refl;
+      left = left_first s c.args.seed.now c.args.session c.formats-formats.ensures.verified start c.requires.count;
+      due = due_as (coming s c.args.seed.now c.args.session start 0 0) (coming s c.args.seed.now c.args.session start 0 0) _ _ refl;
       kept = refl;
     }
 
@@ -36,7 +36,7 @@ step-requires-clause-at g c =
 
 pub step-requires-clause-ready : goal.step-requires-clause-ready
 step-requires-clause-ready g c =
-    is_ready (subject_in c.args.subject.now) c.args.seed.now c.loop-at.at c.instr-item.result (step-requires-clause-at g c) c.loop-at.first c.loop-at.standing c.loop-at.invariant.left
+    is_ready (subject_in c.args.subject.now) c.args.seed.now c.args.session c.loop-at.at c.instr-item.result (step-requires-clause-at g c) c.loop-at.first c.loop-at.standing c.loop-at.invariant.left
 
 pub step-requires-clause-fields : goal.step-requires-clause-fields
 step-requires-clause-fields g c =
@@ -55,7 +55,7 @@ returns-in-Err-write_bytes-clause-written g c =
     let P : List Instr → Type 0 = λ l. slice_get l i ≡ Some x in
     let here = subst P c.instrs-instr-items.ensures.instrs (slice_get-at c.instrs-instr-items.result.now i x (omega arith) c.instr-item.is) in
     let told = c.in-Ok.told in
-    let next = told_next s c.args.seed.now i x here c.loop-at.first c.loop-at.standing told c.step.new.standing c.in-Ok.ensures.tells in
+    let next = told_next s c.args.seed.now c.args.session i x here c.loop-at.first c.loop-at.standing told c.step.new.standing c.in-Ok.ensures.tells in
     let part : List ℕ = told.text.items in
     not_all _ _ _ _ _ _ _ part _ (same_due _ _ _ _ _ _ _ next c.loop-at.invariant.due) c.in-Err-write_bytes.no (rw (sym c.deref.ensures.value) c.in-Err-write_bytes.ensures.written)
 
@@ -89,13 +89,13 @@ loop-at-preserved g c =
     let new = c.step.new.standing in
     let on = c.if-not-goes_on.false in
     let many = c.count_written.ensures ∙ ap (λ (f : List FormatValue). count_written f x) c.formats-formats.ensures.formats in
-    let next = goes_on s c.args.seed.now i x here first old told new c.in-Ok.ensures.tells on in
-    let moved = ap (λ n. coming s c.args.seed.now new (first + n) (i + 1)) (sym many) in
+    let next = goes_on s c.args.seed.now c.args.session i x here first old told new c.in-Ok.ensures.tells on in
+    let moved = ap (λ n. coming s c.args.seed.now c.args.session new (first + n) (i + 1)) (sym many) in
     let part : List ℕ = told.text.items in
     record {
       placed = omega (arith, v.placed, many, count_next code.formats code.instrs i x here);
       within = c.in-Ok.ensures.within;
-      left = left_next s c.args.seed.now i x here first old told new on c.in-Ok.ensures.written v.left;
+      left = left_next s c.args.seed.now c.args.session i x here first old told new on c.in-Ok.ensures.written v.left;
       due = same_due _ _ _ _ _ _ _ moved (one_part _ _ _ _ _ _ _ part _ (same_due _ _ _ _ _ _ _ next v.due) c.in-Ok-write_bytes.field-0 (rw (sym c.deref.ensures.value) c.in-Ok-write_bytes.ensures.written));
       kept = c.write_bytes.ensures.kept ∙ v.kept;
     }
@@ -104,5 +104,5 @@ pub returns-clause-written : goal.returns-clause-written
 returns-clause-written g c =
     let s = subject_in c.args.subject.now in
     let v = c.loop-at.invariant in
-    let over = at_end s c.args.seed.now c.loop-at.standing c.loop-at.first c.loop-at.at (omega (arith, ap length c.instrs-instr-items.ensures.instrs)) in
+    let over = at_end s c.args.seed.now c.args.session c.loop-at.standing c.loop-at.first c.loop-at.at (omega (arith, ap length c.instrs-instr-items.ensures.instrs)) in
     last_part _ _ _ _ _ _ _ (codes "done\n") (same_due _ _ _ _ _ _ _ over v.due) c.write_bytes-2.result c.write_bytes-2.ensures.written

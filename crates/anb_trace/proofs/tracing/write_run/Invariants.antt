@@ -11,9 +11,9 @@ abbrev pub invariant-loop-at : goal.invariant-loop-at
 invariant-loop-at g l = record {
   placed : l.first ≡ count_registers l.subject.code.now.formats (take l.at l.subject.code.now.instrs);
   within : IsWithin l.standing l.at;
-  left : IsLeft (subject_in l.subject) l.seed l.standing l.at;
-  due : Due (told_all (subject_in l.subject) (draw_of l.seed 0) l.subject.code.now.instrs l.fn.registers.items 0 0 0 0 l.fn.arrivals)
+  left : IsLeft (subject_in l.subject) l.seed l.session l.standing l.at;
+  due : Due (told_all (subject_in l.subject) (draw_of l.seed l.session) l.subject.code.now.instrs l.fn.registers.items 0 0 0 0 l.fn.arrivals)
       (g.K.Sink.written l.fn.snk) (g.K.Sink.written l.snk) (g.K.Sink.faults l.fn.snk) (g.K.Sink.faults l.snk)
-      (coming (subject_in l.subject) l.seed l.standing l.first l.at);
+      (coming (subject_in l.subject) l.seed l.session l.standing l.first l.at);
   kept : g.K.Sink.kept l.snk ≡ g.K.Sink.kept l.fn.snk;
 }

@@ -13,7 +13,7 @@ returns-in-Ok-clause-does g c =
     let words = c.args.words in
     let t = c.in-Ok.tracing in
     let ok = c.in-Ok.ensures in
-    does_traced words.narration.now words.name.now words.values.now words.transcript.now c.args.host_seed
+    does_traced words.narration.now words.name.now words.values.now words.transcript.now c.args.host_seed c.args.session
     (comparison_one words.narration.now words.name.now words.values.now words.transcript.now c.args.host_seed c.narrations_are_unique.ensures c.refusals_are_unique.ensures c.none_is_both.ensures c.one_fit.ensures c.one_reading.ensures)
     c.one_replay.ensures t.protocol t.role t.prepared.code t.prepared.initial t.prepared.seed t.transcript ok.fits ok.verified ok.takes
     (g.F.Shelf.files c.args.shelf.now) (g.W.Wire.state c.args.wire.now) (g.W.Wire.state c.trace_over.new.wire) c.trace_over.result c.trace_over.ensures.late ok.ready c.trace_over.ensures.comes
@@ -25,7 +25,7 @@ returns-in-Ok-clause-faults g c =
 pub returns-in-Ok-clause-completes : goal.returns-in-Ok-clause-completes
 returns-in-Ok-clause-completes g c = λ none.
     let words = c.args.words in
-    completes_trace words.narration.now words.name.now words.values.now words.transcript.now c.args.host_seed
+    completes_trace words.narration.now words.name.now words.values.now words.transcript.now c.args.host_seed c.args.session
     (comparison_one words.narration.now words.name.now words.values.now words.transcript.now c.args.host_seed c.narrations_are_unique.ensures c.refusals_are_unique.ensures c.none_is_both.ensures c.one_fit.ensures c.one_reading.ensures)
     (g.F.Shelf.files c.args.shelf.now) (g.W.Wire.state c.args.wire.now) (g.W.Wire.state c.trace_over.new.wire) c.trace_over.result (returns-in-Ok-clause-does g c)
     (only_memory (words.narration.now ∷ words.values.now ∷ words.transcript.now ∷ []) Stdio (g.F.Shelf.faults c.args.shelf.now) (g.F.Shelf.faults c.prepare.new.shelf) (g.W.Wire.state c.args.wire.now) (g.W.Wire.state c.trace_over.new.wire) none c.trace_over.result (returns-in-Ok-clause-faults g c))
@@ -39,7 +39,7 @@ returns-in-Ok-clause-touches g c = c.trace_over.ensures.wire.touches
 pub returns-in-Err-clause-does : goal.returns-in-Err-clause-does
 returns-in-Err-clause-does g c =
     let words = c.args.words in
-    does_refused words.narration.now words.name.now words.values.now words.transcript.now c.args.host_seed
+    does_refused words.narration.now words.name.now words.values.now words.transcript.now c.args.host_seed c.args.session
     (comparison_one words.narration.now words.name.now words.values.now words.transcript.now c.args.host_seed c.narrations_are_unique.ensures c.refusals_are_unique.ensures c.none_is_both.ensures c.one_fit.ensures c.one_reading.ensures)
     (g.F.Shelf.files c.args.shelf.now) (g.W.Wire.state c.args.wire.now) c.in-Err.status (IsFailure-map c.in-Err.status _ _ _ _ (λ file at. at.2) (λ is. is) c.in-Err.ensures.refused)
 
@@ -53,7 +53,7 @@ returns-in-Err-clause-faults g c =
 pub returns-in-Err-clause-completes : goal.returns-in-Err-clause-completes
 returns-in-Err-clause-completes g c = λ none.
     let words = c.args.words in
-    completes_trace words.narration.now words.name.now words.values.now words.transcript.now c.args.host_seed
+    completes_trace words.narration.now words.name.now words.values.now words.transcript.now c.args.host_seed c.args.session
     (comparison_one words.narration.now words.name.now words.values.now words.transcript.now c.args.host_seed c.narrations_are_unique.ensures c.refusals_are_unique.ensures c.none_is_both.ensures c.one_fit.ensures c.one_reading.ensures)
     (g.F.Shelf.files c.args.shelf.now) (g.W.Wire.state c.args.wire.now) (g.W.Wire.state c.args.wire.now) c.in-Err.status (returns-in-Err-clause-does g c)
     (only_memory (words.narration.now ∷ words.values.now ∷ words.transcript.now ∷ []) Stdio (g.F.Shelf.faults c.args.shelf.now) (g.F.Shelf.faults c.prepare.new.shelf) (g.W.Wire.state c.args.wire.now) (g.W.Wire.state c.args.wire.now) none c.in-Err.status (returns-in-Err-clause-faults g c))

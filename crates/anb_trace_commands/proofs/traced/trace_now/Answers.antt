@@ -10,15 +10,15 @@ use Rattle.anb_trace_commands.proofs.traced.trace_now.Goals as goal
 pub returns-clause-comes : goal.returns-clause-comes
 returns-clause-comes g c =
     let t = c.args.tracing in
-    let due = due_so t.protocol t.role t.prepared.code t.prepared.initial t.prepared.seed t.transcript c.in-Ok-compared.status c.in-Ok.explanation _ c.in-Ok-compared.ensures.some c.in-Ok-compared.ensures.replayed c.in-Ok.ensures.plan c.in-Ok.ensures.terms (c.deref.ensures.value ∙ c.in-Ok-arrivals_of.ensures) in
-    subst (λ (s : Status). HasComeOf t.protocol t.role t.prepared.code t.prepared.initial t.prepared.seed t.transcript s (g.W.Wire.state c.args.wire.now).written (g.W.Wire.state c.write_lines-written.new.wire).written) (sym c.ended_by.ensures)
-    (come_so t.protocol t.role t.prepared.code t.prepared.initial t.prepared.seed t.transcript _ _ c.write_lines-written.result c.in-Ok-compared.status _ _ _ due c.write_lines-written.ensures.writes)
+    let due = due_so t.protocol t.role t.prepared.code t.prepared.initial t.prepared.seed c.args.session t.transcript c.in-Ok-compared.status c.in-Ok.explanation _ c.in-Ok-compared.ensures.some c.in-Ok-compared.ensures.replayed c.in-Ok.ensures.plan c.in-Ok.ensures.terms (c.deref.ensures.value ∙ c.in-Ok-arrivals_of.ensures) in
+    subst (λ (s : Status). HasComeOf t.protocol t.role t.prepared.code t.prepared.initial t.prepared.seed c.args.session t.transcript s (g.W.Wire.state c.args.wire.now).written (g.W.Wire.state c.write_lines-written.new.wire).written) (sym c.ended_by.ensures)
+    (come_so t.protocol t.role t.prepared.code t.prepared.initial t.prepared.seed c.args.session t.transcript _ _ c.write_lines-written.result c.in-Ok-compared.status _ _ _ due c.write_lines-written.ensures.writes)
 
 pub returns-clause-ends : goal.returns-clause-ends
 returns-clause-ends g c =
     let t = c.args.tracing in
     subst (λ (s : Status). EndsAs s (g.W.Wire.state c.args.wire.now) (g.W.Wire.state c.write_lines-written.new.wire)) (sym c.ended_by.ensures)
-    (ends_so t.protocol t.role t.prepared.code t.prepared.initial t.prepared.seed t.transcript c.write_lines-written.result c.in-Ok-compared.status _ (g.W.Wire.state c.args.wire.now) (g.W.Wire.state c.write_lines-written.new.wire) c.in-Ok-compared.ensures.replayed c.write_lines-written.ensures.writes)
+    (ends_so t.protocol t.role t.prepared.code t.prepared.initial t.prepared.seed c.args.session t.transcript c.write_lines-written.result c.in-Ok-compared.status _ (g.W.Wire.state c.args.wire.now) (g.W.Wire.state c.write_lines-written.new.wire) c.in-Ok-compared.ensures.replayed c.write_lines-written.ensures.writes)
 
 pub returns-clause-only : goal.returns-clause-only
 returns-clause-only g c = c.write_lines-written.ensures.only

@@ -6,7 +6,7 @@ returns-in-Ok-clause-comes g c =
     let t = c.args.tracing in
     let now = c.trace_now.ensures in
     come_from (g.W.Wire.state c.args.wire.now) (g.W.Wire.state c.reach_stdio.new.wire) c.in-Ok.ensures.reached (g.W.Wire.state c.trace_now.new.wire) now.only
-    t.protocol t.role t.prepared.code t.prepared.initial t.prepared.seed t.transcript c.trace_now.result now.comes
+    t.protocol t.role t.prepared.code t.prepared.initial t.prepared.seed c.args.session t.transcript c.trace_now.result now.comes
 
 pub returns-in-Ok-clause-late : goal.returns-in-Ok-clause-late
 returns-in-Ok-clause-late g c =
@@ -19,7 +19,7 @@ returns-in-Ok-clause-wire g c =
 pub returns-in-Err-clause-comes : goal.returns-in-Err-clause-comes
 returns-in-Err-clause-comes g c =
     let t = c.args.tracing in
-    unreached_come (g.W.Wire.state c.args.wire.now) (g.W.Wire.state c.reach_stdio.new.wire) c.in-Err.status c.in-Err.ensures.failed t.protocol t.role t.prepared.code t.prepared.initial t.prepared.seed t.transcript
+    unreached_come (g.W.Wire.state c.args.wire.now) (g.W.Wire.state c.reach_stdio.new.wire) c.in-Err.status c.in-Err.ensures.failed t.protocol t.role t.prepared.code t.prepared.initial t.prepared.seed c.args.session t.transcript
 
 pub returns-in-Err-clause-late : goal.returns-in-Err-clause-late
 returns-in-Err-clause-late g c = unreached_late (g.W.Wire.state c.args.wire.now) (g.W.Wire.state c.reach_stdio.new.wire) c.in-Err.status c.in-Err.ensures.failed

@@ -11,7 +11,7 @@ use Rattle.anb_trace_commands.proofs.traced.write_lines.Goals as goal
 pub returns-clause-writes : goal.returns-clause-writes
 returns-clause-writes g c =
     let p = c.args.prepared.now in
-    by_parts (λ (S T : WireState). IsWritten (trace (subject_of c.args.protocol.now p.code c.args.explanation.now) p.initial p.seed c.args.arrivals.now ++ differing_line c.args.status.now) c.write_both.result S.written T.written S.write_faults T.write_faults) _ _ _ _
+    by_parts (λ (S T : WireState). IsWritten (trace (subject_of c.args.protocol.now p.code c.args.explanation.now) p.initial p.seed c.args.session c.args.arrivals.now ++ differing_line c.args.status.now) c.write_both.result S.written T.written S.write_faults T.write_faults) _ _ _ _
     (g.met.W.Wire.state_tells c.args.wire.now) (g.met.W.Wire.state_tells c.write_both.new.snk) c.write_both.ensures.written
 
 pub returns-clause-only : goal.returns-clause-only
