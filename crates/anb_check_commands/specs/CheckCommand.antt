@@ -1,5 +1,5 @@
 -- What `check` does: it says where and why a narration's text is refused, or reports on its roles.
-use Rattle.std.specs.Prelude.{◌≡◌, ◌⊎◌, ℕ, true, false, List, [], length, take, Option, Some, slice_get}
+use Rattle.std.specs.Prelude.{◌≡◌, ◌⊎◌, ℕ, true, false, List, [], ◌++◌, length, take, Option, Some, slice_get}
 use Rattle.std.specs.List.{AllByRecursion}
 use Rattle.anb_base.specs.Moves.{Put}
 use Rattle.anb_base.specs.Wires.{WireState}
@@ -11,7 +11,8 @@ use Rattle.anb_code.specs.CodeValue.{CodeValue}
 use Rattle.anb_code.specs.Verified.{IsVerifiedCode}
 use Rattle.anb_compile.specs.Fitting.{FitRoles}
 use Rattle.anb_pattern.specs.Taken.{TakenValue}
-use Rattle.anb_stranger.specs.Texts.{IsAllSaidOf}
+use Rattle.anb_notes.specs.Idle.{IsNotedOf}
+use Rattle.anb_notes.specs.Notes.{notes}
 use Rattle.anb_lack.specs.Lacking.{IsLackText}
 use Rattle.anb_mistakes.specs.Unread.{IsUnreadText}
 use Rattle.anb_mistakes.specs.Unresolved.{IsUnresolvedText}
@@ -48,19 +49,21 @@ SaidOf name x (CannotSend action role) said = (n : Narration) × Text n x × IsL
 SaidOf name x status said = ⊥
 
 -- what is said of each role in order, by the patterns whose instances are exactly what it takes, by what comes of a
--- recording of another run, and by what somebody can send who knows only the agents' names
+-- recording of another run, by what somebody can send who knows only the agents' names, and by the new names that none of
+-- its patterns has
 pub record AreTaken (p : ProtocolValue) (taken : List TakenValue) : Type 0 where
   pub count : length taken ≡ length p.roles
-  pub each : (role : ℕ) (t : TakenValue) → slice_get taken role ≡ Some t → IsAllSaidOf p role t
+  pub each : (role : ℕ) (t : TakenValue) → slice_get taken role ≡ Some t → IsNotedOf p role t
 
--- the report on all roles, by a code for each that is accepted and fits it, and by what each takes
+-- the report on all roles, by a code for each that is accepted and fits it, and by what each takes; below it stand the
+-- notes on keys
 pub record IsReport (p : ProtocolValue) (said : List ℕ) : Type 0 where
   pub codes : List CodeValue
   pub accepted : AllByRecursion (IsVerifiedCode ARRIVAL WIDE) codes
   pub fit : FitRoles p codes
   pub taken : List TakenValue
   pub takes : AreTaken p taken
-  pub is : said ≡ report p codes taken
+  pub is : said ≡ report p codes taken ++ notes p
 
 -- the status of a text, and what is said of it
 abbrev pub IsVerdict : (name x : List ℕ) → Status → List ℕ → Type 0

@@ -20,12 +20,12 @@ use anb_command::{NarrationNo, Status, ill_formed};
 use anb_compile::{CompileNo, compile_all};
 use anb_lack::lack_text;
 use anb_mistakes::{unread_text, unresolved_text, unsent_text};
+use anb_notes::{noted_of, notes_on};
 use anb_pattern::Taken;
 use anb_protocol::{Protocol, ResolveNo, protocols_hold};
 use anb_read::{ReadNo, read};
 use anb_report::report;
 use anb_resolve::{resolve, small_is_countable};
-use anb_stranger::all_said_of;
 use anb_syntax::Narration;
 use anb_visible::visible;
 use itoa::Buffer;
@@ -157,14 +157,25 @@ fn lack_said(
     Ok(said)
 }
 
-/// The report on a protocol, by codes of its roles and by what these take.
+/// The report on a protocol, by codes of its roles and by what these take, and the notes on its keys.
 fn report_on(alloc: Global, protocol: &Protocol, codes: &[RoleCode]) -> Result<Bytes, NoMemory>
     requires { FitRoles protocol.now codes.now }
     ensures { IfOk result (λ said. IsReport protocol.now said) }
 {
     are_accepted(codes);
     let taken = taken_by_all(alloc, protocol)?;
-    report(alloc, protocol, codes, &taken)
+    let said = report(alloc, protocol, codes, &taken)?;
+    let notes = notes_on(alloc, protocol)?;
+    with_more(said, &notes)
+}
+
+/// A text with more behind it.
+fn with_more(text: Bytes, more: &[u8]) -> Result<Bytes, NoMemory>
+    ensures { IfOk result (λ whole. whole ≡ text ++ more.now) }
+{
+    let mut whole = text.into_vec();
+    whole.extend_from_slice(more)?;
+    Ok(Bytes::new(whole))
 }
 
 /// A law: codes of roles are accepted.
@@ -183,7 +194,8 @@ fn is_accepted(code: &RoleCode)
     let _ = code.instrs();
 }
 
-/// What is said of each role: what it takes, and what others can play to it.
+/// What is said of each role: what it takes, what others can play to it, and new names on which nothing
+/// depends.
 fn taken_by_all(alloc: Global, protocol: &Protocol) -> Result<Vec<Taken>, NoMemory>
     ensures { IfOk result (λ taken. AreTaken protocol.now taken.items) }
 {
@@ -191,7 +203,7 @@ fn taken_by_all(alloc: Global, protocol: &Protocol) -> Result<Vec<Taken>, NoMemo
     let _ = protocol.name();
     let mut out = Vec::new(alloc);
     for role in 0..protocol.roles().len() {
-        let taken = all_said_of(alloc, protocol, role as u32)?;
+        let taken = noted_of(alloc, protocol, role as u32)?;
         out.push(taken)?;
     }
     Ok(out)

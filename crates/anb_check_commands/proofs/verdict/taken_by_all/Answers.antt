@@ -1,8 +1,8 @@
 -- One more role.
 use Rattle.std.proofs.Common.{◌≡◌, ℕ, zero, suc, ◌+◌, List, [], ◌∷◌, length, Some, slice_get, sym, ap, ◌∙◌, subst, ⊎_elim, length-append}
 use Rattle.anb_term.proofs.Lists.{slice_get-last}
+use Rattle.anb_notes.specs.Idle.{IsNotedOf}
 use Rattle.anb_pattern.specs.Taken.{TakenValue}
-use Rattle.anb_stranger.specs.Texts.{IsAllSaidOf}
 use Rattle.anb_check_commands.proofs.verdict.taken_by_all.Goals as goal
 
 -- nothing is there
@@ -26,6 +26,6 @@ loop-role-preserved c =
     record {
       count = ap length c.in_ok-push.ensures.items ∙ length-append out (taken ∷ []) ∙ ap (λ n. n + 1) v.count;
       each = λ role t e.
-          ⊎_elim (λ h. v.each role t h) (λ (a, b). subst (λ n. IsAllSaidOf p n t) (sym (a ∙ v.count)) (subst (IsAllSaidOf p c.loop-role.role) b c.in_ok-taken.ensures))
+          ⊎_elim (λ h. v.each role t h) (λ (a, b). subst (λ n. IsNotedOf p n t) (sym (a ∙ v.count)) (subst (IsNotedOf p c.loop-role.role) b c.in_ok-taken.ensures))
           (slice_get-last out taken t role (ap (λ (l : List TakenValue). slice_get l role) (sym c.in_ok-push.ensures.items) ∙ e));
     }

@@ -1,0 +1,6 @@
+pub mod Standing
+pub mod Places
+pub mod Notes
+pub mod Idle
+-- for proofs alone
+pub mod Tables
