@@ -15,9 +15,9 @@ use Rattle.anb_protocol.specs.declared.refusals.ResolveNo.{ResolveNo}
 use Rattle.anb_read.proofs.Lexed.{lexed_end, lexed_bad}
 use Rattle.anb_mistakes.specs.Mends.{mend}
 use Rattle.anb_mistakes.specs.Pointing.{located, pointed}
-use Rattle.anb_mistakes.specs.Spots.{HasTokens, is_spot, nth, spot}
+use Rattle.anb_mistakes.specs.Spots.{HasTokens, is_spot, message, nth, spot}
 use Rattle.anb_mistakes.specs.Unresolved.{IsUnresolvedText, offset_in}
-use Rattle.anb_mistakes.specs.Unsent.{IsUnsentText, message}
+use Rattle.anb_mistakes.specs.Unsent.{IsUnsentText}
 use Rattle.anb_mistakes.specs.declared.spots.Follower.{Follower}
 
 pub last_token : (x : List ℕ) (from : ℕ) (n : Next) → IsNext x from n → ((t : Token) → n ≢ next.Token t) → (last : Tok) × Lexes from (drop from x) (last ∷ [])

@@ -1,3 +1,4 @@
+pub mod Beyond
 pub mod Items
 pub mod Laws
 pub mod Mends

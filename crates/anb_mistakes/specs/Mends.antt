@@ -1,5 +1,5 @@
 -- What would mend a narration that isn't well formed.
-use Rattle.std.specs.Prelude.{ℕ, List, [], ◌∷◌, ◌++◌, ◌==◌, codes, decimal, Option, Some, None, if◌then◌else◌}
+use Rattle.std.specs.Prelude.{ℕ, List, [], ◌∷◌, ◌++◌, Bool, ◌==◌, ◌||◌, codes, decimal, Option, Some, None, if◌then◌else◌}
 use Rattle.std.specs.List.{flat_map}
 use Rattle.anb_format.specs.Formats.{field_count}
 use Rattle.anb_format.specs.declared.pieces.FormatNo.{FormatNo}
@@ -8,7 +8,7 @@ use Rattle.anb_format.specs.declared.pieces.Piece.{Piece}
 use Rattle.anb_format.specs.declared.pieces.Piece.TheVariants.{Lit, Field}
 use Rattle.anb_syntax.specs.Canon.{word_bytes}
 use Rattle.anb_syntax.specs.Grammar.{Narration}
-use Rattle.anb_syntax.specs.Words.{Tok, literal, sort_word, tail}
+use Rattle.anb_syntax.specs.Words.{Tok, head, literal, sign, sort_word, tail, word_eqb}
 use Rattle.anb_syntax.specs.declared.narration.Sort.{Sort}
 use Rattle.anb_protocol.specs.declared.refusals.Kind.{Kind}
 use Rattle.anb_protocol.specs.declared.refusals.Kind.TheVariants as kind
@@ -41,10 +41,19 @@ abbrev pub sort_text : Option Sort → List ℕ
 sort_text None = []
 sort_text (Some s) = sort_word s
 
-abbrev pub unsorted : Narration → List ℕ → List ℕ
-unsorted n x =
+-- a role is due there: a colon or an arrow stands behind the name
+abbrev pub is_for_role : List Tok → Bool
+is_for_role ts = word_eqb (sign 58) (head ts) || word_eqb (sign 45) (head ts)
+
+-- how a format without fields is written, where it may stand
+abbrev pub written : List ℕ → List Tok → List ℕ
+written x ts = if is_for_role ts then [] else codes ": write " ++ (x ++ codes "()")
+
+-- where these tokens stand behind the name
+abbrev pub unsorted : Narration → List ℕ → List Tok → List ℕ
+unsorted n x ts =
     if is_format n.formats x then (if field_count (pieces_of n.formats x) == 0
-    then x ++ (codes " is a format without fields: write " ++ (x ++ codes "()"))
+    then x ++ (codes " is a format without fields" ++ written x ts)
     else x ++ (codes " is a format with " ++ fields_text (field_count (pieces_of n.formats x))))
     else x ++ (codes " is declared as " ++ sort_text (sort_of n.types x))
 
@@ -70,7 +79,7 @@ abbrev pub mend : Narration → ResolveNo → List Tok → List ℕ
 mend n (resolving.Limit k count) ts = codes "at most " ++ decimal (most k)
 mend n (resolving.Twice x) ts = codes "a name is declared once, and a role has one line of knowledge"
 mend n (resolving.Unknown x) ts = x ++ (codes " isn't declared" ++ near_text (near n x))
-mend n (resolving.WrongSort x) ts = unsorted n x
+mend n (resolving.WrongSort x) ts = unsorted n x (tail ts)
 mend n (resolving.WrongCount x) ts = miscounted n x (arguments (tail (tail ts)))
 mend n (resolving.FormatShape x why) ts = shape_text why
 mend n (resolving.Overlap f g) ts = overlap n f g

@@ -1,12 +1,17 @@
 -- Where in a text stands what its narration is refused for. All of it is said of the tokens of the text.
-use Rattle.std.specs.Prelude.{ℕ, ◌+◌, ◌-◌, List, [], ◌∷◌, ◌++◌, Bool, true, false, ◌==◌, nat_le, ◌&&◌, ◌||◌, not, Option, Some, None, if◌then◌else◌}
-use Rattle.anb_syntax.specs.Grammar.{Narration}
+use Rattle.std.specs.Prelude.{ℕ, ◌+◌, ◌-◌, List, [], ◌∷◌, ◌++◌, length, drop, Bool, true, false, ◌==◌, nat_eq, nat_le, nat_lt, ◌&&◌, ◌||◌, not, Option, Some, None, unwrap_or, slice_get, codes, if◌then◌else◌}
+use Rattle.std.specs.List.{starts_with}
+use Rattle.anb_syntax.specs.Grammar.{Narration, KnowItem, list_of}
 use Rattle.anb_syntax.specs.Lexing.{Lexes}
 use Rattle.anb_syntax.specs.Words.{Word, name, sign, Tok, head, tail, word_eqb, types_word, formats_word, knowledge_word, actions_word}
 use Rattle.anb_format.specs.Formats.{field_count}
+use Rattle.anb_format.specs.declared.pieces.FormatNo.{FormatNo}
+use Rattle.anb_format.specs.declared.pieces.FormatNo.TheVariants.{NoHead, RestNotLast}
 use Rattle.anb_syntax.specs.declared.narration.Sort.{Sort}
 use Rattle.anb_syntax.specs.declared.narration.Sort.TheVariants.{Agent}
 use Rattle.anb_mistakes.specs.Items.{is_format, pieces_of, sort_of}
+use Rattle.anb_mistakes.specs.Beyond.{heavy_term, large_term, wide_format}
+use Rattle.anb_protocol.specs.Names.{roles, terms}
 use Rattle.anb_protocol.specs.declared.refusals.Item.TheVariants.{Know, Action}
 use Rattle.anb_protocol.specs.declared.refusals.Kind.{Kind}
 use Rattle.anb_protocol.specs.declared.refusals.Kind.TheVariants as kind
@@ -106,6 +111,9 @@ a_sender = record { colon = false; arrow = true; paren = false; equals = false; 
 abbrev pub a_format : Follower
 a_format = record { colon = false; arrow = false; paren = false; equals = true; other = false; but = None }
 
+abbrev pub a_role : Follower
+a_role = record { colon = true; arrow = true; paren = false; equals = false; other = false; but = None }
+
 abbrev pub applied : Follower
 applied = record { colon = false; arrow = false; paren = true; equals = false; other = false; but = None }
 
@@ -149,23 +157,114 @@ second x ts =
 abbrev pub action : ℕ → List Tok → List Tok
 action n ts = nth [] a_sender (n - 1) (used ts)
 
--- the first format or action that is too much, and the whole text where no item is told
-abbrev pub limit_spot : Kind → List Tok → List Tok
-limit_spot kind.Formats ts = nth [] a_format 64 ts
-limit_spot kind.Actions ts = nth [] a_sender 256 (used ts)
-limit_spot k ts = ts
+-- the message of an action: behind the sender, the arrow, the receiver and the colon
+abbrev pub behind_ends : List Tok → List Tok
+behind_ends ts = tail (tail (tail (tail ts)))
+
+abbrev pub message : ℕ → List Tok → List Tok
+message n ts = behind_ends (action n ts)
+
+-- ---- a term of a line of knowledge
+
+abbrev pub is_end : Word → Bool
+is_end w = word_eqb (sign 44) w || word_eqb (sign 59) w
+
+-- the bytes of a word of a term
+abbrev pub spelling : Word → List ℕ
+spelling (name b) = b
+spelling (sign c) = c ∷ []
+spelling _ = []
+
+-- a comma or a semicolon stands behind words that are spelled so
+abbrev pub spells : List ℕ → List Tok → Bool
+spells x [] = false
+spells x (t ∷ ts) =
+    if length x == 0 then is_end t.word
+    else starts_with nat_eq x (spelling t.word) && spells (drop (length (spelling t.word)) x) ts
+
+-- a term that is spelled so, or any where nothing is told
+abbrev pub is_term : List ℕ → List Tok → Bool
+is_term [] ts = true
+is_term (c ∷ x) ts = spells (c ∷ x) ts
+
+-- how many signs are open behind a word
+abbrev pub depth_after : ℕ → Word → ℕ
+depth_after depth w =
+    if word_eqb (sign 40) w then depth + 1 else (if word_eqb (sign 41) w then depth - 1 else depth)
+
+-- the word is a comma between the terms of a list
+abbrev pub parts : ℕ → Word → Bool
+parts depth w = word_eqb (sign 44) w && depth == 0
+
+-- the tokens from the k-th such term of a list on, counted from 0; whether one begins here is told
+abbrev pub known : (x : List ℕ) → (k : ℕ) → (begins : Bool) → (depth : ℕ) → List Tok → List Tok
+known x k begins depth [] = []
+known x k begins depth (t ∷ ts) =
+    if begins && is_term x (t ∷ ts)
+    then (if k == 0 then t ∷ ts else known x (k - 1) (parts depth t.word) (depth_after depth t.word) ts)
+    else known x k (parts depth t.word) (depth_after depth t.word) ts
+
+-- what stands behind the head of a line, and its colon
+abbrev pub in_line : List Tok → List Tok
+in_line ts = tail (tail ts)
+
+-- A term of the narration, by its number from 0: first those of the lines of knowledge, the first of which
+-- is the line of number i, and then the messages.
+abbrev pub term_spot : List KnowItem → (i k : ℕ) → List Tok → List Tok
+term_spot [] i k ts = behind_ends (nth [] a_sender k (used ts))
+term_spot (l ∷ ls) i k ts =
+    if nat_lt k (length (list_of l.terms)) then known [] k true 0 (in_line (nth [] a_line i (used ts)))
+    else term_spot ls (i + 1) (k - length (list_of l.terms)) ts
+
+-- ---- what is beyond a limit
+
+abbrev pub is_long : Word → Bool
+is_long (name b) = nat_lt 64 (length b)
+is_long _ = false
+
+-- the first name that is too long
+abbrev pub long_name : List Tok → List Tok
+long_name [] = []
+long_name (t ∷ ts) = if is_long t.word then t ∷ ts else long_name ts
+
+-- the role of a number from 0, where it first heads a line or stands at an end of an action
+abbrev pub role_spot : Narration → ℕ → List Tok → List Tok
+role_spot n k ts = nth (unwrap_or (slice_get (roles n) k) []) a_role 0 (used ts)
+
+-- the first name, format, role, action or term that is beyond the limit
+abbrev pub limit_spot : Narration → Kind → List Tok → List Tok
+limit_spot n kind.Name ts = long_name ts
+limit_spot n kind.Formats ts = nth [] a_format 64 ts
+limit_spot n kind.Fields ts = nth [] a_format (wide_format n.formats) ts
+limit_spot n kind.Roles ts = role_spot n 32 ts
+limit_spot n kind.Actions ts = nth [] a_sender 256 (used ts)
+limit_spot n kind.TermNodes ts = term_spot n.knows 0 (large_term 1024 (terms n)) ts
+limit_spot n kind.AllNodes ts = term_spot n.knows 0 (heavy_term 65536 (terms n)) ts
+
+-- the first `rest` of a format
+abbrev pub rest_spot : List ℕ → List Tok → List Tok
+rest_spot x ts = nth (codes "rest") anything 0 (in_line (nth x a_format 0 ts))
+
+abbrev pub shape_spot : FormatNo → List ℕ → List Tok → List Tok
+shape_spot NoHead x ts = nth x a_format 0 ts
+shape_spot (RestNotLast i) x ts = rest_spot x ts
+
+-- the tokens from there on, where nothing is beyond a limit
+abbrev pub fault_spot : Narration → ResolveNo → List Tok → List Tok
+fault_spot n (resolving.Limit k count) ts = ts
+fault_spot n (resolving.Twice x) ts = second x ts
+fault_spot n (resolving.Unknown x) ts = nth x anything 0 (used ts)
+fault_spot n (resolving.WrongSort x) ts = nth x (misused n x) 0 (used ts)
+fault_spot n (resolving.WrongCount x) ts = nth x (applied_but (fields_of n x)) 0 (used ts)
+fault_spot n (resolving.FormatShape x why) ts = shape_spot why x ts
+fault_spot n (resolving.Overlap x y) ts = nth y a_format 0 ts
+fault_spot n (resolving.SelfSend i) ts = action i ts
+fault_spot n (resolving.KnowledgeTwice role x) ts = known x 1 true 0 (in_line (nth role a_line 0 (used ts)))
+fault_spot n (resolving.Wide (Know role)) ts = nth role a_line 0 (used ts)
+fault_spot n (resolving.Wide (Action i)) ts = action i ts
+fault_spot n resolving.NoMemory ts = ts
 
 -- the tokens from there on
 abbrev pub spot : Narration → ResolveNo → List Tok → List Tok
-spot n (resolving.Limit k count) ts = limit_spot k ts
-spot n (resolving.Twice x) ts = second x ts
-spot n (resolving.Unknown x) ts = nth x anything 0 (used ts)
-spot n (resolving.WrongSort x) ts = nth x (misused n x) 0 (used ts)
-spot n (resolving.WrongCount x) ts = nth x (applied_but (fields_of n x)) 0 (used ts)
-spot n (resolving.FormatShape x why) ts = nth x a_format 0 ts
-spot n (resolving.Overlap x y) ts = nth y a_format 0 ts
-spot n (resolving.SelfSend i) ts = action i ts
-spot n (resolving.KnowledgeTwice role t) ts = nth role a_line 0 (used ts)
-spot n (resolving.Wide (Know role)) ts = nth role a_line 0 (used ts)
-spot n (resolving.Wide (Action i)) ts = action i ts
-spot n resolving.NoMemory ts = ts
+spot n (resolving.Limit k count) ts = limit_spot n k ts
+spot n why ts = fault_spot n why ts

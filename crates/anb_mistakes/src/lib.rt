@@ -1,9 +1,13 @@
 //! What is said of a text that is refused: where in the text, why, and what would mend it.
 #![tactic(auto)]
 
+mod beyond;
 mod items;
+mod limits;
+mod listing;
 mod mends;
 mod near;
+mod parts;
 mod placing;
 mod pointing;
 mod spots;

@@ -3,13 +3,13 @@ ghost use Rattle.std.specs.Prelude.{◌≡◌, ◌≤◌, ◌++◌, IfOk, OnOk, 
 ghost use Rattle.std.specs.List.{flat_map};
 ghost use Rattle.anb_base.specs.declared.TheConstants.{SMALL_FILE};
 ghost use Rattle.anb_syntax.specs.Views.{format_of, narration_of, tok_of, type_of};
-ghost use Rattle.anb_mistakes.specs.Mends.{fields_text, given_text, lead, mend as mend_of, miscounted, most, near as near_in, overlap, shape_text, sort_text, unsorted};
+ghost use Rattle.anb_mistakes.specs.Mends.{fields_text, given_text, lead, mend as mend_of, miscounted, most, near as near_in, overlap, shape_text, sort_text, unsorted, written};
 ghost use Rattle.anb_mistakes.specs.Near.{hint, near_among, near_text};
 
 use crate::items::{field_count, is_format, pieces_of, sort_of};
 use crate::near::{put_hint, put_near};
 use crate::pointing::put;
-use crate::tokens::{arguments, others};
+use crate::tokens::{arguments, begins, others};
 use anb_base::{NoMemory, Text};
 use anb_format::{FormatNo, Piece};
 use anb_protocol::{Kind, ResolveNo};
@@ -46,7 +46,15 @@ pub(crate) fn mend(
             narration,
             name.as_str().as_bytes(),
         )?,
-        ResolveNo::WrongSort(name) => put_unsorted(&mut out, narration, name.as_str().as_bytes())?,
+        ResolveNo::WrongSort(name) => {
+            put_unsorted(
+                &mut out,
+                narration,
+                name.as_str().as_bytes(),
+                text,
+                others(tokens),
+            )?
+        }
         ResolveNo::WrongCount(name) => {
             let given = arguments(others(others(tokens)));
             put_miscounted(&mut out, narration, name.as_str().as_bytes(), given)?
@@ -166,24 +174,49 @@ fn put_near_formats(out: &mut Vec<u8>, formats: &[FormatItem], name: &[u8]) -> R
     Ok(())
 }
 
-/// Appends what a name is that is used as something else.
-fn put_unsorted(out: &mut Vec<u8>, narration: &Narration, name: &[u8]) -> Result<(), NoMemory>
-    ensures { OnOk result (out.new.items
-        ≡ out.old.items ++ unsorted (narration_of narration.now) name.now) }
+/// Appends what a name is that is used as something else, where these tokens stand behind it.
+fn put_unsorted(
+    out: &mut Vec<u8>,
+    narration: &Narration,
+    name: &[u8],
+    text: &[u8],
+    tokens: &[Token],
+) -> Result<(), NoMemory>
+    ensures { OnOk result (out.new.items ≡ out.old.items
+        ++ unsorted (narration_of narration.now) name.now (map (tok_of text.now) tokens.now)) }
 {
+    let _ = text;
     if !is_format(&narration.formats, name) {
         return put_sort(out, name, sort_of(&narration.types, name));
     }
     put(out, name)?;
     let count = field_count(pieces_of(&narration.formats, name));
     if count == 0 {
-        put(out, b" is a format without fields: write ")?;
-        put(out, name)?;
-        put(out, b"()")?;
-        return Ok(());
+        put(out, b" is a format without fields")?;
+        return put_written(out, name, text, tokens);
     }
     put(out, b" is a format with ")?;
     put_fields(out, count)?;
+    Ok(())
+}
+
+/// Appends how a format without fields is written, but not in the place of a role.
+fn put_written(
+    out: &mut Vec<u8>,
+    name: &[u8],
+    text: &[u8],
+    tokens: &[Token],
+) -> Result<(), NoMemory>
+    ensures { OnOk result (out.new.items ≡ out.old.items
+        ++ written name.now (map (tok_of text.now) tokens.now)) }
+{
+    let _ = text;
+    if begins(b':', tokens) || begins(b'-', tokens) {
+        return Ok(());
+    }
+    put(out, b": write ")?;
+    put(out, name)?;
+    put(out, b"()")?;
     Ok(())
 }
 

@@ -1,14 +1,19 @@
 //! Where in a text stands what its narration is refused for.
-ghost use Rattle.std.specs.Prelude.{◌≡◌, ◌≤◌, List, ℕ, length, map};
+ghost use Rattle.std.specs.Prelude.{◌≡◌, ◌≤◌, IfOk, List, ℕ, length, map};
 ghost use Rattle.anb_base.specs.declared.TheConstants.{SMALL_FILE};
 ghost use Rattle.anb_syntax.specs.Views.{narration_of, tok_of};
 ghost use Rattle.anb_syntax.specs.Words.{head};
-ghost use Rattle.anb_mistakes.specs.Spots.{a_format, a_line, a_sender, action as action_in, anything, applied, applied_but, before_uses, ends_types, behind as behind_in, behind_some, first_of, is_agent_sort, is_named, is_other, is_spot, item_at, limit_spot, misused, no_atom, not_applied, nth as nth_in, second as second_in, spot as spot_in, stands_behind, typed as typed_in, used as used_in};
+ghost use Rattle.anb_mistakes.specs.Spots.{a_format, a_line, a_role, a_sender, action as action_in, anything, applied, applied_but, before_uses, ends_types, behind as behind_in, behind_ends, behind_some, fault_spot, first_of, is_agent_sort, is_named, is_other, is_spot, item_at, message as message_in, misused, no_atom, not_applied, nth as nth_in, rest_spot, second as second_in, shape_spot, spot as spot_in, stands_behind, typed as typed_in, used as used_in};
 
 use crate::items::{field_count, is_format, pieces_of, sort_of};
+use crate::limits::limit_spot;
+use crate::listing::{in_line, known};
 use crate::tokens::{arguments, begins, is_sign, is_word, others};
-use anb_protocol::{Item, Kind, ResolveNo};
+use anb_base::NoMemory;
+use anb_format::FormatNo;
+use anb_protocol::{Item, ResolveNo};
 use anb_syntax::{Narration, Sort, Token, TokenKind};
+use std::alloc::Global;
 
 /// What stands behind a name that is sought: a colon, an arrow, an opening sign, an equals sign, or
 /// anything else; and where a number is told, another number of arguments than that.
@@ -44,7 +49,7 @@ fn anything() -> Follower
     }
 }
 
-fn a_line() -> Follower
+pub(crate) fn a_line() -> Follower
     ensures { result ≡ a_line }
 {
     Follower {
@@ -53,7 +58,17 @@ fn a_line() -> Follower
     }
 }
 
-fn a_sender() -> Follower
+pub(crate) fn a_role() -> Follower
+    ensures { result ≡ a_role }
+{
+    Follower {
+        colon: true,
+        arrow: true,
+        ..NOTHING
+    }
+}
+
+pub(crate) fn a_sender() -> Follower
     ensures { result ≡ a_sender }
 {
     Follower {
@@ -62,7 +77,7 @@ fn a_sender() -> Follower
     }
 }
 
-fn a_format() -> Follower
+pub(crate) fn a_format() -> Follower
     ensures { result ≡ a_format }
 {
     Follower {
@@ -169,7 +184,13 @@ fn is_spot(name: &[u8], behind: Follower, text: &[u8], tokens: &[Token]) -> bool
 }
 
 /// The tokens from the k-th such place on, counted from 0.
-fn nth<'t>(name: &[u8], behind: Follower, k: u32, text: &[u8], tokens: &'t [Token]) -> &'t [Token]
+pub(crate) fn nth<'t>(
+    name: &[u8],
+    behind: Follower,
+    k: usize,
+    text: &[u8],
+    tokens: &'t [Token],
+) -> &'t [Token]
     requires { length tokens.now ≤ SMALL_FILE }
     ensures tokens { map (tok_of text.now) result.now
         ≡ nth_in name.now behind k (map (tok_of text.now) tokens.now) }
@@ -248,7 +269,7 @@ fn typed<'t>(text: &[u8], tokens: &'t [Token]) -> &'t [Token]
 }
 
 /// The tokens where names are used.
-fn used<'t>(text: &[u8], tokens: &'t [Token]) -> &'t [Token]
+pub(crate) fn used<'t>(text: &[u8], tokens: &'t [Token]) -> &'t [Token]
     ensures tokens { map (tok_of text.now) result.now ≡ used_in (map (tok_of text.now) tokens.now) }
     ensures most { length result.now ≤ length tokens.now }
 {
@@ -279,37 +300,79 @@ fn second<'t>(name: &[u8], text: &[u8], tokens: &'t [Token]) -> &'t [Token]
 }
 
 /// The action of a number that counts from 1, by its sender.
-pub(crate) fn action<'t>(number: u32, text: &[u8], tokens: &'t [Token]) -> &'t [Token]
+fn action<'t>(number: u32, text: &[u8], tokens: &'t [Token]) -> &'t [Token]
     requires { length tokens.now ≤ SMALL_FILE }
     ensures tokens { map (tok_of text.now) result.now
         ≡ action_in number (map (tok_of text.now) tokens.now) }
     ensures most { length result.now ≤ length tokens.now }
 {
-    nth(
-        b"",
-        a_sender(),
-        number.saturating_sub(1),
-        text,
-        used(text, tokens),
-    )
+    let number = (number as usize).saturating_sub(1);
+    nth(b"", a_sender(), number, text, used(text, tokens))
 }
 
-/// The first format or action that is too much, or the whole text.
-fn limit_spot<'t>(kind: Kind, text: &[u8], tokens: &'t [Token]) -> &'t [Token]
+/// The message of an action.
+pub(crate) fn message<'t>(number: u32, text: &[u8], tokens: &'t [Token]) -> &'t [Token]
     requires { length tokens.now ≤ SMALL_FILE }
-    ensures tokens { map (tok_of text.now) result.now
-        ≡ limit_spot kind (map (tok_of text.now) tokens.now) }
+    ensures { map (tok_of text.now) result.now
+        ≡ message_in number (map (tok_of text.now) tokens.now) }
+{
+    behind_ends(action(number, text, tokens))
+}
+
+/// What stands behind the ends of an action, and the signs between.
+pub(crate) fn behind_ends(tokens: &[Token]) -> &[Token]
+    ensures tokens { (text : List ℕ) → map (tok_of text) result.now
+        ≡ behind_ends (map (tok_of text) tokens.now) }
     ensures most { length result.now ≤ length tokens.now }
 {
-    match kind {
-        Kind::Formats => nth(b"", a_format(), 64, text, tokens),
-        Kind::Actions => nth(b"", a_sender(), 256, text, used(text, tokens)),
-        _ => tokens,
+    others(others(others(others(tokens))))
+}
+
+/// The first `rest` of a format.
+fn rest_spot<'t>(name: &[u8], text: &[u8], tokens: &'t [Token]) -> &'t [Token]
+    requires { length tokens.now ≤ SMALL_FILE }
+    ensures tokens { map (tok_of text.now) result.now
+        ≡ rest_spot name.now (map (tok_of text.now) tokens.now) }
+    ensures most { length result.now ≤ length tokens.now }
+{
+    let format = in_line(nth(name, a_format(), 0, text, tokens));
+    nth(b"rest", anything(), 0, text, format)
+}
+
+/// Where a format's shape is wrong.
+fn shape_spot<'t>(why: FormatNo, name: &[u8], text: &[u8], tokens: &'t [Token]) -> &'t [Token]
+    requires { length tokens.now ≤ SMALL_FILE }
+    ensures tokens { map (tok_of text.now) result.now
+        ≡ shape_spot why name.now (map (tok_of text.now) tokens.now) }
+    ensures most { length result.now ≤ length tokens.now }
+{
+    match why {
+        FormatNo::NoHead => nth(name, a_format(), 0, text, tokens),
+        FormatNo::RestNotLast(_) => rest_spot(name, text, tokens),
     }
 }
 
 /// The tokens from where it stands on.
 pub(crate) fn spot<'t>(
+    alloc: Global,
+    narration: &Narration,
+    why: &ResolveNo,
+    text: &[u8],
+    tokens: &'t [Token],
+) -> Result<&'t [Token], NoMemory>
+    requires { length tokens.now ≤ SMALL_FILE }
+    ensures tokens { IfOk result (λ s. map (tok_of text.now) s.now
+        ≡ spot_in (narration_of narration.now) why.now (map (tok_of text.now) tokens.now)) }
+    ensures most { IfOk result (λ s. length s.now ≤ length tokens.now) }
+{
+    match why {
+        ResolveNo::Limit(kind, _) => limit_spot(alloc, narration, *kind, text, tokens),
+        _ => Ok(fault_spot(narration, why, text, tokens)),
+    }
+}
+
+/// The same where it isn't beyond a limit.
+fn fault_spot<'t>(
     narration: &Narration,
     why: &ResolveNo,
     text: &[u8],
@@ -317,12 +380,12 @@ pub(crate) fn spot<'t>(
 ) -> &'t [Token]
     requires { length tokens.now ≤ SMALL_FILE }
     ensures tokens { map (tok_of text.now) result.now
-        ≡ spot_in (narration_of narration.now) why.now (map (tok_of text.now) tokens.now) }
+        ≡ fault_spot (narration_of narration.now) why.now (map (tok_of text.now) tokens.now) }
     ensures most { length result.now ≤ length tokens.now }
 {
     let used = used(text, tokens);
     match why {
-        ResolveNo::Limit(kind, _) => limit_spot(*kind, text, tokens),
+        ResolveNo::Limit(_, _) => tokens,
         ResolveNo::Twice(name) => second(name.as_str().as_bytes(), text, tokens),
         ResolveNo::Unknown(name) => { nth(name.as_str().as_bytes(), anything(), 0, text, used) }
         ResolveNo::WrongSort(name) => {
@@ -334,15 +397,16 @@ pub(crate) fn spot<'t>(
             let fields = field_count(pieces_of(&narration.formats, name));
             nth(name, applied_but(fields), 0, text, used)
         }
-        ResolveNo::FormatShape(name, _) => {
-            nth(name.as_str().as_bytes(), a_format(), 0, text, tokens)
+        ResolveNo::FormatShape(name, why) => {
+            shape_spot(*why, name.as_str().as_bytes(), text, tokens)
         }
         ResolveNo::Overlap(_, name) => {
             nth(name.as_str().as_bytes(), a_format(), 0, text, tokens)
         }
         ResolveNo::SelfSend(number) => action(*number, text, tokens),
-        ResolveNo::KnowledgeTwice(role, _) => {
-            nth(role.as_str().as_bytes(), a_line(), 0, text, used)
+        ResolveNo::KnowledgeTwice(role, term) => {
+            let line = nth(role.as_str().as_bytes(), a_line(), 0, text, used);
+            known(term.as_str().as_bytes(), 1, text, in_line(line))
         }
         ResolveNo::Wide(Item::Know(role)) => {
             nth(role.as_str().as_bytes(), a_line(), 0, text, used)

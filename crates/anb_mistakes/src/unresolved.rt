@@ -29,7 +29,7 @@ pub fn unresolved_text(
         why.now reason.now) }
 {
     let all = tokens(alloc, text)?;
-    let there = spot(narration, why, text, &all);
+    let there = spot(alloc, narration, why, text, &all)?;
     let mend = mend(alloc, narration, why, text, there)?;
     let name = name.as_str().as_bytes();
     let at = offset(text, there);
