@@ -1,26 +1,35 @@
 -- What is written of the chart of a protocol.
-use Rattle.std.proofs.Common.{◌≡◌, ℕ, true, List, Option, refl, sym, inl, inr, ◌∙◌}
-use Rattle.anb_read.specs.Laws.{NarrationsAreUnique, RefusalsAreUnique, NoneIsBoth}
+use Rattle.std.proofs.Common.{◌≡◌, ℕ, true, List, Option, refl, ap, sym, subst, inl, inr, ◌∙◌}
+use Rattle.anb_syntax.specs.Grammar.{Narration}
+use Rattle.anb_read.specs.declared.refusal.ReadNo.{ReadNo}
 use Rattle.anb_protocol.specs.Protocols.{ProtocolValue}
-use Rattle.anb_chart.specs.Charts.{chart}
+use Rattle.anb_read.specs.Laws.{NarrationsAreUnique, RefusalsAreUnique, NoneIsBoth}
 use Rattle.anb_status.specs.declared.status.Status.{Status}
 use Rattle.anb_status.specs.declared.status.Status.TheVariants.{ChildFault, ChildSilent, FileFault, Unreached, WriteFault, NoMemory}
 use Rattle.anb_command.specs.Fetches.{Files, IfTold}
-use Rattle.anb_command.specs.Files.{ProtocolInFile}
+use Rattle.anb_command.specs.Files.{FileIs, ProtocolIs}
+use Rattle.anb_command.specs.declared.limits.TheConstants.{NARRATION_LIMIT}
+use Rattle.anb_choice.specs.Laws.{ChoicesAreUnique, NoneIsBoth as NoChoiceIsRefused}
 use Rattle.anb_status.specs.Statuses.{is_fault}
 use Rattle.anb_command.specs.Steps.{Answer, AnswersWith, refused, given, HasOneAnswer, InTurn, IsFailure}
 use Rattle.anb_command.specs.Writing.{Writes, WritesLess, IsWriting, IsWritingOne, IsWritten}
+use Rattle.anb_base.proofs.Moving.{put_nothing}
 use Rattle.anb_command.proofs.Chains.{first_refused, told_map}
 use Rattle.anb_command.proofs.Failing.{IsFailure-map}
-use Rattle.anb_command.proofs.Ones.{RefusesQuietly, is_one, is_quiet, not_both, narration_in_file_quiet, one_settled, protocol_in_file_one, protocol_quiet, same_refusal, then_one, then_quiet}
-use Rattle.anb_command.proofs.Written.{completes_text, the_one, told_refusal, written}
-use Rattle.anb_chart_commands.specs.ReportCommands.{ChartOf, ChartText, CompletesChart}
+use Rattle.anb_command.proofs.Ones.{IsQuiet, RefusesQuietly, file_one, file_quiet, is_one, is_quiet, not_both, one_settled, protocol_one, protocol_quiet, quiet_as, same_refusal, then_one, then_quiet}
+use Rattle.anb_command.proofs.Written.{completes_text, refusal, the_one, told_refusal, written}
+use Rattle.anb_chart_commands.specs.ReportCommands.{ChartOf, ChartText, ChoiceIs, CompletesChart, OneIs, Told, ToldInFile, ToldIs, branched, chart_of, one}
 
 -- ---- one text
 
 module _ (text : List ℕ) (w now : Option (List ℕ)) where
   pub writes_one : (s : Status) → IsWritten text s w now → IsWritingOne (AnswersWith text) s w now
   writes_one s is = the_one (AnswersWith text) (is_one text) w now s (written (AnswersWith text) (one_settled (AnswersWith text) (is_one text)) w now text s refl is)
+
+-- memory is wanting before it is written
+pub writes_none : (text : List ℕ) (w : Option (List ℕ)) → IsWritingOne (AnswersWith text) NoMemory w w
+writes_none text w =
+    the_one (AnswersWith text) (is_one text) w w NoMemory (refusal (AnswersWith text) (one_settled (AnswersWith text) (is_one text)) w w NoMemory (λ file. ⊥) (is_quiet text) tt (put_nothing w))
 
 -- ---- behind a step that gives something
 
@@ -55,25 +64,54 @@ module _ {A : Type 0} (First : Answer A → Type 0) (Next : A → Answer (List �
 
 -- ---- `chart`
 
-chart_quiet : (narration : List ℕ) (files : Files) → RefusesQuietly (ChartText files narration)
-chart_quiet narration files = then_quiet (then_quiet (narration_in_file_quiet files narration) protocol_quiet) (λ (p : ProtocolValue). is_quiet (chart p))
+told_one : NarrationsAreUnique → RefusalsAreUnique → NoneIsBoth → ChoicesAreUnique → NoChoiceIsRefused → (x : List ℕ) → HasOneAnswer (ToldIs x)
+told_one narrations refusals none choices no_choice x = is where
+  choice_one : (why : ReadNo) → HasOneAnswer (ChoiceIs x why)
+  choice_one why (refused s) (refused t) a b = ap refused (a.0 ∙ sym b.0)
+  choice_one why (refused s) (given (one p)) a b = absurd b
+  choice_one why (refused s) (given (branched c)) a b = absurd (no_choice x c a.1.0 b.0 b.1 a.1.1)
+  choice_one why (given (one p)) t a b = absurd a
+  choice_one why (given (branched c)) (refused t) a b = absurd (no_choice x c b.1.0 a.0 a.1 b.1.1)
+  choice_one why (given (branched c)) (given (one p)) a b = absurd b
+  choice_one why (given (branched c)) (given (branched d)) a b = ap (λ z. given (branched z)) (choices x c d a.0 b.0)
 
-module _ (narrations : NarrationsAreUnique) (refusals : RefusalsAreUnique) (none : NoneIsBoth) (told : Option Files) (narration : List ℕ) where
+  narration_told : (n : Narration) → HasOneAnswer (OneIs n)
+  narration_told n = then_one (ProtocolIs n) (λ p. AnswersWith (one p)) (protocol_one n) (λ p. is_one (one p))
+
+  is : HasOneAnswer (ToldIs x)
+  is s t (inl (n, told, a)) (inl (m, also, b)) = narration_told n s t a (subst (λ (z : Narration). OneIs z t) (narrations x m n also told) b)
+  is s t (inl (n, told, a)) (inr (why, unread, b)) = absurd (none x n why told unread)
+  is s t (inr (why, unread, a)) (inl (n, told, b)) = absurd (none x n why told unread)
+  is s t (inr (why, unread, a)) (inr (other, also, b)) = choice_one why s t a (subst (λ (z : ReadNo). ChoiceIs x z t) (refusals x other why also unread) b)
+
+told_quiet : (x : List ℕ) → RefusesQuietly (ToldIs x)
+told_quiet x = record { each = by } where
+  by : (s : Status) → ToldIs x (refused s) → IsQuiet s
+  by s (inl (n, told, a)) = (then_quiet (protocol_quiet n) (λ (p : ProtocolValue). is_quiet (one p))).each s a
+  by s (inr (why, unread, a)) = quiet_as s _ a.0 (refl, refl)
+
+chart_quiet : (narration : List ℕ) (files : Files) → RefusesQuietly (ChartText files narration)
+chart_quiet narration files = then_quiet (then_quiet (file_quiet files narration NARRATION_LIMIT) told_quiet) (λ (t : Told). is_quiet (chart_of t))
+
+module _ (narrations : NarrationsAreUnique) (refusals : RefusalsAreUnique) (none : NoneIsBoth) (choices : ChoicesAreUnique) (no_choice : NoChoiceIsRefused)
+    (told : Option Files) (narration : List ℕ) where
   chart_one : (files : Files) → HasOneAnswer (ChartText files narration)
-  chart_one files = then_one (ProtocolInFile files narration) ChartOf (protocol_in_file_one narrations refusals none files narration) (λ p. is_one (chart p))
+  chart_one files =
+      then_one (ToldInFile files narration) ChartOf
+      (then_one (FileIs files narration NARRATION_LIMIT) ToldIs (file_one files narration NARRATION_LIMIT) (told_one narrations refusals none choices no_choice)) (λ t. is_one (chart_of t))
 
   as_one : (w now : Option (List ℕ)) (s : Status) → IfTold told (λ files. IsWriting (ChartText files narration) s w now) → IfTold told (λ files. IsWritingOne (ChartText files narration) s w now)
   as_one w now s is = told_map told (λ files writing. the_one (ChartText files narration) (chart_one files) w now s writing) is
 
-  pub writes_chart : (w now : Option (List ℕ)) (p : ProtocolValue) (s : Status) → IfTold told (λ files. ProtocolInFile files narration (given p)) → IsWritingOne (ChartOf p) s w now
+  pub writes_chart : (w now : Option (List ℕ)) (t : Told) (s : Status) → IfTold told (λ files. ToldInFile files narration (given t)) → IsWritingOne (ChartOf t) s w now
       → IfTold told (λ files. IsWritingOne (ChartText files narration) s w now)
-  writes_chart w now p s first is =
-      as_one w now s (told_map told (λ files f. writing_then (ProtocolInFile files narration) ChartOf (chart_one files) s p f w now is.writes) first)
+  writes_chart w now t s first is =
+      as_one w now s (told_map told (λ files f. writing_then (ToldInFile files narration) ChartOf (chart_one files) s t f w now is.writes) first)
 
-  pub refuses_chart : (w : Option (List ℕ)) (s : Status) (P : List ℕ → Type 0) → IsFailure s P (IfTold told (λ files. ProtocolInFile files narration (refused s)))
+  pub refuses_chart : (w : Option (List ℕ)) (s : Status) (P : List ℕ → Type 0) → IsFailure s P (IfTold told (λ files. ToldInFile files narration (refused s)))
       → IfTold told (λ files. IsWritingOne (ChartText files narration) s w w)
   refuses_chart w s P fails =
-      let refusal = IsFailure-map s P P _ _ (λ file at. at) (first_refused (λ files. ProtocolInFile files narration) ChartOf told s) fails in
+      let refusal = IsFailure-map s P P _ _ (λ file at. at) (first_refused (λ files. ToldInFile files narration) ChartOf told s) fails in
       as_one w w s (told_refusal (λ files. ChartText files narration) (λ files. one_settled (ChartText files narration) (chart_one files)) (chart_quiet narration) told w s P refusal)
 
 -- where nothing failed

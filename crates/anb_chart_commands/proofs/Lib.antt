@@ -1,2 +1,4 @@
+pub mod ChartLines
 pub mod Charted
+pub mod Parting
 pub mod RoleCharted

@@ -1,1 +1,4 @@
+pub mod ChoiceCharts
 pub mod ReportCommands
+-- for proofs alone
+pub mod Views

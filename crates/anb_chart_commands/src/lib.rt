@@ -1,6 +1,9 @@
 //! Commands that show a protocol to a person, and read nothing from the wire.
 #![tactic(auto)]
 
+mod choices;
+mod telling;
+
 ghost use Rattle.std.specs.Prelude.{◌≡◌, ◌<◌, [], ◌∷◌, length, Some, false, IfErr, IfOk};
 ghost use Rattle.anb_base.specs.declared.place.Place.TheVariants as place;
 ghost use Rattle.anb_chart.specs.Charts.{chart};
@@ -15,21 +18,28 @@ ghost use Rattle.anb_status.specs.Statuses.{IsEarly, phase_of};
 ghost use Rattle.anb_command.specs.Steps.{IsFailure, given, refused};
 ghost use Rattle.anb_command.specs.Touches.{Touches};
 ghost use Rattle.anb_command.specs.Writing.{IsWritingOne};
-ghost use Rattle.anb_chart_commands.specs.ReportCommands.{ChartOf, CompletesChart, CompletesRoleChart, DoesChart, DoesRoleChart, IsRoleChart, RoleChartText};
+ghost use Rattle.anb_chart_commands.specs.ReportCommands.{ChartOf, CompletesChart, CompletesRoleChart, DoesChart, DoesRoleChart, IsRoleChart, RoleChartText, branched, one};
+ghost use Rattle.anb_chart_commands.specs.Views.{IsDrawable, told_of};
+ghost use Rattle.anb_choice.specs.Lawful.{IsLawful};
+ghost use Rattle.anb_choice.specs.Views.{branched_of};
 ghost use Rattle.anb_text.specs.Writing.{IsWritten};
 
+use crate::choices::choice_chart;
+use crate::telling::{Told, told_in_file};
 use anb_accept::taken_by;
 use anb_base::{Bytes, Failed, NoMemory, Place, Shelf, Text, Wire};
 use anb_chart::write_chart;
+use anb_choice::{Branched, choices_are_unique, no_choice_is_refused};
 use anb_code::RoleCode;
-use anb_command::{Status, playable_in_file, protocol_in_file, reach_streams, write_text};
+use anb_command::{Status, playable_in_file, reach_streams, write_text};
 use anb_protocol::Protocol;
 use anb_read::{narrations_are_unique, none_is_both, refusals_are_unique};
 use anb_report::role_chart;
 use anb_text::WriteNo;
 use std::alloc::Global;
 
-/// Writes the chart of the protocol in the file, in Mermaid's language.
+/// Writes the chart of the protocol in the file, in Mermaid's language; or that of a choice, with its
+/// stem once, and its arms in a block.
 pub fn chart<F: Shelf, W: Wire>(
     alloc: Global,
     shelf: &mut F,
@@ -54,15 +64,43 @@ pub fn chart<F: Shelf, W: Wire>(
     narrations_are_unique();
     refusals_are_unique();
     none_is_both();
-    match protocol_in_file(alloc, shelf, narration) {
-        Ok(protocol) => write_charted(alloc, wire, &protocol),
+    choices_are_unique();
+    no_choice_is_refused();
+    match told_in_file(alloc, shelf, narration) {
+        Ok(told) => write_told(alloc, wire, &told),
         Err(status) => status,
+    }
+}
+
+/// Writes the chart of what a text tells to the standard streams.
+fn write_told<W: Wire>(alloc: Global, wire: &mut W, told: &Told) -> Status
+    requires { IsDrawable (told_of told.now) }
+    ensures writes { IsWritingOne (ChartOf (told_of told.now)) result
+        (W.state wire.old).written (W.state wire.new).written }
+    ensures wire { OverWire place.Stdio false result (W.state wire.old) (W.state wire.new) }
+{
+    match told {
+        Told::One(protocol) => write_charted(alloc, wire, protocol),
+        Told::Branched(branched) => write_branched(alloc, wire, branched),
+    }
+}
+
+/// Writes the chart of a choice to the standard streams.
+fn write_branched<W: Wire>(alloc: Global, wire: &mut W, b: &Branched) -> Status
+    requires { IsLawful (branched_of b.now) }
+    ensures writes { IsWritingOne (ChartOf (branched (branched_of b.now))) result
+        (W.state wire.old).written (W.state wire.new).written }
+    ensures wire { OverWire place.Stdio false result (W.state wire.old) (W.state wire.new) }
+{
+    match choice_chart(alloc, b) {
+        Ok(text) => write_text(wire, &text),
+        Err(NoMemory) => Status::NoMemory,
     }
 }
 
 /// Writes the chart of a protocol to the standard streams.
 fn write_charted<W: Wire>(alloc: Global, wire: &mut W, protocol: &Protocol) -> Status
-    ensures writes { IsWritingOne (ChartOf protocol.now) result
+    ensures writes { IsWritingOne (ChartOf (one protocol.now)) result
         (W.state wire.old).written (W.state wire.new).written }
     ensures wire { OverWire place.Stdio false result (W.state wire.old) (W.state wire.new) }
 {
