@@ -22,12 +22,12 @@ use Rattle.anb_verdict.specs.declared.verdict.Verdict.{Verdict}
 use Rattle.anb_command.specs.OverWire.{DidNotReach, HasReached, OnlyWrites, OverWire}
 use Rattle.anb_command.proofs.OverWire.{no_memory, not_reached, text_done, text_failed, text_wanting, untouched}
 use Rattle.anb_command.proofs.Reported.{calm_told, nothing_failed}
-use Rattle.anb_probe_commands.specs.Plays.{ArePlayed}
-use Rattle.anb_probe_commands.specs.Playing.{Broke, BrokeIn, EndsLate, IsCut, IsPrepared, LateCause, OverTrials, PlaysAll, PlaysLess, PlaysPart, TaskComesTo, Wrote, no_of, status_of}
-use Rattle.anb_probe_commands.specs.ProbeCommand.{Agenda, ComesTo, IsCutShort, IsHonestNo, RefusesHonest}
+use Rattle.anb_probe_commands.specs.Plays.{verdicts_of}
+use Rattle.anb_probe_commands.specs.Playing.{Broke, BrokeIn, EndsLate, IsCut, IsPlayedOut, IsPrepared, LateCause, OverTrials, PlaysAll, PlaysLess, PlaysPart, TaskComesTo, Wrote, no_of, part_in, report_in, status_of, texts_of}
+use Rattle.anb_probe_commands.specs.ProbeCommand.{Agenda, ComesTo, IsCutShort, IsHonestNo, IsReported, RefusesHonest}
 use Rattle.anb_probe_commands.specs.Cases.{is_beyond}
 use Rattle.anb_probe_commands.specs.Probings.{Probing}
-use Rattle.anb_probe_commands.specs.Reports.{is_failed, notes, played_lines, report, report_so_far, status_for}
+use Rattle.anb_probe_commands.specs.Reports.{is_failed, notes, status_for}
 use Rattle.anb_probe_commands.specs.Tasks.{agenda_by}
 use Rattle.anb_probe_commands.specs.Words.{Trying}
 use Rattle.anb_probe_commands.specs.declared.cases.Prepared.{Prepared}
@@ -100,8 +100,8 @@ module _ (q : Probing) (x : Prepared) (program : List (List ℕ)) where
     part : PlaysPart q g program old old S.written T.written []
     part = record { reached = 0; played = none_played q g.scenes program g.cases old 0 1 fresh }
 
-    written : PutPrefix S.written T.written (report_so_far q.protocol q.role x.cases.items [])
-    written = put_within S.written T.written (first_lines (length x.cases.items)) (played_lines q.protocol q.role 1 x.cases.items []) broke.part
+    written : PutPrefix S.written T.written (part_in q g [])
+    written = put_within S.written T.written (first_lines (length x.cases.items)) (texts_of q x []) broke.part
 
     by : (w : PlayNo) → w ≢ NotStarted → PlaysLess q g program old old S.written T.written w
     by NotStarted never = absurd (never refl)
@@ -110,67 +110,71 @@ module _ (q : Probing) (x : Prepared) (program : List (List ℕ)) where
 
   -- not all cases were played
   pub cut_cases : (old new : ℕ → Trial) (S T U : WireState) (why : PlayNo) → Wrote S T (first_lines (length x.cases.items)) → IsCut q x program old new T.written U.written why → PlaysLess q g program old new S.written U.written why
-  cut_cases old new S T U NotStarted first (vs, part, within, next, put) =
-      (vs, record { reached = part.reached; played = part.played }, within, next, Put-joined S.written T.written U.written _ _ first.put put)
-  cut_cases old new S T U Failed first (vs, part, put) =
-      (vs, record { reached = part.reached; played = part.played }, inl (put_further S.written T.written U.written _ _ first.put put))
-  cut_cases old new S T U NoMemory first (vs, part, put) =
-      (vs, record { reached = part.reached; played = part.played }, inl (put_further S.written T.written U.written _ _ first.put put))
+  cut_cases old new S T U NotStarted first (ends, part, within, next, put) =
+      (ends, record { reached = part.reached; played = part.played }, within, next, Put-joined S.written T.written U.written _ _ first.put put)
+  cut_cases old new S T U Failed first (ends, part, put) =
+      (ends, record { reached = part.reached; played = part.played }, inl (put_further S.written T.written U.written _ _ first.put put))
+  cut_cases old new S T U NoMemory first (ends, part, put) =
+      (ends, record { reached = part.reached; played = part.played }, inl (put_further S.written T.written U.written _ _ first.put put))
 
-  module _ (old new : ℕ → Trial) (S T U V : WireState) (reached : ℕ) (vs : List Verdict) (all : length vs ≡ length x.cases.items)
-      (first : Wrote S T (first_lines (length x.cases.items))) (lines : Wrote T U (played_lines q.protocol q.role 1 x.cases.items vs))
-      (played : ArePlayed q x.scenes.items program x.cases.items reached vs (length vs) old new) where
-    both : Wrote S U (report_so_far q.protocol q.role x.cases.items vs)
-    both = wrote_both S T U _ _ first lines
+  module _ (old new : ℕ → Trial) (S T U V : WireState) (vs : List Verdict) (first : Wrote S T (first_lines (length x.cases.items))) (cases : IsPlayedOut q x program old new T U vs) where
+    both : Wrote S U (part_in q g cases.ends)
+    both = wrote_both S T U _ _ first cases.wrote
+
+    -- the notes are on these ends
+    notes_are : (P : List ℕ → Type 0) → P (notes q.protocol q.role x.cases.items x.untried.items vs) → P (notes q.protocol q.role x.cases.items x.untried.items (verdicts_of cases.ends))
+    notes_are P here = subst (λ (l : List Verdict). P (notes q.protocol q.role x.cases.items x.untried.items l)) (sym cases.verdicts_are) here
 
     -- writing the notes went wrong
     pub cut_notes : (why : PlayNo) → BrokeIn (notes q.protocol q.role x.cases.items x.untried.items vs) U V why → PlaysLess q g program old new S.written V.written why
     cut_notes why broke = by why broke.started where
-      part : PlaysPart q g program old new S.written V.written vs
+      part : PlaysPart q g program old new S.written V.written cases.ends
       part = record {
-        reached = reached;
-        played = record { each = played.each; others = λ i after. played.others i (omega (arith, after)); none_left = played.none_left };
+        reached = cases.reached;
+        played = record { each = cases.played.each; others = λ i after. cases.played.others i (omega (arith, after)); none_left = cases.played.none_left };
       }
 
-      written : PutPrefix S.written V.written (report q.protocol q.role x.cases.items x.untried.items vs)
-      written = put_further S.written U.written V.written _ _ both.put broke.part
+      written : PutPrefix S.written V.written (report_in q g cases.ends)
+      written = put_further S.written U.written V.written _ _ both.put (notes_are (PutPrefix U.written V.written) broke.part)
 
       by : (w : PlayNo) → w ≢ NotStarted → PlaysLess q g program old new S.written V.written w
       by NotStarted never = absurd (never refl)
-      by Failed other = (vs, part, inr (all, written))
-      by NoMemory other = (vs, part, inr (all, written))
+      by Failed other = (cases.ends, part, inr (cases.all, written))
+      by NoMemory other = (cases.ends, part, inr (cases.all, written))
 
     pub broke_notes : (why : PlayNo) → BrokeIn (notes q.protocol q.role x.cases.items x.untried.items vs) U V why → Broke S V why
     broke_notes why broke = broke_behind S U V _ why both broke.broke
 
     -- all was written
     pub all_played : Wrote U V (notes q.protocol q.role x.cases.items x.untried.items vs) → PlaysAll q g program old new S V vs
-    all_played last = record { reached = reached; all = all; played = played; wrote = wrote_both S U V _ _ both last }
+    all_played last = record {
+      reached = cases.reached;
+      ends = cases.ends;
+      verdicts_are = cases.verdicts_are;
+      all = cases.all;
+      played = cases.played;
+      wrote = wrote_both S U V _ _ both (notes_are (Wrote U V) last);
+    }
 
 -- ---- what it comes to
 
 module _ (q : Probing) (trying : Trying) (g : Agenda) (name : List ℕ) (old new : ℕ → Trial) (S T : WireState) where
   pub comes_all : (vs : List Verdict) → is_beyond trying.case g.count ≡ false → PlaysAll q g trying.program old new S T vs → ComesTo q trying g name old new S.written T.written (status_for vs)
   comes_all vs there all = by (count_by is_failed vs == 0) refl where
+    reported : (s : Status) → s ≡ status_for vs → IsReported q trying g name old new S.written T.written s
+    reported s is = record {
+      there = there;
+      reached = all.reached;
+      ends = all.ends;
+      all = all.all;
+      played = all.played;
+      put = all.wrote.put;
+      is = is ∙ ap status_for (sym all.verdicts_are);
+    }
+
     by : (b : Bool) → (count_by is_failed vs == 0) ≡ b → ComesTo q trying g name old new S.written T.written (cond b status.Done (status.CasesNotOk (count_by is_failed vs) (length vs)))
-    by true e = inl (record {
-      there = there;
-      reached = all.reached;
-      verdicts = vs;
-      all = all.all;
-      played = all.played;
-      put = all.wrote.put;
-      is = sym (ap (λ c. cond c status.Done (status.CasesNotOk (count_by is_failed vs) (length vs))) e);
-    })
-    by false e = inl (record {
-      there = there;
-      reached = all.reached;
-      verdicts = vs;
-      all = all.all;
-      played = all.played;
-      put = all.wrote.put;
-      is = sym (ap (λ c. cond c status.Done (status.CasesNotOk (count_by is_failed vs) (length vs))) e);
-    })
+    by true e = inl (reported status.Done (sym (ap (λ c. cond c status.Done (status.CasesNotOk (count_by is_failed vs) (length vs))) e)))
+    by false e = inl (reported (status.CasesNotOk (count_by is_failed vs) (length vs)) (sym (ap (λ c. cond c status.Done (status.CasesNotOk (count_by is_failed vs) (length vs))) e)))
 
   pub ends_all : (vs : List Verdict) → PlaysAll q g trying.program old new S T vs → EndsLate old new S T (status_for vs)
   ends_all vs all = by (count_by is_failed vs == 0) where
@@ -179,16 +183,16 @@ module _ (q : Probing) (trying : Trying) (g : Agenda) (name : List ℕ) (old new
     by false = record { only = all.wrote.only; cause = all.wrote.quiet }
 
   pub comes_less : (why : PlayNo) → is_beyond trying.case g.count ≡ false → PlaysLess q g trying.program old new S.written T.written why → ComesTo q trying g name old new S.written T.written (status_of why name)
-  comes_less NotStarted there (vs, part, within, next, put) =
-      record { there = there; reached = part.reached; verdicts = vs; within = within; played = part.played; next = next; put = put; is = refl }
-  comes_less Failed there (vs, part, inl put) = record { idle = λ e. absurd (cc); reached = part.reached; verdicts = vs; played = part.played; writes = inl put }
-  comes_less Failed there (vs, part, inr put) = record { idle = λ e. absurd (cc); reached = part.reached; verdicts = vs; played = part.played; writes = inr (inl put) }
-  comes_less NoMemory there (vs, part, inl put) = record { idle = λ e. absurd (cc); reached = part.reached; verdicts = vs; played = part.played; writes = inl put }
-  comes_less NoMemory there (vs, part, inr put) = record { idle = λ e. absurd (cc); reached = part.reached; verdicts = vs; played = part.played; writes = inr (inl put) }
+  comes_less NotStarted there (ends, part, within, next, put) =
+      record { there = there; reached = part.reached; ends = ends; within = within; played = part.played; next = next; put = put; is = refl }
+  comes_less Failed there (ends, part, inl put) = record { idle = λ e. absurd (cc); reached = part.reached; ends = ends; played = part.played; writes = inl put }
+  comes_less Failed there (ends, part, inr put) = record { idle = λ e. absurd (cc); reached = part.reached; ends = ends; played = part.played; writes = inr (inl put) }
+  comes_less NoMemory there (ends, part, inl put) = record { idle = λ e. absurd (cc); reached = part.reached; ends = ends; played = part.played; writes = inl put }
+  comes_less NoMemory there (ends, part, inr put) = record { idle = λ e. absurd (cc); reached = part.reached; ends = ends; played = part.played; writes = inr (inl put) }
 
   pub ends_less : length g.cases ≤ MOST → (why : PlayNo) → PlaysLess q g trying.program old new S.written T.written why → Broke S T why → EndsLate old new S T (status_of why name)
-  ends_less few NotStarted (vs, part, within, next, put) broke =
-      record { only = broke.only; cause = ((length vs, omega (arith, few, within), next), broke.quiet (λ e. absurd (cc))) }
+  ends_less few NotStarted (ends, part, within, next, put) broke =
+      record { only = broke.only; cause = ((length ends, omega (arith, few, within), next), broke.quiet (λ e. absurd (cc))) }
   ends_less few Failed less broke = record { only = broke.only; cause = broke.cause refl }
   ends_less few NoMemory less broke = record { only = broke.only; cause = broke.quiet (λ e. absurd (cc)) }
 
@@ -203,7 +207,7 @@ module _ (q : Probing) (trying : Trying) (g : Agenda) (name : List ℕ) (old : �
   pub comes_beyond_cut : (why : PlayNo) → ((i : ℕ) → (old i).phase ≡ 0) → BrokeIn (no_such_case g.count) S T why → ComesTo q trying g name old old S.written T.written (status_of why name)
   comes_beyond_cut why fresh broke = by why broke.started where
     short : IsCutShort q trying g name old old S.written T.written
-    short = record { idle = λ e. refl; reached = 0; verdicts = []; played = none_played q g.scenes trying.program g.cases old 0 1 fresh; writes = inr (inr broke.part) }
+    short = record { idle = λ e. refl; reached = 0; ends = []; played = none_played q g.scenes trying.program g.cases old 0 1 fresh; writes = inr (inr broke.part) }
 
     by : (w : PlayNo) → w ≢ NotStarted → ComesTo q trying g name old old S.written T.written (status_of w name)
     by NotStarted never = absurd (never refl)

@@ -1,16 +1,17 @@
 -- Lines that stand once, cases, and counts.
-use Rattle.std.proofs.Common.{◌≡◌, ℕ, zero, suc, ◌+◌, List, [], ◌∷◌, ◌++◌, length, map, drop, get_or, true, false, Some, None, Result, refl, ap, sym, ◌∙◌, subst, arith, append_assoc}
+use Rattle.std.proofs.Common.{◌≡◌, ℕ, zero, suc, ◌+◌, List, [], ◌∷◌, ◌++◌, length, map, drop, get_or, Bool, true, false, Some, None, Result, refl, ap, sym, ◌∙◌, subst, arith, append_assoc}
 use Rattle.std.specs.Prelude.{nat_lt, slice_get}
 use Rattle.std.proofs.lemmas.Bool.Decides.{nat_tests}
 use Rattle.std.proofs.lemmas.Option.{slice_get_past, slice_get_read}
 use Rattle.std.proofs.lemmas.List.{append-nil}
 use Rattle.anb_attempts.specs.declared.attempts.Attempt.{Attempt}
+use Rattle.anb_attempts.specs.declared.attempts.Scene.{Scene}
 use Rattle.anb_partner.specs.declared.planning.Partner.{Partner}
 use Rattle.anb_protocol.specs.Protocols.{ProtocolValue}
 use Rattle.anb_verdict.specs.declared.verdict.Verdict.{Verdict}
-use Rattle.anb_verdict.specs.Texts.{case_lines}
 use Rattle.anb_probe_commands.specs.Cases.{joined_once, lack_in, lack_of, with_line}
-use Rattle.anb_probe_commands.specs.Reports.{all_lacking, lacking_lines, played_lines}
+use Rattle.anb_probe_commands.specs.Plays.{CaseEnd}
+use Rattle.anb_probe_commands.specs.Reports.{all_lacking, case_text, lacking_lines, played_lines}
 use Rattle.anb_probe_commands.specs.declared.partners.Lack.{Lack}
 
 pub joined_both : (lines xs ys : List (List ℕ)) → joined_once lines (xs ++ ys) ≡ joined_once (joined_once lines xs) ys
@@ -33,25 +34,26 @@ got_so xs i x e is = let below : nat_lt i (length xs) ≡ true = sym e in slice_
 
 -- ---- lines of cases
 
-module _ (p : ProtocolValue) (role : ℕ) where
-  -- one verdict more
-  pub played_next : (n : ℕ) (cases : List Attempt) (vs : List Verdict) (a : Attempt) (v : Verdict) → slice_get cases (length vs) ≡ Some a
-      → played_lines p role n cases (vs ++ v ∷ []) ≡ played_lines p role n cases vs ++ case_lines p role (length vs + n) a.title v
-  played_next n [] vs a v at = cc
-  played_next n (c ∷ cases) [] a v at =
+module _ (p : ProtocolValue) (role : ℕ) (scenes : List Scene) (shown : Bool) where
+  -- one case more
+  pub played_next : (n : ℕ) (cases : List Attempt) (ends : List CaseEnd) (a : Attempt) (end : CaseEnd) → slice_get cases (length ends) ≡ Some a
+      → played_lines p role scenes shown n cases (ends ++ end ∷ []) ≡ played_lines p role scenes shown n cases ends ++ case_text p role scenes shown (length ends + n) a end
+  played_next n [] ends a end at = cc
+  played_next n (c ∷ cases) [] a end at =
       let same : c ≡ a = cc in
       let zero_is : 0 + n ≡ n = omega arith in
-      subst (λ (k : ℕ). case_lines p role n c.title v ++ played_lines p role (n + 1) cases [] ≡ case_lines p role k a.title v) (sym zero_is)
-      (ap (λ (z : Attempt). case_lines p role n z.title v ++ played_lines p role (n + 1) cases []) same ∙ nothing cases) where
-        nothing : (cs : List Attempt) → case_lines p role n a.title v ++ played_lines p role (n + 1) cs [] ≡ case_lines p role n a.title v
-        nothing [] = append-nil (case_lines p role n a.title v)
-        nothing (c ∷ cs) = append-nil (case_lines p role n a.title v)
-  played_next n (c ∷ cases) (w ∷ vs) a v at =
-      let m : length vs + (n + 1) ≡ suc (length vs) + n = omega arith in
-      let rest : played_lines p role (n + 1) cases (vs ++ v ∷ []) ≡ played_lines p role (n + 1) cases vs ++ case_lines p role (suc (length vs) + n) a.title v =
-      rw m at (played_next (n + 1) cases vs a v at) in
-      ap (λ l. case_lines p role n c.title w ++ l) rest ∙ sym (append_assoc (case_lines p role n c.title w) (played_lines p role (n + 1) cases vs) _)
+      subst (λ (k : ℕ). case_text p role scenes shown n c end ++ played_lines p role scenes shown (n + 1) cases [] ≡ case_text p role scenes shown k a end) (sym zero_is)
+      (ap (λ (z : Attempt). case_text p role scenes shown n z end ++ played_lines p role scenes shown (n + 1) cases []) same ∙ nothing cases) where
+        nothing : (cs : List Attempt) → case_text p role scenes shown n a end ++ played_lines p role scenes shown (n + 1) cs [] ≡ case_text p role scenes shown n a end
+        nothing [] = append-nil (case_text p role scenes shown n a end)
+        nothing (c ∷ cs) = append-nil (case_text p role scenes shown n a end)
+  played_next n (c ∷ cases) (w ∷ ends) a end at =
+      let m : length ends + (n + 1) ≡ suc (length ends) + n = omega arith in
+      let rest : played_lines p role scenes shown (n + 1) cases (ends ++ end ∷ []) ≡ played_lines p role scenes shown (n + 1) cases ends ++ case_text p role scenes shown (suc (length ends) + n) a end =
+      rw m at (played_next (n + 1) cases ends a end at) in
+      ap (λ l. case_text p role scenes shown n c w ++ l) rest ∙ sym (append_assoc (case_text p role scenes shown n c w) (played_lines p role scenes shown (n + 1) cases ends) _)
 
+module _ (p : ProtocolValue) (role : ℕ) where
   -- what the next case lacks
   pub lacking_next : (cases : List Attempt) (vs : List Verdict) (i : ℕ) (a : Attempt) (v : Verdict) → slice_get cases i ≡ Some a → slice_get vs i ≡ Some v
       → all_lacking p role (drop i cases) (drop i vs) ≡ lacking_lines p role a v ++ all_lacking p role (drop (i + 1) cases) (drop (i + 1) vs)

@@ -15,6 +15,7 @@ use Rattle.anb_command.specs.Steps.{Answer, refused, given, HasOneAnswer, IsFail
 use Rattle.anb_command.proofs.Answering.{refusing}
 use Rattle.anb_command.proofs.Chains.{told_map}
 use Rattle.anb_command.proofs.Ones.{not_both, same_given}
+use Rattle.anb_probe_commands.specs.Plays.{verdicts_of}
 use Rattle.anb_probe_commands.specs.Playing.{OverTrials, TaskComesTo}
 use Rattle.anb_probe_commands.specs.ProbeCommand.{Agenda, ComesTo, CompletesProbe, DoesProbe, HasProbeCause, IsBeyond, IsIdle, IsProbed, IsReported, RefusesHonest, StartFailed, Suit, agenda_of, probe_phase}
 use Rattle.anb_probe_commands.specs.Probings.{IsReadToProbe, Probing, ProbingIs}
@@ -36,7 +37,7 @@ status_late vs = by (count_by is_failed vs == 0) where
 
 module _ (q : Probing) (trying : Trying) (g : Agenda) (name : List ℕ) (old new : ℕ → Trial) (S T : WireState) where
   late_end : (s : Status) → IsReported q trying g name old new S.written T.written s ⊎ IsBeyond q trying g name old new S.written T.written s → probe_phase s ≡ after_reach
-  late_end s (inl r) = ap probe_phase r.is ∙ status_late r.verdicts
+  late_end s (inl r) = ap probe_phase r.is ∙ status_late (verdicts_of r.ends)
   late_end s (inr b) = ap probe_phase b.is
 
   never_early : (P : Type 0) (s : Status) (phase : Phase) → phase ≡ before_reach → probe_phase s ≡ phase → ComesTo q trying g name old new S.written T.written s → P

@@ -26,8 +26,8 @@ use Rattle.anb_probe_commands.specs.Words.{Trying}
 use Rattle.anb_probe_commands.specs.declared.partners.Lack.{Lack}
 use Rattle.anb_probe_commands.specs.declared.partners.Lack.TheVariants.{Blocked, Large}
 
-abbrev pub agenda : List Scene → List Attempt → List (List ℕ) → ℕ → Agenda
-agenda scenes cases untried count = record { scenes = scenes; cases = cases; untried = untried; count = count }
+abbrev pub agenda : List Scene → List Attempt → List (List ℕ) → ℕ → Bool → Agenda
+agenda scenes cases untried count is_shown = record { scenes = scenes; cases = cases; untried = untried; count = count; is_shown = is_shown }
 
 -- the first scene has no partner
 module _ (p : ProtocolValue) (role : ℕ) (lack : Lack) where
@@ -50,9 +50,11 @@ module _ (q : Probing) (trying : Trying) (code : CodeValue) (fits : FitsRole q.p
   honest_refused partners lack s made each some (inr none) = inr none
 
 -- two agendas with the same parts
-pub same_agenda : (scenes : List Scene) (cases others : List Attempt) (untried lines : List (List ℕ)) (count n : ℕ) → cases ≡ others → untried ≡ lines → count ≡ n → agenda scenes cases untried count ≡ agenda scenes others lines n
-same_agenda scenes cases others untried lines count n cs us ns =
-    ap (λ (x : List Attempt). agenda scenes x untried count) cs ∙ ap (λ (x : List (List ℕ)). agenda scenes others x count) us ∙ ap (λ (x : ℕ). agenda scenes others lines x) ns
+pub same_agenda : (scenes : List Scene) (cases others : List Attempt) (untried lines : List (List ℕ)) (count n : ℕ) (shown s : Bool) → cases ≡ others → untried ≡ lines → count ≡ n → shown ≡ s
+    → agenda scenes cases untried count shown ≡ agenda scenes others lines n s
+same_agenda scenes cases others untried lines count n shown s cs us ns ss =
+    ap (λ (x : List Attempt). agenda scenes x untried count shown) cs ∙ ap (λ (x : List (List ℕ)). agenda scenes others x count shown) us ∙ ap (λ (x : ℕ). agenda scenes others lines x shown) ns
+    ∙ ap (λ (x : Bool). agenda scenes others lines n x) ss
 
 -- ---- the cases that are left have a scene, and a partner
 

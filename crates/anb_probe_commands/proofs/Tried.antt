@@ -2,7 +2,7 @@
 use Rattle.std.proofs.Math.Dec.{eqb-suc-zero}
 use Rattle.std.proofs.Common.{Bool, cond, ◌≡◌, ◌≢◌, ◌<◌, ℕ, zero, suc, ◌+◌, List, [], ◌∷◌, ◌++◌, length, replicate, Option, Some, Ok, refl, ap, sym, ◌∙◌, subst, inl, inr, arith, length-append}
 use Rattle.std.specs.Prelude.{slice_get}
-use Rattle.std.proofs.lemmas.List.{append-nil, length-map}
+use Rattle.std.proofs.lemmas.List.{append-nil, length-map, map-append}
 use Rattle.anb_base.specs.Moves.{Put, PutPrefix}
 use Rattle.anb_base.specs.Wires.{WireState}
 use Rattle.anb_base.proofs.Moving.{put_further, put_nothing}
@@ -20,14 +20,14 @@ use Rattle.anb_protocol.specs.Texts.{known_by, known_texts}
 use Rattle.anb_spoil.specs.Wrongs.{wrong_by}
 use Rattle.anb_tries.specs.Seen.{seen_of}
 use Rattle.anb_tries.specs.Tries.{IsTriedVerdict}
-use Rattle.anb_verdict.specs.Texts.{case_lines}
 use Rattle.anb_verdict.specs.Verdicts.{reached_by}
 use Rattle.anb_verdict.specs.declared.verdict.Verdict.{Verdict}
-use Rattle.anb_probe_commands.specs.Plays.{ArePlayed, IsNotStarted, IsTried, reached_in}
-use Rattle.anb_probe_commands.specs.Playing.{BrokeIn, CanPlay, IsCaseCut, IsCut, IsPlayedPart, Wrote}
+use Rattle.anb_probe_commands.specs.Plays.{ArePlayed, CaseEnd, IsNotStarted, IsTried, reached_in, verdict_in, verdicts_of}
+use Rattle.anb_probe_commands.specs.Playing.{BrokeIn, CanPlay, IsCaseCut, IsCut, IsPlayedOut, IsPlayedPart, Wrote, end_in, text_of, texts_of}
 use Rattle.anb_probe_commands.specs.Probings.{Probing}
 use Rattle.anb_probe_commands.specs.Reports.{played_lines}
 use Rattle.anb_probe_commands.specs.declared.cases.Prepared.{Prepared}
+use Rattle.anb_probe_commands.specs.declared.playing.Outcome.{Outcome}
 use Rattle.anb_probe_commands.specs.declared.writing.PlayNo.{PlayNo}
 use Rattle.anb_probe_commands.specs.declared.writing.PlayNo.TheVariants.{Failed, NotStarted, NoMemory}
 use Rattle.anb_probe_commands.proofs.Listing.{played_next}
@@ -47,7 +47,7 @@ module _ (q : Probing) (x : Prepared) (can : CanPlay q x) where
     pub tried_as : (program : List (List ℕ)) (reached : ℕ) (old new : Trial) (conversation : Conversation) (verdict : Verdict) (got : ℕ)
         → Converses (run_bytes partner.code x.values.initial.items (replicate 32 0) 0) x.values.handed.items partner.hook (wrong_by partner.code.formats a.wrong) program old new conversation
         → IsTriedVerdict (record { protocol = q.protocol; role = q.role; initial = x.values.initial.items; lines = conversation.lines }) (seen_of conversation scene.due reached) conversation.end verdict
-        → got ≡ reached_by verdict conversation.lines → IsTried q x.scenes.items program a reached old new verdict got
+        → got ≡ reached_by verdict conversation.lines → IsTried q x.scenes.items program a reached old new (record { verdict = verdict; lines = conversation.lines }) got
     tried_as program reached old new conversation verdict got converses judged is =
         let made = can.made a.scene scene (Ok partner) at there in
         record {
@@ -57,22 +57,23 @@ module _ (q : Probing) (x : Prepared) (can : CanPlay q x) where
           partner = made.0;
           conversation = conversation;
           converses = rw (sym made.1, sym can.handed, sym can.initial) converses;
+          lines = refl;
           judged = rw (sym can.initial) judged;
           got_is = is;
         }
 
 -- ---- the case at a number
 
-module _ (q : Probing) (x : Prepared) (program : List (List ℕ)) (number reached : ℕ) (old new : Trial) (S T : WireState) (a b : Attempt) (v : Verdict) (got : ℕ) where
+module _ (q : Probing) (x : Prepared) (program : List (List ℕ)) (number reached : ℕ) (old new : Trial) (S T : WireState) (a b : Attempt) (end : CaseEnd) (got : ℕ) where
   same_case : slice_get x.cases.items number ≡ Some a → slice_get x.cases.items number ≡ Some b → a ≡ b
   same_case one other = let both : ◌≡◌ {A = Option Attempt} (Some a) (Some b) = sym one ∙ other in cc
 
   -- the case at a number is this one
-  pub played_at : slice_get x.cases.items number ≡ Some a → slice_get x.cases.items number ≡ Some b → IsTried q x.scenes.items program a reached old new v got
-      → Wrote S T (case_lines q.protocol q.role (number + 1) a.title v)
-      → IsTried q x.scenes.items program b reached old new v got × Wrote S T (case_lines q.protocol q.role (number + 1) b.title v)
+  pub played_at : slice_get x.cases.items number ≡ Some a → slice_get x.cases.items number ≡ Some b → IsTried q x.scenes.items program a reached old new end got
+      → Wrote S T (text_of q x (number + 1) a end)
+      → IsTried q x.scenes.items program b reached old new end got × Wrote S T (text_of q x (number + 1) b end)
   played_at one other tried wrote =
-      subst (λ (z : Attempt). IsTried q x.scenes.items program z reached old new v got × Wrote S T (case_lines q.protocol q.role (number + 1) z.title v)) (same_case one other) (tried, wrote)
+      subst (λ (z : Attempt). IsTried q x.scenes.items program z reached old new end got × Wrote S T (text_of q x (number + 1) z end)) (same_case one other) (tried, wrote)
 
 -- ---- the lines of a case
 
@@ -82,66 +83,66 @@ whole_prefix a b x put =
 
 module _ (q : Probing) (x : Prepared) (program : List (List ℕ)) (number reached : ℕ) (old new : Trial) where
   -- the case came to a verdict, and its lines weren't written
-  pub cut_lines : (S T : WireState) (a : Attempt) (v : Verdict) (got : ℕ) (why : PlayNo) → slice_get x.cases.items number ≡ Some a → IsTried q x.scenes.items program a reached old new v got
-      → BrokeIn (case_lines q.protocol q.role (number + 1) a.title v) S T why → IsCaseCut q x program number reached old new S.written T.written why
-  cut_lines S T a v got why at tried broke = by why broke.started where
+  pub cut_lines : (S T : WireState) (a : Attempt) (end : CaseEnd) (got : ℕ) (why : PlayNo) → slice_get x.cases.items number ≡ Some a → IsTried q x.scenes.items program a reached old new end got
+      → BrokeIn (text_of q x (number + 1) a end) S T why → IsCaseCut q x program number reached old new S.written T.written why
+  cut_lines S T a end got why at tried broke = by why broke.started where
     by : (w : PlayNo) → w ≢ NotStarted → IsCaseCut q x program number reached old new S.written T.written w
     by NotStarted never = absurd (never refl)
-    by Failed other = inr (a, v, got, at, tried, broke.part)
-    by NoMemory other = inr (a, v, got, at, tried, broke.part)
+    by Failed other = inr (a, end, got, at, tried, broke.part)
+    by NoMemory other = inr (a, end, got, at, tried, broke.part)
 
 -- ---- the cases before it
 
-module _ (q : Probing) (x : Prepared) (program : List (List ℕ)) (old mid new : ℕ → Trial) (S T U : WireState) (reached : ℕ) (vs : List Verdict)
-    (played : ArePlayed q x.scenes.items program x.cases.items reached vs (length vs) old mid) (first : length vs ≡ 0 → reached ≡ 0)
-    (wrote : Wrote S T (played_lines q.protocol q.role 1 x.cases.items vs)) (within : length vs < length x.cases.items)
-    (stay : OthersStay (length vs) mid new) (gone : (new (length vs)).phase ≢ 1) where
-  same_before : mid (length vs) ≡ old (length vs)
-  same_before = played.others (length vs) (omega arith)
+module _ (q : Probing) (x : Prepared) (program : List (List ℕ)) (old mid new : ℕ → Trial) (S T U : WireState) (reached : ℕ) (ends : List CaseEnd)
+    (played : ArePlayed q x.scenes.items program x.cases.items reached ends (length ends) old mid) (first : length ends ≡ 0 → reached ≡ 0)
+    (wrote : Wrote S T (texts_of q x ends)) (within : length ends < length x.cases.items)
+    (stay : OthersStay (length ends) mid new) (gone : (new (length ends)).phase ≢ 1) where
+  same_before : mid (length ends) ≡ old (length ends)
+  same_before = played.others (length ends) (omega arith)
 
-  longer : (v : Verdict) → length (vs ++ v ∷ []) ≡ length vs + 1
-  longer v = length-append vs (v ∷ [])
+  longer : (end : CaseEnd) → length (ends ++ end ∷ []) ≡ length ends + 1
+  longer end = length-append ends (end ∷ [])
 
-  module _ (a : Attempt) (v : Verdict) (got r : ℕ) (at : slice_get x.cases.items (length vs) ≡ Some a) (tried : IsTried q x.scenes.items program a reached (mid (length vs)) (new (length vs)) v got)
-      (as_before : 0 < length vs → r ≡ reached) (is_first : length vs ≡ 0 → r ≡ got) where
-    told_before : (n : ℕ) → n ≡ length vs → reached ≡ reached_in n r
+  module _ (a : Attempt) (end : CaseEnd) (got r : ℕ) (at : slice_get x.cases.items (length ends) ≡ Some a) (tried : IsTried q x.scenes.items program a reached (mid (length ends)) (new (length ends)) end got)
+      (as_before : 0 < length ends → r ≡ reached) (is_first : length ends ≡ 0 → r ≡ got) where
+    told_before : (n : ℕ) → n ≡ length ends → reached ≡ reached_in n r
     told_before zero e = first (sym e)
     told_before (suc n) e = sym (as_before (omega (arith, e))) ∙ sym (ap (λ (b : Bool). cond b 0 r) (eqb-suc-zero n))
 
-    tried_from : IsTried q x.scenes.items program a (reached_in (length vs) r) (old (length vs)) (new (length vs)) v got
+    tried_from : IsTried q x.scenes.items program a (reached_in (length ends) r) (old (length ends)) (new (length ends)) end got
     tried_from =
-        subst (λ (t : Trial). IsTried q x.scenes.items program a (reached_in (length vs) r) t (new (length vs)) v got) same_before
-        (subst (λ (k : ℕ). IsTried q x.scenes.items program a k (mid (length vs)) (new (length vs)) v got) (told_before (length vs) refl) tried)
+        subst (λ (t : Trial). IsTried q x.scenes.items program a (reached_in (length ends) r) t (new (length ends)) end got) same_before
+        (subst (λ (k : ℕ). IsTried q x.scenes.items program a k (mid (length ends)) (new (length ends)) end got) (told_before (length ends) refl) tried)
 
-    pub further_played : (bound : ℕ) → length vs < bound → ArePlayed q x.scenes.items program x.cases.items r (vs ++ v ∷ []) bound old new
-    further_played bound under = one_more q x.scenes.items program x.cases.items old mid new reached vs (length vs) played stay gone a v got at r as_before is_first tried_from bound (omega (arith, under)) under
+    pub further_played : (bound : ℕ) → length ends < bound → ArePlayed q x.scenes.items program x.cases.items r (ends ++ end ∷ []) bound old new
+    further_played bound under = one_more q x.scenes.items program x.cases.items old mid new reached ends (length ends) played stay gone a end got at r as_before is_first tried_from bound (omega (arith, under)) under
 
     lines_of : List ℕ
-    lines_of = case_lines q.protocol q.role (length vs + 1) a.title v
+    lines_of = text_of q x (length ends + 1) a end
 
-    text_next : played_lines q.protocol q.role 1 x.cases.items (vs ++ v ∷ []) ≡ played_lines q.protocol q.role 1 x.cases.items vs ++ case_lines q.protocol q.role (length vs + 1) a.title v
-    text_next = played_next q.protocol q.role 1 x.cases.items vs a v at
+    text_next : texts_of q x (ends ++ end ∷ []) ≡ texts_of q x ends ++ text_of q x (length ends + 1) a end
+    text_next = played_next q.protocol q.role x.scenes.items x.is_shown 1 x.cases.items ends a end at
 
-    pub part_with : IsPlayedPart q x program old new S.written U.written (vs ++ v ∷ [])
+    pub part_with : IsPlayedPart q x program old new S.written U.written (ends ++ end ∷ [])
     part_with = record {
       reached = r;
-      played = further_played (length (vs ++ v ∷ []) + 1) (omega (arith, longer v));
-      within = omega (arith, longer v, within);
+      played = further_played (length (ends ++ end ∷ []) + 1) (omega (arith, longer end));
+      within = omega (arith, longer end, within);
     }
 
     -- all its lines are written, and there is no memory for the verdict
-    pub cut_behind : Put S.written U.written (played_lines q.protocol q.role 1 x.cases.items (vs ++ v ∷ [])) → IsCut q x program old new S.written U.written NoMemory
-    cut_behind put = (vs ++ v ∷ [], part_with, whole_prefix S.written U.written _ put)
+    pub cut_behind : Put S.written U.written (texts_of q x (ends ++ end ∷ [])) → IsCut q x program old new S.written U.written NoMemory
+    cut_behind put = (ends ++ end ∷ [], part_with, whole_prefix S.written U.written _ put)
 
     -- or a part of them
-    pub cut_within : PutPrefix T.written U.written (case_lines q.protocol q.role (length vs + 1) a.title v) → (vs2 : List Verdict) × IsPlayedPart q x program old new S.written U.written vs2
-        × PutPrefix S.written U.written (played_lines q.protocol q.role 1 x.cases.items vs2)
-    cut_within part = (vs ++ v ∷ [], part_with, subst (PutPrefix S.written U.written) (sym text_next) (put_further S.written T.written U.written _ _ wrote.put part))
+    pub cut_within : PutPrefix T.written U.written (text_of q x (length ends + 1) a end) → (more : List CaseEnd) × IsPlayedPart q x program old new S.written U.written more
+        × PutPrefix S.written U.written (texts_of q x more)
+    cut_within part = (ends ++ end ∷ [], part_with, subst (PutPrefix S.written U.written) (sym text_next) (put_further S.written T.written U.written _ _ wrote.put part))
 
-  part_before : IsPlayedPart q x program old new S.written U.written vs
+  part_before : IsPlayedPart q x program old new S.written U.written ends
   part_before = record {
     reached = reached;
-    played = begun q x.scenes.items program x.cases.items old mid new reached vs (length vs) played stay gone (omega arith);
+    played = begun q x.scenes.items program x.cases.items old mid new reached ends (length ends) played stay gone (omega arith);
     within = omega (arith, within);
   }
 
@@ -154,36 +155,48 @@ module _ (q : Probing) (x : Prepared) (program : List (List ℕ)) (old mid new :
   first_as zero got = (λ less. absurd (omega (arith, less)), λ e. refl)
   first_as (suc n) got = (λ less. refl, λ e. absurd (omega (arith, e)))
 
-  pub cut_next : (why : PlayNo) → IsCaseCut q x program (length vs) reached (mid (length vs)) (new (length vs)) T.written U.written why → IsCut q x program old new S.written U.written why
+  pub cut_next : (why : PlayNo) → IsCaseCut q x program (length ends) reached (mid (length ends)) (new (length ends)) T.written U.written why → IsCut q x program old new S.written U.written why
   cut_next NotStarted (stuck, same) = (
-    vs,
+    ends,
     part_before,
     within,
-    subst (λ (t : Trial). IsNotStarted t (new (length vs))) same_before stuck,
-    subst (λ (w : Option (List ℕ)). Put S.written w (played_lines q.protocol q.role 1 x.cases.items vs)) (sym same) wrote.put,
+    subst (λ (t : Trial). IsNotStarted t (new (length ends))) same_before stuck,
+    subst (λ (w : Option (List ℕ)). Put S.written w (texts_of q x ends)) (sym same) wrote.put,
   )
   cut_next Failed cut = by cut where
-    by : IsCaseCut q x program (length vs) reached (mid (length vs)) (new (length vs)) T.written U.written Failed → IsCut q x program old new S.written U.written Failed
-    by (inl same) = (vs, part_before, whole_prefix S.written U.written _ (subst (λ (w : Option (List ℕ)). Put S.written w (played_lines q.protocol q.role 1 x.cases.items vs)) (sym same) wrote.put))
-    by (inr (a, v, got, at, tried, part)) = let at_it = first_as (length vs) got in cut_within a v got (at_first (length vs) got) at tried at_it.0 at_it.1 part
+    by : IsCaseCut q x program (length ends) reached (mid (length ends)) (new (length ends)) T.written U.written Failed → IsCut q x program old new S.written U.written Failed
+    by (inl same) = (ends, part_before, whole_prefix S.written U.written _ (subst (λ (w : Option (List ℕ)). Put S.written w (texts_of q x ends)) (sym same) wrote.put))
+    by (inr (a, end, got, at, tried, part)) = let at_it = first_as (length ends) got in cut_within a end got (at_first (length ends) got) at tried at_it.0 at_it.1 part
   cut_next NoMemory cut = by cut where
-    by : IsCaseCut q x program (length vs) reached (mid (length vs)) (new (length vs)) T.written U.written NoMemory → IsCut q x program old new S.written U.written NoMemory
-    by (inl same) = (vs, part_before, whole_prefix S.written U.written _ (subst (λ (w : Option (List ℕ)). Put S.written w (played_lines q.protocol q.role 1 x.cases.items vs)) (sym same) wrote.put))
-    by (inr (a, v, got, at, tried, part)) = let at_it = first_as (length vs) got in cut_within a v got (at_first (length vs) got) at tried at_it.0 at_it.1 part
+    by : IsCaseCut q x program (length ends) reached (mid (length ends)) (new (length ends)) T.written U.written NoMemory → IsCut q x program old new S.written U.written NoMemory
+    by (inl same) = (ends, part_before, whole_prefix S.written U.written _ (subst (λ (w : Option (List ℕ)). Put S.written w (texts_of q x ends)) (sym same) wrote.put))
+    by (inr (a, end, got, at, tried, part)) = let at_it = first_as (length ends) got in cut_within a end got (at_first (length ends) got) at tried at_it.0 at_it.1 part
 
 -- the same, by the number of the case
-module _ (q : Probing) (x : Prepared) (program : List (List ℕ)) (old mid new : ℕ → Trial) (S T U : WireState) (reached : ℕ) (vs : List Verdict) (i : ℕ) (count : length vs ≡ i) where
-  pub cut_at : ArePlayed q x.scenes.items program x.cases.items reached vs i old mid → (i ≡ 0 → reached ≡ 0) → Wrote S T (played_lines q.protocol q.role 1 x.cases.items vs) → i < length x.cases.items → OthersStay i mid new
+module _ (q : Probing) (x : Prepared) (program : List (List ℕ)) (old mid new : ℕ → Trial) (S T U : WireState) (reached : ℕ) (ends : List CaseEnd) (i : ℕ) (count : length ends ≡ i) where
+  pub cut_at : ArePlayed q x.scenes.items program x.cases.items reached ends i old mid → (i ≡ 0 → reached ≡ 0) → Wrote S T (texts_of q x ends) → i < length x.cases.items → OthersStay i mid new
       → (new i).phase ≢ 1 → (why : PlayNo) → IsCaseCut q x program i reached (mid i) (new i) T.written U.written why → IsCut q x program old new S.written U.written why
   cut_at played first wrote within stay gone why cut =
-      cut_next q x program old mid new S T U reached vs (subst (λ (k : ℕ). ArePlayed q x.scenes.items program x.cases.items reached vs k old mid) (sym count) played) (λ z. first (sym count ∙ z)) wrote
+      cut_next q x program old mid new S T U reached ends (subst (λ (k : ℕ). ArePlayed q x.scenes.items program x.cases.items reached ends k old mid) (sym count) played) (λ z. first (sym count ∙ z)) wrote
       (subst (λ (k : ℕ). k < length x.cases.items) (sym count) within) (subst (λ (k : ℕ). OthersStay k mid new) (sym count) stay) (subst (λ (k : ℕ). (new k).phase ≢ 1) (sym count) gone) why
       (subst (λ (k : ℕ). IsCaseCut q x program k reached (mid k) (new k) T.written U.written why) (sym count) cut)
 
+-- ---- so many cases were played
+
+pub record PlayedSoFar (q : Probing) (x : Prepared) (program : List (List ℕ)) (old new : ℕ → Trial) (S T : WireState) (verdicts : List Verdict) (i reached : ℕ) : Type 0 where
+  pub ends : List CaseEnd
+  pub verdicts_are : verdicts_of ends ≡ verdicts
+  pub count : length ends ≡ i
+  pub begun : i ≡ 0 → reached ≡ 0
+  pub played : ArePlayed q x.scenes.items program x.cases.items reached ends i old new
+  pub wrote : Wrote S T (texts_of q x ends)
+
 -- nothing is played yet
-pub wrote_none : (p : ProtocolValue) (role : ℕ) (cases : List Attempt) (S : WireState) → Wrote S S (played_lines p role 1 cases [])
-wrote_none p role [] S = record { put = put_nothing S.written; only = record { same = refl; never_falls = omega arith }; quiet = refl }
-wrote_none p role (a ∷ rest) S = record { put = put_nothing S.written; only = record { same = refl; never_falls = omega arith }; quiet = refl }
+pub wrote_none : (q : Probing) (x : Prepared) (S : WireState) → Wrote S S (texts_of q x [])
+wrote_none q x S = by x.cases.items where
+  by : (cases : List Attempt) → Wrote S S (played_lines q.protocol q.role x.scenes.items x.is_shown 1 cases [])
+  by [] = record { put = put_nothing S.written; only = record { same = refl; never_falls = omega arith }; quiet = refl }
+  by (a ∷ rest) = record { put = put_nothing S.written; only = record { same = refl; never_falls = omega arith }; quiet = refl }
 
 -- ---- a case that came to a verdict, by its number
 
@@ -192,24 +205,68 @@ got_some [] i within = absurd (omega (arith, within))
 got_some (x ∷ xs) zero within = (x, refl)
 got_some (x ∷ xs) (suc i) within = got_some xs i (omega (arith, within))
 
-module _ (q : Probing) (x : Prepared) (program : List (List ℕ)) (old mid new : ℕ → Trial) (S T U : WireState) (reached : ℕ) (vs : List Verdict) (i : ℕ) (count : length vs ≡ i)
-    (wrote : Wrote S T (played_lines q.protocol q.role 1 x.cases.items vs)) (a : Attempt) (v : Verdict) (got r : ℕ) where
+module _ (q : Probing) (x : Prepared) (program : List (List ℕ)) (old mid new : ℕ → Trial) (S T U : WireState) (reached : ℕ) (ends : List CaseEnd) (i : ℕ) (count : length ends ≡ i)
+    (wrote : Wrote S T (texts_of q x ends)) (a : Attempt) (end : CaseEnd) (got r : ℕ) where
   abbrev Next : ℕ → Type 0
   Next k =
-      ArePlayed q x.scenes.items program x.cases.items reached vs k old mid → (k ≡ 0 → reached ≡ 0) → k < length x.cases.items → OthersStay k mid new → (new k).phase ≢ 1 → slice_get x.cases.items k ≡ Some a
-      → IsTried q x.scenes.items program a reached (mid k) (new k) v got → (0 < k → r ≡ reached) → (k ≡ 0 → r ≡ got)
-      → ArePlayed q x.scenes.items program x.cases.items r (vs ++ v ∷ []) (k + 1) old new
-      × IsPlayedPart q x program old new S.written U.written (vs ++ v ∷ [])
+      ArePlayed q x.scenes.items program x.cases.items reached ends k old mid → (k ≡ 0 → reached ≡ 0) → k < length x.cases.items → OthersStay k mid new → (new k).phase ≢ 1 → slice_get x.cases.items k ≡ Some a
+      → IsTried q x.scenes.items program a reached (mid k) (new k) end got → (0 < k → r ≡ reached) → (k ≡ 0 → r ≡ got)
+      → ArePlayed q x.scenes.items program x.cases.items r (ends ++ end ∷ []) (k + 1) old new
+      × IsPlayedPart q x program old new S.written U.written (ends ++ end ∷ [])
 
   pub next_played : Next i
   next_played = subst Next count (λ played first within stay gone at tried as_before is_first. (
-    further_played q x program old mid new S T U reached vs played first wrote within stay gone a v got r at tried as_before is_first (length vs + 1) (omega arith),
-    part_with q x program old mid new S T U reached vs played first wrote within stay gone a v got r at tried as_before is_first,
+    further_played q x program old mid new S T U reached ends played first wrote within stay gone a end got r at tried as_before is_first (length ends + 1) (omega arith),
+    part_with q x program old mid new S T U reached ends played first wrote within stay gone a end got r at tried as_before is_first,
   ))
 
-  pub next_wrote : slice_get x.cases.items i ≡ Some a → Wrote T U (case_lines q.protocol q.role (i + 1) a.title v) → Wrote S U (played_lines q.protocol q.role 1 x.cases.items (vs ++ v ∷ []))
+  pub next_wrote : slice_get x.cases.items i ≡ Some a → Wrote T U (text_of q x (i + 1) a end) → Wrote S U (texts_of q x (ends ++ end ∷ []))
   next_wrote at line =
-      let text = played_next q.protocol q.role 1 x.cases.items vs a v (subst (λ (k : ℕ). slice_get x.cases.items k ≡ Some a) (sym count) at) in
+      let text = played_next q.protocol q.role x.scenes.items x.is_shown 1 x.cases.items ends a end (subst (λ (k : ℕ). slice_get x.cases.items k ≡ Some a) (sym count) at) in
       subst (Wrote S U) (sym text)
-      (wrote_both S T U (played_lines q.protocol q.role 1 x.cases.items vs) (case_lines q.protocol q.role (length vs + 1) a.title v) wrote
-      (subst (λ (k : ℕ). Wrote T U (case_lines q.protocol q.role (k + 1) a.title v)) (sym count) line))
+      (wrote_both S T U (texts_of q x ends) (text_of q x (length ends + 1) a end) wrote
+      (subst (λ (k : ℕ). Wrote T U (text_of q x (k + 1) a end)) (sym count) line))
+
+module _ (q : Probing) (x : Prepared) (program : List (List ℕ)) (old mid new : ℕ → Trial) (S T U : WireState) (verdicts : List Verdict) (i reached : ℕ)
+    (so : PlayedSoFar q x program old mid S T verdicts i reached) where
+  verdicts_next : (o : Outcome) → verdicts_of (so.ends ++ end_in o ∷ []) ≡ verdicts ++ o.verdict ∷ []
+  verdicts_next o = map-append verdict_in so.ends (end_in o ∷ []) ∙ ap (λ (l : List Verdict). l ++ o.verdict ∷ []) so.verdicts_are
+
+  -- and one case more
+  module _ (o : Outcome) (a : Attempt) (r : ℕ) (stay : OthersStay i mid new) (gone : (new i).phase ≢ 1) (within : i < length x.cases.items) (at : slice_get x.cases.items i ≡ Some a)
+      (came : IsTried q x.scenes.items program a reached (mid i) (new i) (end_in o) o.reached × Wrote T U (text_of q x (i + 1) a (end_in o)))
+      (as_before : 0 < i → r ≡ reached) (is_first : i ≡ 0 → r ≡ o.reached) where
+    next : ArePlayed q x.scenes.items program x.cases.items r (so.ends ++ end_in o ∷ []) (i + 1) old new
+        × IsPlayedPart q x program old new S.written U.written (so.ends ++ end_in o ∷ [])
+    next = next_played q x program old mid new S T U reached so.ends i so.count so.wrote a (end_in o) o.reached r so.played so.begun within stay gone at came.0 as_before is_first
+
+    pub wrote_next : Wrote S U (texts_of q x (so.ends ++ end_in o ∷ []))
+    wrote_next = next_wrote q x program old mid new S T U reached so.ends i so.count so.wrote a (end_in o) o.reached r at came.1
+
+    -- there is no memory for its verdict
+    pub cut_pushing : IsCut q x program old new S.written U.written NoMemory
+    cut_pushing = (so.ends ++ end_in o ∷ [], next.1, whole_prefix S.written U.written _ wrote_next.put)
+
+    pub so_further : (now : List Verdict) → now ≡ verdicts ++ o.verdict ∷ [] → PlayedSoFar q x program old new S U now (i + 1) r
+    so_further now pushed = record {
+      ends = so.ends ++ end_in o ∷ [];
+      verdicts_are = verdicts_next o ∙ sym pushed;
+      count = length-append so.ends (end_in o ∷ []) ∙ ap (λ (n : ℕ). n + 1) so.count;
+      begun = λ e. absurd (omega (arith, e));
+      played = next.0;
+      wrote = wrote_next;
+    }
+
+  -- all were
+  pub played_out : i ≡ length x.cases.items → IsPlayedOut q x program old mid S T verdicts
+  played_out all = record {
+    reached = reached;
+    ends = so.ends;
+    verdicts_are = so.verdicts_are;
+    all = so.count ∙ all;
+    played = subst (λ (k : ℕ). ArePlayed q x.scenes.items program x.cases.items reached so.ends k old mid) (sym so.count) so.played;
+    wrote = so.wrote;
+  }
+
+  pub count_out : i ≡ length x.cases.items → length verdicts ≡ length x.cases.items
+  count_out all = ap length (sym so.verdicts_are) ∙ length-map so.ends verdict_in ∙ so.count ∙ all

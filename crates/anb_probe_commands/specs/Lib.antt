@@ -2,6 +2,7 @@ pub mod Words
 pub mod Asking
 pub mod Probings
 pub mod Cases
+pub mod Frames
 pub mod Reports
 pub mod Plays
 pub mod ProbeCommand

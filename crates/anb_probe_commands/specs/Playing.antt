@@ -19,19 +19,19 @@ use Rattle.anb_status.specs.declared.status.Status.TheVariants.{ChildFault, Writ
 use Rattle.anb_status.specs.declared.status.Status.TheVariants as status
 use Rattle.anb_text.specs.declared.writing.WriteNo.{WriteNo}
 use Rattle.anb_text.specs.declared.writing.WriteNo.TheVariants as writing
-use Rattle.anb_verdict.specs.Texts.{case_lines}
 use Rattle.anb_verdict.specs.declared.verdict.Verdict.{Verdict}
 use Rattle.anb_partner.specs.declared.planning.Partner.{Partner}
 use Rattle.anb_attempts.specs.declared.attempts.Scene.{Scene}
 use Rattle.anb_probe_commands.specs.declared.partners.Lack.{Lack}
 use Rattle.anb_probe_commands.specs.Cases.{AreMade, lack_in, lack_of}
-use Rattle.anb_probe_commands.specs.Plays.{ArePlayed, IsNotStarted, IsTried, handed, initial}
+use Rattle.anb_probe_commands.specs.Plays.{ArePlayed, CaseEnd, IsNotStarted, IsTried, handed, initial, verdicts_of}
 use Rattle.anb_probe_commands.specs.Probings.{Probing}
 use Rattle.anb_probe_commands.specs.ProbeCommand.{Agenda, ComesTo, RefusesHonest, StartFailed, Suit, agenda_of, probe_phase}
-use Rattle.anb_probe_commands.specs.Reports.{played_lines, report, report_so_far}
+use Rattle.anb_probe_commands.specs.Reports.{case_text, played_lines, report, report_so_far}
 use Rattle.anb_probe_commands.specs.Tasks.{agenda_by}
 use Rattle.anb_probe_commands.specs.Words.{Trying}
 use Rattle.anb_probe_commands.specs.declared.cases.Prepared.{Prepared}
+use Rattle.anb_probe_commands.specs.declared.playing.Outcome.{Outcome}
 use Rattle.anb_probe_commands.specs.declared.writing.PlayNo.{PlayNo}
 use Rattle.anb_probe_commands.specs.declared.writing.PlayNo.TheVariants.{Failed, NotStarted, NoMemory}
 
@@ -88,51 +88,81 @@ pub record IsPrepared (q : Probing) (trying : Trying) (x : Prepared) : Type 0 wh
   pub same : agenda_by x ≡ agenda_of suit
   pub can : CanPlay q x
 
+-- what came of a case
+abbrev pub end_in : Outcome → CaseEnd
+end_in o = record { verdict = o.verdict; lines = o.lines }
+
+module _ (q : Probing) (x : Prepared) where
+  -- the text of a case with a number, from 1, and of the first cases
+  abbrev pub text_of : (number : ℕ) → Attempt → CaseEnd → List ℕ
+  text_of number a end = case_text q.protocol q.role x.scenes.items x.is_shown number a end
+
+  abbrev pub texts_of : List CaseEnd → List ℕ
+  texts_of ends = played_lines q.protocol q.role x.scenes.items x.is_shown 1 x.cases.items ends
+
 module _ (q : Probing) (x : Prepared) (program : List (List ℕ)) where
-  -- of a case, what was asked for want of something: its child can't be started, or no line of it is written, or a part
+  -- Of a case, what was asked for want of something: its child can't be started, or no line of it is written, or a part
   abbrev pub IsCaseCut : (number reached : ℕ) → (old new : Trial) → (w now : Option (List ℕ)) → PlayNo → Type 0
   IsCaseCut number reached old new w now NotStarted = IsNotStarted old new × (now ≡ w)
   IsCaseCut number reached old new w now why =
       (now ≡ w)
-      ⊎ ((a : Attempt) × (v : Verdict) × (got : ℕ) × (slice_get x.cases.items number ≡ Some a)
-      × IsTried q x.scenes.items program a reached old new v got
-      × PutPrefix w now (case_lines q.protocol q.role (number + 1) a.title v))
+      ⊎ ((a : Attempt) × (end : CaseEnd) × (got : ℕ) × (slice_get x.cases.items number ≡ Some a)
+      × IsTried q x.scenes.items program a reached old new end got
+      × PutPrefix w now (text_of q x (number + 1) a end))
+
+  -- all cases were played, and came to these verdicts
+  pub record IsPlayedOut (old new : ℕ → Trial) (S T : WireState) (verdicts : List Verdict) : Type 0 where
+    pub reached : ℕ
+    pub ends : List CaseEnd
+    pub verdicts_are : verdicts_of ends ≡ verdicts
+    pub all : length ends ≡ length x.cases.items
+    pub played : ArePlayed q x.scenes.items program x.cases.items reached ends (length ends) old new
+    pub wrote : Wrote S T (texts_of q x ends)
 
   module _ (old new : ℕ → Trial) (w now : Option (List ℕ)) where
-    pub record IsPlayedPart (verdicts : List Verdict) : Type 0 where
+    pub record IsPlayedPart (ends : List CaseEnd) : Type 0 where
       pub reached : ℕ
-      pub played : ArePlayed q x.scenes.items program x.cases.items reached verdicts (length verdicts + 1) old new
-      pub within : length verdicts ≤ length x.cases.items
+      pub played : ArePlayed q x.scenes.items program x.cases.items reached ends (length ends + 1) old new
+      pub within : length ends ≤ length x.cases.items
 
     -- the same of all of them
     abbrev pub IsCut : PlayNo → Type 0
-    IsCut NotStarted = (verdicts : List Verdict) × IsPlayedPart verdicts × (length verdicts < length x.cases.items)
-        × IsNotStarted (old (length verdicts)) (new (length verdicts))
-        × Put w now (played_lines q.protocol q.role 1 x.cases.items verdicts)
-    IsCut why = (verdicts : List Verdict) × IsPlayedPart verdicts
-        × PutPrefix w now (played_lines q.protocol q.role 1 x.cases.items verdicts)
+    IsCut NotStarted = (ends : List CaseEnd) × IsPlayedPart ends × (length ends < length x.cases.items)
+        × IsNotStarted (old (length ends)) (new (length ends))
+        × Put w now (texts_of q x ends)
+    IsCut why = (ends : List CaseEnd) × IsPlayedPart ends
+        × PutPrefix w now (texts_of q x ends)
 
 -- ---- all of them, and the report
+
+-- the report on these, and up to the last of them
+abbrev pub report_in : Probing → Agenda → List CaseEnd → List ℕ
+report_in q g ends = report q.protocol q.role g.scenes g.is_shown g.cases g.untried ends
+
+abbrev pub part_in : Probing → Agenda → List CaseEnd → List ℕ
+part_in q g ends = report_so_far q.protocol q.role g.scenes g.is_shown g.cases ends
 
 module _ (q : Probing) (g : Agenda) (program : List (List ℕ)) (old new : ℕ → Trial) where
   pub record PlaysAll (S T : WireState) (verdicts : List Verdict) : Type 0 where
     pub reached : ℕ
-    pub all : length verdicts ≡ length g.cases
-    pub played : ArePlayed q g.scenes program g.cases reached verdicts (length verdicts) old new
-    pub wrote : Wrote S T (report q.protocol q.role g.cases g.untried verdicts)
+    pub ends : List CaseEnd
+    pub verdicts_are : verdicts_of ends ≡ verdicts
+    pub all : length ends ≡ length g.cases
+    pub played : ArePlayed q g.scenes program g.cases reached ends (length ends) old new
+    pub wrote : Wrote S T (report_in q g ends)
 
   module _ (w now : Option (List ℕ)) where
-    pub record PlaysPart (verdicts : List Verdict) : Type 0 where
+    pub record PlaysPart (ends : List CaseEnd) : Type 0 where
       pub reached : ℕ
-      pub played : ArePlayed q g.scenes program g.cases reached verdicts (length verdicts + 1) old new
+      pub played : ArePlayed q g.scenes program g.cases reached ends (length ends + 1) old new
 
     abbrev pub PlaysLess : PlayNo → Type 0
-    PlaysLess NotStarted = (verdicts : List Verdict) × PlaysPart verdicts × (length verdicts < length g.cases)
-        × IsNotStarted (old (length verdicts)) (new (length verdicts))
-        × Put w now (report_so_far q.protocol q.role g.cases verdicts)
-    PlaysLess why = (verdicts : List Verdict) × PlaysPart verdicts
-        × (PutPrefix w now (report_so_far q.protocol q.role g.cases verdicts)
-        ⊎ ((length verdicts ≡ length g.cases) × PutPrefix w now (report q.protocol q.role g.cases g.untried verdicts)))
+    PlaysLess NotStarted = (ends : List CaseEnd) × PlaysPart ends × (length ends < length g.cases)
+        × IsNotStarted (old (length ends)) (new (length ends))
+        × Put w now (part_in q g ends)
+    PlaysLess why = (ends : List CaseEnd) × PlaysPart ends
+        × (PutPrefix w now (part_in q g ends)
+        ⊎ ((length ends ≡ length g.cases) × PutPrefix w now (report_in q g ends)))
 
 -- ---- behind the reach
 

@@ -1,5 +1,5 @@
 -- What comes of a program in the cases.
-use Rattle.std.specs.Prelude.{◌≡◌, ◌≢◌, ◌≤◌, ℕ, ◌==◌, List, replicate, slice_get, Some, if◌then◌else◌}
+use Rattle.std.specs.Prelude.{◌≡◌, ◌≢◌, ◌≤◌, ℕ, ◌==◌, List, map, replicate, slice_get, Some, if◌then◌else◌}
 use Rattle.anb_base.specs.Moves.{Rose}
 use Rattle.anb_code.specs.CodeValue.{CodeValue}
 use Rattle.anb_judge.specs.Verdicts.{Judged}
@@ -31,6 +31,17 @@ handed q = handed_values q.protocol q.values q.seed q.role
 abbrev pub judged_over : Probing → List TranscriptLine → Judged
 judged_over q lines = record { protocol = q.protocol; role = q.role; initial = initial q; lines = lines }
 
+-- what came of a case: the verdict, and what its child heard and said
+pub record CaseEnd : Type 0 where
+  pub verdict : Verdict
+  pub lines : List TranscriptLine
+
+abbrev pub verdict_in : CaseEnd → Verdict
+verdict_in end = end.verdict
+
+abbrev pub verdicts_of : List CaseEnd → List Verdict
+verdicts_of ends = map verdict_in ends
+
 -- starting a child failed
 pub record IsNotStarted (old new : Trial) : Type 0 where
   pub unstarted : IsUnstarted old new
@@ -43,7 +54,7 @@ reached_in i reached = if i == 0 then 0 else reached
 module _ (q : Probing) (scenes : List Scene) (program : List (List ℕ)) where
   -- The child was started once with the program's words, and the partner of the attempt's scene conversed with it; the
   -- verdict is that on what was seen, where the first case got as far as `reached`; and this one got as far as `got`.
-  pub record IsTried (a : Attempt) (reached : ℕ) (old new : Trial) (verdict : Verdict) (got : ℕ) : Type 0 where
+  pub record IsTried (a : Attempt) (reached : ℕ) (old new : Trial) (end : CaseEnd) (got : ℕ) : Type 0 where
     pub scene : Scene
     pub at : slice_get scenes a.scene ≡ Some scene
     pub code : CodeValue
@@ -51,13 +62,14 @@ module _ (q : Probing) (scenes : List Scene) (program : List (List ℕ)) where
     pub conversation : Conversation
     pub converses : Converses (run_bytes code (initial q) (replicate 32 0) 0) (handed q) (hook_at (script_in q.protocol q.role scene))
         (wrong_by code.formats a.wrong) program old new conversation
-    pub judged : IsTriedVerdict (judged_over q conversation.lines) (seen_of conversation scene.due reached) conversation.end verdict
-    pub got_is : got ≡ reached_by verdict conversation.lines
+    pub lines : end.lines ≡ conversation.lines
+    pub judged : IsTriedVerdict (judged_over q conversation.lines) (seen_of conversation scene.due reached) conversation.end end.verdict
+    pub got_is : got ≡ reached_by end.verdict conversation.lines
 
   -- The first cases were tried in order, each with a child of its own, which doesn't run any more, and came to these
-  -- verdicts; the children from the last on are as they were.
-  pub record ArePlayed (cases : List Attempt) (reached : ℕ) (verdicts : List Verdict) (last : ℕ) (old new : ℕ → Trial) : Type 0 where
-    pub each : (i : ℕ) (a : Attempt) (v : Verdict) → slice_get cases i ≡ Some a → slice_get verdicts i ≡ Some v
-        → (got : ℕ) × IsTried a (reached_in i reached) (old i) (new i) v got × (i ≡ 0 → reached ≡ got)
+  -- ends; the children from the last on are as they were.
+  pub record ArePlayed (cases : List Attempt) (reached : ℕ) (ends : List CaseEnd) (last : ℕ) (old new : ℕ → Trial) : Type 0 where
+    pub each : (i : ℕ) (a : Attempt) (end : CaseEnd) → slice_get cases i ≡ Some a → slice_get ends i ≡ Some end
+        → (got : ℕ) × IsTried a (reached_in i reached) (old i) (new i) end got × (i ≡ 0 → reached ≡ got)
     pub others : (i : ℕ) → last ≤ i → new i ≡ old i
     pub none_left : (i : ℕ) → (new i).phase ≢ 1

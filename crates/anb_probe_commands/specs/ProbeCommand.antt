@@ -1,5 +1,5 @@
 -- What `probe` does: a program is tried in the cases of a role, and a report is written.
-use Rattle.std.specs.Prelude.{◌≡◌, ◌⊎◌, ◌<◌, ℕ, ◌+◌, List, [], ◌∷◌, length, map, take, slice_get, count_by, true, false, Option, Some, Result}
+use Rattle.std.specs.Prelude.{◌≡◌, ◌⊎◌, ◌<◌, ℕ, ◌+◌, List, [], ◌∷◌, length, map, take, slice_get, count_by, Bool, true, false, Option, Some, is_some, Result}
 use Rattle.anb_base.specs.Moves.{Put, PutPrefix}
 use Rattle.anb_base.specs.Wires.{WireState}
 use Rattle.anb_base.specs.declared.place.Place.TheVariants.{Stdio}
@@ -19,7 +19,6 @@ use Rattle.anb_status.specs.declared.status.Status.TheVariants.{BadNarration, Ca
 use Rattle.anb_status.specs.Statuses.{Phase, after_reach, at_reach, before_reach, phase_of}
 use Rattle.anb_verdict.specs.Places.{is_own}
 use Rattle.anb_verdict.specs.Texts.{no_such_case}
-use Rattle.anb_verdict.specs.declared.verdict.Verdict.{Verdict}
 use Rattle.anb_attempts.specs.Attempts.{IsSuite}
 use Rattle.anb_attempts.specs.declared.attempts.TheConstants.{MOST}
 use Rattle.anb_attempts.specs.declared.attempts.Attempt.{Attempt}
@@ -30,7 +29,7 @@ use Rattle.anb_command.specs.Fetches.{Files, IfTold}
 use Rattle.anb_command.specs.Refusing.{IsRefusing}
 use Rattle.anb_command.specs.Steps.{given}
 use Rattle.anb_probe_commands.specs.Cases.{AreMade, all_untried, case_count, cases_from, is_beyond, lack_of, script_in}
-use Rattle.anb_probe_commands.specs.Plays.{ArePlayed, IsNotStarted}
+use Rattle.anb_probe_commands.specs.Plays.{ArePlayed, CaseEnd, IsNotStarted, verdicts_of}
 use Rattle.anb_probe_commands.specs.Probings.{IsReadToProbe, Probing, ProbingIs}
 use Rattle.anb_probe_commands.specs.Reports.{report, report_so_far, status_for}
 use Rattle.anb_probe_commands.specs.Words.{Probed, Trying}
@@ -48,12 +47,14 @@ pub record Suit (q : Probing) (trying : Trying) : Type 0 where
   pub made : AreMade q.protocol q.role suite.scenes.items partners
   pub each : length partners ≡ length suite.scenes.items
 
--- The scenes, the cases that are tried, the lines on what isn't, and how many cases there are, where not all are asked for.
+-- The scenes, the cases that are tried, the lines on what isn't, how many cases there are, where not all are asked for, and
+-- whether the frames of each case are shown: where one is asked for.
 pub record Agenda : Type 0 where
   pub scenes : List Scene
   pub cases : List Attempt
   pub untried : List (List ℕ)
   pub count : ℕ
+  pub is_shown : Bool
 
 abbrev pub lacks_in : {q : Probing} {trying : Trying} → Suit q trying → List (Option Lack)
 lacks_in s = map lack_of s.partners
@@ -64,6 +65,7 @@ agenda_of {q} {trying} s = record {
   cases = cases_from (map lack_of s.partners) trying.case 1 s.suite.attempts.items;
   untried = all_untried q.protocol q.role s.suite (map lack_of s.partners) trying.case;
   count = case_count (map lack_of s.partners) s.suite.attempts.items;
+  is_shown = is_some trying.case;
 }
 
 -- a line of the role is the action with this number, from 1, whose sender has this name
@@ -99,25 +101,25 @@ pub record RefusesHonest (q : Probing) (trying : Trying) (status : Status) : Typ
 -- ---- what comes of it
 
 module _ (q : Probing) (trying : Trying) (g : Agenda) (name : List ℕ) (old new : ℕ → Trial) (written written_now : Option (List ℕ)) where
-  -- so many verdicts; the children from the last on are as they were
-  abbrev pub Plays : ℕ → (reached : ℕ) → List Verdict → Type 0
-  Plays last reached verdicts = ArePlayed q g.scenes trying.program g.cases reached verdicts last old new
+  -- the first cases came to these ends; the children from the last on are as they were
+  abbrev pub Plays : ℕ → (reached : ℕ) → List CaseEnd → Type 0
+  Plays last reached ends = ArePlayed q g.scenes trying.program g.cases reached ends last old new
 
-  abbrev pub so_far : List Verdict → List ℕ
-  so_far verdicts = report_so_far q.protocol q.role g.cases verdicts
+  abbrev pub so_far : List CaseEnd → List ℕ
+  so_far ends = report_so_far q.protocol q.role g.scenes g.is_shown g.cases ends
 
-  abbrev pub whole : List Verdict → List ℕ
-  whole verdicts = report q.protocol q.role g.cases g.untried verdicts
+  abbrev pub whole : List CaseEnd → List ℕ
+  whole ends = report q.protocol q.role g.scenes g.is_shown g.cases g.untried ends
 
   -- all cases are over, and the report is written
   pub record IsReported (status : Status) : Type 0 where
     pub there : is_beyond trying.case g.count ≡ false
     pub reached : ℕ
-    pub verdicts : List Verdict
-    pub all : length verdicts ≡ length g.cases
-    pub played : Plays (length verdicts) reached verdicts
-    pub put : Put written written_now (whole verdicts)
-    pub is : status ≡ status_for verdicts
+    pub ends : List CaseEnd
+    pub all : length ends ≡ length g.cases
+    pub played : Plays (length ends) reached ends
+    pub put : Put written written_now (whole ends)
+    pub is : status ≡ status_for (verdicts_of ends)
 
   -- there is no such case: nothing is started
   pub record IsBeyond (status : Status) : Type 0 where
@@ -128,29 +130,29 @@ module _ (q : Probing) (trying : Trying) (g : Agenda) (name : List ℕ) (old new
 
   -- a part of the report is written: up to the lines of these cases, of the notes behind all of them, or that there is no
   -- such case
-  abbrev pub WritesPart : List Verdict → Type 0
-  WritesPart verdicts =
-      PutPrefix written written_now (so_far verdicts)
-      ⊎ ((length verdicts ≡ length g.cases) × PutPrefix written written_now (whole verdicts))
+  abbrev pub WritesPart : List CaseEnd → Type 0
+  WritesPart ends =
+      PutPrefix written written_now (so_far ends)
+      ⊎ ((length ends ≡ length g.cases) × PutPrefix written written_now (whole ends))
       ⊎ PutPrefix written written_now (no_such_case g.count)
 
   -- writing failed, or memory was wanting; nothing was started where there is no such case
   pub record IsCutShort : Type 0 where
     pub idle : is_beyond trying.case g.count ≡ true → new ≡ old
     pub reached : ℕ
-    pub verdicts : List Verdict
-    pub played : Plays (length verdicts + 1) reached verdicts
-    pub writes : WritesPart verdicts
+    pub ends : List CaseEnd
+    pub played : Plays (length ends + 1) reached ends
+    pub writes : WritesPart ends
 
   -- the program can't be started: the lines of the cases before are written
   pub record IsStuck (child : List ℕ) : Type 0 where
     pub there : is_beyond trying.case g.count ≡ false
     pub reached : ℕ
-    pub verdicts : List Verdict
-    pub within : length verdicts < length g.cases
-    pub played : Plays (length verdicts + 1) reached verdicts
-    pub next : IsNotStarted (old (length verdicts)) (new (length verdicts))
-    pub put : Put written written_now (so_far verdicts)
+    pub ends : List CaseEnd
+    pub within : length ends < length g.cases
+    pub played : Plays (length ends + 1) reached ends
+    pub next : IsNotStarted (old (length ends)) (new (length ends))
+    pub put : Put written written_now (so_far ends)
     pub is : child ≡ name
 
   abbrev pub ComesTo : Status → Type 0

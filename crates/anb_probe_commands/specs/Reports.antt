@@ -8,9 +8,12 @@ use Rattle.anb_verdict.specs.declared.verdict.Verdict.TheVariants as says
 use Rattle.anb_verdict.specs.Texts.{case_lines, first_lines, last_line, missing_line}
 use Rattle.anb_verdict.specs.Verdicts.{is_good}
 use Rattle.anb_attempts.specs.declared.attempts.Attempt.{Attempt}
+use Rattle.anb_attempts.specs.declared.attempts.Scene.{Scene}
 use Rattle.anb_status.specs.declared.status.Status.{Status}
 use Rattle.anb_status.specs.declared.status.Status.TheVariants.{CasesNotOk, Done}
 use Rattle.anb_probe_commands.specs.Cases.{joined_once}
+use Rattle.anb_probe_commands.specs.Frames.{frames_in}
+use Rattle.anb_probe_commands.specs.Plays.{CaseEnd, verdicts_of}
 
 -- ---- counts
 
@@ -44,12 +47,6 @@ status_for verdicts =
 -- ---- lines
 
 module _ (p : ProtocolValue) (role : ℕ) where
-  -- the lines of cases with these verdicts, numbered from here
-  abbrev pub played_lines : (number : ℕ) → List Attempt → List Verdict → List ℕ
-  played_lines number [] verdicts = []
-  played_lines number (a ∷ rest) [] = []
-  played_lines number (a ∷ rest) (v ∷ vs) = case_lines p role number a.title v ++ played_lines (number + 1) rest vs
-
   -- what the program lacks that went on in a case
   abbrev pub lacking_lines : Attempt → Verdict → List (List ℕ)
   lacking_lines a v = if is_lax v then option_map_or (λ m. missing_line p role m ∷ []) a.lacks [] else []
@@ -66,9 +63,23 @@ module _ (p : ProtocolValue) (role : ℕ) where
       concat (joined_once [] (all_lacking cases verdicts)) ++ concat untried
       ++ last_line (count_by is_passed verdicts) (length verdicts) (count_by is_skipped verdicts)
 
-  -- the report up to the last of these verdicts
-  abbrev pub report_so_far : List Attempt → List Verdict → List ℕ
-  report_so_far cases verdicts = first_lines (length cases) ++ played_lines 1 cases verdicts
+  module _ (scenes : List Scene) (is_shown : Bool) where
+    -- the lines of a case, and behind them its frames where these are shown
+    abbrev pub shown_frames : Attempt → CaseEnd → List ℕ
+    shown_frames a end = if is_shown then frames_in p role scenes a.scene end.lines else []
 
-  abbrev pub report : List Attempt → (untried : List (List ℕ)) → List Verdict → List ℕ
-  report cases untried verdicts = report_so_far cases verdicts ++ notes cases untried verdicts
+    abbrev pub case_text : (number : ℕ) → Attempt → CaseEnd → List ℕ
+    case_text number a end = case_lines p role number a.title end.verdict ++ shown_frames a end
+
+    -- those of cases that came to these ends, numbered from here
+    abbrev pub played_lines : (number : ℕ) → List Attempt → List CaseEnd → List ℕ
+    played_lines number [] ends = []
+    played_lines number (a ∷ rest) [] = []
+    played_lines number (a ∷ rest) (end ∷ ends) = case_text number a end ++ played_lines (number + 1) rest ends
+
+    -- the report up to the last of these
+    abbrev pub report_so_far : List Attempt → List CaseEnd → List ℕ
+    report_so_far cases ends = first_lines (length cases) ++ played_lines 1 cases ends
+
+    abbrev pub report : List Attempt → (untried : List (List ℕ)) → List CaseEnd → List ℕ
+    report cases untried ends = report_so_far cases ends ++ notes cases untried (verdicts_of ends)

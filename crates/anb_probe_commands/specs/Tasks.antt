@@ -46,4 +46,4 @@ IsUnsentBehind p before action status =
     (sender : List ℕ) × (slice_get p.roles action.from ≡ Some sender) × (status ≡ CannotSend (before + 1) sender)
 
 abbrev pub agenda_by : Prepared → Agenda
-agenda_by x = record { scenes = x.scenes.items; cases = x.cases.items; untried = x.untried.items; count = x.count }
+agenda_by x = record { scenes = x.scenes.items; cases = x.cases.items; untried = x.untried.items; count = x.count; is_shown = x.is_shown }

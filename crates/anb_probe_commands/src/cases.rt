@@ -24,8 +24,8 @@ use anb_protocol::{Action, Kind, Protocol, ResolveNo};
 use std::alloc::Global;
 
 /// All that is tried of a role: the scenes, each with its partner or with why there is none; what the
-/// partners begin with; the cases in order; how many there are, where not all are asked for; and the
-/// lines on what isn't tried.
+/// partners begin with; the cases in order; how many there are, where not all are asked for; the lines
+/// on what isn't tried; and whether the frames of each case are shown.
 #[derive(Drop)]
 pub(crate) struct Prepared {
     pub(crate) scenes: Vec<Scene>,
@@ -34,6 +34,7 @@ pub(crate) struct Prepared {
     pub(crate) cases: Vec<Attempt>,
     pub(crate) count: u32,
     pub(crate) untried: Vec<Bytes>,
+    pub(crate) is_shown: bool,
 }
 
 /// What is tried of a role in this way; or the honest partner can't be made.
@@ -93,6 +94,7 @@ fn prepare_suite(
     )?;
     let count = case_count(&suite.attempts, &partners);
     let cases = cases_of(alloc, suite.attempts, &partners, trying.case)?;
+    let is_shown = is_asked(trying.case);
     Ok(Prepared {
         scenes: suite.scenes,
         partners,
@@ -100,6 +102,7 @@ fn prepare_suite(
         cases,
         count,
         untried,
+        is_shown,
     })
 }
 
@@ -144,6 +147,13 @@ fn cases_of(
         }
     }
     Ok(cases)
+}
+
+/// Whether one case is asked for.
+fn is_asked(case: Option<u32>) -> bool
+    ensures { result ≡ is_some case }
+{
+    case.is_some()
 }
 
 /// Whether the case with this number is tried.
@@ -202,7 +212,7 @@ fn honest_blocked(alloc: Global, p: &Protocol, role: u32, line: u32) -> Status
 }
 
 /// Whether a role sends or hears in an action.
-fn is_own(action: &Action, role: u32) -> bool
+pub(crate) fn is_own(action: &Action, role: u32) -> bool
     ensures { result ≡ is_own role (action_value action.now) }
 {
     action.from == role || action.to == role

@@ -5,6 +5,7 @@
 mod cases;
 mod counting;
 mod files;
+mod frames;
 mod partners;
 mod playing;
 mod probing;

@@ -1,28 +1,30 @@
 //! The cases, each on a child of its own, and their lines.
-ghost use Rattle.std.specs.Prelude.{◌≡◌, ◌≢◌, ◌≤◌, ◌<◌, ◌+◌, ◌⊎◌, ℕ, [], length, map, slice_get, Some, IfOk, IfErr, OnOk};
+ghost use Rattle.std.specs.Prelude.{◌≡◌, ◌≢◌, ◌<◌, ◌+◌, ◌++◌, ℕ, length, slice_get, Some, IfOk, IfErr, OnOk};
 ghost use Rattle.anb_attempts.specs.declared.attempts.TheConstants.{MOST};
 ghost use Rattle.anb_partner.specs.Trials.{OthersStay};
-ghost use Rattle.anb_verdict.specs.Texts.{case_lines};
-ghost use Rattle.anb_probe_commands.specs.Plays.{ArePlayed, IsNotStarted, IsTried};
-ghost use Rattle.anb_probe_commands.specs.Reports.{played_lines};
-ghost use Rattle.anb_probe_commands.specs.Playing.{Broke, BrokeIn, CanPlay, IsCaseCut, IsCut, IsPlaced, Wrote};
+ghost use Rattle.anb_probe_commands.specs.Plays.{IsNotStarted, IsTried};
+ghost use Rattle.anb_probe_commands.specs.Playing.{Broke, BrokeIn, CanPlay, IsCaseCut, IsCut, IsPlaced, IsPlayedOut, Wrote, end_in, text_of};
+ghost use Rattle.anb_probe_commands.specs.Reports.{shown_frames};
 ghost use Rattle.anb_probe_commands.specs.Tasks.{probing_by};
 
 use crate::cases::Prepared;
 use crate::files::Task;
+use crate::frames::put_frames_in;
 use crate::partners::partner_at;
 use crate::writing::{PlayNo, write_lines};
 use anb_attempts::Attempt;
-use anb_base::{Text, Wire};
-use anb_partner::{ConverseNo, Trials};
+use anb_base::{NoMemory, Text, Wire};
+use anb_partner::{Conversation, ConverseNo, Trials};
+use anb_transcript::Transcript;
 use anb_tries::{Tried, try_case};
 use anb_verdict::{Verdict, case_lines};
 use std::alloc::Global;
 
-/// What came of a case, and how far it got.
-#[derive(Clone, Copy, Drop)]
+/// What came of a case: the verdict, what the child heard and said, and how far it got.
+#[derive(Drop)]
 pub(crate) struct Outcome {
     pub(crate) verdict: Verdict,
+    pub(crate) lines: Transcript,
     pub(crate) reached: usize,
 }
 
@@ -38,14 +40,12 @@ pub(crate) fn play_cases<T: Trials, W: Wire>(
     requires can { CanPlay (probing_by task.now.protocol task.now.role task.now.values task.now.seed)
         prepared.now }
     requires untried { (case : ℕ) → (T.trial trials.old case).phase ≡ 0 }
-    ensures played { IfOk result (λ verdicts. (reached : ℕ) × ArePlayed
+    ensures played { IfOk result (λ verdicts. IsPlayedOut
         (probing_by task.now.protocol task.now.role task.now.values task.now.seed)
-        prepared.now.scenes.items program.now prepared.now.cases.items reached verdicts.items
-        (length verdicts.items) (T.trial trials.old) (T.trial trials.new)) }
+        prepared.now program.now (T.trial trials.old) (T.trial trials.new)
+        (W.state wire.old) (W.state wire.new) verdicts.items) }
     ensures all { IfOk result (λ verdicts.
         length verdicts.items ≡ length prepared.now.cases.items) }
-    ensures wrote { IfOk result (λ verdicts. Wrote (W.state wire.old) (W.state wire.new)
-        (played_lines task.now.protocol task.now.role 1 prepared.now.cases.items verdicts.items)) }
     ensures cut { IfErr result (IsCut
         (probing_by task.now.protocol task.now.role task.now.values task.now.seed)
         prepared.now program.now (T.trial trials.old) (T.trial trials.new)
@@ -97,9 +97,10 @@ fn play_case<T: Trials, W: Wire>(
         → slice_get prepared.now.cases.items number ≡ Some a
         → IsTried (probing_by task.now.protocol task.now.role task.now.values task.now.seed)
         prepared.now.scenes.items program.now a reached
-        (T.trial trials.old number) (T.trial trials.new number) o.verdict o.reached
+        (T.trial trials.old number) (T.trial trials.new number) (end_in o) o.reached
         × Wrote (W.state wire.old) (W.state wire.new)
-        (case_lines task.now.protocol task.now.role (number + 1) a.title o.verdict)) }
+        (text_of (probing_by task.now.protocol task.now.role task.now.values task.now.seed)
+        prepared.now (number + 1) a (end_in o))) }
     ensures cut { IfErr result (IsCaseCut
         (probing_by task.now.protocol task.now.role task.now.values task.now.seed)
         prepared.now program.now number reached
@@ -113,7 +114,7 @@ fn play_case<T: Trials, W: Wire>(
     match try_attempt(
         alloc, trials, task, prepared, number, attempt, program, reached,
     ) {
-        Ok(outcome) => match write_case(alloc, wire, task, number, attempt, outcome.verdict) {
+        Ok(outcome) => match write_case(alloc, wire, task, prepared, number, attempt, &outcome) {
             Ok(()) => Ok(outcome),
             Err(no) => Err(no),
         },
@@ -127,26 +128,71 @@ fn write_case<W: Wire>(
     alloc: Global,
     wire: &mut W,
     task: &Task,
+    prepared: &Prepared,
     number: u32,
     attempt: &Attempt,
-    verdict: Verdict,
+    outcome: &Outcome,
 ) -> Result<(), PlayNo>
     requires { number < MOST }
     ensures wrote { OnOk result (Wrote (W.state wire.old) (W.state wire.new)
-        (case_lines task.now.protocol task.now.role (number + 1) attempt.now.title verdict)) }
+        (text_of (probing_by task.now.protocol task.now.role task.now.values task.now.seed)
+        prepared.now (number + 1) attempt.now (end_in outcome.now))) }
     ensures broke { IfErr result (BrokeIn
-        (case_lines task.now.protocol task.now.role (number + 1) attempt.now.title verdict)
+        (text_of (probing_by task.now.protocol task.now.role task.now.values task.now.seed)
+        prepared.now (number + 1) attempt.now (end_in outcome.now))
         (W.state wire.old) (W.state wire.new)) }
 {
-    let lines = case_lines(
+    let text = case_text(alloc, task, prepared, number + 1, attempt, outcome);
+    write_lines(wire, text)
+}
+
+/// The lines of the case with this number, from 1; and behind them its frames, where they are shown.
+fn case_text(
+    alloc: Global,
+    task: &Task,
+    prepared: &Prepared,
+    number: u32,
+    attempt: &Attempt,
+    outcome: &Outcome,
+) -> Result<Vec<u8>, NoMemory>
+    ensures { IfOk result (λ text. text.items
+        ≡ text_of (probing_by task.now.protocol task.now.role task.now.values task.now.seed)
+        prepared.now number attempt.now (end_in outcome.now)) }
+{
+    let verdict = outcome.verdict;
+    let title = &attempt.title;
+    let mut text = case_lines(alloc, &task.protocol, task.role, number, title, verdict)?;
+    put_shown(alloc, &mut text, task, prepared, attempt, outcome)?;
+    Ok(text)
+}
+
+/// Appends the frames of a case, where they are shown.
+fn put_shown(
+    alloc: Global,
+    out: &mut Vec<u8>,
+    task: &Task,
+    prepared: &Prepared,
+    attempt: &Attempt,
+    outcome: &Outcome,
+) -> Result<(), NoMemory>
+    ensures { OnOk result (out.new.items ≡ out.old.items
+        ++ shown_frames task.now.protocol task.now.role prepared.now.scenes.items
+        prepared.now.is_shown attempt.now (end_in outcome.now)) }
+{
+    if !prepared.is_shown {
+        return Ok(());
+    }
+    let lines = outcome.lines.lines();
+    let scenes = &prepared.scenes;
+    put_frames_in(
         alloc,
+        out,
         &task.protocol,
         task.role,
-        number + 1,
-        &attempt.title,
-        verdict,
-    );
-    write_lines(wire, lines)
+        scenes,
+        attempt.scene,
+        lines,
+    )
 }
 
 /// Tries the program in one attempt.
@@ -167,7 +213,7 @@ fn try_attempt<T: Trials>(
     ensures tried { IfOk result (λ o. IsTried
         (probing_by task.now.protocol task.now.role task.now.values task.now.seed)
         prepared.now.scenes.items program.now attempt.now reached
-        (T.trial trials.old number) (T.trial trials.new number) o.verdict o.reached) }
+        (T.trial trials.old number) (T.trial trials.new number) (end_in o) o.reached) }
     ensures not_started { IfErr result (λ no. no ≡ ConverseNo.NotStarted
         → IsNotStarted (T.trial trials.old number) (T.trial trials.new number)) }
     ensures none_left { (T.trial trials.new number).phase ≢ 1 }
@@ -190,11 +236,18 @@ fn try_attempt<T: Trials>(
     ) {
         Ok(
             Tried {
-                conversation: _conversation,
+                conversation,
                 verdict,
                 reached,
             },
-        ) => Ok(Outcome { verdict, reached }),
+        ) => {
+            let Conversation { lines, .. } = conversation;
+            Ok(Outcome {
+                verdict,
+                lines,
+                reached,
+            })
+        }
         Err(no) => Err(no),
     }
 }

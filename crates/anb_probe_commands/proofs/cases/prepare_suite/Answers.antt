@@ -24,7 +24,7 @@ returns c =
         made = c.requires.made;
         each = c.requires.each;
       };
-      same = same_agenda c.args.suite.scenes.items _ _ _ _ _ _ (rw c.deref-4.ensures.value at c.in_ok-cases.ensures.cases) (rw c.deref.ensures.value at c.in_ok-untried.ensures) (rw (c.deref-3.ensures.value, c.deref-2.ensures.value) at c.case_count-count.ensures);
+      same = same_agenda c.args.suite.scenes.items _ _ _ _ _ _ _ _ (rw c.deref-4.ensures.value at c.in_ok-cases.ensures.cases) (rw c.deref.ensures.value at c.in_ok-untried.ensures) (rw (c.deref-3.ensures.value, c.deref-2.ensures.value) at c.case_count-count.ensures) c.is_asked-is_shown.ensures;
       can = record {
         role = c.requires.can.role;
         made = c.requires.made;

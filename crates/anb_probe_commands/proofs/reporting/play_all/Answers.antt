@@ -18,13 +18,11 @@ returns-in-Ok-write_notes-clause-all g c =
     let t = c.args.task.now in
     let cases = c.in-Ok-play_cases.ensures in
     all_played (probing_by t.protocol t.role t.values t.seed) c.args.prepared.now c.args.program.now (g.T.Trials.trial c.args.trials.now) (g.T.Trials.trial c.play_cases.new.trials)
-    (g.W.Wire.state c.args.wire.now) (g.W.Wire.state c.write_first.new.wire) (g.W.Wire.state c.play_cases.new.wire) (g.W.Wire.state c.write_notes.new.wire) cases.played.0 c.in-Ok-play_cases.verdicts.items cases.all
-    c.in-Ok.ensures.wrote cases.wrote cases.played.1 (rw c.deref.ensures.value at c.in-Ok-write_notes.ensures.wrote)
+    (g.W.Wire.state c.args.wire.now) (g.W.Wire.state c.write_first.new.wire) (g.W.Wire.state c.play_cases.new.wire) (g.W.Wire.state c.write_notes.new.wire) c.in-Ok-play_cases.verdicts.items c.in-Ok.ensures.wrote cases.played (rw c.deref.ensures.value at c.in-Ok-write_notes.ensures.wrote)
 
 pub returns-in-Err-write_notes-clause-cut : goal.returns-in-Err-write_notes-clause-cut
 returns-in-Err-write_notes-clause-cut g c =
     let t = c.args.task.now in
     let cases = c.in-Ok-play_cases.ensures in
     cut_notes (probing_by t.protocol t.role t.values t.seed) c.args.prepared.now c.args.program.now (g.T.Trials.trial c.args.trials.now) (g.T.Trials.trial c.play_cases.new.trials)
-    (g.W.Wire.state c.args.wire.now) (g.W.Wire.state c.write_first.new.wire) (g.W.Wire.state c.play_cases.new.wire) (g.W.Wire.state c.write_notes.new.wire) cases.played.0 c.in-Ok-play_cases.verdicts.items cases.all
-    c.in-Ok.ensures.wrote cases.wrote cases.played.1 c.in-Err-write_notes.no (rw c.deref.ensures.value at c.in-Err-write_notes.ensures.broke)
+    (g.W.Wire.state c.args.wire.now) (g.W.Wire.state c.write_first.new.wire) (g.W.Wire.state c.play_cases.new.wire) (g.W.Wire.state c.write_notes.new.wire) c.in-Ok-play_cases.verdicts.items c.in-Ok.ensures.wrote cases.played c.in-Err-write_notes.no (rw c.deref.ensures.value at c.in-Err-write_notes.ensures.broke)
