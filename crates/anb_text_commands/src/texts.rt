@@ -171,9 +171,10 @@ pub const HOST: &str = concat!(
 
 /// The page on `replay`.
 pub const REPLAY: &str = concat!(
-    "anb replay <narration> <role> <values> <transcript>\n",
+    "anb replay <narration> <role> <values> <transcript> [--session <n>]\n",
     "Compares a transcript with what the role does. Its lines are `> <hex>` for what the role\n",
-    "sends and `< <hex>` for what arrives.\n",
+    "sends and `< <hex>` for what arrives. The session of a host has draws of its own: its\n",
+    "number is from 0 to 4294967295, and 0 where none is said.\n",
     "Statuses: 0; 4 to 8 as play has them; 10 the role stops; 17 a line can't be read; 18 a line\n",
     "differs; 19 the transcript ends too early; 2, 3 a file; 9 the output; 99.\n",
     "Example: anb replay examples/ping/ping.anb A examples/ping/A.values examples/ping/A.transcript\n",
@@ -191,23 +192,24 @@ pub const JUDGE: &str = concat!(
 
 /// The page on `trace`.
 pub const TRACE: &str = concat!(
-    "anb trace <narration> <role> <values> <transcript>\n",
+    "anb trace <narration> <role> <values> <transcript> [--session <n>]\n",
     "Plays the role over the arrivals of a transcript, and tells step by step what happens, up\n",
-    "to the reason of a stop; then the first line that isn't due.\n",
+    "to the reason of a stop; then the first line that isn't due. For sessions see replay.\n",
     "Statuses: 0; 4 to 8, 10 and 17 to 19 as replay has them; 2, 3 a file; 9, 15 the output; 99.\n",
     "Example: anb trace examples/ping/ping.anb A examples/ping/A.values examples/ping/A.transcript\n",
 );
 
 /// The page on `stage`.
 pub const STAGE: &str = concat!(
-    "anb stage <narration> <folder> [--as <role> <program>].. [--timeout <seconds>]\n",
-    "Starts a child for each role with the folder's file <role>.values, carries each message from\n",
-    "its sender to its receiver, and writes a line for each. The children are anb play, or the\n",
-    "program that --as says for the role, split at spaces, or that ANB_CHILD names for all. With\n",
-    "a limit no child may be silent for longer.\n",
-    "Statuses: 0; 4 the narration is refused; 5 no such role; 6 a role can't send; 31 a child\n",
-    "failed; 32, 33, 34 its message is missing, cut or too long; 35 it ended badly; 37 it was\n",
-    "silent; 2, 3 the narration's file; 9, 15 the output; 99.\n",
+    "anb stage <narration> <folder or values> [--as <role> <program>].. [--timeout <seconds>]\n",
+    "Starts a child for each role with the folder's file <role>.values, or with what anb values\n",
+    "writes for the role from a file <name>.values, carries each message from its sender to its\n",
+    "receiver, and writes a line for each. The children are anb play, or the program that --as\n",
+    "says for the role, split at spaces, or that ANB_CHILD names for all. With a limit no child\n",
+    "may be silent for longer.\n",
+    "Statuses: 0; 4 the narration is refused; 5 no such role; 6 a role can't send; 7 the values;\n",
+    "31 a child failed; 32, 33, 34 its message is missing, cut or too long; 35 it ended badly;\n",
+    "37 it was silent; 2, 3 a file; 9, 15 the output; 99.\n",
     "Example: anb stage examples/nssk/nssk.anb examples/nssk --as B ./peer\n",
 );
 
