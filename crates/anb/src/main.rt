@@ -1,5 +1,5 @@
 //! The program: it hands its words, the files, the store, the wire, standard error and the child
-//! programs of the machine to `run_with_program`, and ends with the number of the status.
+//! programs of the machine to `run_in_session`, and ends with the number of the status.
 #![tactic(auto)]
 
 use anb_base::Text;
@@ -8,7 +8,7 @@ use anb_processes::{RealSpawner, RealTrials, child_program};
 use anb_real::{
     RealShelf, RealStore, RealWire, StandardError, fill_standard_descriptors, seed, words,
 };
-use anb_run::{Status, run_with_program};
+use anb_run::{Status, run_in_session};
 use std::process::ExitCode;
 
 fn main(rt: HostRuntime) -> ExitCode {
@@ -32,7 +32,7 @@ fn status(rt: HostRuntime, skipped: usize) -> Status {
     if parks(&words) {
         wire.end_at_silence();
     }
-    let status = run_with_program(
+    let status = run_in_session(
         rt.alloc(),
         &words,
         &mut shelf,

@@ -1,3 +1,4 @@
 mod Usage
 mod Idle
 mod Testing
+mod Following

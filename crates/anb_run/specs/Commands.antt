@@ -45,9 +45,9 @@ Does (Some (play narration role values place)) told seed old new status =
 Does (Some (enact code values place)) told seed old new status =
     DoesEnact code values told seed old new status
 Does (Some (replay narration role values transcript)) told seed old new status =
-    DoesReplay narration role values transcript seed told old new status
+    DoesReplay narration role values transcript seed 0 told old new status
 Does (Some (trace narration role values transcript)) told seed old new status =
-    DoesTrace narration role values transcript seed told old new status
+    DoesTrace narration role values transcript seed 0 told old new status
 Does (Some (host narration role values place)) told seed old new status =
     DoesHost narration role values told seed old new status
 Does (Some (rehearse narration values schedule)) told seed old new status =
@@ -86,9 +86,9 @@ Completes (Some (play narration role values place)) told seed old new status =
 Completes (Some (enact code values place)) told seed old new status =
     CompletesEnact code values told seed old new status
 Completes (Some (replay narration role values transcript)) told seed old new status =
-    CompletesReplay narration role values transcript seed told status
+    CompletesReplay narration role values transcript seed 0 told status
 Completes (Some (trace narration role values transcript)) told seed old new status =
-    CompletesTrace narration role values transcript seed told old new status
+    CompletesTrace narration role values transcript seed 0 told old new status
 Completes (Some (host narration role values place)) told seed old new status =
     CompletesHost narration role values told seed old new status
 Completes (Some (rehearse narration values schedule)) told seed old new status =

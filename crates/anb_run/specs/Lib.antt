@@ -3,3 +3,4 @@ pub mod Stages
 pub mod Stores
 pub mod Recordings
 pub mod Programs
+pub mod Sessions

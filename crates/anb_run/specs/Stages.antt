@@ -1,5 +1,5 @@
 -- What is done where child programs may be started: `stage`, and every other command as without them.
-use Rattle.std.specs.Prelude.{◌≡◌, ℕ, Bool, false, List, [], ◌∷◌, Option, Some, None}
+use Rattle.std.specs.Prelude.{◌≡◌, ℕ, Bool, false, List, Option, Some, None}
 use Rattle.anb_base.specs.Wires.{WireState}
 use Rattle.anb_base.specs.declared.place.Place.{Place}
 use Rattle.anb_base.specs.declared.place.Place.TheVariants.{Stdio}
@@ -11,7 +11,7 @@ use Rattle.anb_command.specs.Phases.{phase_in}
 use Rattle.anb_status.specs.Statuses.{Phase, phase_of}
 use Rattle.anb_words.specs.Words.{Asked, asked_of, files_of, is_reading, place_of}
 use Rattle.anb_stage_commands.specs.StageCommand.{CompletesStage, DoesStage, HasStageCause, NoChildRose}
-use Rattle.anb_stage_commands.specs.Words.{Staged, staged_of}
+use Rattle.anb_stage_commands.specs.Words.{Staged, staged_files, staged_of}
 use Rattle.anb_run.specs.Commands.{Completes, Does}
 
 -- the words ask for something, a stage or another command
@@ -20,9 +20,10 @@ IsAsked (Some s) asked = Unit {0}
 IsAsked None (Some asked) = Unit {0}
 IsAsked None None = ⊥
 
--- the files, the place, and whether the input is read: a stage reads its narration and no input
+-- The files, the place, and whether the input is read: a stage reads its narration, and behind it a values
+-- file where its words name one, and no input.
 abbrev pub all_files : Option Staged → Option Asked → List (List ℕ)
-all_files (Some s) asked = s.narration ∷ []
+all_files (Some s) asked = staged_files s
 all_files None asked = files_of asked
 
 abbrev pub all_places : Option Staged → Option Asked → Option Place
@@ -51,5 +52,5 @@ module _ (asked : Option Asked) (told : Option Files) (seed : Option (List ℕ))
 -- why a fault is answered
 module _ (asked : Option Asked) (faults faults_now : List ℕ → ℕ) (children children_now : ℕ → Child) (old new : WireState) (status : Status) where
   abbrev pub HasAnyCause : Option Staged → Type 0
-  HasAnyCause (Some s) = HasStageCause s.limit (s.narration ∷ []) faults faults_now children children_now old new status
+  HasAnyCause (Some s) = HasStageCause s.limit (staged_files s) faults faults_now children children_now old new status
   HasAnyCause None = HasCause (files_of asked) (place_of asked) faults faults_now old new status

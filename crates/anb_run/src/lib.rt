@@ -4,8 +4,8 @@
 //! error sink why it didn't. What it does and when it completes are relations by what is asked for,
 //! with a case for each command; the other clauses hold of every command. [`run_all`] does the same
 //! where child programs may be started, for the one command that does so, [`run_with_store`] where
-//! records may go to files, [`run_recording`] where plays may be recorded, and [`run_with_program`] where a
-//! program may be tested too.
+//! records may go to files, [`run_recording`] where plays may be recorded, [`run_with_program`] where a
+//! program may be tested, and [`run_in_session`] where the session of a transcript may be said too.
 #![tactic(auto)]
 
 ghost use Rattle.std.specs.Prelude.{◌≡◌, ◌↔◌, None};
@@ -29,6 +29,7 @@ ghost use Rattle.anb_park_commands.specs.Splits.{SplitPlaysAreWhole};
 mod all;
 mod programs;
 mod recording;
+mod sessions;
 mod storing;
 
 pub use all::run_all;
@@ -50,6 +51,7 @@ use anb_trace_commands::trace;
 use anb_values_commands::{role_values, values};
 pub use programs::run_with_program;
 pub use recording::run_recording;
+pub use sessions::run_in_session;
 use std::alloc::Global;
 pub use storing::run_with_store;
 
@@ -110,7 +112,7 @@ pub fn run<F: Shelf, W: Wire, E: Sink>(
         ) => describe(alloc, shelf, wire, kind, narration, role),
         Some(Command::Play(words)) => play(alloc, shelf, wire, words, seed),
         Some(Command::Enact(words)) => enact(alloc, shelf, wire, words, seed),
-        Some(Command::Replay(words)) => replay(alloc, shelf, wire, words, seed),
+        Some(Command::Replay(words)) => replay(alloc, shelf, wire, words, 0, seed),
         Some(Command::Host(words)) => host(alloc, shelf, wire, words, seed),
         Some(Command::Rehearse(words)) => rehearse(alloc, shelf, wire, words, seed),
         Some(Command::Drill(exchanges)) => drill(alloc, wire, exchanges),
@@ -125,7 +127,7 @@ pub fn run<F: Shelf, W: Wire, E: Sink>(
         Some(Command::RoleChart { narration, role }) => {
             chart_for(alloc, shelf, wire, narration, role)
         }
-        Some(Command::Trace(words)) => trace(alloc, shelf, wire, words, seed),
+        Some(Command::Trace(words)) => trace(alloc, shelf, wire, words, 0, seed),
         Some(Command::Check { narration }) => check(alloc, shelf, wire, narration),
         Some(
             Command::CheckValues {

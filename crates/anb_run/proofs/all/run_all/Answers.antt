@@ -1,6 +1,7 @@
-use Rattle.std.proofs.Common.{sym, [], ◌∷◌}
+use Rattle.std.proofs.Common.{sym}
 use Rattle.anb_words.specs.Words.{asked_of}
 use Rattle.anb_stage_commands.specs.Asking.{staged}
+use Rattle.anb_stage_commands.specs.Words.{staged_files}
 use Rattle.anb_run.proofs.Usage.{usage_none, usage_some}
 use Rattle.anb_run.proofs.all.run_all.Goals as goal
 
@@ -34,7 +35,7 @@ returns-in-Some-clause-completes g c = rw (sym c.in-Some.ensures) c.stage-status
 pub returns-in-Some-clause-usage : goal.returns-in-Some-clause-usage
 returns-in-Some-clause-usage g c =
     rw (sym c.in-Some.ensures)
-    (usage_some (staged c.in-Some.words) (asked_of c.args.words.now) c.in-Some.words.limit (c.in-Some.words.narration.now ∷ [])
+    (usage_some (staged c.in-Some.words) (asked_of c.args.words.now) c.in-Some.words.limit (staged_files (staged c.in-Some.words))
     (g.F.Shelf.faults c.args.shelf.now) (g.F.Shelf.faults c.stage-status.new.shelf) (g.P.Spawner.child c.args.spawner.now) (g.P.Spawner.child c.stage-status.new.spawner)
     (g.W.Wire.state c.args.wire.now) (g.W.Wire.state c.stage-status.new.wire) c.stage-status.result c.stage-status.ensures.faults)
 
