@@ -48,7 +48,7 @@ fn unstarted(
 }
 
 /// How the child of a row ends, and what it says.
-fn child(alloc: Global, row: &str) -> Result<(ChildEnd, Bytes), No> {
+pub(crate) fn child(alloc: Global, row: &str) -> Result<(ChildEnd, Bytes), No> {
     let mut words = row.split_whitespace();
     let Some(word) = words.next() else {
         return Err(No::Value("children"));

@@ -11,8 +11,8 @@ pub(crate) struct Name {
 }
 
 /// The text where `{NAME}` is what stands for the name, `{TEXT*COUNT}` is the text so many times, and a
-/// backslash with `n`, `r`, `t`, `s` or itself is a line's end, a carriage return, a tab, a space or
-/// a backslash. The key is that of the value.
+/// backslash with `n`, `r`, `t`, `0`, `s` or itself is a line's end, a carriage return, a tab, a NUL, a
+/// space or a backslash. The key is that of the value.
 pub(crate) fn filled(
     alloc: Global,
     names: &[Name],
@@ -98,6 +98,7 @@ fn meant(sign: char) -> Option<char> {
         'n' => Some('\n'),
         'r' => Some('\r'),
         't' => Some('\t'),
+        '0' => Some('\0'),
         's' => Some(' '),
         '\\' => Some('\\'),
         _ => None,

@@ -1,10 +1,9 @@
 //! What came of a run, beside what its case expects.
 
 use crate::case::{Case, No};
-use crate::children::{asked, heard};
 use crate::running::Ran;
-use anb_base::{MemWire, read_full};
-use anb_partner::MemTrials;
+use crate::{children, stages};
+use anb_base::{MemWire, NoMemory, read_full};
 use anb_store::MemStore;
 use std::alloc::{AllocError, Global};
 
@@ -49,7 +48,7 @@ pub(crate) fn difference(
     if let Some(difference) = store_difference(alloc, case, &ran.store)? {
         return Ok(Some(difference));
     }
-    if let Some(difference) = children_difference(alloc, case, &ran.trials)? {
+    if let Some(difference) = children_difference(alloc, case, ran)? {
         return Ok(Some(difference));
     }
     match &mut ran.wire {
@@ -58,26 +57,36 @@ pub(crate) fn difference(
     }
 }
 
-/// The same of the children of a tested program: what they heard, and with which words they were started,
-/// where the case says it. Where it says no children none is there.
-fn children_difference(
-    alloc: Global,
-    case: Case,
-    trials: &MemTrials,
-) -> Result<Option<String>, No> {
+/// The same of the children of a tested program, or of a stage: what they heard, and what was asked of
+/// them, where the case says it. Where it says no children none is there.
+fn children_difference(alloc: Global, case: Case, ran: &Ran) -> Result<Option<String>, No> {
     if let Some(words) = case.text(alloc, "asked")? {
-        let asked = asked(alloc, trials)?;
+        let asked = asked(alloc, case, ran)?;
         if asked.as_slice() != words.as_bytes() {
             return Ok(Some(told(alloc, "asked", &asked)?));
         }
     }
     if let Some(bytes) = case.bytes(alloc, "heard")? {
-        let heard = heard(alloc, trials)?;
+        let heard = heard(alloc, case, ran)?;
         if heard.as_slice() != bytes.as_slice() {
             return Ok(Some(told(alloc, "heard", &heard)?));
         }
     }
     Ok(None)
+}
+
+fn asked(alloc: Global, case: Case, ran: &Ran) -> Result<Vec<u8>, NoMemory> {
+    match case.entry("roles") {
+        Some(_) => stages::asked(alloc, &ran.spawner),
+        None => children::asked(alloc, &ran.trials),
+    }
+}
+
+fn heard(alloc: Global, case: Case, ran: &Ran) -> Result<Vec<u8>, NoMemory> {
+    match case.entry("roles") {
+        Some(_) => stages::heard(alloc, &ran.spawner),
+        None => children::heard(alloc, &ran.trials),
+    }
 }
 
 /// The same of the files that are kept: the one that the last word names, where one is expected.

@@ -9,6 +9,7 @@ mod filling;
 mod judging;
 mod parts;
 mod running;
+mod stages;
 mod theme;
 mod turns;
 mod unfailing;

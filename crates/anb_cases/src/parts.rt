@@ -24,7 +24,7 @@ const BYTES: [&str; 12] = [
 ];
 
 /// The other keys.
-const WORDS: [&str; 18] = [
+const WORDS: [&str; 20] = [
     "words",
     "piece",
     "room",
@@ -42,6 +42,8 @@ const WORDS: [&str; 18] = [
     "reached",
     "children",
     "children fail",
+    "roles",
+    "roles fail",
     "asked",
 ];
 

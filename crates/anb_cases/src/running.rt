@@ -2,13 +2,15 @@
 
 ghost use Rattle.std.specs.Prelude.{◌≡◌, ℕ, IfOk};
 ghost use Rattle.anb_partner.specs.Memory.{trials_of};
+ghost use Rattle.anb_stage.specs.Memory.{child_at};
 
 use crate::case::{Case, No};
 use crate::children::children;
+use crate::stages::roles;
 use crate::unfailing::run_unfailing;
 use anb_base::{Bytes, MemShelf, MemWire, NeverFails, NoMemory, Text};
 use anb_partner::MemTrials;
-use anb_run::run_with_program;
+use anb_run::run_in_session;
 use anb_stage::MemSpawner;
 use anb_store::MemStore;
 use hex::FromHex;
@@ -32,6 +34,7 @@ pub(crate) enum Turn {
 pub(crate) struct Ran {
     pub(crate) number: u8,
     pub(crate) wire: Option<MemWire>,
+    pub(crate) spawner: MemSpawner,
     pub(crate) store: MemStore,
     pub(crate) trials: MemTrials,
     pub(crate) err: MemWire,
@@ -46,6 +49,7 @@ pub(crate) fn run_case(alloc: Global, case: Case, turn: Turn) -> Result<Ran, No>
     let fails = case.numbers(alloc, "sink fails")?;
     let mut err = MemWire::new(alloc, none(alloc), PLENTY, PLENTY, fails)?;
     let mut store = MemStore::new(alloc, case.numbers(alloc, "store fails")?);
+    let mut spawner = roles(alloc, case)?;
     let mut trials = children(alloc, case)?;
     if case.is_set("unfailing wire")? {
         let mut wire = NeverFails::new(input);
@@ -53,6 +57,7 @@ pub(crate) fn run_case(alloc: Global, case: Case, turn: Turn) -> Result<Ran, No>
         return Ok(Ran {
             number,
             wire: None,
+            spawner,
             store,
             trials,
             err,
@@ -63,15 +68,17 @@ pub(crate) fn run_case(alloc: Global, case: Case, turn: Turn) -> Result<Ran, No>
         alloc,
         &words,
         &mut shelf,
+        &mut spawner,
         &mut store,
         &mut trials,
         &mut wire,
         &mut err,
         seed,
-    )?;
+    );
     Ok(Ran {
         number,
         wire: Some(wire),
+        spawner,
         store,
         trials,
         err,
@@ -84,28 +91,18 @@ fn status_of(
     alloc: Global,
     words: &[Text],
     shelf: &mut MemShelf,
+    spawner: &mut MemSpawner,
     store: &mut MemStore,
     trials: &mut MemTrials,
     wire: &mut MemWire,
     err: &mut MemWire,
     seed: Option<[u8; 32]>,
-) -> Result<u8, NoMemory>
-    requires { (case : ℕ) → (trials_of trials.old case).phase ≡ 0 }
+) -> u8
+    requires unstarted { (role : ℕ) → (child_at spawner.old role).phase ≡ 0 }
+    requires untried { (case : ℕ) → (trials_of trials.old case).phase ≡ 0 }
 {
-    // No role has a child that could be started.
-    let mut spawner = MemSpawner::new(alloc, Vec::new(alloc), Vec::new(alloc), 0, Vec::new(alloc))?;
-    let status = run_with_program(
-        alloc,
-        words,
-        shelf,
-        &mut spawner,
-        store,
-        trials,
-        wire,
-        err,
-        seed,
-    );
-    Ok(status.number())
+    let status = run_in_session(alloc, words, shelf, spawner, store, trials, wire, err, seed);
+    status.number()
 }
 
 /// The same over a wire that never fails.
@@ -153,11 +150,12 @@ fn seed_of(alloc: Global, case: Case) -> Result<Option<[u8; 32]>, No> {
     }
 }
 
-/// The files `n`, `v`, `t` and `r`.
+/// The files `n`, `v`, `t` and `r`. What is in `v` is in `v.values` too.
 fn shelf_of(alloc: Global, case: Case) -> Result<MemShelf, No> {
     let mut files = Vec::new(alloc);
     files.push((name(alloc, "n")?, bytes_of(alloc, case, "n")?))?;
     files.push((name(alloc, "v")?, bytes_of(alloc, case, "v")?))?;
+    files.push((name(alloc, "v.values")?, bytes_of(alloc, case, "v")?))?;
     files.push((name(alloc, "t")?, bytes_of(alloc, case, "t")?))?;
     files.push((name(alloc, "r")?, bytes_of(alloc, case, "r")?))?;
     let fails = case.numbers(alloc, "file fails")?;
