@@ -2,6 +2,7 @@
 import concurrent.futures
 import contextlib
 import os
+import re
 import shutil
 import signal
 import subprocess
@@ -356,6 +357,50 @@ def signalled_stages(program):
     return f"{', '.join(kind.name for kind in kinds)}, to the stage alone and to its group"
 
 
+def own_values(program):
+    """from a values file each child gets a file that its owner alone sees, and none is left, whatever ends the stage"""
+    write_ping(program)
+    program.write("all.values", 'N = "ab"\n@seed = x' + "00" * 32 + "\n")
+    scratch = os.path.join(program.folder, "scratch")
+    os.mkdir(scratch)
+    looks = 'stat -c "%a %n" "${4%/*}" "$4" > seen.$3; cat "$4" >> seen.$3; '
+
+    def start(a, b, folder="scratch"):
+        write_child(program, looks + a, looks + b)
+        return program.start("stage", "ping.anb", "all.values", before=f"export TMPDIR={folder} ANB_CHILD=./child;")
+
+    want("children with files of their own", start(PLAYS, ANSWERS).end(), ended(0))
+    for role in "AB":
+        own = program.run("values", "ping.anb", role, "all.values")[1][1]
+        folder, file, content = program.read(f"seen.{role}").split(b"\n", 2)
+        want(f"what {role} gets", content, own)
+        want("the folder", bool(re.fullmatch(rb"700 scratch/anb-\d+-0", folder)), True)
+        want("the file", file, b"600 " + folder[4:] + b"/%s.values" % role.encode())
+    want("what is left", os.listdir(scratch), [])
+    before = "export TMPDIR=scratch;"
+    want("a stage of the program itself", program.run("stage", "ping.anb", "all.values", before=before)[1], ended(0))
+    want("without a seed", program.run("stage", "ping.anb", "ping.values", before=before)[1], ended(0))
+    wrong = start(PLAYS, f"{HEARS}; exit 4").end()
+    want("a child that fails", wrong, ended(32, "child B ended with 4\nno message of action 2"))
+    want("what is left of all these", os.listdir(scratch), [])
+
+    status, said, told = start(PLAYS, ANSWERS, "nothing").end()
+    want("where no folder can be made", (status, said), (31, b""))
+    want("its lines", bool(re.fullmatch(rb"anb: can't write nothing/anb-\d+-0\nanb: child A failed\n", told)), True)
+    want("children", pids(program), [])
+
+    kinds = (signal.SIGINT, signal.SIGTERM, signal.SIGHUP, signal.SIGKILL)
+    for kind in kinds:
+        run = start(f"{SAYS}; {WAITS}", WAITS)
+        wait_until("two children", lambda: len(pids(program)) == 2)
+        want("folders", len(os.listdir(scratch)), 1)
+        os.kill(run.child.pid, kind)
+        wait_until(f"no folder is left after {kind.name}", lambda: not os.listdir(scratch), SHORT)
+        wait_until(f"nobody is left after {kind.name}", lambda: not any(map(is_process, pids(program))), SHORT)
+        want("the status", run.end()[0], -kind)
+    return f"modes 700 and 600; gone after the end, a child that fails, and {', '.join(kind.name for kind in kinds)}"
+
+
 # A message of 200,000 bytes, which no pipe takes at once, and one whose bytes come one after another.
 LONG = r"printf '\0\3\15\100'; head -c 200000 /dev/zero"
 SLOW = "; ".join(f"printf '{byte}'; sleep 0.6" for byte in (r"\0", r"\0", r"\0", r"\2", "a", "b"))
@@ -396,6 +441,7 @@ STAGES = (
     children_end_first,
     named_children,
     cast_roles,
+    own_values,
     ended_children,
     dropped_output,
     silent_children,
