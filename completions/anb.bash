@@ -8,7 +8,7 @@ _anb_kinds() {
         park) echo narration role values file ;;
         resume) echo narration role file file ;;
         replay | trace | judge) echo narration role values file ;;
-        stage) echo narration folder ;;
+        stage) echo narration values ;;
         rehearse) echo narration values file ;;
         check | values) echo narration role values ;;
         drill) echo number ;;
@@ -26,6 +26,7 @@ _anb_options() {
     shift
     [[ $command == probe ]] && _anb_probing "$@" && return
     [[ $command == chart && $# == 0 ]] && echo --role
+    [[ $command == replay || $command == trace ]] && (($# == 0)) && echo --session
     case $command in
         branch) arm=--arm place='--dial --listen' ;;
         play | host | park | resume | enact) place='--dial --listen' ;;
@@ -117,7 +118,6 @@ _anb() {
         narration) _anb_files .anb ;;
         values) _anb_files .values ;;
         file) _anb_files '' ;;
-        folder) compopt -o filenames 2>/dev/null; mapfile -t COMPREPLY < <(compgen -d -- "$(_anb_file "$word")") ;;
         role) _anb_offer "$(_anb_roles "${words[2]}")" ;;
         command) _anb_offer "$_anb_commands" ;;
         number) ;;
@@ -132,7 +132,7 @@ _anb() {
             case ${words[at - 1]} in
                 --role | --as) _anb_offer "$(_anb_roles "${words[2]}")" ;;
                 --arm) _anb_offer '1 2 3 4 5 6 7 8' ;;
-                --dial | --listen | --timeout | --case) ;;
+                --dial | --listen | --timeout | --case | --session) ;;
                 --record)
                     case ${words[1]} in
                         play | enact | branch) compopt -o filenames 2>/dev/null; mapfile -t COMPREPLY < <(compgen -d -- "$(_anb_file "$word")") ;;

@@ -46,7 +46,7 @@ function __anb_option
         test (count $rest) -eq 0 -o "$rest" = --as
         return
     end
-    if test "$argv[1]" = role -o "$argv[1]" = arm -o "$argv[1]" = silence
+    if test "$argv[1]" = role -o "$argv[1]" = arm -o "$argv[1]" = session -o "$argv[1]" = silence
         test (count $rest) -eq 0 -o "$rest" = "--$argv[1]" -o "$argv[1]$rest" = silence--timeout
         return
     end
@@ -157,14 +157,14 @@ set -l with_role check explain compile play probe values branch host park resume
 complete -c anb -n "__anb_at 1 chart fmt why stage rehearse $with_role" -k -a '(__fish_complete_suffix .anb)'
 complete -c anb -n "__anb_at 2 $with_role" -a '(__anb_roles)' -d Role
 complete -c anb -n '__anb_at 3 check play probe values branch host park replay trace judge' -k -a '(__fish_complete_suffix .values)'
-complete -c anb -n '__anb_at 2 rehearse enact' -k -a '(__fish_complete_suffix .values)'
+complete -c anb -n '__anb_at 2 rehearse stage enact' -k -a '(__fish_complete_suffix .values)'
 complete -c anb -n '__anb_at 1 enact' -F
 complete -c anb -n '__anb_at 3 rehearse certify resume' -F
 complete -c anb -n '__anb_at 4 park resume replay trace judge' -F
-complete -c anb -n '__anb_at 2 stage' -a '(__fish_complete_directories)'
 
 set -l with_place play branch host park resume enact
 complete -c anb -n '__anb_option role chart' -x -l role -a '(__anb_roles)' -d 'The role whose notes are drawn'
+complete -c anb -n '__anb_option session replay trace' -x -l session -d 'The number of the session'
 complete -c anb -n '__anb_option arm branch' -x -l arm -a '1 2 3 4 5 6 7 8' -d 'The arm that is taken'
 complete -c anb -n "__anb_option place $with_place" -x -l dial -d 'Connect to host:port'
 complete -c anb -n "__anb_option place $with_place" -x -l listen -d 'Wait for a connection at host:port'

@@ -26,6 +26,8 @@ UNCHECKED = "takes unchecked: "
 RESTING = "rests on arrivals alone: "
 RECORDING = "a recording of another run: "
 STRANGER = "whoever knows only "
+IDLE = "nothing that it takes afterwards depends on: "
+NOTE = "note: "
 
 # The groups, each with a sentence and its examples in the order to read them in.
 GROUPS = [
@@ -53,7 +55,7 @@ A folder has the narration, `ROLE.values` for each role, `all.values` with a val
 
 **Where to begin**: `ping` and `mutual` are the smallest. `nssk` and `nssk-amended` show what a server adds, and what an amendment changes for B. `wpa2` derives its keys, `skey` and `ratchet` carry something from one message to the next. Within a group the examples stand in an order to read them in.
 
-Under each chart stands which messages a role takes, as `anb check` says it: the pattern of each arrival that isn't fixed, with `?1`, `?2`, .. where any term may come, one wherever the same must come. What it **takes unchecked** are the terms whose variable stands once: whatever comes there, the role goes on. A nonce of the partner is often among them, and rightly; a key or a ticket there deserves a thought. What **rests on arrivals alone** is compared with other arrivals, or is a key or an operand of one; who can make the arrival that holds it isn't said. What came out of a seal is still from someone who had the seal's key, and so is what a mac is of. The index has both. **A recording of another run** is what came in a run in which the role drew other names: the role stops at the first event that needs one of its new names, or takes all of it. **Whoever knows only** the agents' names, hears what the role sends and picks all else himself can send all that it takes, or as far as an event, where a line says so; where there is none, nothing is claimed. All this says which messages a role takes, and is no search for attacks. Fewer unchecked parts are not more security: nothing here is a claim that a protocol is secure, and some of these are known not to be.
+Under each chart stands which messages a role takes, as `anb check` says it: the pattern of each arrival that isn't fixed, with `?1`, `?2`, .. where any term may come, one wherever the same must come. What it **takes unchecked** are the terms whose variable stands once: whatever comes there, the role goes on. A nonce of the partner is often among them, and rightly; a key or a ticket there deserves a thought. What **rests on arrivals alone** is compared with other arrivals, or is a key or an operand of one; who can make the arrival that holds it isn't said. What came out of a seal is still from someone who had the seal's key, and so is what a mac is of. The index has both. **A recording of another run** is what came in a run in which the role drew other names: the role stops at the first event that needs one of its new names, or takes all of it. **Whoever knows only** the agents' names, hears what the role sends and picks all else himself can send all that it takes, or as far as an event, where a line says so; where there is none, nothing is claimed. **Nothing that it takes afterwards depends on** a name that the role drew: whatever it drew, it would take the same from there on. In `lorawan-join` that is the device's nonce, in others a payload. **Notes** say of a key that it stands in clear in a message, or that nobody knows it from the start, who draws it, and where it is a key that another role receives. All this says which messages a role takes, and is no search for attacks. Fewer unchecked parts are not more security: nothing here is a claim that a protocol is secure, and some of these are known not to be.
 
 `peer/` has a role in Python, and one with mistakes, and `offer/` a text with a choice; the [tutorial](../docs/TUTORIAL.md) uses them.
 """
@@ -86,8 +88,9 @@ def written(program, *words):
 
 
 def reported(program, path):
-    """What `anb check` writes of what each role takes: for each event a pattern or nothing, and the lines at its end."""
-    patterns, lines, role = {}, {}, None
+    """What `anb check` writes of what each role takes: for each event a pattern or nothing, and the lines at its end;
+    and the notes at the end of all."""
+    patterns, lines, notes, role = {}, {}, [], None
     for line in written(program, "check", path).splitlines():
         head = re.match(r"role (\S+): ", line)
         if head:
@@ -97,9 +100,11 @@ def reported(program, path):
             patterns[role].append(None)
         elif line.startswith("    ") and "accepts " in line:
             patterns[role][-1] = line.split("accepts ", 1)[1]
-        elif re.match(r"  (\?1 stands for|takes|rests|a recording|whoever) ", line):
+        elif re.match(r"  (\?1 stands for|takes|rests|a recording|whoever|nothing that it takes) ", line):
             lines[role].append(line.strip())
-    return patterns, lines
+        elif line.startswith(NOTE):
+            notes.append(line.removeprefix(NOTE))
+    return patterns, lines, notes
 
 
 def end_lines(meanings, once):
@@ -127,10 +132,24 @@ def stranger_lines(story, role):
     return [f"{STRANGER}{agents} can send all that {role} takes{end}"] if last else []
 
 
+def idle_lines(story, role):
+    """The line on new names of the role on which nothing depends that it takes afterwards, where there are such."""
+    names = narration.idle(story, role)
+    return [IDLE + ", ".join(names)] if names else []
+
+
+def key_notes(story, path, report):
+    """The notes on keys: the last ones of the program's report are those that are found apart from it."""
+    found = narration.notes(story)
+    if report[2][len(report[2]) - len(found) :] != found or any(" key in " in note for note in report[2][: len(report[2]) - len(found)]):
+        raise ValueError(f"{path}: `check` notes {report[2]}, and not {found}")
+    return found
+
+
 def taken(story, path, role, report):
     """What the role takes: the program's report says what is found apart from it."""
     found, meanings, once = narration.taken(story, role)
-    lines = end_lines(meanings, once) + recording_lines(story, role) + stranger_lines(story, role)
+    lines = end_lines(meanings, once) + recording_lines(story, role) + stranger_lines(story, role) + idle_lines(story, role)
     if (report[0][role], report[1][role]) != (found, lines):
         raise ValueError(f"{path}: `check` says of {role} {report[0][role]}, {report[1][role]}, and not {found}, {lines}")
     return found, lines
@@ -171,6 +190,7 @@ def section(program, folder):
     report = reported(program, path)
     for role in story.roles:
         lines += sentences(story, path, role, report)
+    lines += [f"- Note: {note}." for note in key_notes(story, path, report)]
     return "\n".join(lines)
 
 

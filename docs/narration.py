@@ -360,3 +360,65 @@ def stranger(story, role):
         else:
             return last, False
     return last, True
+
+
+def idle(story, role):
+    """The names that a role draws before it receives something, and that no pattern of what it receives has."""
+    _, arrivals, _ = patterns(story, role)
+    needed = {name for arrival in arrivals for name in fixed_names(arrival)}
+    heard = [number for number, (_, receiver, _) in enumerate(story.actions) if receiver == role]
+    made = [(number, name) for number, names in enumerate(story.made_names()) for name in names if story.actions[number][0] == role]
+    return [name for number, name in made if heard and number < heard[-1] and name not in needed]
+
+
+def fixed_names(pattern):
+    """The names in a pattern, without its variables."""
+    if isinstance(pattern, Variable):
+        return []
+    return [pattern] if isinstance(pattern, str) else [name for part in pattern[1:] for name in fixed_names(part)]
+
+
+def keys_in(term):
+    """The names that are keys of a mac, a seal or a wrap somewhere in a term."""
+    if isinstance(term, str):
+        return []
+    key = [term[1]] if term[0] in ("mac", "scrypt", "wrap") and isinstance(term[1], str) else []
+    return key + [name for part in term[1:] for name in keys_in(part)]
+
+
+def clear_in(term):
+    """The names that everybody reads in a message."""
+    if isinstance(term, str):
+        return [term]
+    return [] if term[0] in KEYS else [name for part in term[1:] for name in clear_in(part)]
+
+
+def inside(term):
+    """The names that somebody with all keys takes out of a message."""
+    if isinstance(term, str):
+        return [term]
+    count = KEYS.get(term[0], 0)
+    return [] if count is None else [name for part in term[1 + count :] for name in inside(part)]
+
+
+def notes(story):
+    """The notes on a protocol's keys: what stands in the messages, name by name."""
+    lines = []
+    messages = [(number, message) for number, (_, _, message) in enumerate(story.actions, 1)]
+    makers = {name: story.actions[number][0] for number, names in enumerate(story.made_names()) for name in names}
+    for name, sort in story.sorts.items():
+        keys = [number for number, message in messages if name in keys_in(message)]
+        clear = [number for number, message in messages if name in clear_in(message)]
+        bare = [number for number in keys if clear and clear[0] <= number]
+        others = [number for number in keys if name in makers and story.actions[number - 1][1] != makers[name]]
+        if sort == "Agent" and keys:
+            lines.append(f"{name} is an agent's name, and a key in action {keys[0]}")
+        if sort != "Agent" and bare:
+            lines.append(f"{name} stands in clear in action {clear[0]}, and is a key in action {bare[0]}")
+        elif sort == "Key" and clear:
+            lines.append(f"{name} is of type Key, and stands in clear in action {clear[0]}")
+        if sort == "Key" and others:
+            brought = "" if any(name in inside(message) for _, message in messages) else ", and no message brings it"
+            receiver = story.actions[others[0] - 1][1]
+            lines.append(f"nobody knows {name} from the start: {makers[name]} draws it, and it is a key in action {others[0]}, which {receiver} receives{brought}")
+    return lines
