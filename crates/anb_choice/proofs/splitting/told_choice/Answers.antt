@@ -3,7 +3,7 @@ use Rattle.anb_choice.specs.Order.{bad_at}
 use Rattle.anb_choice.specs.Parsing.{order}
 use Rattle.anb_choice.proofs.Misplaced.{misplaced_of}
 use Rattle.anb_choice.proofs.Ordering.{has_order}
-use Rattle.anb_choice.proofs.splitting.marked.Goals as goal
+use Rattle.anb_choice.proofs.splitting.told_choice.Goals as goal
 
 pub branched_in-requires-clause-ordered : goal.branched_in-requires-clause-ordered
 branched_in-requires-clause-ordered c =
