@@ -32,7 +32,7 @@ _anb_options() {
         play | host | park | resume | enact) place='--dial --listen' ;;
         stage) place='--as --timeout' ;;
     esac
-    case $command in play | enact | branch | park | resume) record=--record ;; esac
+    case $command in play | enact | branch | host | park | resume) record=--record ;; esac
     [[ $1 == --arm ]] && shift 2 && arm=''
     while [[ $1 == --as ]] && (($# >= 3)); do shift 3; done
     case $# in
@@ -135,7 +135,7 @@ _anb() {
                 --dial | --listen | --timeout | --case | --session) ;;
                 --record)
                     case ${words[1]} in
-                        play | enact | branch) compopt -o filenames 2>/dev/null; mapfile -t COMPREPLY < <(compgen -d -- "$(_anb_file "$word")") ;;
+                        play | enact | branch | host) compopt -o filenames 2>/dev/null; mapfile -t COMPREPLY < <(compgen -d -- "$(_anb_file "$word")") ;;
                         *) _anb_files '' ;;
                     esac
                     ;;

@@ -36,12 +36,7 @@ pub enum HostEnd {
 /// frames as the budget. What an event is answered is written before the next frame is read. No
 /// place is reached. A host can be served again, but where memory was wanting: then nothing is read
 /// or written any more.
-pub fn serve<H: Servable, W: Wire>(
-    alloc: Global,
-    host: &mut H,
-    wire: &mut W,
-    budget: u32,
-) -> HostEnd
+pub fn serve<H: Servable, W: Wire>(alloc: Global, host: &mut H, wire: &mut W, budget: u32) -> HostEnd
     ensures serves { (past events : List HostEvent) (tail : Tail)
         → StandsFor (H.host host.old) past → FramesLeft (W.left wire.old) events tail
         → Serves (plays_of (H.host host.old)) past events tail budget

@@ -118,15 +118,12 @@ module _ (play : Run) (grows : SendsOn play) where
   module _ (s : ℕ) (small : nat_lt 1023 s ≡ false) where
     same_so : (past next : List HostEvent) (lines added : List TranscriptLine) → added ≡ [] → has_start next ≡ has_start past → accepted play next ≡ accepted play past → SoFar past lines → SoFar next (lines ++ added)
     same_so past next lines added none h a (inl (unstarted, is)) = inl (h ∙ unstarted, ap (λ (l : List TranscriptLine). lines ++ l) none ∙ append-nil lines ∙ is)
-    same_so past next lines added none h a (inr (started, t)) = inr (
-      h ∙ started,
-      record {
-        reached =
-            subst (λ (at : List (List ℕ)). Reached play (behind at (length (play at).sent)) (lines ++ added)) (sym a)
-            (subst (Reached play (behind (accepted play past) (length (play (accepted play past)).sent))) (sym (append-nil lines) ∙ ap (λ (l : List TranscriptLine). lines ++ l) (sym none)) t.reached);
-        arrivals = ap arrivals_of (ap (λ (l : List TranscriptLine). lines ++ l) none ∙ append-nil lines) ∙ t.arrivals ∙ sym a;
-      },
-    )
+    same_so past next lines added none h a (inr (started, t)) = inr (h ∙ started, record {
+      reached =
+          subst (λ (at : List (List ℕ)). Reached play (behind at (length (play at).sent)) (lines ++ added)) (sym a)
+          (subst (Reached play (behind (accepted play past) (length (play (accepted play past)).sent))) (sym (append-nil lines) ∙ ap (λ (l : List TranscriptLine). lines ++ l) (sym none)) t.reached);
+      arrivals = ap arrivals_of (ap (λ (l : List TranscriptLine). lines ++ l) none ∙ append-nil lines) ∙ t.arrivals ∙ sym a;
+    })
 
     or_no : (b : Bool) → (b || false) ≡ b
     or_no true = refl
@@ -155,13 +152,10 @@ module _ (play : Run) (grows : SendsOn play) where
         let all : Reached play (behind [] (length (play []).sent)) (map Out (play []).sent) =
         subst (λ n. Reached play (behind [] n) (map Out (play []).sent)) zero (all_said [] [] (play []).sent [] 0 [] (sym (append-nil (play []).sent)) refl here) in
         let lines_are : lines ++ lines_of (Start t) (own play s past (Start t)) ≡ map Out (play []).sent = ap (λ (l : List TranscriptLine). l ++ lines_of (Start t) (own play s past (Start t))) empty ∙ lines_told s (Start t) (own play s past (Start t)) (play []).sent (play []).end o in
-        inr (
-          on,
-          record {
-            reached = subst (λ (at : List (List ℕ)). Reached play (behind at (length (play at).sent)) (lines ++ lines_of (Start t) (own play s past (Start t)))) (sym a) (subst (Reached play (behind [] (length (play []).sent))) (sym lines_are) all);
-            arrivals = ap arrivals_of lines_are ∙ outs_hear (play []).sent ∙ sym a;
-          },
-        )
+        inr (on, record {
+          reached = subst (λ (at : List (List ℕ)). Reached play (behind at (length (play at).sent)) (lines ++ lines_of (Start t) (own play s past (Start t)))) (sym a) (subst (Reached play (behind [] (length (play []).sent))) (sym lines_are) all);
+          arrivals = ap arrivals_of lines_are ∙ outs_hear (play []).sent ∙ sym a;
+        })
 
     arrived : (past : List HostEvent) (t : ℕ) (y : List ℕ) (lines : List TranscriptLine) (b over : Bool) → has_start past ≡ b → is_over (play (accepted play past)).end ≡ over
         → SoFar past lines → SoFar (past ++ Arrive t y ∷ []) (lines ++ lines_of (Arrive t y) (own play s past (Arrive t y)))
@@ -185,18 +179,15 @@ module _ (play : Run) (grows : SendsOn play) where
         let count : length first + length g.0 ≡ length now.sent = sym (length-append first g.0) ∙ ap length (sym g.1) in
         let told = lines_told s (Arrive t y) (own play s past (Arrive t y)) (drop (length first) now.sent) now.end o ∙ ap (λ (l : List (List ℕ)). In y ∷ map Out l) more in
         let lines_are : lines ++ lines_of (Arrive t y) (own play s past (Arrive t y)) ≡ (lines ++ In y ∷ []) ++ map Out g.0 = ap (λ (l : List TranscriptLine). lines ++ l) told ∙ sym (append_assoc lines (In y ∷ []) (map Out g.0)) in
-        inr (
-          on,
-          record {
-            reached =
-                subst (λ (xs : List (List ℕ)). Reached play (behind xs (length (play xs).sent)) (lines ++ lines_of (Arrive t y) (own play s past (Arrive t y)))) (sym a)
-                (subst (λ n. Reached play (behind (at ++ y ∷ []) n) (lines ++ lines_of (Arrive t y) (own play s past (Arrive t y)))) count
-                (subst (Reached play (behind (at ++ y ∷ []) (length first + length g.0))) (sym lines_are) all));
-            arrivals =
-                ap arrivals_of lines_are ∙ arrivals_joined (lines ++ In y ∷ []) (map Out g.0) ∙ ap (λ l. arrivals_of (lines ++ In y ∷ []) ++ l) (outs_hear g.0) ∙ append-nil (arrivals_of (lines ++ In y ∷ []))
-                ∙ arrivals_joined lines (In y ∷ []) ∙ ap (λ l. l ++ y ∷ []) so.arrivals ∙ sym a;
-          },
-        )
+        inr (on, record {
+          reached =
+              subst (λ (xs : List (List ℕ)). Reached play (behind xs (length (play xs).sent)) (lines ++ lines_of (Arrive t y) (own play s past (Arrive t y)))) (sym a)
+              (subst (λ n. Reached play (behind (at ++ y ∷ []) n) (lines ++ lines_of (Arrive t y) (own play s past (Arrive t y)))) count
+              (subst (Reached play (behind (at ++ y ∷ []) (length first + length g.0))) (sym lines_are) all));
+          arrivals =
+              ap arrivals_of lines_are ∙ arrivals_joined (lines ++ In y ∷ []) (map Out g.0) ∙ ap (λ l. arrivals_of (lines ++ In y ∷ []) ++ l) (outs_hear g.0) ∙ append-nil (arrivals_of (lines ++ In y ∷ []))
+              ∙ arrivals_joined lines (In y ∷ []) ∙ ap (λ l. l ++ y ∷ []) so.arrivals ∙ sym a;
+        })
 
     oversized : (past : List HostEvent) (t n : ℕ) (lines : List TranscriptLine) (b over : Bool) → has_start past ≡ b → is_over (play (accepted play past)).end ≡ over
         → SoFar past lines → SoFar (past ++ Oversize t n ∷ []) (lines ++ lines_of (Oversize t n) (own play s past (Oversize t n)))

@@ -97,9 +97,9 @@ follows_further h h' h'' name mid last folder folder_mid folder_last a b c k l m
   two.1 ∙ one.1,
   two.2 ∙ one.2,
   λ past stands.
-      let first = one.3 past stands in
-      let second = two.3 (past ++ some) first.0 in
-      let here : Keeps (plays_of h) folder (past ++ some) more b c l m =
-      subst (λ (p : ℕ → Run). Keeps p folder (past ++ some) more b c l m) one.2 (subst (λ (f : List ℕ). Keeps (plays_of h') f (past ++ some) more b c l m) one.1 second.1) in
-      (subst (StandsFor h'') (append_assoc past some more) second.0, keeps_further (plays_of h) folder past some more a b c k l m first.1 here),
+  let first = one.3 past stands in
+  let second = two.3 (past ++ some) first.0 in
+  let here : Keeps (plays_of h) folder (past ++ some) more b c l m =
+  subst (λ (p : ℕ → Run). Keeps p folder (past ++ some) more b c l m) one.2 (subst (λ (f : List ℕ). Keeps (plays_of h') f (past ++ some) more b c l m) one.1 second.1) in
+  (subst (StandsFor h'') (append_assoc past some more) second.0, keeps_further (plays_of h) folder past some more a b c k l m first.1 here),
 )

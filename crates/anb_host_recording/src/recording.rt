@@ -49,7 +49,13 @@ pub struct RecordingHost<'h, 'c, 'j, 'f, 'n, J: Journal> {
 
 impl<J: Journal> RecordingHost<'_, '_, '_, '_, '_, J> {
     /// Appends the lines of an event that was answered so, where nothing is missing.
-    fn note(&mut self, alloc: Global, session: u32, line: Result<Bytes, NoMemory>, told: &[Notice])
+    fn note(
+        &mut self,
+        alloc: Global,
+        session: u32,
+        line: Result<Bytes, NoMemory>,
+        told: &[Notice],
+    )
         ensures same_reference { self.new.journal.ghost_name ≡ self.old.journal.ghost_name }
         ensures same_host { self.new.host.now ≡ self.old.host.now }
         ensures same_place { self.new.host.ghost_name ≡ self.old.host.ghost_name }
@@ -129,22 +135,15 @@ impl<J: Journal> Servable for RecordingHost<'_, '_, '_, '_, '_, J> {
         x.folder.now y.folder.now (J.state x.journal.now) (J.state y.journal.now)
         x.noted.now y.noted.now events };
 
-    ghost stays = { λ x. (
-      refl,
-      refl,
-      follows_still x.host.now x.journal.ghost_name x.folder.now
-          (J.state x.journal.now) x.noted.now,
-    ) };
+    ghost stays = { λ x. (refl, refl, follows_still x.host.now x.journal.ghost_name x.folder.now
+        (J.state x.journal.now) x.noted.now) };
 
-    ghost joined = { λ x y z some more one two. (
-      two.0 ∙ one.0,
-      two.1 ∙ one.1,
-      follows_further x.host.now y.host.now z.host.now
-          x.journal.ghost_name y.journal.ghost_name z.journal.ghost_name
-          x.folder.now y.folder.now z.folder.now
-          (J.state x.journal.now) (J.state y.journal.now) (J.state z.journal.now)
-          x.noted.now y.noted.now z.noted.now some more one.2 two.2,
-    ) };
+    ghost joined = { λ x y z some more one two. (two.0 ∙ one.0, two.1 ∙ one.1,
+        follows_further x.host.now y.host.now z.host.now
+        x.journal.ghost_name y.journal.ghost_name z.journal.ghost_name
+        x.folder.now y.folder.now z.folder.now
+        (J.state x.journal.now) (J.state y.journal.now) (J.state z.journal.now)
+        x.noted.now y.noted.now z.noted.now some more one.2 two.2) };
 
     fn has_failed(&self) -> bool {
         Servable::has_failed(&*self.host)

@@ -7,7 +7,7 @@ use anb_store::StoreNo;
 use std::alloc::Global;
 use std::fs::{DirBuilder, OpenOptions};
 use std::io::Write;
-use std::os::unix::fs::{DirBuilderExt, OpenOptionsExt};
+use std::os::unix::fs::DirBuilderExt;
 use std::{fs, io};
 
 /// Only the owner sees what is in a folder that was made.

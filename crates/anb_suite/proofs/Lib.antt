@@ -1,5 +1,3 @@
-pub mod Behind
-pub mod Replaced
 pub mod Stepping
 pub mod Turns
 pub mod Comparisons

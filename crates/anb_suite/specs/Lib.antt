@@ -1,4 +1,3 @@
-pub mod Reading
 pub mod Suites
 -- for proofs alone
 pub mod Walks

@@ -94,7 +94,7 @@ help_text =
     ++ codes "anb explain <narration> <role>\n" ++ codes "anb play <narration> <role> <values> [place] [--record <folder>]\n"
     ++ codes "anb enact <rolefile> <values> [place] [--record <folder>]\n"
     ++ codes "anb replay <narration> <role> <values> <transcript> [--session <n>]\n"
-    ++ codes "anb host <narration> <role> <values> [place]\n"
+    ++ codes "anb host <narration> <role> <values> [place] [--record <folder>]\n"
     ++ codes "anb rehearse <narration> <values> <schedule>\n" ++ codes "anb drill <n>\n"
     ++ codes "anb help\n"
     ++ codes "anb branch <narration> <role> <values> [--arm <n>] [place] [--record <folder>]\n"

@@ -48,7 +48,7 @@ const HELP: &str = concat!(
     "anb play <narration> <role> <values> [place] [--record <folder>]\n",
     "anb enact <rolefile> <values> [place] [--record <folder>]\n",
     "anb replay <narration> <role> <values> <transcript> [--session <n>]\n",
-    "anb host <narration> <role> <values> [place]\n",
+    "anb host <narration> <role> <values> [place] [--record <folder>]\n",
     "anb rehearse <narration> <values> <schedule>\n",
     "anb drill <n>\n",
     "anb help\n",

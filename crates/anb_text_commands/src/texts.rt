@@ -160,12 +160,12 @@ pub const RESUME: &str = concat!(
 
 /// The page on `host`.
 pub const HOST: &str = concat!(
-    "anb host <narration> <role> <values> [place]\n",
+    "anb host <narration> <role> <values> [place] [--record <folder>]\n",
     "Serves up to 1,024 sessions of the role on one wire, in frames that name the session: a\n",
     "frame starts a session or brings its arrival, and a notice tells what comes of it. For\n",
-    "places see play.\n",
+    "places see play. The folder gets the values and a transcript of each session.\n",
     "Statuses: 0; 4 to 8 as play has them; 12 a frame is cut; 20 a frame has no kind; 21 too many\n",
-    "frames; 2, 3 a file; 9, 14, 15 the place; 99.\n",
+    "frames; 2, 3 a file; 9, 14, 15 the place; 38 the folder; 99.\n",
     "Example: python3 examples/host/two.py | anb host examples/ping/ping.anb B examples/ping/B.values\n",
 );
 

@@ -18,7 +18,7 @@ returns-clause-followed g c = (
     λ past stands. (
       returns-clause-stands g c past stands,
       c.note.ensures.notes c.args.event (sym c.session-session.ensures) c.arrival_line-line.ensures.is (c.arrival_line-line.ensures.plain c.requires) (plays_of c.args.self.now.host.now) past
-          (c.deref.ensures.value ∙ c.in_ok-told.ensures.own past stands),
+      (c.deref.ensures.value ∙ c.in_ok-told.ensures.own past stands),
     ),
   ),
 )
