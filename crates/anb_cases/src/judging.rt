@@ -91,15 +91,15 @@ fn heard(alloc: Global, case: Case, ran: &Ran) -> Result<Vec<u8>, NoMemory> {
 
 /// The same of the files that are kept: the one that the last word names, where one is expected.
 fn store_difference(alloc: Global, case: Case, store: &MemStore) -> Result<Option<String>, No> {
-    if let Some(transcript) = case.bytes(alloc, "kept transcript")? {
-        return folder_difference(alloc, case, store, &transcript);
-    }
     if let Some(files) = case.bytes(alloc, "kept files")? {
         let kept = all_kept(alloc, store)?;
-        if kept == files {
-            return Ok(None);
-        }
-        return Ok(Some(told(alloc, "kept files", &kept)?));
+        return match kept == files {
+            true => Ok(None),
+            false => Ok(Some(told(alloc, "kept files", &kept)?)),
+        };
+    }
+    if let Some(transcript) = case.bytes(alloc, "kept transcript")? {
+        return folder_difference(alloc, case, store, &transcript);
     }
     let Some(content) = case.bytes(alloc, "kept")? else {
         return Ok(kept_anyway(alloc, store)?);
@@ -154,18 +154,21 @@ fn last_kept<'s>(store: &'s MemStore, folder: &str, file: &str) -> &'s [u8] {
     last
 }
 
-/// All files that are kept, as they first came: a line with the name, and what the file holds in the end.
+/// All files that are kept in the end, each with its name in a line before what it holds. They stand in the
+/// order in which they were last written.
 fn all_kept(alloc: Global, store: &MemStore) -> Result<Vec<u8>, AllocError> {
     let mut all = Vec::new(alloc);
-    let mut names: Vec<&str> = Vec::new(alloc);
-    for (name, _) in store.kept() {
-        let name = name.as_str();
-        if !names.contains(&name) {
-            names.push(name)?;
-            all.extend_from_slice(name.as_bytes())?;
+    let mut kept = store.kept();
+    while let [(name, content), later @ ..] = kept {
+        if !later
+            .iter()
+            .any(|(other, _)| other.as_str() == name.as_str())
+        {
+            all.extend_from_slice(name.as_str().as_bytes())?;
             all.push(b'\n')?;
-            all.extend_from_slice(last_kept(store, name, ""))?;
+            all.extend_from_slice(content.as_slice())?;
         }
+        kept = later;
     }
     Ok(all)
 }

@@ -8,7 +8,7 @@ const INDENT: &str = "    ";
 
 /// The keys of a group, a row or a case whose values are bytes: text, or with `hex` behind the key
 /// hexadecimal digits.
-const BYTES: [&str; 13] = [
+const BYTES: [&str; 12] = [
     "n",
     "v",
     "t",
@@ -20,14 +20,12 @@ const BYTES: [&str; 13] = [
     "kept",
     "kept values",
     "kept transcript",
-    "kept files",
     "heard",
 ];
 
 /// The other keys.
-const WORDS: [&str; 21] = [
+const WORDS: [&str; 20] = [
     "words",
-    "there",
     "piece",
     "room",
     "wire fails",

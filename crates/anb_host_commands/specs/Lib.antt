@@ -1,2 +1,3 @@
 pub mod HostCommand
+-- for proofs alone
 pub mod Serving

@@ -8,6 +8,7 @@ mod chosen;
 mod counts;
 mod folder;
 mod kept;
+mod left_over;
 mod notes;
 mod pauses;
 mod running;

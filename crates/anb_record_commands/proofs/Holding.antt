@@ -18,10 +18,10 @@ names_differ folder is =
     let eleven : length (codes "/transcript") ≡ 11 = refl in
     omega (arith, same, seven, eleven, length-append folder (codes "/values"), length-append folder (codes "/transcript"))
 
-pub with_same : (files : Files) (name content : List ℕ) → with_file files name content name ≡ Some content
+with_same : (files : Files) (name content : List ℕ) → with_file files name content name ≡ Some content
 with_same files name content = rw (bytes_eq-same name) refl
 
-pub with_other : (files : Files) (name content other : List ℕ) → other ≢ name → with_file files name content other ≡ files other
+with_other : (files : Files) (name content other : List ℕ) → other ≢ name → with_file files name content other ≡ files other
 with_other files name content other differ = rw (bytes_differ other name differ) refl
 
 -- a store with these files, in which one holds a text and the others are as they were at first

@@ -6,4 +6,3 @@ pub mod Asked
 pub mod Recorded
 pub mod Replayed
 pub mod Arms
-pub mod Hosted

@@ -22,7 +22,7 @@ use Rattle.anb_recording.specs.Recordings.{IsRecorded, ReplaysAs, all_appended}
 use Rattle.anb_recording.specs.declared.recording.Kept.{Kept}
 use Rattle.anb_recording.specs.declared.recording.Kept.TheVariants as kept
 use Rattle.anb_record_commands.specs.Names.{transcript_in, values_in}
-use Rattle.anb_record_commands.specs.Outcomes.{Valued, HasTranscript, HoldsIn, IsMissing, IsOfFolder, IsReadAgain, ReplaysTo, text_of}
+use Rattle.anb_record_commands.specs.Outcomes.{Valued, HasTranscript, HoldsIn, IsMissing, IsReadAgain, ReplaysTo, text_of}
 use Rattle.anb_record_commands.specs.Running.{MissesLines, RecordsRun, missing_of}
 use Rattle.anb_record_commands.specs.declared.ended.Missing.{Missing}
 use Rattle.anb_record_commands.specs.declared.ended.Missing.TheVariants as missing
@@ -76,21 +76,21 @@ in_folder R folder text valued store mid now left end begins written reads is = 
 
 -- what the lines miss is missing in the folder
 pub missing_in_folder : (folder : List ℕ) (store mid now : StoreState) (old new : WireState) (end : Status) (m : Missing) → mid.faults ≡ store.faults
-    → MissesLines (transcript_in folder) mid now end m → IsMissing (IsOfFolder folder) store now old new end m
+    → MissesLines (transcript_in folder) mid now end m → IsMissing folder store now old new end m
 missing_in_folder folder store mid now old new end missing.Nothing same is = λ some. is some ∙ same
 missing_in_folder folder store mid now old new end missing.NoMemory same is = λ some. is some ∙ same
-missing_in_folder folder store mid now old new end (missing.Unwritten name) same is = λ some. (inr is.0, subst (λ (n : ℕ). Rose n now.faults) same (is.1 some))
+missing_in_folder folder store mid now old new end (missing.Unwritten name) same is = (inr is.0, λ some. subst (λ (n : ℕ). Rose n now.faults) same (is.1 some))
 missing_in_folder folder store mid now old new end (missing.There name) same is = absurd is
 
 -- ---- as a play tells it
 
 -- the same is missing where a stop tells no instruction
-pub missing_stopped : (IsMine : List ℕ → Type 0) (store now : StoreState) (old new : WireState) (halt : Halt) (m : Missing) → IsMissing IsMine store now old new (Stopped halt) m
-    → IsMissing IsMine store now old new (Stopped (record { event = halt.event; at = 0 })) m
-missing_stopped IsMine store now old new halt missing.Nothing is = λ some. is (λ e. cc)
-missing_stopped IsMine store now old new halt missing.NoMemory is = λ some. is (λ e. cc)
-missing_stopped IsMine store now old new halt (missing.Unwritten name) is = λ some. is (λ e. cc)
-missing_stopped IsMine store now old new halt (missing.There name) is = let never : Stopped halt ≡ NoMemory = is.2 in absurd (cc)
+pub missing_stopped : (folder : List ℕ) (store now : StoreState) (old new : WireState) (halt : Halt) (m : Missing) → IsMissing folder store now old new (Stopped halt) m
+    → IsMissing folder store now old new (Stopped (record { event = halt.event; at = 0 })) m
+missing_stopped folder store now old new halt missing.Nothing is = λ some. is (λ e. cc)
+missing_stopped folder store now old new halt missing.NoMemory is = λ some. is (λ e. cc)
+missing_stopped folder store now old new halt (missing.Unwritten name) is = (is.0, λ some. is.1 (λ e. cc))
+missing_stopped folder store now old new halt (missing.There name) is = let never : Stopped halt ≡ NoMemory = is.2 in absurd (cc)
 
 -- a stop without its instruction
 abbrev untold : Status → Status

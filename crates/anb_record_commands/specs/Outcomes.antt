@@ -51,28 +51,27 @@ IsOfFolder folder name = IsEither (values_in folder) (transcript_in folder) name
 abbrev pub IsCalm : (store store_now : StoreState) → (end : Status) → Type 0
 IsCalm store store_now end = end ≢ NoMemory → store_now.faults ≡ store.faults
 
--- the files of a recording are these
-module _ (IsMine : List ℕ → Type 0) (store store_now : StoreState) where
+module _ (folder : List ℕ) (store store_now : StoreState) where
   -- Why something is missing. A file that is there already is left, and so is the wire. One that couldn't
   -- be written is counted by the store, and where nothing else is missing than for want of memory nothing was
   -- counted: so a fault of the store is told.
   abbrev pub IsMissing : (old new : WireState) → (end : Status) → Missing → Type 0
   IsMissing old new end missing.Nothing = IsCalm store store_now end
   IsMissing old new end missing.NoMemory = IsCalm store store_now end
-  IsMissing old new end (missing.Unwritten name) = end ≢ NoMemory → IsMine name × Rose store.faults store_now.faults
+  IsMissing old new end (missing.Unwritten name) = IsOfFolder folder name × (end ≢ NoMemory → Rose store.faults store_now.faults)
   IsMissing old new end (missing.There name) =
-      IsMine name × IsThere store name × (end ≡ NoMemory) × (new ≡ old) × (store_now ≡ store)
+      IsOfFolder folder name × IsThere store name × (end ≡ NoMemory) × (new ≡ old) × (store_now ≡ store)
 
   -- why a fault is answered
   abbrev pub HasRecordCause : (names : List (List ℕ)) → Option Place → (faults faults_now : List ℕ → ℕ) → (old new : WireState) → Status → Type 0
-  HasRecordCause names place faults faults_now old new (Unwritten name) = IsMine name × (IsThere store name ⊎ Rose store.faults store_now.faults)
+  HasRecordCause names place faults faults_now old new (Unwritten name) = IsOfFolder folder name × (IsThere store name ⊎ Rose store.faults store_now.faults)
   HasRecordCause names place faults faults_now old new s = HasCause names place faults faults_now old new s
 
--- wherever the files are told, these two are in the folder now, and each other one is as it was
-abbrev pub HoldsIn : (folder : List ℕ) → (store store_now : StoreState) → (values transcript : List ℕ) → Type 0
-HoldsIn folder store store_now values transcript = (files : Files) → store.files ≡ Some files
-    → (now : Files) × (store_now.files ≡ Some now) × (now (values_in folder) ≡ Some values) × (now (transcript_in folder) ≡ Some transcript)
-    × ((name : List ℕ) → (IsOfFolder folder name → ⊥) → now name ≡ files name)
+  -- wherever the files are told, these two are in the folder now, and each other one is as it was
+  abbrev pub HoldsIn : (values transcript : List ℕ) → Type 0
+  HoldsIn values transcript = (files : Files) → store.files ≡ Some files
+      → (now : Files) × (store_now.files ≡ Some now) × (now (values_in folder) ≡ Some values) × (now (transcript_in folder) ≡ Some transcript)
+      × ((name : List ℕ) → (IsOfFolder folder name → ⊥) → now name ≡ files name)
 
 -- What a replay of these lines comes to where the play ended so: it ends as the play did. Where the place
 -- wasn't reached there are no lines.
@@ -117,13 +116,13 @@ pub record HasRecord {A : Type 0} (IsRunOf : A → List (List ℕ) → Played (L
 
 -- ---- a command that is recorded
 
-module _ (old new : WireState) (IsMine : List ℕ → Type 0) (store store_now : StoreState) (status : Status) where
-  -- one of the files is there already: this is told, and nothing else is done
+module _ (old new : WireState) (folder : List ℕ) (store store_now : StoreState) (status : Status) where
+  -- one of the folder's files is there already: this is told, and nothing else is done
   abbrev pub IsTaken : Type 0
   IsTaken =
-      (name : List ℕ) × (status ≡ Unwritten name) × IsMine name × IsThere store name × (new ≡ old) × (store_now ≡ store)
+      (name : List ℕ) × (status ≡ Unwritten name) × IsOfFolder folder name × IsThere store name × (new ≡ old) × (store_now ≡ store)
 
-  -- by an end, what the command does without a folder, and what is recorded then
+  -- by an end, what the command does without a folder, and what the folder has then
   module _ (Does Has : Status → Type 0) where
     -- Over the wire it goes on as without a folder, to an end of its own. What is told is that end, unless
     -- something is missing of the recording. Where nothing is, and the wire was tried, it is all there.
@@ -132,7 +131,7 @@ module _ (old new : WireState) (IsMine : List ℕ → Type 0) (store store_now :
       pub missed : Missing
       pub does : Does end
       pub told_so : status ≡ told_as end missed
-      pub why_missed : IsMissing IsMine store store_now old new end missed
+      pub why_missed : IsMissing folder store store_now old new end missed
       -- a refusal leaves the store
       pub early : phase_of end ≡ before_reach → store_now ≡ store
       -- the place is reached and the wire touched as that end says, whatever is told

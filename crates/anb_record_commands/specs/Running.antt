@@ -1,8 +1,8 @@
 -- What comes of a code's run that is recorded in a file. For proofs alone.
-use Rattle.std.specs.Prelude.{◌≡◌, ◌≢◌, ℕ, List, [], ◌++◌, Option, Some, slice_get, take}
+use Rattle.std.specs.Prelude.{◌≡◌, ◌≢◌, ℕ, List, ◌++◌, Option, Some, slice_get}
 use Rattle.std.specs.List.{AllByRecursion}
 use Rattle.anb_base.specs.Bytes.{IsBytes}
-use Rattle.anb_base.specs.Moves.{Rose, Took}
+use Rattle.anb_base.specs.Moves.{Rose}
 use Rattle.anb_base.specs.declared.TheConstants.{ARRIVAL}
 use Rattle.anb_frame.specs.Cuts.{Tail, CutLeft}
 use Rattle.anb_plays.specs.Plays.{Run}
@@ -15,20 +15,13 @@ use Rattle.anb_recording.specs.Lines.{IsPlain}
 use Rattle.anb_recording.specs.Recordings.{all_appended}
 use Rattle.anb_recording.specs.declared.recording.Kept.{Kept}
 use Rattle.anb_recording.specs.declared.recording.Kept.TheVariants as kept
-use Rattle.anb_store.specs.Stores.{StoreState, replaced}
-use Rattle.anb_host.specs.declared.event.HostEvent.{HostEvent}
-use Rattle.anb_host.specs.HostFrames.{End, FramesLeft, HostFrames, Tail as HostTail}
-use Rattle.anb_host.specs.Serving.{IsBehind}
-use Rattle.anb_host_recording.specs.Entries.{all_lines, all_noted}
-use Rattle.anb_host_recording.specs.declared.recording.Noted.{Noted}
-use Rattle.anb_host_recording.specs.declared.recording.Noted.TheVariants as noted
+use Rattle.anb_store.specs.Stores.{StoreState}
 use Rattle.anb_status.specs.declared.status.Status.{Status}
 use Rattle.anb_status.specs.declared.status.Status.TheVariants.{NoMemory}
 use Rattle.anb_transcript.specs.Replays.{arrivals_of}
 use Rattle.anb_transcript.specs.declared.transcript.TranscriptLine.{TranscriptLine}
-use Rattle.anb_record_commands.specs.HostInto.{IsFresh, IsOfHost}
 use Rattle.anb_record_commands.specs.Names.{transcript_in, values_in}
-use Rattle.anb_record_commands.specs.Outcomes.{IsCalm, IsOfFolder, IsReadAgain, ReplaysTo, Valued, text_of}
+use Rattle.anb_record_commands.specs.Outcomes.{IsCalm, IsOfFolder, ReplaysTo}
 use Rattle.anb_record_commands.specs.declared.ended.Missing.{Missing}
 use Rattle.anb_record_commands.specs.declared.ended.Missing.TheVariants as missing
 use Rattle.anb_record_commands.specs.declared.opening.Opened.{Opened}
@@ -72,43 +65,3 @@ pub record RecordsArm (b : BranchedValue) (role : List ℕ) (told : Option ℕ) 
   pub comes : (arrivals : List (List ℕ)) → AllByRecursion IsBytes arrivals → IsPlay arm (role_number arm.roles role) initial seed 0 arrivals (run arrivals)
   pub records : RecordsRun run file old new left end
   pub taken : slice_get b.arms (place_taken b role told (arrivals_of records.lines)) ≡ Some arm
-
--- ---- a host
-
--- what came of making the values of a host, with this text
-module _ (folder text : List ℕ) (old new : StoreState) where
-  abbrev pub IsHostOpened : Missing → Type 0
-  IsHostOpened missing.Nothing = IsFresh folder old × (new ≡ replaced old (values_in folder) text)
-  IsHostOpened (missing.There name) = IsOfHost folder name × IsThere old name × (new ≡ old)
-  IsHostOpened (missing.Unwritten name) = IsFresh folder old × IsOfHost folder name × Rose old.faults new.faults
-  IsHostOpened missing.NoMemory = Unit {0}
-
-abbrev pub missing_of_host : Noted → Missing
-missing_of_host noted.Whole = missing.Nothing
-missing_of_host (noted.Unwritten name) = missing.Unwritten name
-missing_of_host noted.NoMemory = missing.NoMemory
-
-module _ (folder : List ℕ) (old new : StoreState) where
-  -- what may be missing of the lines of sessions
-  abbrev pub MissesSessions : (end : Status) → Missing → Type 0
-  MissesSessions end missing.Nothing = IsCalm old new end
-  MissesSessions end missing.NoMemory = IsCalm old new end
-  MissesSessions end (missing.Unwritten name) = end ≢ NoMemory → IsOfHost folder name × Rose old.faults new.faults
-  MissesSessions end (missing.There name) = ⊥
-
-  -- the lines of some events were appended: of those whose frames were taken whole, wherever the input is told
-  pub record RecordsSessions (plays : ℕ → Run) (left left_now : Option (List ℕ)) : Type 0 where
-    pub some : List HostEvent
-    pub plain : AllByRecursion IsPlain (all_lines plays [] some)
-    pub store : new ≡ all_noted plays folder old [] some
-    pub taken : (events : List HostEvent) (tail : HostTail) → FramesLeft left events tail
-        → (z : List ℕ) × IsBehind z × ((frames : List ℕ) × HostFrames frames some End × Took left left_now (frames ++ z))
-        × ((k : ℕ) × (some ≡ take k events))
-
--- The lines of a host's sessions were appended, behind its values
-pub record RecordsServed (plays : ℕ → Run) (valued : Valued) (folder : List ℕ) (old new : StoreState) (left left_now : Option (List ℕ)) : Type 0 where
-  pub mid : StoreState
-  pub fresh : IsFresh folder old
-  pub made : mid ≡ replaced old (values_in folder) (text_of valued)
-  pub reads : IsReadAgain valued
-  pub sessions : RecordsSessions folder mid new plays left left_now

@@ -11,7 +11,7 @@ ghost use Rattle.anb_command.specs.Touches.{Touches};
 ghost use Rattle.anb_words.specs.Words.{asked_of};
 ghost use Rattle.anb_status.specs.declared.status.Status.TheVariants.{Usage};
 ghost use Rattle.anb_park_commands.specs.Words.{recorded_of};
-ghost use Rattle.anb_record_commands.specs.Laws.{RecordedArmsReplay, RecordedPlaysReplay, RecordedSessionsReplay};
+ghost use Rattle.anb_record_commands.specs.Laws.{RecordedArmsReplay, RecordedPlaysReplay};
 ghost use Rattle.anb_record_commands.specs.Words.{recording_of};
 ghost use Rattle.anb_stage_commands.specs.Words.{staged_of};
 ghost use Rattle.anb_probe_commands.specs.Words.{probed_of};
@@ -22,7 +22,7 @@ use anb_base::{Shelf, Sink, Text, Wire};
 use anb_command::{Status, tell};
 use anb_partner::Trials;
 use anb_probe_commands::{ProbeWords, probe};
-use anb_record_commands::{recorded_arms_replay, recorded_plays_replay, recorded_sessions_replay};
+use anb_record_commands::{recorded_arms_replay, recorded_plays_replay};
 use anb_recording::Journal;
 use anb_stage::Spawner;
 use std::alloc::Global;
@@ -57,7 +57,6 @@ pub fn run_with_program<F: Shelf, P: Spawner, S: Journal, T: Trials, W: Wire, E:
         (probed_of words.now) }
     ensures replayed { RecordedPlaysReplay }
     ensures replayed_arms { RecordedArmsReplay }
-    ensures replayed_sessions { RecordedSessionsReplay }
     ensures usage { (result ≡ Usage) ↔ (IsAskedTesting (probed_of words.now)
         (recording_of words.now) (recorded_of words.now) (staged_of words.now)
         (asked_of words.now) → ⊥) }
@@ -94,7 +93,6 @@ pub fn run_with_program<F: Shelf, P: Spawner, S: Journal, T: Trials, W: Wire, E:
 {
     recorded_plays_replay();
     recorded_arms_replay();
-    recorded_sessions_replay();
     match ProbeWords::read(words) {
         None => run_recording(alloc, words, shelf, spawner, store, wire, err, seed),
         Some(words) => {

@@ -11,7 +11,7 @@ ghost use Rattle.anb_command.specs.Touches.{Touches};
 ghost use Rattle.anb_words.specs.Words.{asked_of};
 ghost use Rattle.anb_status.specs.declared.status.Status.TheVariants.{Usage};
 ghost use Rattle.anb_park_commands.specs.Words.{recorded_of};
-ghost use Rattle.anb_record_commands.specs.Laws.{RecordedArmsReplay, RecordedPlaysReplay, RecordedSessionsReplay};
+ghost use Rattle.anb_record_commands.specs.Laws.{RecordedArmsReplay, RecordedPlaysReplay};
 ghost use Rattle.anb_record_commands.specs.Words.{recording_of};
 ghost use Rattle.anb_stage_commands.specs.Words.{staged_of};
 ghost use Rattle.anb_probe_commands.specs.Words.{probed_of};
@@ -22,7 +22,7 @@ use crate::run_with_program;
 use anb_base::{Shelf, Sink, Text, Wire};
 use anb_command::{Status, tell};
 use anb_partner::Trials;
-use anb_record_commands::{recorded_arms_replay, recorded_plays_replay, recorded_sessions_replay};
+use anb_record_commands::{recorded_arms_replay, recorded_plays_replay};
 use anb_recording::Journal;
 use anb_session_commands::{SessionWords, follow};
 use anb_stage::Spawner;
@@ -59,7 +59,6 @@ pub fn run_in_session<F: Shelf, P: Spawner, S: Journal, T: Trials, W: Wire, E: S
         (S.state store.old) (S.state store.new) result (following_of words.now) }
     ensures replayed { RecordedPlaysReplay }
     ensures replayed_arms { RecordedArmsReplay }
-    ensures replayed_sessions { RecordedSessionsReplay }
     ensures usage { (result ≡ Usage) ↔ (IsAskedFollowing (probed_of words.now)
         (recording_of words.now) (recorded_of words.now) (staged_of words.now)
         (asked_of words.now) (following_of words.now) → ⊥) }
@@ -101,7 +100,6 @@ pub fn run_in_session<F: Shelf, P: Spawner, S: Journal, T: Trials, W: Wire, E: S
 {
     recorded_plays_replay();
     recorded_arms_replay();
-    recorded_sessions_replay();
     match SessionWords::read(words) {
         None => run_with_program(alloc, words, shelf, spawner, store, trials, wire, err, seed),
         Some(words) => {

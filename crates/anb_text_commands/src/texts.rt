@@ -160,12 +160,12 @@ pub const RESUME: &str = concat!(
 
 /// The page on `host`.
 pub const HOST: &str = concat!(
-    "anb host <narration> <role> <values> [place] [--record <folder>]\n",
+    "anb host <narration> <role> <values> [place]\n",
     "Serves up to 1,024 sessions of the role on one wire, in frames that name the session: a\n",
     "frame starts a session or brings its arrival, and a notice tells what comes of it. For\n",
-    "places see play. The folder gets the values and a transcript of each session.\n",
+    "places see play.\n",
     "Statuses: 0; 4 to 8 as play has them; 12 a frame is cut; 20 a frame has no kind; 21 too many\n",
-    "frames; 2, 3 a file; 9, 14, 15 the place; 38 the folder; 99.\n",
+    "frames; 2, 3 a file; 9, 14, 15 the place; 99.\n",
     "Example: python3 examples/host/two.py | anb host examples/ping/ping.anb B examples/ping/B.values\n",
 );
 
@@ -201,15 +201,16 @@ pub const TRACE: &str = concat!(
 
 /// The page on `stage`.
 pub const STAGE: &str = concat!(
-    "anb stage <narration> <folder or values> [--as <role> <program>].. [--timeout <seconds>]\n",
+    "anb stage <narration> <folder or values> [--as <role> <program>].. [--timeout <seconds>] [--record <folder>]\n",
     "Starts a child for each role with the folder's file <role>.values, or with what anb values\n",
     "writes for the role from a file <name>.values, carries each message from its sender to its\n",
     "receiver, and writes a line for each. The children are anb play, or the program that --as\n",
     "says for the role, split at spaces, or that ANB_CHILD names for all. With a limit no child\n",
-    "may be silent for longer.\n",
+    "may be silent for longer. --record keeps a transcript of each role, its child's standard error\n",
+    "and the lines so far in the folder.\n",
     "Statuses: 0; 4 the narration is refused; 5 no such role; 6 a role can't send; 7 the values;\n",
     "31 a child failed; 32, 33, 34 its message is missing, cut or too long; 35 it ended badly;\n",
-    "37 it was silent; 2, 3 a file; 9, 15 the output; 99.\n",
+    "37 it was silent; 38 a file can't be written; 2, 3 a file; 9, 15 the output; 99.\n",
     "Example: anb stage examples/nssk/nssk.anb examples/nssk --as B ./peer\n",
 );
 

@@ -70,7 +70,7 @@ returns-clause-recorded g c = λ after whole. absurd (cc)
 -- ---- a play without a recording
 
 pub returns-in-Failed-clause-why_missed : goal.returns-in-Failed-clause-why_missed
-returns-in-Failed-clause-why_missed g c = λ some. (c.in-Failed.ensures.0, c.in-Failed.ensures.1)
+returns-in-Failed-clause-why_missed g c = (c.in-Failed.ensures.0, λ some. c.in-Failed.ensures.1)
 
 pub returns-in-Failed-clause-recorded : goal.returns-in-Failed-clause-recorded
 returns-in-Failed-clause-recorded g c = λ after whole. absurd (cc)

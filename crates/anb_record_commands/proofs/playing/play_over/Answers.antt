@@ -1,6 +1,5 @@
 use Rattle.std.proofs.Common.{refl}
 use Rattle.anb_machine.specs.ByteRuns.{run_bytes}
-use Rattle.anb_record_commands.specs.Outcomes.{IsOfFolder}
 use Rattle.anb_record_commands.proofs.Recorded.{missing_stopped, transcript_stopped, transcript_untold}
 use Rattle.anb_session.proofs.Prompt.{prompt_placeless}
 use Rattle.anb_command.proofs.Reported.{calm_told}
@@ -25,7 +24,7 @@ returns-in-Stopped-clause-wire g c =
 
 pub returns-in-Stopped-clause-why_missed : goal.returns-in-Stopped-clause-why_missed
 returns-in-Stopped-clause-why_missed g c =
-    missing_stopped (IsOfFolder c.args.folder.now) (g.J.Store.state c.args.journal.now) (g.J.Store.state c.record_over-status.new.journal) (g.W.Wire.state c.args.wire.now) (g.W.Wire.state c.record_over-status.new.wire) c.in-Stopped.halt c.record_over-status.result.missing
+    missing_stopped c.args.folder.now (g.J.Store.state c.args.journal.now) (g.J.Store.state c.record_over-status.new.journal) (g.W.Wire.state c.args.wire.now) (g.W.Wire.state c.record_over-status.new.wire) c.in-Stopped.halt c.record_over-status.result.missing
     (rw c.in-Stopped.is at c.record_over-status.ensures.why_missed)
 
 pub returns-in_default-clause-runs : goal.returns-in_default-clause-runs

@@ -8,6 +8,3 @@ returns-in-Enact-clause-completes g c = rw c.in-Enact.is c.enact_into.ensures.co
 
 pub returns-in-Branch-clause-completes : goal.returns-in-Branch-clause-completes
 returns-in-Branch-clause-completes g c = rw c.in-Branch.is c.branch_into.ensures.completes
-
-pub returns-in-Host-clause-completes : goal.returns-in-Host-clause-completes
-returns-in-Host-clause-completes g c = rw c.in-Host.is c.host_into.ensures.completes

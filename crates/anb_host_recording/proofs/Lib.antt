@@ -1,5 +1,0 @@
-mod Transcribing
-pub mod Filing
-mod Putting
-mod Keeping
-pub mod Plain
