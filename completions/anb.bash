@@ -30,12 +30,11 @@ _anb_options() {
     case $command in
         branch) arm=--arm place='--dial --listen' ;;
         play | host | park | resume | enact) place='--dial --listen' ;;
-        stage) place='--as --timeout' record=--record ;;
+        stage) place='--as --timeout' ;;
     esac
     case $command in play | enact | branch | park | resume) record=--record ;; esac
     [[ $1 == --arm ]] && shift 2 && arm=''
     while [[ $1 == --as ]] && (($# >= 3)); do shift 3; done
-    [[ $command == stage && $1 == --timeout ]] && (($# == 2)) && echo --record
     case $# in
         0) echo "$arm" "$place" "$record" ;;
         2) [[ $1 == --dial || $1 == --listen ]] && echo --timeout "$record" ;;
@@ -136,7 +135,7 @@ _anb() {
                 --dial | --listen | --timeout | --case | --session) ;;
                 --record)
                     case ${words[1]} in
-                        play | enact | branch | stage) compopt -o filenames 2>/dev/null; mapfile -t COMPREPLY < <(compgen -d -- "$(_anb_file "$word")") ;;
+                        play | enact | branch) compopt -o filenames 2>/dev/null; mapfile -t COMPREPLY < <(compgen -d -- "$(_anb_file "$word")") ;;
                         *) _anb_files '' ;;
                     esac
                     ;;

@@ -60,9 +60,6 @@ function __anb_option
             contains -- "$rest[1]" --dial --listen
             and test (count $rest) -eq 2 -o \( (count $rest) -eq 3 -a "$rest[-1]" = --timeout \)
         case record
-            if test "$words[2]" = stage -a (count $rest) -ge 2 -a "$rest[1]" = --timeout
-                set -e rest[1..2]
-            end
             if contains -- "$rest[1]" --dial --listen; and test (count $rest) -ge 2
                 set -e rest[1..2]
                 test (count $rest) -ge 2 -a "$rest[1]" = --timeout; and set -e rest[1..2]
@@ -177,7 +174,6 @@ complete -c anb -n '__anb_option silence stage' -x -l timeout -d 'Seconds that a
 complete -c anb -n "__anb_option timeout $with_place" -x -l timeout -d 'Seconds to wait'
 complete -c anb -n '__anb_option record park resume' -r -F -l record -d 'The file of the record'
 complete -c anb -n '__anb_option record play enact branch' -x -l record -a '(__fish_complete_directories)' -d 'The folder of the recording'
-complete -c anb -n '__anb_option record stage' -x -l record -a '(__fish_complete_directories)' -d 'The folder of the record'
 complete -c anb -n '__anb_probing --all' -l all -d 'Try more of each check'
 complete -c anb -n '__anb_probing --case' -x -l case -d 'The case of this number alone'
 complete -c anb -n '__anb_probing --timeout' -x -l timeout -d 'Seconds that the program may be silent'

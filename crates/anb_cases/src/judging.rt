@@ -91,13 +91,6 @@ fn heard(alloc: Global, case: Case, ran: &Ran) -> Result<Vec<u8>, NoMemory> {
 
 /// The same of the files that are kept: the one that the last word names, where one is expected.
 fn store_difference(alloc: Global, case: Case, store: &MemStore) -> Result<Option<String>, No> {
-    if let Some(files) = case.bytes(alloc, "kept files")? {
-        let kept = all_kept(alloc, store)?;
-        return match kept == files {
-            true => Ok(None),
-            false => Ok(Some(told(alloc, "kept files", &kept)?)),
-        };
-    }
     if let Some(transcript) = case.bytes(alloc, "kept transcript")? {
         return folder_difference(alloc, case, store, &transcript);
     }
@@ -152,25 +145,6 @@ fn last_kept<'s>(store: &'s MemStore, folder: &str, file: &str) -> &'s [u8] {
         }
     }
     last
-}
-
-/// All files that are kept in the end, each with its name in a line before what it holds. They stand in the
-/// order in which they were last written.
-fn all_kept(alloc: Global, store: &MemStore) -> Result<Vec<u8>, AllocError> {
-    let mut all = Vec::new(alloc);
-    let mut kept = store.kept();
-    while let [(name, content), later @ ..] = kept {
-        if !later
-            .iter()
-            .any(|(other, _)| other.as_str() == name.as_str())
-        {
-            all.extend_from_slice(name.as_str().as_bytes())?;
-            all.push(b'\n')?;
-            all.extend_from_slice(content.as_slice())?;
-        }
-        kept = later;
-    }
-    Ok(all)
 }
 
 /// The last file that is kept, where there is one.

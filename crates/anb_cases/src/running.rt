@@ -10,7 +10,7 @@ use crate::stages::roles;
 use crate::unfailing::run_unfailing;
 use anb_base::{Bytes, MemShelf, MemWire, NeverFails, NoMemory, Text};
 use anb_partner::MemTrials;
-use anb_run::run_staging;
+use anb_run::run_in_session;
 use anb_stage::MemSpawner;
 use anb_store::MemStore;
 use hex::FromHex;
@@ -101,7 +101,7 @@ fn status_of(
     requires unstarted { (role : ℕ) → (child_at spawner.old role).phase ≡ 0 }
     requires untried { (case : ℕ) → (trials_of trials.old case).phase ≡ 0 }
 {
-    let status = run_staging(alloc, words, shelf, spawner, store, trials, wire, err, seed);
+    let status = run_in_session(alloc, words, shelf, spawner, store, trials, wire, err, seed);
     status.number()
 }
 

@@ -3,7 +3,9 @@
 #![tactic(auto)]
 
 mod asking;
+mod blindness;
 mod checking;
+mod choices;
 mod finding;
 mod laws;
 mod part;

@@ -6,7 +6,9 @@ use Rattle.anb_index.specs.Places.{among}
 use Rattle.anb_protocol.specs.Choices.{refuse_if}
 use Rattle.anb_outcomes.specs.declared.choices.BranchNo.{BranchNo}
 use Rattle.anb_outcomes.specs.declared.choices.BranchNo.TheVariants.{Token, Shape, ArmRead, ArmResolve, Roles, Chooser, Blind, NoMemory}
-use Rattle.anb_choice.specs.Branching.{BranchedText, IsRefusal, blind_refusal, choice_fault, other_roles}
+use Rattle.anb_choice.specs.declared.marks.Mark.{Mark}
+use Rattle.anb_choice.specs.declared.order.Span.{Span}
+use Rattle.anb_choice.specs.Branching.{ArmIsRefused, BranchedText, IsOrdered, IsRefusal, IsUntold, blind_refusal, choice_fault, other_roles, straights}
 use Rattle.anb_choice.specs.Laws.{NoneIsBoth, RefusalsAreUnique}
 use Rattle.anb_choice.specs.Lawful.{BranchedValue, IsLawful, blind, roles_in}
 use Rattle.anb_choice.proofs.Names.{alike_names}
@@ -36,6 +38,28 @@ choice_refusal x b (Shape at) text e = let never = of_choice (other_roles b) (no
 choice_refusal x b (ArmRead arm no1) text e = let never = of_choice (other_roles b) (not (among (roles_in b) b.chooser)) (blind b) (ArmRead arm no1) e in cc
 choice_refusal x b (ArmResolve arm no1) text e = let never = of_choice (other_roles b) (not (among (roles_in b) b.chooser)) (blind b) (ArmResolve arm no1) e in cc
 choice_refusal x b NoMemory text e = let never = of_choice (other_roles b) (not (among (roles_in b) b.chooser)) (blind b) NoMemory e in cc
+
+-- ---- a text that tells no choice
+
+pub untold_refusal : (x : List ℕ) (no : BranchNo) → IsUntold x no → IsRefusal x no
+untold_refusal x (Token at) r = r
+untold_refusal x (Shape at) r = r
+untold_refusal x (ArmRead arm why) r = r
+untold_refusal x (ArmResolve arm why) r = r
+untold_refusal x (Roles arm) r = absurd r
+untold_refusal x Chooser r = absurd r
+untold_refusal x (Blind role arm) r = absurd r
+untold_refusal x NoMemory r = r
+
+pub arm_untold : (x : List ℕ) (ms : List Mark) (spans : List Span) (no : BranchNo) → IsOrdered x ms spans → ArmIsRefused (straights x ms spans) no → IsUntold x no
+arm_untold x ms spans (Token at) ordered r = absurd r
+arm_untold x ms spans (Shape at) ordered r = absurd r
+arm_untold x ms spans (ArmRead arm why) ordered r = (ms, spans, ordered, r)
+arm_untold x ms spans (ArmResolve arm why) ordered r = (ms, spans, ordered, r)
+arm_untold x ms spans (Roles arm) ordered r = absurd r
+arm_untold x ms spans Chooser ordered r = absurd r
+arm_untold x ms spans (Blind role arm) ordered r = absurd r
+arm_untold x ms spans NoMemory ordered r = absurd r
 
 -- ---- the first that is wrong with a choice
 

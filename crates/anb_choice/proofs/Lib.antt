@@ -6,6 +6,7 @@ pub mod Names
 pub mod Faults
 pub mod Events
 pub mod ReadArms
+pub mod ArmTexts
 pub mod Uniqueness
 pub mod Fronted
 pub mod Worded

@@ -1,5 +1,5 @@
 -- A text tells one choice, or has one refusal.
-use Rattle.std.proofs.Common.{◌≡◌, ◌⊎◌, inl, inr, ℕ, ◌+◌, List, [], ◌∷◌, ◌++◌, length, Option, Some, None, Result, Ok, Err, refl, sym, ap, subst, ◌∙◌}
+use Rattle.std.proofs.Common.{◌≡◌, ◌⊎◌, inl, inr, ℕ, ◌+◌, List, [], ◌∷◌, ◌++◌, length, map, Option, Some, None, Result, Ok, Err, refl, sym, ap, subst, ◌∙◌}
 use Rattle.std.specs.Option.{option_map, option_or}
 use Rattle.std.specs.List.{AllZip}
 use Rattle.std.proofs.lemmas.Option.{same_Some}
@@ -12,10 +12,10 @@ use Rattle.anb_choice.specs.declared.marks.Mark.{Mark}
 use Rattle.anb_choice.specs.declared.order.Span.{Span}
 use Rattle.anb_outcomes.specs.declared.choices.BranchNo.{BranchNo}
 use Rattle.anb_outcomes.specs.declared.choices.BranchNo.TheVariants.{Token, Shape, ArmRead, ArmResolve, Roles, Chooser, Blind, NoMemory}
-use Rattle.anb_choice.specs.Branching.{ArmIsRefused, BranchedText, FirstRefused, IsOrdered, IsRefusal, Tells, choice_fault, straights}
+use Rattle.anb_choice.specs.Branching.{AreArmTexts, ArmIsRefused, BranchedText, FirstRefused, HasArms, IsOrdered, IsRefusal, IsUntold, Tells, choice_fault, straights}
 use Rattle.anb_choice.specs.ArmRefusals.{IsRefusedAs}
 use Rattle.anb_choice.specs.Lawful.{BranchedValue}
-use Rattle.anb_choice.specs.Order.{AreMarks, bad_at, chooser_in, looked, stem_actions}
+use Rattle.anb_choice.specs.Order.{AreMarks, bad_at, chooser_in, in_place, looked, stem_actions}
 use Rattle.anb_choice.specs.Parsing.{order}
 use Rattle.anb_choice.proofs.Misplaced.{order_err}
 use Rattle.anb_choice.proofs.Ordering.{order_there}
@@ -79,6 +79,22 @@ module _ (tokens : TokensAreUnique) (narrations : read.NarrationsAreUnique) wher
 
   straights_one : (x : List ℕ) (ms ns : List Mark) (s t : List Span) → IsOrdered x ms s → IsOrdered x ns t → straights x ms s ≡ straights x ns t
   straights_one x ms ns s t a b = let r = spans_one x ms ns s t a b in ap (λ z. straights x z s) r.0 ∙ ap (straights x ns) r.1
+
+  pub arm_texts_one : (x : List ℕ) (texts others : List (List ℕ)) → AreArmTexts x texts → AreArmTexts x others → texts ≡ others
+  arm_texts_one x texts others a b =
+      let r = spans_one x a.0 b.0 a.1 b.1 a.2 b.2 in a.3 ∙ ap (λ (ms : List Mark). map (in_place x ms) a.1) r.0 ∙ ap (map (in_place x b.0)) r.1 ∙ sym b.3
+
+  -- a text that is in order, by its tokens
+  pub ordered_here : (x : List ℕ) (ms : List Mark) → HasArms x → AreMarks x ms → (spans : List Span) × IsOrdered x ms spans
+  ordered_here x ms has are = (has.1, subst (λ (ns : List Mark). IsOrdered x ns has.1) (marks_one x has.0 ms has.2.marks are) has.2)
+
+  pub ordered_as : (x : List ℕ) (ms : List Mark) (spans : List Span) → HasArms x → AreMarks x ms → order ms ≡ Ok spans → IsOrdered x ms spans
+  ordered_as x ms spans has are e =
+      let o = ordered_here x ms has are in subst (λ (s : List Span). IsOrdered x ms s) (ok_one o.0 spans (sym (order_there ms o.0 o.1.order) ∙ e)) o.1
+
+  pub ordered_not : (x : List ℕ) (ms : List Mark) (at : ℕ) → HasArms x → AreMarks x ms → order ms ≡ Err at → ⊥
+  ordered_not x ms at has are e =
+      let o = ordered_here x ms has are in let both = sym (order_there ms o.0 o.1.order) ∙ e in cc
 
   tells_one : (text : List ℕ) (p q : ProtocolValue) → Tells text p → Tells text q → p ≡ q
   tells_one text p q a b = a.is ∙ ap protocol_of (narrations text a.narration b.narration a.is_text b.is_text) ∙ sym b.is
@@ -164,6 +180,22 @@ module _ (tokens : TokensAreUnique) (narrations : read.NarrationsAreUnique) wher
         behind : straights x a.0 a.1 ≡ straights x text.marks text.spans → Behind x a.0 a.1 why → ⊥
         behind same (inl f) = none_refused (straights x text.marks text.spans) b.arms why text.arms (subst (λ l. ArmIsRefused l why) same f)
         behind same (inr f) = let e = sym f.2 ∙ ap choice_fault (choice_one x f.0 b f.1.1 text) ∙ fine in cc
+
+    -- no choice is refused as none
+    pub choice_untold : (x : List ℕ) (b : BranchedValue) (no : BranchNo) → BranchedText x b → IsUntold x no → ⊥
+    choice_untold x b (Token at) text r = let e = sym r.2 ∙ ap bad_at (marks_one x r.0 text.marks r.1 text.ordered.marks) ∙ text.ordered.tokens in cc
+    choice_untold x b (Shape at) text r =
+        let e = sym (order_err x r.0 at r.1 r.2 r.3) ∙ ap order (marks_one x r.0 text.marks r.1 text.ordered.marks) ∙ order_there text.marks text.spans text.ordered.order in cc
+    choice_untold x b (ArmRead arm why) text r =
+        none_refused (straights x text.marks text.spans) b.arms (ArmRead arm why) text.arms
+        (subst (λ l. ArmIsRefused l (ArmRead arm why)) (straights_one x r.0 text.marks r.1 text.spans r.2 text.ordered) r.3)
+    choice_untold x b (ArmResolve arm why) text r =
+        none_refused (straights x text.marks text.spans) b.arms (ArmResolve arm why) text.arms
+        (subst (λ l. ArmIsRefused l (ArmResolve arm why)) (straights_one x r.0 text.marks r.1 text.spans r.2 text.ordered) r.3)
+    choice_untold x b (Roles arm) text r = absurd r
+    choice_untold x b Chooser text r = absurd r
+    choice_untold x b (Blind role arm) text r = absurd r
+    choice_untold x b NoMemory text r = absurd r
 
     module _ (refusals : read.RefusalsAreUnique) where
       refused_one : (text : List ℕ) (number : ℕ) (why other : BranchNo) → IsRefusedAs text number why → IsRefusedAs text number other → why ≡ other

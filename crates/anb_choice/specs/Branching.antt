@@ -15,7 +15,7 @@ use Rattle.anb_choice.specs.declared.order.Span.{Span}
 use Rattle.anb_outcomes.specs.declared.choices.BranchNo.{BranchNo}
 use Rattle.anb_outcomes.specs.declared.choices.BranchNo.TheVariants.{Token, Shape, ArmRead, ArmResolve, Roles, Chooser, Blind, NoMemory}
 use Rattle.anb_choice.specs.Lawful.{BranchedValue, roles_in, are_same_names, blind}
-use Rattle.anb_choice.specs.Order.{AreMarks, HasOrder, IsMisplaced, bad_at, chooser_in, stem_actions, straight}
+use Rattle.anb_choice.specs.Order.{AreMarks, HasOrder, IsMisplaced, bad_at, chooser_in, in_place, stem_actions, straight}
 
 -- the protocol of the text's narration, which is well formed
 pub record Tells (text : List ℕ) (p : ProtocolValue) : Type 0 where
@@ -33,6 +33,15 @@ pub record IsOrdered (x : List ℕ) (ms : List Mark) (arms : List Span) : Type 0
 -- for each arm the text of the stem and the arm
 abbrev pub straights : List ℕ → List Mark → List Span → List (List ℕ)
 straights x ms arms = map (straight x ms) arms
+
+-- the text is in the order of one with a choice
+abbrev pub HasArms : List ℕ → Type 0
+HasArms x = (ms : List Mark) × (spans : List Span) × IsOrdered x ms spans
+
+-- for each arm the text of the stem and the arm, each token where it stands in the text
+abbrev pub AreArmTexts : List ℕ → List (List ℕ) → Type 0
+AreArmTexts x texts =
+    (ms : List Mark) × (spans : List Span) × IsOrdered x ms spans × (texts ≡ map (in_place x ms) spans)
 
 -- The text tells this choice: the stem and each arm are a narration that is well formed.
 pub record BranchedText (x : List ℕ) (b : BranchedValue) : Type 0 where
@@ -91,3 +100,10 @@ IsRefusal x (Roles arm) = RefusesChoice x (Roles arm)
 IsRefusal x Chooser = RefusesChoice x Chooser
 IsRefusal x (Blind role arm) = RefusesChoice x (Blind role arm)
 IsRefusal x NoMemory = ⊥
+
+-- why a text tells no choice at all: its tokens, their order, or an arm that is no narration or not well formed
+abbrev pub IsUntold : List ℕ → BranchNo → Type 0
+IsUntold x (Roles arm) = ⊥
+IsUntold x Chooser = ⊥
+IsUntold x (Blind role arm) = ⊥
+IsUntold x why = IsRefusal x why

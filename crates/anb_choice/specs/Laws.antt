@@ -1,7 +1,7 @@
 -- What holds of branched texts, whatever they are.
 use Rattle.std.specs.Prelude.{◌≡◌, ◌⊎◌, ℕ, List, None}
 use Rattle.anb_outcomes.specs.declared.choices.BranchNo.{BranchNo}
-use Rattle.anb_choice.specs.Branching.{BranchedText, IsRefusal, choice_fault}
+use Rattle.anb_choice.specs.Branching.{AreArmTexts, BranchedText, IsRefusal, IsUntold, choice_fault}
 use Rattle.anb_choice.specs.Lawful.{BranchedValue, IsLawful}
 
 -- a text tells one choice at most
@@ -23,3 +23,11 @@ FaultlessIsLawful = (x : List ℕ) (b : BranchedValue) → BranchedText x b → 
 -- each text tells a lawful choice, or is refused
 abbrev pub EachIsEither : Type 0
 EachIsEither = (x : List ℕ) → ((b : BranchedValue) × BranchedText x b × IsLawful b) ⊎ ((why : BranchNo) × IsRefusal x why)
+
+-- the texts of its arms are one list
+abbrev pub ArmTextsAreUnique : Type 0
+ArmTextsAreUnique = (x : List ℕ) (texts others : List (List ℕ)) → AreArmTexts x texts → AreArmTexts x others → texts ≡ others
+
+-- no text tells a choice, lawful or not, and is refused as telling none
+abbrev pub NoneIsUntold : Type 0
+NoneIsUntold = (x : List ℕ) (b : BranchedValue) (no : BranchNo) → BranchedText x b → IsUntold x no → ⊥

@@ -173,3 +173,13 @@ chooser_in x ms = bytes_between x (place_at ms (stem_size ms + 2)) (past_at ms (
 -- the stem, a line's end, and the arm
 abbrev pub straight : List ℕ → List Mark → Span → List ℕ
 straight x ms arm = take (stem_end ms) x ++ 10 ∷ bytes_between x arm.from arm.to
+
+-- a line's end, or a space in place of another byte
+abbrev pub blank : ℕ → ℕ
+blank b = if b == 10 then 10 else 32
+
+-- The text with blanks between the stem and the arm, up to the arm's end: so each token of the two stands where it stands
+-- in the text.
+abbrev pub in_place : List ℕ → List Mark → Span → List ℕ
+in_place x ms arm =
+    take (stem_end ms) x ++ (map blank (bytes_between x (stem_end ms) arm.from) ++ bytes_between x arm.from arm.to)

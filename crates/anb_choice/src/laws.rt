@@ -1,5 +1,5 @@
 //! Laws of branched texts.
-ghost use Rattle.anb_choice.specs.Laws.{ChoicesAreUnique, EachIsEither, FaultlessIsLawful, NoneIsBoth, RefusalsAreUnique};
+ghost use Rattle.anb_choice.specs.Laws.{ArmTextsAreUnique, ChoicesAreUnique, EachIsEither, FaultlessIsLawful, NoneIsBoth, NoneIsUntold, RefusalsAreUnique};
 
 use anb_read::{narrations_are_unique, none_is_both, refusals_are_unique};
 use anb_syntax::tokens_are_unique;
@@ -46,4 +46,15 @@ pub fn each_is_either()
 {
     anb_read::each_is_either();
     faultless_is_lawful();
+}
+
+/// Laws: the texts of a text's arms are one list; and no text tells a choice, lawful or not, and is
+/// refused as telling none.
+pub fn arm_texts_are_unique()
+    ensures texts { ArmTextsAreUnique }
+    ensures untold { NoneIsUntold }
+{
+    tokens_are_unique();
+    narrations_are_unique();
+    none_is_both();
 }

@@ -12,13 +12,15 @@ mod laws;
 mod marks;
 mod order;
 mod parts;
+mod placed;
 mod plans;
 mod splitting;
 
 pub use anb_outcomes::BranchNo;
 pub use branched::Branched;
 pub use laws::{
-    branch_refusals_are_unique, choices_are_unique, each_is_either, faultless_is_lawful,
+    arm_texts_are_unique, branch_refusals_are_unique, choices_are_unique, each_is_either, faultless_is_lawful,
     no_choice_is_refused,
 };
-pub use splitting::split;
+pub use placed::arm_texts;
+pub use splitting::{choice_fault, split, told_choice};

@@ -4,7 +4,7 @@ ghost use Rattle.std.specs.List.{AllByRecursion, AllZip};
 ghost use Rattle.anb_base.specs.declared.TheConstants.{SMALL_FILE};
 ghost use Rattle.anb_choice.specs.declared.order.Span.{Span as SpanValue};
 ghost use Rattle.anb_outcomes.specs.declared.choices.BranchNo.{BranchNo as No};
-ghost use Rattle.anb_choice.specs.Branching.{ArmIsRefused, BranchedText, IsOrdered, IsRefusal, Tells, choice_fault, straights};
+ghost use Rattle.anb_choice.specs.Branching.{ArmIsRefused, BranchedText, IsOrdered, IsRefusal, IsUntold, Tells, choice_fault, straights};
 ghost use Rattle.anb_choice.specs.Lawful.{BranchedValue, IsLawful};
 ghost use Rattle.anb_choice.specs.Order.{chooser_in, stem_end};
 ghost use Rattle.anb_choice.specs.Standing.{IsSpanOf, Stand};
@@ -44,18 +44,37 @@ pub fn split(alloc: Global, text: &[u8]) -> Result<Branched, BranchNo>
     choices_are_unique();
     branch_refusals_are_unique();
     no_choice_is_refused();
-    match marked(alloc, text) {
+    match lawful_choice(alloc, text) {
         Ok(b) => Ok(b),
         Err(no) => Err(no),
     }
 }
 
-/// What the text tells, or its refusal.
-fn marked(alloc: Global, text: &[u8]) -> Result<Branched, BranchNo>
+/// What the text tells, where it is lawful, or its refusal.
+fn lawful_choice(alloc: Global, text: &[u8]) -> Result<Branched, BranchNo>
     requires { length text.now ≤ SMALL_FILE }
     ensures tells { IfOk result (λ b. BranchedText text.now (branched_of b)) }
     ensures lawful { IfOk result (λ b. IsLawful (branched_of b)) }
     ensures refused { IfErr result (λ no. no ≢ BranchNo.NoMemory → IsRefusal text.now no) }
+{
+    faultless_is_lawful();
+    let branched = match told_choice(alloc, text) {
+        Ok(branched) => branched,
+        Err(no) => return Err(no),
+    };
+    match choice_fault(alloc, &branched) {
+        Ok(None) => Ok(branched),
+        Ok(Some(no)) => Err(no),
+        Err(NoMemory) => Err(BranchNo::NoMemory),
+    }
+}
+
+/// The choice that the text tells, lawful or not; or why it tells none.
+pub fn told_choice(alloc: Global, text: &[u8]) -> Result<Branched, BranchNo>
+    requires { length text.now ≤ SMALL_FILE }
+    ensures tells { IfOk result (λ b. BranchedText text.now (branched_of b)) }
+    ensures few { IfOk result (λ b. length b.arms.items ≤ 8) }
+    ensures refused { IfErr result (λ no. no ≢ BranchNo.NoMemory → IsUntold text.now no) }
 {
     let marks = match marks(alloc, text) {
         Ok(marks) => marks,
@@ -83,10 +102,9 @@ fn branched_in(
     requires stand { (to : ℕ) × Stand text.now 0 marks.now to }
     requires count { length marks.now ≤ length text.now + 1 }
     ensures tells { IfOk result (λ b. BranchedText text.now (branched_of b)) }
-    ensures lawful { IfOk result (λ b. IsLawful (branched_of b)) }
-    ensures refused { IfErr result (λ no. no ≢ BranchNo.NoMemory → IsRefusal text.now no) }
+    ensures few { IfOk result (λ b. length b.arms.items ≤ 8) }
+    ensures refused { IfErr result (λ no. no ≢ BranchNo.NoMemory → IsUntold text.now no) }
 {
-    faultless_is_lawful();
     let arms = match arms_in(alloc, text, marks, spans) {
         Ok(arms) => arms,
         Err(no) => return Err(no),
@@ -95,16 +113,11 @@ fn branched_in(
         Ok(chooser) => chooser,
         Err(NoMemory) => return Err(BranchNo::NoMemory),
     };
-    let branched = Branched {
+    Ok(Branched {
         chooser,
         stem: stem_actions(marks),
         arms,
-    };
-    match choice_fault(alloc, &branched) {
-        Ok(None) => Ok(branched),
-        Ok(Some(no)) => Err(no),
-        Err(NoMemory) => Err(BranchNo::NoMemory),
-    }
+    })
 }
 
 /// The protocols of the arms.
@@ -139,7 +152,7 @@ fn arms_in(
 }
 
 /// The offset past the stem.
-fn stem_end(marks: &[Mark]) -> u32
+pub(crate) fn stem_end(marks: &[Mark]) -> u32
     ensures { result ≡ stem_end marks.now }
 {
     match stem_size(marks) {
@@ -163,7 +176,7 @@ fn chooser_in(alloc: Global, text: &[u8], marks: &[Mark]) -> Result<Text, NoMemo
 }
 
 /// Why a choice isn't lawful.
-fn choice_fault(alloc: Global, b: &Branched) -> Result<Option<BranchNo>, NoMemory>
+pub fn choice_fault(alloc: Global, b: &Branched) -> Result<Option<BranchNo>, NoMemory>
     requires { length b.now.arms.items ≤ 8 }
     ensures { IfOk result (λ r. r ≡ choice_fault (branched_of b.now)) }
 {

@@ -18,7 +18,7 @@ mod unsent;
 mod words;
 
 pub use near::{put_hint, put_near};
-pub use pointing::pointed_in;
+pub use pointing::{pointed, pointed_in};
 pub use unread::{unread_text, unread_texts_are_unique};
 pub use unresolved::{unresolved_text, unresolved_texts_are_unique};
 pub use unsent::{unsent_text, unsent_texts_are_unique};

@@ -11,7 +11,7 @@ use itoa::Buffer;
 use std::alloc::Global;
 
 /// A message at an offset of a file's text, with what would mend it.
-pub(crate) fn pointed(
+pub fn pointed(
     alloc: Global,
     name: &[u8],
     text: &[u8],

@@ -1,11 +1,9 @@
 //! A folder with a file of values for each child.
 
-use crate::left_over::LeftOver;
 use crate::notes::{tell_unremoved, tell_unwritten};
-use std::fs::{DirBuilder, File, OpenOptions};
+use std::fs::{DirBuilder, OpenOptions};
 use std::io::{ErrorKind, Write};
 use std::os::unix::fs::{DirBuilderExt, OpenOptionsExt};
-use std::process::Stdio;
 use std::{env, fs, io, process};
 
 /// Values are secrets: only the owner sees what is in the folder, and in its files.
@@ -19,7 +17,7 @@ const UNNAMED: &str = "/tmp";
 /// How many names are tried.
 const NAMES: u32 = 1_000;
 
-/// A folder: one that was made, in the one for files that are there for a while, or that of a record.
+/// A folder that was made, in the one for files that are there for a while.
 #[derive(Drop)]
 pub(crate) struct Folder {
     path: String,
@@ -50,24 +48,6 @@ impl Folder {
         Err(io::Error::from(ErrorKind::AlreadyExists))
     }
 
-    /// That of a record.
-    pub(crate) fn of_record(path: String) -> Self {
-        Folder { path }
-    }
-
-    /// Opens the file for a role's standard error, which is there.
-    pub(crate) fn errors(&self, rt: &HostRuntime, role: &str) -> io::Result<Stdio> {
-        let name = format!(in rt.alloc(); "{}/{role}.errors", self.path.as_str())?;
-        Ok(Stdio::from(open_there(rt, name.as_str())?))
-    }
-
-    /// Writes down what a role's child said behind its last message, in the file for that, which is there.
-    pub(crate) fn put_left(&self, rt: &HostRuntime, role: &str, left: LeftOver) -> io::Result<()> {
-        let name = format!(in rt.alloc(); "{}/left", self.path.as_str())?;
-        let line = format!(in rt.alloc(); "{role} {} {}\n", left.frames, left.bytes)?;
-        open_there(rt, name.as_str())?.write_all(line.as_bytes())
-    }
-
     /// Makes the file of a role's values, and answers its name. One that can't be written is told.
     pub(crate) fn put(&self, rt: &HostRuntime, role: &str, values: &[u8]) -> io::Result<String> {
         let name = format!(in rt.alloc(); "{}/{role}.values", self.path.as_str())?;
@@ -90,12 +70,6 @@ impl Folder {
             let _ = tell_unremoved(rt, self.path.as_str());
         }
     }
-}
-
-/// Opens a file that is there, to append to it.
-fn open_there(rt: &HostRuntime, name: &str) -> io::Result<File> {
-    let mut options = OpenOptions::new();
-    options.append(true).open(rt, name)
 }
 
 /// Writes a file that isn't there yet.

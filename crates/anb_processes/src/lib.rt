@@ -8,7 +8,6 @@ mod chosen;
 mod counts;
 mod folder;
 mod kept;
-mod left_over;
 mod notes;
 mod pauses;
 mod running;

@@ -3,7 +3,6 @@
 ghost use Rattle.std.specs.Prelude.{◌≤◌, length, IfOk};
 
 use crate::kept::Kept;
-use crate::left_over::LeftOver;
 use crate::pauses::{Pauses, is_over};
 use anb_base::Text;
 use std::alloc::Global;
@@ -39,8 +38,6 @@ pub(crate) struct Running {
     /// When it was found to have ended.
     ended: Option<Instant>,
     is_left: bool,
-    /// What it said behind its last message, as far as that was read.
-    left_over: LeftOver,
 }
 
 impl Running {
@@ -52,17 +49,6 @@ impl Running {
         limit: Option<Duration>,
         words: &[Text],
     ) -> io::Result<Self> {
-        Self::start_telling(rt, program, limit, words, Stdio::from(rt.stderr()))
-    }
-
-    /// The same with this as its standard error.
-    pub(crate) fn start_telling(
-        rt: &HostRuntime,
-        program: &str,
-        limit: Option<Duration>,
-        words: &[Text],
-        errors: Stdio,
-    ) -> io::Result<Self> {
         let mut command = Command::new(rt.alloc(), program)?;
         for word in words {
             let _ = command.arg(word.as_str())?;
@@ -70,7 +56,7 @@ impl Running {
         let _ = command
             .stdin(Stdio::piped())
             .stdout(Stdio::piped())
-            .stderr(errors);
+            .stderr(rt.stderr());
         let mut running = Running {
             limit,
             child: command.spawn(rt)?,
@@ -79,7 +65,6 @@ impl Running {
             kept: None,
             ended: None,
             is_left: false,
-            left_over: LeftOver::new(),
         };
         match running.take_pipes() {
             Ok(()) => Ok(running),
@@ -218,7 +203,6 @@ impl Running {
         let mut dropped = 0usize;
         for _ in 0..u64::MAX {
             if let Some(status) = self.child.try_wait()? {
-                self.drop_rest();
                 return Ok(status);
             }
             let count = self.drop_some();
@@ -251,23 +235,11 @@ impl Running {
             return 0;
         };
         match output.read(&mut piece) {
-            Ok(n) if n > 0 => {
-                self.left_over.count(&piece[..n]);
-                n
-            }
+            Ok(n) if n > 0 => n,
             Err(error) if is_for_the_moment(error.kind()) => 0,
             _ => {
                 self.output = None;
                 0
-            }
-        }
-    }
-
-    /// Reads and drops what is still there of the output of a child that has ended.
-    fn drop_rest(&mut self) {
-        for _ in 0..DROPPED_BYTES / DROPPED_PIECE {
-            if self.drop_some() == 0 {
-                break;
             }
         }
     }
@@ -308,11 +280,6 @@ impl Running {
 
     pub(crate) fn is_left(&self) -> bool {
         self.is_left
-    }
-
-    /// What it said behind its last message, where it was finished.
-    pub(crate) fn left_over(&self) -> LeftOver {
-        self.left_over
     }
 
     /// The number of its process.

@@ -2,4 +2,3 @@ mod Usage
 mod Idle
 mod Testing
 mod Following
-mod Staging

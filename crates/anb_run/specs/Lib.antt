@@ -4,4 +4,3 @@ pub mod Stores
 pub mod Recordings
 pub mod Programs
 pub mod Sessions
-pub mod Stagings

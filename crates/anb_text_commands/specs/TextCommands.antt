@@ -102,7 +102,7 @@ help_text =
     ++ codes "anb why <narration>\n"
     ++ codes "anb park <narration> <role> <values> <key> [place] [--record <file>]\n"
     ++ codes "anb resume <narration> <role> <record> <key> [place] [--record <file>]\n"
-    ++ codes "anb stage <narration> <folder or values> [--as <role> <program>].. [--timeout <seconds>] [--record <folder>]\n"
+    ++ codes "anb stage <narration> <folder or values> [--as <role> <program>].. [--timeout <seconds>]\n"
     ++ codes "anb chart <narration> [--role <name>]\n"
     ++ codes "anb check <narration> [<role> <values>]\n"
     ++ codes "anb trace <narration> <role> <values> <transcript> [--session <n>]\n"

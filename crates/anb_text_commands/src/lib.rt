@@ -57,7 +57,7 @@ const HELP: &str = concat!(
     "anb why <narration>\n",
     "anb park <narration> <role> <values> <key> [place] [--record <file>]\n",
     "anb resume <narration> <role> <record> <key> [place] [--record <file>]\n",
-    "anb stage <narration> <folder or values> [--as <role> <program>].. [--timeout <seconds>] [--record <folder>]\n",
+    "anb stage <narration> <folder or values> [--as <role> <program>].. [--timeout <seconds>]\n",
     "anb chart <narration> [--role <name>]\n",
     "anb check <narration> [<role> <values>]\n",
     "anb trace <narration> <role> <values> <transcript> [--session <n>]\n",

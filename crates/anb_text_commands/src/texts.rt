@@ -201,16 +201,15 @@ pub const TRACE: &str = concat!(
 
 /// The page on `stage`.
 pub const STAGE: &str = concat!(
-    "anb stage <narration> <folder or values> [--as <role> <program>].. [--timeout <seconds>] [--record <folder>]\n",
+    "anb stage <narration> <folder or values> [--as <role> <program>].. [--timeout <seconds>]\n",
     "Starts a child for each role with the folder's file <role>.values, or with what anb values\n",
     "writes for the role from a file <name>.values, carries each message from its sender to its\n",
     "receiver, and writes a line for each. The children are anb play, or the program that --as\n",
     "says for the role, split at spaces, or that ANB_CHILD names for all. With a limit no child\n",
-    "may be silent for longer. --record keeps a transcript of each role, its child's standard error\n",
-    "and the lines so far in the folder.\n",
+    "may be silent for longer.\n",
     "Statuses: 0; 4 the narration is refused; 5 no such role; 6 a role can't send; 7 the values;\n",
     "31 a child failed; 32, 33, 34 its message is missing, cut or too long; 35 it ended badly;\n",
-    "37 it was silent; 38 a file can't be written; 2, 3 a file; 9, 15 the output; 99.\n",
+    "37 it was silent; 2, 3 a file; 9, 15 the output; 99.\n",
     "Example: anb stage examples/nssk/nssk.anb examples/nssk --as B ./peer\n",
 );
 
