@@ -11,10 +11,10 @@ For each role of each example, or of these folders of examples, the program is t
   compares no tags, or reads formats by their lengths alone.
 
 A mutant is told where the status is 36. One that isn't has a reason: `certify` says that it is the same program, or a
-line `# not tried` says what has no case; who uses the one value for the other stops by itself, since what comes next is
-made with the right one; who compares a part of a hash of what comes takes what has that part, which is hard to find; and
-for mutants in Python, nothing of the kind is tried. Otherwise it is listed. Below stand programs that refuse everything, say nothing, hang, are killed or aren't there. The status is 0 where
-all is as it should be. Standard library alone. What becomes of children is tried by bench/edge.py.
+line `# not tried` says what has no case; who compares a part of a hash of what comes takes what has that part, which is
+hard to find; and for mutants in Python, nothing of the kind is tried. Otherwise it is listed. Below stand programs that
+refuse everything, say nothing, hang, are killed or aren't there. The status is 0 where all is as it should be. Standard
+library alone. What becomes of children is tried by bench/edge.py.
 """
 import argparse
 import collections
@@ -163,15 +163,10 @@ def check_role(bench, folder, role):
     right = bench.probe(narration, role, values, bench.program, "enact", bench.file(f"{name}.role", code), own)
     good = right.status == 0 and right.ok == right.cases
     yield "right", right.cases, "ok" if good else "NOT OK", f"{name}: status {right.status}\n{right.text}"
-    less = ""
     for number, (kind, mutant) in enumerate(mutants_of(code)):
         file = bench.file(f"{name}.{number}.role", mutant)
         found = bench.probe(narration, role, values, bench.program, "enact", file, own)
         outcome = verdict_on(bench, narration, role, file, found)
-        if kind == LESS:
-            less = outcome
-        elif outcome == "NOT TOLD" and less == "told" and found.status == 0:
-            outcome = "stops by itself"
         yield kind, found.cases, outcome, f"{file.name}: {mutant}\n{found.text}"
     for lax in kinds_in(code):
         file = bench.folder / f"{name}.role"
@@ -248,7 +243,7 @@ def folders_of(names):
 
 def print_table(rows, roles, seconds):
     """What became of all: a row a kind."""
-    outcomes = ["told", "the same program", "stops by itself", "a hash of it", "not tried", "no case", "NOT TOLD"]
+    outcomes = ["told", "the same program", "a hash of it", "not tried", "no case", "NOT TOLD"]
     right = [row for row in rows if row[0] == "right"]
     cases = [row[1] for row in right]
     print(f"{roles} roles, {sum(cases)} cases, {max(cases, default=0)} of one role at most, {seconds:.0f} s")

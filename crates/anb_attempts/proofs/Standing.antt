@@ -1,5 +1,5 @@
 -- What holds of each scene and each attempt of a suite.
-use Rattle.std.proofs.Common.{◌≡◌, ℕ, ◌+◌, ◌<◌, List, [], ◌∷◌, ◌++◌, length, map, Bool, Option, Some, None, sym, ap, ◌∙◌, subst, inl, inr, arith, length-append}
+use Rattle.std.proofs.Common.{◌≡◌, ℕ, ◌+◌, ◌<◌, List, [], ◌∷◌, ◌++◌, length, map, Bool, true, false, Option, Some, None, refl, sym, ap, ◌∙◌, subst, inl, inr, arith, length-append}
 use Rattle.std.specs.List.{AllByRecursion, AllZip}
 use Rattle.std.specs.Option.{option_map}
 use Rattle.std.specs.Prelude.{IfSome}
@@ -14,7 +14,10 @@ use Rattle.anb_openings.specs.declared.cases.OpeningCase.{OpeningCase}
 use Rattle.anb_openings.specs.declared.cases.OpeningFinding.{OpeningFinding}
 use Rattle.anb_openings.specs.declared.cases.OpeningFinding.TheVariants as opening
 use Rattle.anb_spoil.specs.declared.changes.Change.{Change}
+use Rattle.anb_spoil.specs.declared.changes.Change.TheVariants.{LastByte}
 use Rattle.anb_spoil.specs.declared.wrongs.Wrong.{Wrong}
+use Rattle.anb_suite.specs.declared.reading.Reading.{Reading}
+use Rattle.anb_suite.specs.declared.reading.Reading.TheVariants.{Both, First, Second}
 use Rattle.anb_suite.specs.declared.cases.Case.{Case}
 use Rattle.anb_suite.specs.declared.cases.Finding.{Finding}
 use Rattle.anb_suite.specs.declared.cases.Finding.TheVariants as finding
@@ -23,7 +26,7 @@ use Rattle.anb_attempts.specs.declared.attempts.Scene.{Scene}
 use Rattle.anb_attempts.specs.declared.attempts.Suite.{Suite}
 use Rattle.anb_attempts.specs.declared.points.Point.{Point}
 use Rattle.anb_attempts.specs.declared.points.Point.TheVariants.{Check, Opening}
-use Rattle.anb_attempts.specs.Attempts.{AreParts, CaseMayStand, HasAdded, IsAttempt, IsOpeningAttempt, IsPartOf, IsPartOfCase, IsPartOfCheck, IsPartOfFound, IsPartOfOpened, IsPartOfPoint, IsPartOfTag, IsPartOfTried, IsSceneOf, IsSceneOfOpening, IsSceneOfTag, OpeningMayStand, PartValue, Place, SceneMayStand, TagMayStand, changes_tried}
+use Rattle.anb_attempts.specs.Attempts.{AreParts, CaseMayStand, HasAdded, IsAttempt, IsJoined, IsOpeningAttempt, IsPartOf, IsPartOfCase, IsPartOfCheck, IsPartOfFound, IsPartOfNew, IsPartOfOpened, IsPartOfOther, IsPartOfPoint, IsPartOfTag, IsPartOfTried, IsSceneOf, IsSceneOfOpening, IsSceneOfTag, OpeningMayStand, PartValue, Place, SceneMayStand, TagMayStand, changes_tried, is_heard}
 use Rattle.anb_attempts.specs.Retagging.{RetaggingValue, retagging_at}
 use Rattle.anb_attempts.proofs.Adding.{attempts_in, scenes_in}
 
@@ -79,33 +82,80 @@ module _ (p : ProtocolValue) (role : ℕ) where
     right = subst (λ o. IfSome (option_map tree_of o) (MayStand p)) (sym is.right) stands.wrong;
   }
 
-  zip_below : (n : ℕ) (at : Place) (changes : List Change) (attempts : List Attempt) → AllZip (IsAttempt p role n at) changes attempts → AllByRecursion (IsBelow (n + 1)) attempts
-  zip_below n at [] [] all = tt
-  zip_below n at [] (a ∷ rest) all = absurd all
-  zip_below n at (c ∷ cs) [] all = absurd all
-  zip_below n at (c ∷ cs) (a ∷ rest) all = ((let e = all.0.scene_is in omega (arith, e)), zip_below n at cs rest all.1)
+  zip_below : (n : ℕ) (at : Place) (reading : Reading) (changes : List Change) (attempts : List Attempt) → AllZip (IsAttempt p role n at reading) changes attempts → AllByRecursion (IsBelow (n + 1)) attempts
+  zip_below n at reading [] [] all = tt
+  zip_below n at reading [] (a ∷ rest) all = absurd all
+  zip_below n at reading (c ∷ cs) [] all = absurd all
+  zip_below n at reading (c ∷ cs) (a ∷ rest) all = ((let e = all.0.scene_is in omega (arith, e)), zip_below n at reading cs rest all.1)
 
-  module _ (changes : List Change) where
-    case_stands : (n : ℕ) (case : Case) (part : PartValue) → IsPartOfCase p role changes n case part → AllByRecursion (SceneMayStand p) part.scenes
+  module _ (reading : Reading) (changes : List Change) where
+    case_stands : (n : ℕ) (case : Case) (part : PartValue) → IsPartOfCase p role reading changes n case part → AllByRecursion (SceneMayStand p) part.scenes
     case_stands n case part (inl t) = subst (AllByRecursion (SceneMayStand p)) (sym t.scenes) (scene_stands case t.scene t.stands t.is, tt)
     case_stands n case part (inr t) = subst (AllByRecursion (SceneMayStand p)) (sym t.1.scenes) tt
 
-    case_below : (n : ℕ) (case : Case) (part : PartValue) → IsPartOfCase p role changes n case part → AllByRecursion (IsBelow (n + length part.scenes)) part.attempts
+    case_below : (n : ℕ) (case : Case) (part : PartValue) → IsPartOfCase p role reading changes n case part → AllByRecursion (IsBelow (n + length part.scenes)) part.attempts
     case_below n case part (inl t) =
-        let e : length part.scenes ≡ 1 = ap length t.scenes in each_below (n + 1) (n + length part.scenes) part.attempts (ap (λ k. n + k) (sym e)) (zip_below n _ changes part.attempts t.attempts)
+        let e : length part.scenes ≡ 1 = ap length t.scenes in each_below (n + 1) (n + length part.scenes) part.attempts (ap (λ k. n + k) (sym e)) (zip_below n _ reading changes part.attempts t.attempts)
     case_below n case part (inr t) = subst (AllByRecursion (IsBelow (n + length part.scenes))) (sym t.1.attempts) tt
 
+  module _ (changes : List Change) where
     found_stands : (n : ℕ) (found : Finding) (part : PartValue) → IsPartOf p role changes n found part → AllByRecursion (SceneMayStand p) part.scenes
     found_stands n (finding.Case case) part t =
-        subst (AllByRecursion (SceneMayStand p)) (sym t.comes.scenes) (parts_stand (IsPartOfCase p role changes) (SceneMayStand p) case_stands n (case ∷ t.within) t.comes.parts t.comes.are)
+        subst (AllByRecursion (SceneMayStand p)) (sym t.comes.scenes) (parts_stand (IsPartOfCase p role Both changes) (SceneMayStand p) (case_stands Both changes) n (case ∷ t.within) t.comes.parts t.comes.are)
     found_stands n finding.Implied part e = subst (λ (q : PartValue). AllByRecursion (SceneMayStand p) q.scenes) (sym e) tt
 
     found_below : (n : ℕ) (found : Finding) (part : PartValue) → IsPartOf p role changes n found part → AllByRecursion (IsBelow (n + length part.scenes)) part.attempts
     found_below n (finding.Case case) part t =
         let e : n + length (scenes_in t.comes.parts) ≡ n + length part.scenes = ap (λ l. n + length l) (sym t.comes.scenes) in
         subst (AllByRecursion (IsBelow (n + length part.scenes))) (sym t.comes.attempts)
-        (each_below (n + length (scenes_in t.comes.parts)) (n + length part.scenes) (attempts_in t.comes.parts) e (parts_below (IsPartOfCase p role changes) case_below n (case ∷ t.within) t.comes.parts t.comes.are))
+        (each_below (n + length (scenes_in t.comes.parts)) (n + length part.scenes) (attempts_in t.comes.parts) e (parts_below (IsPartOfCase p role Both changes) (case_below Both changes) n (case ∷ t.within) t.comes.parts t.comes.are))
     found_below n finding.Implied part e = subst (λ (q : PartValue). AllByRecursion (IsBelow (n + length q.scenes)) q.attempts) (sym e) tt
+
+  -- one part, and then another
+  join_stands : (first second both : PartValue) → IsJoined first second both → AllByRecursion (SceneMayStand p) first.scenes → AllByRecursion (SceneMayStand p) second.scenes → AllByRecursion (SceneMayStand p) both.scenes
+  join_stands first second both j one other = subst (AllByRecursion (SceneMayStand p)) (sym j.scenes) (each_in_both (SceneMayStand p) first.scenes second.scenes one other)
+
+  join_below : (n : ℕ) (first second both : PartValue) → IsJoined first second both → AllByRecursion (IsBelow (n + length first.scenes)) first.attempts → AllByRecursion (IsBelow ((n + length first.scenes) + length second.scenes)) second.attempts
+      → AllByRecursion (IsBelow (n + length both.scenes)) both.attempts
+  join_below n first second both j one other =
+      let e : (n + length first.scenes) + length second.scenes ≡ n + length both.scenes = omega (arith, ap length j.scenes, length-append first.scenes second.scenes) in
+      let all = each_in_both (IsBelow ((n + length first.scenes) + length second.scenes)) first.attempts second.attempts (each_within (n + length first.scenes) (length second.scenes) first.attempts one) other in
+      subst (AllByRecursion (IsBelow (n + length both.scenes))) (sym j.attempts) (each_below ((n + length first.scenes) + length second.scenes) (n + length both.scenes) (first.attempts ++ second.attempts) e all)
+
+  -- of a code that reads one value for the other
+  module _ (reading : Reading) (before : PartValue) where
+    new_stands : (n : ℕ) (case : Case) (part : PartValue) → IsPartOfNew p role reading before n case part → AllByRecursion (SceneMayStand p) part.scenes
+    new_stands n case part t = by (is_heard (map tree_of case.arrivals.items) before.scenes) refl where
+      by : (b : Bool) → is_heard (map tree_of case.arrivals.items) before.scenes ≡ b → AllByRecursion (SceneMayStand p) part.scenes
+      by true e = subst (λ (q : PartValue). AllByRecursion (SceneMayStand p) q.scenes) (sym (t.tried e)) tt
+      by false e = case_stands reading (LastByte ∷ []) n case part (t.new e)
+
+    new_below : (n : ℕ) (case : Case) (part : PartValue) → IsPartOfNew p role reading before n case part → AllByRecursion (IsBelow (n + length part.scenes)) part.attempts
+    new_below n case part t = by (is_heard (map tree_of case.arrivals.items) before.scenes) refl where
+      by : (b : Bool) → is_heard (map tree_of case.arrivals.items) before.scenes ≡ b → AllByRecursion (IsBelow (n + length part.scenes)) part.attempts
+      by true e = subst (λ (q : PartValue). AllByRecursion (IsBelow (n + length q.scenes)) q.attempts) (sym (t.tried e)) tt
+      by false e = case_below reading (LastByte ∷ []) n case part (t.new e)
+
+    other_stands : (n : ℕ) (found : Finding) (part : PartValue) → IsPartOfOther p role reading before n found part → AllByRecursion (SceneMayStand p) part.scenes
+    other_stands n (finding.Case case) part t = new_stands n case part t
+    other_stands n finding.Implied part e = subst (λ (q : PartValue). AllByRecursion (SceneMayStand p) q.scenes) (sym e) tt
+
+    other_below : (n : ℕ) (found : Finding) (part : PartValue) → IsPartOfOther p role reading before n found part → AllByRecursion (IsBelow (n + length part.scenes)) part.attempts
+    other_below n (finding.Case case) part t = new_below n case part t
+    other_below n finding.Implied part e = subst (λ (q : PartValue). AllByRecursion (IsBelow (n + length q.scenes)) q.attempts) (sym e) tt
+
+  module _ (code : CodeValue) (changes : List Change) where
+    check_stands : (n check : ℕ) (part : PartValue) → IsPartOfCheck p role code changes n check part → AllByRecursion (SceneMayStand p) part.scenes
+    check_stands n check part t =
+        join_stands t.both t.second part t.all
+        (join_stands t.own t.first t.both t.both_are (found_stands changes n t.own_is.0 t.own t.own_is.2) (other_stands First t.own (n + length t.own.scenes) t.first_is.0 t.first t.first_is.2))
+        (other_stands Second t.both (n + length t.both.scenes) t.second_is.0 t.second t.second_is.2)
+
+    check_below : (n check : ℕ) (part : PartValue) → IsPartOfCheck p role code changes n check part → AllByRecursion (IsBelow (n + length part.scenes)) part.attempts
+    check_below n check part t =
+        join_below n t.both t.second part t.all
+        (join_below n t.own t.first t.both t.both_are (found_below changes n t.own_is.0 t.own t.own_is.2) (other_below First t.own (n + length t.own.scenes) t.first_is.0 t.first t.first_is.2))
+        (other_below Second t.both (n + length t.both.scenes) t.second_is.0 t.second t.second_is.2)
 
 -- ---- those of openings
 
@@ -159,11 +209,11 @@ module _ (p : ProtocolValue) (role : ℕ) where
 
 module _ (p : ProtocolValue) (role : ℕ) (code : CodeValue) (all : Bool) where
   point_stands : (n : ℕ) (point : Point) (part : PartValue) → IsPartOfPoint p role code all n point part → AllByRecursion (SceneMayStand p) part.scenes
-  point_stands n (Check check) part is = found_stands p role (changes_tried all) n is.0 part is.2
+  point_stands n (Check check) part is = check_stands p role code (changes_tried all) n check part is
   point_stands n (Opening instruction) part is = opened_stands p role all (parsed_at code instruction) n is.0 part is.2
 
   point_below : (n : ℕ) (point : Point) (part : PartValue) → IsPartOfPoint p role code all n point part → AllByRecursion (IsBelow (n + length part.scenes)) part.attempts
-  point_below n (Check check) part is = found_below p role (changes_tried all) n is.0 part is.2
+  point_below n (Check check) part is = check_below p role code (changes_tried all) n check part is
   point_below n (Opening instruction) part is = opened_below p role all (parsed_at code instruction) n is.0 part is.2
 
   pub points_stand : (xs : List Point) (old new : Suite) → HasAdded (IsPartOfPoint p role code all) xs old new → AllByRecursion (SceneMayStand p) old.scenes.items → AllByRecursion (SceneMayStand p) new.scenes.items

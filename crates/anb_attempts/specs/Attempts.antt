@@ -1,9 +1,9 @@
 -- All that is tried of a role: the honest attempt, and for each check and each opening of its code a scene with its
 -- attempts, or why there is none.
 use Rattle.std.specs.Prelude.{◌≡◌, ◌+◌, ◌<◌, ℕ, List, [], ◌∷◌, ◌++◌, ◌||◌, length, map, filter, codes, slice_get, Bool, true, false, Option, Some, None, unwrap_or, IfSome, ◌⊎◌}
-use Rattle.std.specs.List.{AllByRecursion, AllZip, flat_map}
+use Rattle.std.specs.List.{AllByRecursion, AllZip, flat_map, list_any}
 use Rattle.std.specs.Option.{option_map, option_map_or}
-use Rattle.anb_term.specs.Tree.{Tree}
+use Rattle.anb_term.specs.Tree.{Tree, trees_eqb, trees_of}
 use Rattle.anb_term.specs.View.{tree_of}
 use Rattle.anb_plays.specs.Honest.{heard}
 use Rattle.anb_code.specs.CodeValue.{CodeValue}
@@ -24,6 +24,8 @@ use Rattle.anb_protocol.specs.Plays.{events_of}
 use Rattle.anb_probe.specs.Cases.{DifferAt}
 use Rattle.anb_partner.specs.Plans.{said, MayStand}
 use Rattle.anb_suite.specs.Suites.{checks_of, HasCheck, IsFinding}
+use Rattle.anb_suite.specs.declared.reading.Reading.{Reading}
+use Rattle.anb_suite.specs.declared.reading.Reading.TheVariants.{Both, First, Second}
 use Rattle.anb_suite.specs.declared.cases.Case.{Case}
 use Rattle.anb_suite.specs.declared.cases.Finding.{Finding}
 use Rattle.anb_suite.specs.declared.cases.Finding.TheVariants as finding
@@ -155,11 +157,17 @@ abbrev pub LacksComparison : ProtocolValue → (role : ℕ) → Place → Option
 LacksComparison p role at (Some (Comparison place other)) = (place_value place ≡ at) × (other ≡ other_for p role at)
 LacksComparison p role at missing = ⊥
 
+-- how a report tells a program that reads one of the two values for the other
+abbrev pub reading_words : Reading → List ℕ
+reading_words Both = []
+reading_words First = codes ", one value used for both"
+reading_words Second = codes ", one value used for both"
+
 -- An attempt that changes the value at a place. Its title is that of a value of more than one byte.
-pub record IsAttempt (p : ProtocolValue) (role scene : ℕ) (at : Place) (change : Change) (attempt : Attempt) : Type 0 where
+pub record IsAttempt (p : ProtocolValue) (role scene : ℕ) (at : Place) (reading : Reading) (change : Change) (attempt : Attempt) : Type 0 where
   pub scene_is : attempt.scene ≡ scene
   pub wrong_is : attempt.wrong ≡ wrong.Changed change
-  pub title : SaysChanged at (change_words change 2) attempt.title
+  pub title : SaysChanged at (change_words change 2 ++ reading_words reading) attempt.title
   pub lacks : LacksComparison p role at attempt.lacks
 
 -- the honest one
@@ -260,6 +268,13 @@ pub record IsJoined (first second both : PartValue) : Type 0 where
   pub attempts : both.attempts ≡ first.attempts ++ second.attempts
   pub gaps : both.gaps ≡ first.gaps ++ second.gaps
 
+-- a scene has these arrivals, and one of these has
+abbrev pub hears : (arrivals : List Tree) → Scene → Bool
+hears arrivals scene = trees_eqb (trees_of (map tree_of scene.arrivals.items)) (trees_of arrivals)
+
+abbrev pub is_heard : (arrivals : List Tree) → List Scene → Bool
+is_heard arrivals scenes = list_any (hears arrivals) scenes
+
 -- one gap
 pub record IsGap (at : Place) (why : Why) (part : PartValue) : Type 0 where
   pub gap : Gap
@@ -307,31 +322,58 @@ module _ (p : ProtocolValue) (role : ℕ) where
   obstacle_place none = place_at p role (map tree_of none.arrivals.items) none.event
 
   -- a scene with this number, and an attempt for each change
-  pub record IsTried (changes : List Change) (number : ℕ) (case : Case) (part : PartValue) : Type 0 where
+  pub record IsTried (reading : Reading) (changes : List Change) (number : ℕ) (case : Case) (part : PartValue) : Type 0 where
     pub stands : CaseMayStand p case
     pub scene : Scene
     pub is : IsSceneOf (length p.atoms) case scene
     pub scenes : part.scenes ≡ scene ∷ []
-    pub attempts : AllZip (IsAttempt p role number (case_place p role case)) changes part.attempts
+    pub attempts : AllZip (IsAttempt p role number (case_place p role case) reading) changes part.attempts
     pub gaps : part.gaps ≡ []
 
   -- or a gap, since a term of it is too large
-  abbrev pub IsPartOfCase : List Change → (number : ℕ) → Case → PartValue → Type 0
-  IsPartOfCase changes number case part = IsTried changes number case part ⊎ ((CaseMayStand p case → ⊥) × IsGap (case_place p role case) Large part)
+  abbrev pub IsPartOfCase : Reading → List Change → (number : ℕ) → Case → PartValue → Type 0
+  IsPartOfCase reading changes number case part = IsTried reading changes number case part ⊎ ((CaseMayStand p case → ⊥) × IsGap (case_place p role case) Large part)
 
   -- of a case, and then of those for the parts of what it makes wrong, in scenes with numbers from here
   pub record IsPartOfCases (changes : List Change) (number : ℕ) (case : Case) (part : PartValue) : Type 0 where
     pub within : List Case
     pub are_within : AreWithin p (length p.atoms) case within
-    pub comes : ComesOf (IsPartOfCase changes) number (case ∷ within) part
+    pub comes : ComesOf (IsPartOfCase Both changes) number (case ∷ within) part
 
   -- and nothing where the others imply the check
   abbrev pub IsPartOf : List Change → (number : ℕ) → Finding → PartValue → Type 0
   IsPartOf changes number (finding.Case case) part = IsPartOfCases changes number case part
   IsPartOf changes number finding.Implied part = part ≡ nothing
 
-  abbrev pub IsPartOfCheck : CodeValue → List Change → (number check : ℕ) → PartValue → Type 0
-  IsPartOfCheck code changes number check part = (found : Finding) × IsFinding p role code check found × IsPartOf changes number found part
+  -- of a check of the code as it is
+  abbrev pub IsPartOfOwn : CodeValue → List Change → (number check : ℕ) → PartValue → Type 0
+  IsPartOfOwn code changes number check part = (found : Finding) × IsFinding p role code Both check found × IsPartOf changes number found part
+
+  -- of the case of a code that reads one of the two values for the other: nothing where what arrives is tried before, and
+  -- else a scene with one attempt
+  pub record IsPartOfNew (reading : Reading) (before : PartValue) (number : ℕ) (case : Case) (part : PartValue) : Type 0 where
+    pub tried : is_heard (map tree_of case.arrivals.items) before.scenes ≡ true → part ≡ nothing
+    pub new : is_heard (map tree_of case.arrivals.items) before.scenes ≡ false → IsPartOfCase reading (LastByte ∷ []) number case part
+
+  abbrev pub IsPartOfOther : Reading → (before : PartValue) → (number : ℕ) → Finding → PartValue → Type 0
+  IsPartOfOther reading before number (finding.Case case) part = IsPartOfNew reading before number case part
+  IsPartOfOther reading before number finding.Implied part = part ≡ nothing
+
+  abbrev pub IsPartOfReading : CodeValue → Reading → (before : PartValue) → (number check : ℕ) → PartValue → Type 0
+  IsPartOfReading code reading before number check part = (found : Finding) × IsFinding p role code reading check found × IsPartOfOther reading before number found part
+
+  -- Of a check: what comes of the code that reads both of its values behind it; of that which reads the first for the
+  -- second; and of that which reads the second for the first.
+  pub record IsPartOfCheck (code : CodeValue) (changes : List Change) (number check : ℕ) (part : PartValue) : Type 0 where
+    pub own : PartValue
+    pub own_is : IsPartOfOwn code changes number check own
+    pub first : PartValue
+    pub first_is : IsPartOfReading code First own (number + length own.scenes) check first
+    pub both : PartValue
+    pub both_are : IsJoined own first both
+    pub second : PartValue
+    pub second_is : IsPartOfReading code Second both (number + length both.scenes) check second
+    pub all : IsJoined both second part
 
   -- of the case of an opening: a scene with this number, and an attempt for each way to make it wrong
   pub record IsOpened (all : Bool) (parsed : Option ℕ) (number : ℕ) (case : OpeningCase) (part : PartValue) : Type 0 where

@@ -1,16 +1,17 @@
 //! The attempts that change the value at a place.
-ghost use Rattle.std.specs.Prelude.{◌≡◌, ◌<◌, ℕ, length, IfOk};
+ghost use Rattle.std.specs.Prelude.{◌≡◌, ◌<◌, ◌++◌, ℕ, length, IfOk};
 ghost use Rattle.std.specs.List.{AllZip};
 ghost use Rattle.anb_protocol.specs.Protocols.{ProtocolValue};
 ghost use Rattle.anb_spoil.specs.Words.{change_words};
 ghost use Rattle.anb_verdict.specs.Places.{place_value};
-ghost use Rattle.anb_attempts.specs.Attempts.{changes_tried, other_for, IsAttempt, SaysChanged};
+ghost use Rattle.anb_attempts.specs.Attempts.{changes_tried, other_for, reading_words, IsAttempt, SaysChanged};
 
 use crate::attempts::Attempt;
 use crate::placing::copy_of;
 use anb_base::{Bytes, NoMemory};
 use anb_protocol::Protocol;
 use anb_spoil::{CHANGES, Change, MORE_CHANGES, Wrong, change_words};
+use anb_suite::Reading;
 use anb_verdict::{Missing, Other, Place, Title, other_of};
 use std::alloc::Global;
 
@@ -25,23 +26,25 @@ pub(crate) fn changes_tried(alloc: Global, all: bool) -> Result<Vec<Change>, NoM
     Ok(changes)
 }
 
-/// The attempts of a scene that change the value at a place in these ways.
+/// The attempts of a scene that change the value at a place in these ways, for programs that read so.
 pub(crate) fn attempts_at(
     alloc: Global,
     p: &Protocol,
     role: u32,
     scene: usize,
     place: &Place,
+    reading: Reading,
     changes: &[Change],
 ) -> Result<Vec<Attempt>, NoMemory>
     requires { role < length p.now.roles }
-    ensures { IfOk result (λ attempts. AllZip (IsAttempt p.now role scene (place_value place.now))
+    ensures { IfOk result (λ attempts.
+        AllZip (IsAttempt p.now role scene (place_value place.now) reading)
         changes.now attempts.items) }
 {
     let other = other_of(alloc, p, role, place)?;
     let mut attempts = Vec::new(alloc);
     for change in changes {
-        let attempt = attempt_at(alloc, scene, place, other, *change)?;
+        let attempt = attempt_at(alloc, scene, place, other, reading, *change)?;
         attempts.push(attempt)?;
     }
     Ok(attempts)
@@ -52,12 +55,13 @@ fn attempt_at(
     scene: usize,
     place: &Place,
     other: Other,
+    reading: Reading,
     change: Change,
 ) -> Result<Attempt, NoMemory>
     ensures { (p : ProtocolValue) (role : ℕ) → other ≡ other_for p role (place_value place.now)
-        → IfOk result (IsAttempt p role scene (place_value place.now) change) }
+        → IfOk result (IsAttempt p role scene (place_value place.now) reading change) }
 {
-    let title = changed_title(alloc, place, change, USUAL_SIZE)?;
+    let title = read_title(alloc, place, reading, change)?;
     let here = copy_of(alloc, place)?;
     Ok(Attempt {
         scene,
@@ -65,6 +69,31 @@ fn attempt_at(
         title,
         lacks: Some(Missing::Comparison(here, other)),
     })
+}
+
+/// The title of an attempt for programs that read so.
+fn read_title(
+    alloc: Global,
+    place: &Place,
+    reading: Reading,
+    change: Change,
+) -> Result<Title, NoMemory>
+    ensures { IfOk result (SaysChanged (place_value place.now)
+        (change_words change 2 ++ reading_words reading)) }
+{
+    let mut words = Vec::from_slice(alloc, change_words(change, USUAL_SIZE).as_bytes())?;
+    words.extend_from_slice(reading_words(reading).as_bytes())?;
+    Ok(Title::Changed(copy_of(alloc, place)?, Bytes::new(words)))
+}
+
+/// How a report tells a program that reads one of the two values for the other.
+fn reading_words(reading: Reading) -> &'static str
+    ensures { result.now ≡ reading_words reading }
+{
+    match reading {
+        Reading::Both => "",
+        Reading::First | Reading::Second => ", one value used for both",
+    }
 }
 
 /// Titles are those of values of more than one byte.

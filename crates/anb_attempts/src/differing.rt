@@ -77,7 +77,7 @@ fn is_one(one: Op, other: Op) -> bool
 }
 
 /// Whether two terms are one.
-fn is_same(one: &Term, other: &Term) -> bool
+pub(crate) fn is_same(one: &Term, other: &Term) -> bool
     ensures { result ≡ tree_eqb (tree_of one.now) (tree_of other.now) }
 {
     one.same(other)

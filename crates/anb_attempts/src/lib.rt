@@ -7,6 +7,9 @@
 //! wrong in one way after the other (anb_spoil). What is at a place is told by the terms of the
 //! narration, and so is what a program lacks that goes on.
 //!
+//! A program that lacks a comparison may use one of its two values for both in what follows. So each
+//! comparison has up to two attempts more, over what such a program goes on with, where that differs.
+//!
 //! What is tried is a function of the narration, the role and its code alone: of no values, and of no
 //! program. The time of one comparison is near-linear in the code and in the nodes of its registers'
 //! terms.
@@ -16,6 +19,7 @@ mod attempts;
 mod changing;
 mod checking;
 mod differing;
+mod heard;
 mod inner;
 mod opening;
 mod parts;

@@ -3,7 +3,7 @@
 //! The stream of a false tag is made of the key, so the partner makes two values: what is opened, and its
 //! key. They are one value in a format of the protocol, whichever has room for both, and it goes nowhere
 //! but to who makes the false tag of it.
-ghost use Rattle.std.specs.Prelude.{◌≡◌, ◌≤◌, ℕ, map, IfOk};
+ghost use Rattle.std.specs.Prelude.{◌≡◌, ◌≤◌, length, map, IfOk};
 ghost use Rattle.std.specs.List.{AllByRecursion};
 ghost use Rattle.std.specs.Option.{option_map};
 ghost use Rattle.anb_format.specs.Formats.{field_count};
@@ -75,7 +75,7 @@ fn retagging_by(
     let Some((key, _)) = operands.split_first() else {
         return Ok(None);
     };
-    match pair_format(p.formats())? {
+    match pair_format(p.formats()) {
         Some((place, fields)) => Ok(Some(Retagging {
             pair: pair_of(alloc, place, fields, closed, key)?,
             way: Wrong::FalseTag(p.suite(), way, place),
@@ -85,21 +85,18 @@ fn retagging_by(
 }
 
 /// The place of the first of these formats that has two fields or more, and how many it has.
-fn pair_format(formats: &[Format]) -> Result<Option<(u16, u16)>, NoMemory>
-    requires { AllByRecursion (λ format. field_count format.pieces ≤ 32) formats.now }
-    ensures { IfOk result (λ found. found ≡ pair_from 0 formats.now) }
+fn pair_format(formats: &[Format]) -> Option<(u16, u16)>
+    requires few { length formats.now ≤ 64 }
+    requires fields { AllByRecursion (λ format. field_count format.pieces ≤ 32) formats.now }
+    ensures { result ≡ pair_from 0 formats.now }
 {
-    for i in 0..formats.len() {
-        let fields = formats[i].arity();
+    for (i, format) in formats.iter().enumerate() {
+        let fields = format.arity();
         if fields >= 2 {
-            return match u16::try_from(i) {
-                Ok(place) => Ok(Some((place, fields))),
-                // A protocol has few formats.
-                Err(_) => Err(NoMemory),
-            };
+            return Some((i as u16, fields));
         }
     }
-    Ok(None)
+    None
 }
 
 /// A closed term and its key in the format at a place, which has so many fields: the key stands in all

@@ -1,5 +1,5 @@
 //! All that is tried of a role.
-ghost use Rattle.std.specs.Prelude.{◌≡◌, ◌+◌, ◌<◌, ◌≤◌, ◌++◌, ◌↔◌, false, length, IfOk, OnOk, IsTrue};
+ghost use Rattle.std.specs.Prelude.{◌≡◌, ◌+◌, ◌<◌, ◌≤◌, ◌++◌, ◌^◌, ◌↔◌, false, length, IfOk, OnOk, IsTrue};
 ghost use Rattle.std.specs.List.{All};
 ghost use Rattle.anb_compile.specs.Fitting.{FitsRole};
 ghost use Rattle.anb_attempts.specs.Attempts.{points_of, BeginsHonestly, Covers, HasPoint, IsPartOfPoint, IsSuite, SceneMayStand};
@@ -87,6 +87,7 @@ fn part_of_point(
     requires role { role < length p.now.roles }
     requires fits { FitsRole p.now role code.now }
     requires point { HasPoint code.now point }
+    requires scene { scene < 2 ^ 63 }
     ensures { IfOk result (λ part.
         IsPartOfPoint p.now role code.now all scene point (part_value part)) }
 {

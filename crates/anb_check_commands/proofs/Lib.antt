@@ -1,5 +1,3 @@
-pub mod Blinded
-pub mod Choosing
 pub mod Checked
 pub mod Verdicts
 pub mod Lacks

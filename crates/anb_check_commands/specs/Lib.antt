@@ -1,5 +1,4 @@
 pub mod CheckCommand
-pub mod ChoiceLines
 pub mod CheckValues
 pub mod Laws
 -- for proofs alone

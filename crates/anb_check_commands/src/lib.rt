@@ -3,9 +3,7 @@
 #![tactic(auto)]
 
 mod asking;
-mod blindness;
 mod checking;
-mod choices;
 mod finding;
 mod laws;
 mod part;

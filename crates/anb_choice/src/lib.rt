@@ -19,8 +19,8 @@ mod splitting;
 pub use anb_outcomes::BranchNo;
 pub use branched::Branched;
 pub use laws::{
-    arm_texts_are_unique, branch_refusals_are_unique, choices_are_unique, each_is_either, faultless_is_lawful,
-    no_choice_is_refused,
+    arm_texts_are_unique, branch_refusals_are_unique, choices_are_unique, each_is_either,
+    faultless_is_lawful, no_choice_is_refused,
 };
 pub use placed::arm_texts;
 pub use splitting::{choice_fault, split, told_choice};

@@ -15,8 +15,8 @@ use Rattle.anb_host.specs.declared.serving.HostEnd.TheVariants.{Ended, Truncated
 use Rattle.anb_host.specs.HostFrames.{Tail, End, Part, Bad, Ends, IsFrame, HostFrames, FramesLeft, out}
 use Rattle.anb_host.specs.Hosts.{HostValue, plays_of, StandsFor}
 use Rattle.anb_host.specs.Own.{answer, told}
-use Rattle.anb_host.specs.Serving.{size_of, stamps, IsBehind, Serves, StandsAfter}
-use Rattle.anb_host.specs.Turns.{TakesOf, GoesOn, FailsIn, EndsAt}
+use Rattle.anb_host.specs.Serving.{size_of, stamps, FollowsAfter, IsBehind, Serves, StandsAfter}
+use Rattle.anb_host.specs.Turns.{TakesOf, GoesOn, FailsAnswering, FailsIn, EndsAt}
 use Rattle.anb_host.specs.Runs.{TookFrames, Done, Handled}
 use Rattle.anb_host.proofs.Pieces.{header_long}
 use Rattle.anb_host.proofs.Reading.{ends_at, left_goes_on}
@@ -95,9 +95,12 @@ module _ (plays : ℕ → List (List ℕ) → Played (List ℕ)) where
 
 -- ---- the loop
 
-pub handled_none : (h : HostValue) (s : WireState) → Handled h h s s 0
-handled_none h s = record {
+pub handled_none : (Then : List HostEvent → Type 0) → Then [] → (h : HostValue) (s : WireState) → Handled Then h h s s 0
+handled_none Then then h s = record {
   plays = refl;
+  some = [];
+  followed = then;
+  same = λ past events tail st left. refl;
   each = λ past events tail st left. record {
     front = [];
     rest = events;
@@ -110,7 +113,7 @@ handled_none h s = record {
   };
 }
 
-module _ (h now : HostValue) (old new next : WireState) (k : ℕ) (so_far : Handled h now old new k) where
+module _ (First : List HostEvent → Type 0) (h now : HostValue) (old new next : WireState) (k : ℕ) (so_far : Handled First h now old new k) where
   abbrev so : (past events : List HostEvent) (tail : Tail) → StandsFor h past → FramesLeft old.left events tail → Done (plays_of h) now old new k past events tail
   so past events tail st left = so_far.each past events tail st left
 
@@ -131,9 +134,12 @@ module _ (h now : HostValue) (old new next : WireState) (k : ℕ) (so_far : Hand
     many_now : length (d.front ++ x ∷ []) ≡ k + 1
     many_now = omega (arith, length-append d.front (x ∷ []), d.many)
 
-  pub handled_further : (now' : HostValue) → GoesOn now now' new next → Handled h now' old next (k + 1)
-  handled_further now' go = record {
+  pub handled_further : (Then All : List HostEvent → Type 0) → ((some more : List HostEvent) → First some → Then more → All (some ++ more)) → (now' : HostValue) → GoesOn Then now now' new next → Handled All h now' old next (k + 1)
+  handled_further Then All both now' go = record {
     plays = go.plays ∙ so_far.plays;
+    some = so_far.some ++ go.event ∷ [];
+    followed = both so_far.some (go.event ∷ []) so_far.followed go.followed;
+    same = λ past events tail st left. ap (λ (l : List HostEvent). l ++ go.event ∷ []) (so_far.same past events tail st left);
     each = λ past events tail st left.
         let x = go.event in
         let e = so past events tail st left in
@@ -187,12 +193,18 @@ module _ (h now : HostValue) (old new next : WireState) (k : ℕ) (so_far : Hand
       in_between : TookFrames (plays_of h) past (take k events) old next z × Put old.written next.written (out (told (plays_of h) past (take k events)))
       in_between = (subst (λ es. TookFrames (plays_of h) past es old next z) front_is took_so, subst (λ es. Put old.written next.written (out (told (plays_of h) past es))) front_is wrote_so)
 
-    -- an event more, whose answer is written in part
+    -- an event more was taken
+    one_more : (fail : FailsIn now new next) → done.front ++ fail.event ∷ [] ≡ take (k + 1) events
+    one_more fail =
+        let x = fail.event in
+        first_k (done.front ++ x ∷ []) (following past events tail st left x fail.taken fail.is_frame fail.takes).0 (k + 1) (whole_now past events tail st left x fail.taken fail.is_frame fail.takes) (many_now past events tail st left x fail.taken fail.is_frame fail.takes)
+
+    -- and its answer is written in part
     failed : FailsIn now new next → TookFrames (plays_of h) past (take (k + 1) events) old next [] × PutPrefix old.written next.written (out (told (plays_of h) past (take (k + 1) events)))
     failed fail =
         let x = fail.event in
         let front = done.front ++ x ∷ [] in
-        let is : front ≡ take (k + 1) events = first_k front (following past events tail st left x fail.taken fail.is_frame fail.takes).0 (k + 1) (whole_now past events tail st left x fail.taken fail.is_frame fail.takes) (many_now past events tail st left x fail.taken fail.is_frame fail.takes) in
+        let is : front ≡ take (k + 1) events = one_more fail in
         let part : PutPrefix new.written next.written (out (answer (plays_of h) (past ++ done.front) x)) = subst (λ p. PutPrefix new.written next.written (out (answer p (past ++ done.front) x))) so_far.plays (fail.answers (past ++ done.front) done.stands) in
         let whole : PutPrefix old.written next.written (out (told (plays_of h) past front)) =
         subst (PutPrefix old.written next.written) (sym (out-last (plays_of h) past done.front x)) (put_further old.written new.written next.written (out (told (plays_of h) past done.front)) (out (answer (plays_of h) (past ++ done.front) x)) done.answered part) in (
@@ -213,18 +225,18 @@ module _ (h now : HostValue) (old new next : WireState) (k : ℕ) (so_far : Hand
     left_bad (Some x) None kind rest took above l = absurd took
     left_bad (Some x) (Some y) kind rest took above l = ends_at x (Bad kind) rest tail (y, took, above) l
 
-    pub served : (now' : HostValue) (end : HostEnd) → EndsAt now now' new next end → Serves (plays_of h) past events tail budget old next end
-    served now' Ended (is_same, (same, (z, takes, (none, at)))) =
+    pub served : (Then : List HostEvent → Type 0) (now' : HostValue) (end : HostEnd) → EndsAt Then now now' new next end → Serves (plays_of h) past events tail budget old next end
+    served Then now' Ended (is_same, (same, (z, takes, (none, at))), then) =
         concluded same [] (subst (TakesOf new next) none takes) End (left_ends new.left next.left z End done.rest takes.0 at none done.left)
-    served now' (Truncated have need) (is_same, (same, (z, takes, (at, long, part)))) =
+    served Then now' (Truncated have need) (is_same, (same, (z, takes, (at, long, part))), then) =
         (z, (long, part), concluded same z takes (Part have need) (left_ends new.left next.left z (Part have need) done.rest takes.0 at (long, part) done.left))
-    served now' (BadKind kind) (is_same, (same, (z, takes, (is, above)))) =
+    served Then now' (BadKind kind) (is_same, (same, (z, takes, (is, above))), then) =
         let t = subst (TakesOf new next) is takes in
         concluded same (kind ∷ []) t (Bad kind) (left_bad new.left next.left kind done.rest t.0 above done.left)
-    served now' ReadFault (is_same, (same, (z, takes, begun))) = let b = in_between same z takes in (k, z, within, begun, b.0, b.1)
-    served now' WriteFault fail = let f = failed fail.fails in (k + 1, omega (arith, within), f.0, f.1)
-    served now' (Spent n) (is_same, (same, (z, takes, says))) = absurd says
-    served now' NoMemory e = elim e [
+    served Then now' ReadFault (is_same, (same, (z, takes, begun)), then) = let b = in_between same z takes in (k, z, within, begun, b.0, b.1)
+    served Then now' WriteFault fail = let f = failed fail.fails in (k + 1, omega (arith, within), f.0, f.1)
+    served Then now' (Spent n) (is_same, (same, (z, takes, says)), then) = absurd says
+    served Then now' NoMemory e = elim e [
       | inl (same, (z, takes, begun)) ↦ let b = in_between same z takes in (k, z, omega (arith, within), begun, b.0, put_all (out (told (plays_of h) past (take k events))) b.1)
       | inr fail ↦ let f = failed fail in (k + 1, [], omega (arith, within), inl refl, f.0, f.1)
     ]
@@ -237,20 +249,60 @@ module _ (h now : HostValue) (old new next : WireState) (k : ℕ) (so_far : Hand
     stands_so : (now' : HostValue) (z : List ℕ) → IsBehind z → (now' ≡ now) → next.written ≡ new.written → TakesOf new next z → StandsAfter (plays_of h) past events tail budget old next now'
     stands_so now' z behind is same takes = (k, z, omega (arith, within), behind, (in_between same z takes).0, stands_before now' is)
 
-    pub stands_after : (now' : HostValue) (end : HostEnd) → EndsAt now now' new next end → (end ≡ NoMemory → ⊥) → StandsAfter (plays_of h) past events tail budget old next now'
-    stands_after now' Ended (is_same, (same, (z, takes, (none, at)))) other = stands_so now' z (inl (inl none)) is_same same takes
-    stands_after now' (Truncated have need) (is_same, (same, (z, takes, (at, long, part)))) other = stands_so now' z (inl (inr (need, part))) is_same same takes
-    stands_after now' (BadKind kind) (is_same, (same, (z, takes, (is, above)))) other = stands_so now' z (inr (kind, is, above)) is_same same takes
-    stands_after now' ReadFault (is_same, (same, (z, takes, begun))) other = stands_so now' z (inl begun) is_same same takes
-    stands_after now' WriteFault fail other =
+    pub stands_after : (Then : List HostEvent → Type 0) (now' : HostValue) (end : HostEnd) → EndsAt Then now now' new next end → (end ≡ NoMemory → ⊥) → StandsAfter (plays_of h) past events tail budget old next now'
+    stands_after Then now' Ended (is_same, (same, (z, takes, (none, at))), then) other = stands_so now' z (inl (inl none)) is_same same takes
+    stands_after Then now' (Truncated have need) (is_same, (same, (z, takes, (at, long, part))), then) other = stands_so now' z (inl (inr (need, part))) is_same same takes
+    stands_after Then now' (BadKind kind) (is_same, (same, (z, takes, (is, above))), then) other = stands_so now' z (inr (kind, is, above)) is_same same takes
+    stands_after Then now' ReadFault (is_same, (same, (z, takes, begun)), then) other = stands_so now' z (inl begun) is_same same takes
+    stands_after Then now' WriteFault fail other =
         let x = fail.fails.event in
-        let following_one = following past events tail st left x fail.fails.taken fail.fails.is_frame fail.fails.takes in
-        let whole = whole_now past events tail st left x fail.fails.taken fail.fails.is_frame fail.fails.takes in
-        let is : done.front ++ x ∷ [] ≡ take (k + 1) events = first_k (done.front ++ x ∷ []) following_one.0 (k + 1) whole (many_now past events tail st left x fail.fails.taken fail.fails.is_frame fail.fails.takes) in
+        let is : done.front ++ x ∷ [] ≡ take (k + 1) events = one_more fail.fails in
         let stands = subst (StandsFor now') (append_assoc past done.front (x ∷ [])) (fail.stands (past ++ done.front) done.stands) in
         (k + 1, [], omega (arith, within), inl (inl refl), (failed fail.fails).0, subst (λ es. StandsFor now' (past ++ es)) is stands)
-    stands_after now' (Spent n) (is_same, (same, (z, takes, says))) other = absurd says
-    stands_after now' NoMemory e other = absurd (other refl)
+    stands_after Then now' (Spent n) (is_same, (same, (z, takes, says)), then) other = absurd says
+    stands_after Then now' NoMemory e other = absurd (other refl)
+
+  -- ---- what is so of the events that were answered
+
+  module _ (budget : ℕ) (within : k < budget) (Then All : List HostEvent → Type 0) (both : (some more : List HostEvent) → First some → Then more → All (some ++ more)) where
+    -- nothing more was taken
+    follows_so : (z : List ℕ) → IsBehind z → next.written ≡ new.written → TakesOf new next z → Then [] → FollowsAfter h budget old next All
+    follows_so z behind same takes then = record {
+      some = so_far.some;
+      followed = subst All (append-nil so_far.some) (both so_far.some [] so_far.followed then);
+      are = λ past events tail st left. (
+        k,
+        z,
+        omega (arith, within),
+        behind,
+        (in_between budget within past events tail st left same z takes).0,
+        sym (so_far.same past events tail st left) ∙ front_is budget within past events tail st left same z takes,
+      );
+    }
+
+    -- an event more was
+    follows_one : (now' : HostValue) → FailsAnswering Then now now' new next → FollowsAfter h budget old next All
+    follows_one now' fail = record {
+      some = so_far.some ++ fail.fails.event ∷ [];
+      followed = both so_far.some (fail.fails.event ∷ []) so_far.followed fail.followed;
+      are = λ past events tail st left. (
+        k + 1,
+        [],
+        omega (arith, within),
+        inl (inl refl),
+        (failed budget within past events tail st left fail.fails).0,
+        ap (λ (l : List HostEvent). l ++ fail.fails.event ∷ []) (sym (so_far.same past events tail st left)) ∙ one_more budget within past events tail st left fail.fails,
+      );
+    }
+
+    pub follows_after : (now' : HostValue) (end : HostEnd) → EndsAt Then now now' new next end → (end ≡ NoMemory → ⊥) → FollowsAfter h budget old next All
+    follows_after now' Ended (is_same, (same, (z, takes, (none, at))), then) other = follows_so z (inl (inl none)) same takes then
+    follows_after now' (Truncated have need) (is_same, (same, (z, takes, (at, long, part))), then) other = follows_so z (inl (inr (need, part))) same takes then
+    follows_after now' (BadKind kind) (is_same, (same, (z, takes, (is, above))), then) other = follows_so z (inr (kind, is, above)) same takes then
+    follows_after now' ReadFault (is_same, (same, (z, takes, begun)), then) other = follows_so z (inl begun) same takes then
+    follows_after now' WriteFault fail other = follows_one now' fail
+    follows_after now' (Spent n) (is_same, (same, (z, takes, says)), then) other = absurd says
+    follows_after now' NoMemory e other = absurd (other refl)
 
 -- nothing is read or written where memory was wanting before
 pub nothing_served : (plays : ℕ → List (List ℕ) → Played (List ℕ)) (past events : List HostEvent) (tail : Tail) (budget : ℕ) (s : WireState) → Serves plays past events tail budget s s NoMemory
@@ -264,9 +316,9 @@ nothing_served plays past events tail budget s = (
 )
 
 -- the budget is spent
-pub stands_spent : (h now : HostValue) (old new : WireState) (budget : ℕ) → Handled h now old new budget → (past events : List HostEvent) (tail : Tail) → StandsFor h past → FramesLeft old.left events tail
+pub stands_spent : (Then : List HostEvent → Type 0) (h now : HostValue) (old new : WireState) (budget : ℕ) → Handled Then h now old new budget → (past events : List HostEvent) (tail : Tail) → StandsFor h past → FramesLeft old.left events tail
     → StandsAfter (plays_of h) past events tail budget old new now
-stands_spent h now old new budget so_far past events tail st left =
+stands_spent Then h now old new budget so_far past events tail st left =
     let e = so_far.each past events tail st left in
     let is : e.front ≡ take budget events = sym (ap (take budget) e.whole ∙ take_at e.front e.rest budget e.many) in (
       budget,
@@ -277,9 +329,9 @@ stands_spent h now old new budget so_far past events tail st left =
       subst (λ es. StandsFor now (past ++ es)) is e.stands,
     )
 
-pub spent : (h now : HostValue) (old new : WireState) (budget : ℕ) → Handled h now old new budget → (past events : List HostEvent) (tail : Tail) → StandsFor h past → FramesLeft old.left events tail
+pub spent : (Then : List HostEvent → Type 0) (h now : HostValue) (old new : WireState) (budget : ℕ) → Handled Then h now old new budget → (past events : List HostEvent) (tail : Tail) → StandsFor h past → FramesLeft old.left events tail
     → Serves (plays_of h) past events tail budget old new (Spent budget)
-spent h now old new budget so_far past events tail st left =
+spent Then h now old new budget so_far past events tail st left =
     let e = so_far.each past events tail st left in
     let is : e.front ≡ take budget events = sym (ap (take budget) e.whole ∙ take_at e.front e.rest budget e.many) in (
       refl,
@@ -287,3 +339,19 @@ spent h now old new budget so_far past events tail st left =
       subst (λ es. TookFrames (plays_of h) past es old new []) is e.took,
       subst (λ es. Put old.written new.written (out (told (plays_of h) past es))) is e.answered,
     )
+
+pub follows_spent : (Then : List HostEvent → Type 0) (h now : HostValue) (old new : WireState) (budget : ℕ) → Handled Then h now old new budget → FollowsAfter h budget old new Then
+follows_spent Then h now old new budget so_far = record {
+  some = so_far.some;
+  followed = so_far.followed;
+  are = λ past events tail st left.
+      let e = so_far.each past events tail st left in
+      let is : e.front ≡ take budget events = sym (ap (take budget) e.whole ∙ take_at e.front e.rest budget e.many) in (
+        budget,
+        [],
+        omega arith,
+        inl (inl refl),
+        subst (λ es. TookFrames (plays_of h) past es old new []) is e.took,
+        sym (so_far.same past events tail st left) ∙ is,
+      );
+}

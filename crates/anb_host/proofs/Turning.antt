@@ -33,14 +33,14 @@ module _ (h : HostValue) (s t : WireState) (n : ℕ) (told : (k : ℕ) → Stamp
     answers = λ past st. subst (λ w. PutPrefix s.written w (out (answer (plays_of h) past e))) (sym same) (put_none s.written (out (answer (plays_of h) past e)));
   }
 
-  pub read_ended : (end : HostEnd) → ReadsOn s.left t.left s.taken_at t.taken_at n [] (Err end) → EndsAt h h s t end
-  read_ended Ended (z, took, says) = (refl, (same, (z, takes z took, says)))
-  read_ended (Truncated have need) (z, took, says) = (refl, (same, (z, takes z took, says)))
-  read_ended (BadKind kind) (z, took, says) = (refl, (same, (z, takes z took, says)))
-  read_ended ReadFault (z, took, says) = (refl, (same, (z, takes z took, says)))
-  read_ended WriteFault (z, took, says) = absurd says
-  read_ended (Spent k) (z, took, says) = absurd says
-  read_ended NoMemory (z, took, says) = elim says [
+  pub read_ended : (Then : List HostEvent → Type 0) → Then [] → (end : HostEnd) → ReadsOn s.left t.left s.taken_at t.taken_at n [] (Err end) → EndsAt Then h h s t end
+  read_ended Then then Ended (z, took, says) = (refl, (same, (z, takes z took, says)), then)
+  read_ended Then then (Truncated have need) (z, took, says) = (refl, (same, (z, takes z took, says)), then)
+  read_ended Then then (BadKind kind) (z, took, says) = (refl, (same, (z, takes z took, says)), then)
+  read_ended Then then ReadFault (z, took, says) = (refl, (same, (z, takes z took, says)), then)
+  read_ended Then then WriteFault (z, took, says) = absurd says
+  read_ended Then then (Spent k) (z, took, says) = absurd says
+  read_ended Then then NoMemory (z, took, says) = elim says [
     | inl begun ↦ inl (same, (z, takes z took, begun))
     | inr (e, f) ↦ inr (unanswered e z took f)
   ]
@@ -53,9 +53,9 @@ module _ (h : HostValue) (s t : WireState) (n : ℕ) (told : (k : ℕ) → Stamp
         let p = takes z took in
         (subst (λ l. Took s.left l z) (sym left) p.0, subst (λ l. IfSome s.written (λ w. Stamped s.taken_at l (length w) (length z))) (sym taken_at) p.1)
 
-    pub answered_whole : (h' : HostValue) → ((past : List HostEvent) → StandsFor h past → StandsFor h' (past ++ e ∷ [])) → plays_of h' ≡ plays_of h
-        → Put t.written u.written (out notices) → GoesOn h h' s u
-    answered_whole h' stands plays put = record {
+    pub answered_whole : (Then : List HostEvent → Type 0) → Then (e ∷ []) → (h' : HostValue) → ((past : List HostEvent) → StandsFor h past → StandsFor h' (past ++ e ∷ [])) → plays_of h' ≡ plays_of h
+        → Put t.written u.written (out notices) → GoesOn Then h h' s u
+    answered_whole Then then h' stands plays put = record {
       event = e;
       taken = z;
       is_frame = f;
@@ -63,6 +63,7 @@ module _ (h : HostValue) (s t : WireState) (n : ℕ) (told : (k : ℕ) → Stamp
       answers = λ past st. subst (λ ns. Put s.written u.written (out ns)) (own past st) (subst (λ w. Put w u.written (out notices)) same put);
       stands = stands;
       plays = plays;
+      followed = then;
     }
 
     pub answered_in_part : PutPrefix t.written u.written (out notices) → FailsIn h s u
@@ -74,10 +75,10 @@ module _ (h : HostValue) (s t : WireState) (n : ℕ) (told : (k : ℕ) → Stamp
       answers = λ past st. subst (λ ns. PutPrefix s.written u.written (out ns)) (own past st) (subst (λ w. PutPrefix w u.written (out notices)) same put);
     }
 
-    pub answered_so : (h' : HostValue) → ((past : List HostEvent) → StandsFor h past → StandsFor h' (past ++ e ∷ [])) → PutPrefix t.written u.written (out notices)
-        → FailsAnswering h h' s u
+    pub answered_so : (Then : List HostEvent → Type 0) → Then (e ∷ []) → (h' : HostValue) → ((past : List HostEvent) → StandsFor h past → StandsFor h' (past ++ e ∷ [])) → PutPrefix t.written u.written (out notices)
+        → FailsAnswering Then h h' s u
     unfolding answered_in_part
-    answered_so h' stands put = record { fails = answered_in_part put; stands = stands }
+    answered_so Then then h' stands put = record { fails = answered_in_part put; stands = stands; followed = then }
 
 pub same_plays : (h h' : HostValue) → h'.code ≡ h.code → h'.init ≡ h.init → h'.seed ≡ h.seed → plays_of h' ≡ plays_of h
 same_plays h h' code init seed =
@@ -89,12 +90,12 @@ pub no_error : {T E : Type 0} (r : Result T E) (o : Option E) (A B : Type 0) →
 no_error (Ok x) o A B e h f = rw e (f h)
 no_error (Err y) o A B e h f = rw e tt
 
-pub failed_so : {T : Type 0} (h h' : HostValue) (s u : WireState) (r : Result T HostEnd) (o : Option HostEnd) (A : Type 0) → o ≡ result_err r
-    → IfErr r (λ end. (end ≡ WriteFault) ⊎ (end ≡ NoMemory)) → OnErr r A → (A → FailsAnswering h h' s u) → IfSome o (EndsAt h h' s u)
-failed_so h h' s u (Ok x) o A e which put f = rw e tt
-failed_so h h' s u (Err end) o A e which put f = rw e (elim which [
-  | inl is ↦ subst (EndsAt h h' s u) (sym is) (f put)
-  | inr is ↦ subst (EndsAt h h' s u) (sym is) (inr (f put).fails)
+pub failed_so : {T : Type 0} (Then : List HostEvent → Type 0) (h h' : HostValue) (s u : WireState) (r : Result T HostEnd) (o : Option HostEnd) (A : Type 0) → o ≡ result_err r
+    → IfErr r (λ end. (end ≡ WriteFault) ⊎ (end ≡ NoMemory)) → OnErr r A → (A → FailsAnswering Then h h' s u) → IfSome o (EndsAt Then h h' s u)
+failed_so Then h h' s u (Ok x) o A e which put f = rw e tt
+failed_so Then h h' s u (Err end) o A e which put f = rw e (elim which [
+  | inl is ↦ subst (EndsAt Then h h' s u) (sym is) (f put)
+  | inr is ↦ subst (EndsAt Then h h' s u) (sym is) (inr (f put).fails)
 ])
 
 -- ---- counts of faults

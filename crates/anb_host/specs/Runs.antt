@@ -30,8 +30,12 @@ pub record Done (plays : ℕ → Run) (h : HostValue) (old new : WireState) (k :
   pub took : TookFrames plays past front old new []
   pub answered : Put old.written new.written (out (told plays past front))
 
--- k frames were handled
-pub record Handled (h h' : HostValue) (old new : WireState) (k : ℕ) : Type 0 where
+-- k frames were handled, and this is so of their events
+pub record Handled (Then : List HostEvent → Type 0) (h h' : HostValue) (old new : WireState) (k : ℕ) : Type 0 where
   pub plays : plays_of h' ≡ plays_of h
+  pub some : List HostEvent
+  pub followed : Then some
   pub each : (past events : List HostEvent) (tail : Tail) → StandsFor h past
       → FramesLeft old.left events tail → Done (plays_of h) h' old new k past events tail
+  pub same : (past events : List HostEvent) (tail : Tail) (stands : StandsFor h past) (left : FramesLeft old.left events tail)
+      → (each past events tail stands left).front ≡ some

@@ -7,8 +7,8 @@ use Rattle.anb_host.specs.declared.event.HostEvent.{HostEvent}
 use Rattle.anb_host.specs.declared.event.HostEvent.TheVariants.{Start, Arrive, Oversize}
 use Rattle.anb_host.specs.declared.serving.HostEnd.{HostEnd}
 use Rattle.anb_host.specs.declared.serving.HostEnd.TheVariants.{Ended, Truncated, BadKind, ReadFault, WriteFault, Spent, NoMemory}
-use Rattle.anb_host.specs.HostFrames.{Tail, End, Part, Bad, Ends, IsPart, HostFrames, out}
-use Rattle.anb_host.specs.Hosts.{HostValue, StandsFor}
+use Rattle.anb_host.specs.HostFrames.{Tail, End, Part, Bad, Ends, FramesLeft, IsPart, HostFrames, out}
+use Rattle.anb_host.specs.Hosts.{HostValue, StandsFor, plays_of}
 use Rattle.anb_host.specs.Own.{answer, told}
 
 -- how many bytes an event's frame has
@@ -47,6 +47,11 @@ module _ (plays : ℕ → Run) where
         (stamps past (length written) (take k events)
         ++ replicate (length z) (length written + length (out (told plays past (take k events))))))
 
+    -- these are the events of which all was taken
+    abbrev pub AreTaken : (some : List HostEvent) → Type 0
+    AreTaken some =
+        (k : ℕ) × (z : List ℕ) × (k ≤ budget) × IsBehind z × Reads k z × (some ≡ take k events)
+
     -- all that the first k events are answered is written
     abbrev pub Answers : (k : ℕ) → Type 0
     Answers k = Put old.written new.written (out (told plays past (take k events)))
@@ -82,3 +87,10 @@ module _ (plays : ℕ → Run) where
     Serves WriteFault = (k : ℕ) × (k ≤ budget) × Reads k [] × AnswersInPart k
     Serves NoMemory =
         (k : ℕ) × (z : List ℕ) × (k ≤ budget) × IsBegun z × Reads k z × AnswersInPart k
+
+-- This is so of some events, which are, wherever the input is told, those of which all was taken.
+pub record FollowsAfter (h : HostValue) (budget : ℕ) (old new : WireState) (Then : List HostEvent → Type 0) : Type 0 where
+  pub some : List HostEvent
+  pub followed : Then some
+  pub are : (past events : List HostEvent) (tail : Tail) → StandsFor h past → FramesLeft old.left events tail
+      → AreTaken (plays_of h) past events tail budget old new some

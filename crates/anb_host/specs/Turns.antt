@@ -42,8 +42,8 @@ TakesOf s t z =
     Took s.left t.left z
     × IfSome s.written (λ written. Stamped s.taken_at t.taken_at (length written) (length z))
 
--- an event was taken and answered
-pub record GoesOn (h h' : HostValue) (s t : WireState) : Type 0 where
+-- an event was taken and answered, and this is so of it then
+pub record GoesOn (Then : List HostEvent → Type 0) (h h' : HostValue) (s t : WireState) : Type 0 where
   pub event : HostEvent
   pub taken : List ℕ
   pub is_frame : IsFrame taken event
@@ -52,6 +52,7 @@ pub record GoesOn (h h' : HostValue) (s t : WireState) : Type 0 where
       → Put s.written t.written (out (answer (plays_of h) past event))
   pub stands : (past : List HostEvent) → StandsFor h past → StandsFor h' (past ++ event ∷ [])
   pub plays : plays_of h' ≡ plays_of h
+  pub followed : Then (event ∷ [])
 
 -- an event was taken, and a prefix of its answer written
 pub record FailsIn (h : HostValue) (s t : WireState) : Type 0 where
@@ -63,9 +64,10 @@ pub record FailsIn (h : HostValue) (s t : WireState) : Type 0 where
       → PutPrefix s.written t.written (out (answer (plays_of h) past event))
 
 -- and the host stands for it
-pub record FailsAnswering (h h' : HostValue) (s t : WireState) : Type 0 where
+pub record FailsAnswering (Then : List HostEvent → Type 0) (h h' : HostValue) (s t : WireState) : Type 0 where
   pub fails : FailsIn h s t
   pub stands : (past : List HostEvent) → StandsFor h past → StandsFor h' (past ++ fails.event ∷ [])
+  pub followed : Then (fails.event ∷ [])
 
 -- no event was taken, and nothing written
 abbrev pub Stays : WireState → WireState → HostEnd → Type 0
@@ -73,7 +75,7 @@ Stays s t end =
     (t.written ≡ s.written) × ((z : List ℕ) × TakesOf s t z × Says z t.left (Err end))
 
 -- serving came to this end
-abbrev pub EndsAt : (h h' : HostValue) → WireState → WireState → HostEnd → Type 0
-EndsAt h h' s t WriteFault = FailsAnswering h h' s t
-EndsAt h h' s t NoMemory = Stays s t ReadFault ⊎ FailsIn h s t
-EndsAt h h' s t end = (h' ≡ h) × Stays s t end
+abbrev pub EndsAt : (Then : List HostEvent → Type 0) → (h h' : HostValue) → WireState → WireState → HostEnd → Type 0
+EndsAt Then h h' s t WriteFault = FailsAnswering Then h h' s t
+EndsAt Then h h' s t NoMemory = Stays s t ReadFault ⊎ FailsIn h s t
+EndsAt Then h h' s t end = (h' ≡ h) × Stays s t end × Then []

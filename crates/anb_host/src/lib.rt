@@ -8,10 +8,12 @@ mod event;
 mod frames;
 mod host;
 mod laws;
+mod servable;
 mod serving;
 mod session;
 
 pub use event::{Cause, HostEvent, Notice};
 pub use host::Host;
 pub use laws::{inputs_have_one_reading, sessions_are_alone, sessions_are_isolated};
+pub use servable::Servable;
 pub use serving::{HostEnd, serve};

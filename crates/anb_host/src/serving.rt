@@ -5,11 +5,11 @@ ghost use Rattle.anb_base.specs.Moves.{Rose, Put, PutPrefix};
 ghost use Rattle.anb_host.specs.declared.event.HostEvent.{HostEvent};
 ghost use Rattle.anb_host.specs.HostFrames.{Tail, FramesLeft, out};
 ghost use Rattle.anb_host.specs.Hosts.{plays_of, StandsFor, IsNarrow};
-ghost use Rattle.anb_host.specs.Serving.{Serves, StandsAfter};
+ghost use Rattle.anb_host.specs.Serving.{FollowsAfter, Serves, StandsAfter};
 ghost use Rattle.anb_host.specs.Turns.{GoesOn, EndsAt};
 
 use crate::frames::{notice_bytes, read_event};
-use crate::{Host, Notice};
+use crate::{Notice, Servable};
 use anb_base::{Wire, write_whole};
 use std::alloc::Global;
 
@@ -32,27 +32,38 @@ pub enum HostEnd {
     NoMemory,
 }
 
-/// Serves the sessions of a host over a wire, for at most as many frames as the budget. What an
-/// event is answered is written before the next frame is read. No place is reached. A host can be
-/// served again, but where memory was wanting: then nothing is read or written any more.
-pub fn serve<W: Wire>(alloc: Global, host: &mut Host<'_>, wire: &mut W, budget: u32) -> HostEnd
+/// Serves the sessions of a host, or of what keeps more beside one, over a wire, for at most as many
+/// frames as the budget. What an event is answered is written before the next frame is read. No
+/// place is reached. A host can be served again, but where memory was wanting: then nothing is read
+/// or written any more.
+pub fn serve<H: Servable, W: Wire>(
+    alloc: Global,
+    host: &mut H,
+    wire: &mut W,
+    budget: u32,
+) -> HostEnd
     ensures serves { (past events : List HostEvent) (tail : Tail)
-        → StandsFor host.old past → FramesLeft (W.left wire.old) events tail
-        → Serves (plays_of host.old) past events tail budget
+        → StandsFor (H.host host.old) past → FramesLeft (W.left wire.old) events tail
+        → Serves (plays_of (H.host host.old)) past events tail budget
         (W.state wire.old) (W.state wire.new) result }
 
     // The host stands for the events so far, unless memory was wanting.
     ensures stands { (past events : List HostEvent) (tail : Tail)
-        → StandsFor host.old past → FramesLeft (W.left wire.old) events tail
+        → StandsFor (H.host host.old) past → FramesLeft (W.left wire.old) events tail
         → result ≢ HostEnd.NoMemory
-        → StandsAfter (plays_of host.old) past events tail budget
-        (W.state wire.old) (W.state wire.new) host.new }
-    ensures failed { result ≡ HostEnd.NoMemory → host.new.failed ≡ true }
-    ensures stays { host.old.failed ≡ true
+        → StandsAfter (plays_of (H.host host.old)) past events tail budget
+        (W.state wire.old) (W.state wire.new) (H.host host.new) }
+
+    // What is true behind the events that were answered is true of it.
+    ensures followed { result ≢ HostEnd.NoMemory
+        → FollowsAfter (H.host host.old) budget (W.state wire.old) (W.state wire.new)
+        (λ some. H.Follows host.old some host.new) }
+    ensures failed { result ≡ HostEnd.NoMemory → (H.host host.new).failed ≡ true }
+    ensures stays { (H.host host.old).failed ≡ true
         → (result ≡ HostEnd.NoMemory) × (wire.new ≡ wire.old) }
-    ensures code { host.new.code ≡ host.old.code }
-    ensures init { host.new.init ≡ host.old.init }
-    ensures seed { host.new.seed ≡ host.old.seed }
+    ensures code { (H.host host.new).code ≡ (H.host host.old).code }
+    ensures init { (H.host host.new).init ≡ (H.host host.old).init }
+    ensures seed { (H.host host.new).seed ≡ (H.host host.old).seed }
 
     // A fault is answered where its count rose, and nowhere else.
     ensures read_fault { result ≡ HostEnd.ReadFault
@@ -81,19 +92,22 @@ pub fn serve<W: Wire>(alloc: Global, host: &mut Host<'_>, wire: &mut W, budget: 
 }
 
 /// Serves a host for which memory was never wanting.
-fn serve_on<W: Wire>(alloc: Global, host: &mut Host<'_>, wire: &mut W, budget: u32) -> HostEnd
+fn serve_on<H: Servable, W: Wire>(alloc: Global, host: &mut H, wire: &mut W, budget: u32) -> HostEnd
     ensures serves { (past events : List HostEvent) (tail : Tail)
-        → StandsFor host.old past → FramesLeft (W.left wire.old) events tail
-        → Serves (plays_of host.old) past events tail budget
+        → StandsFor (H.host host.old) past → FramesLeft (W.left wire.old) events tail
+        → Serves (plays_of (H.host host.old)) past events tail budget
         (W.state wire.old) (W.state wire.new) result }
     ensures stands { (past events : List HostEvent) (tail : Tail)
-        → StandsFor host.old past → FramesLeft (W.left wire.old) events tail
+        → StandsFor (H.host host.old) past → FramesLeft (W.left wire.old) events tail
         → result ≢ HostEnd.NoMemory
-        → StandsAfter (plays_of host.old) past events tail budget
-        (W.state wire.old) (W.state wire.new) host.new }
-    ensures code { host.new.code ≡ host.old.code }
-    ensures init { host.new.init ≡ host.old.init }
-    ensures seed { host.new.seed ≡ host.old.seed }
+        → StandsAfter (plays_of (H.host host.old)) past events tail budget
+        (W.state wire.old) (W.state wire.new) (H.host host.new) }
+    ensures followed { result ≢ HostEnd.NoMemory
+        → FollowsAfter (H.host host.old) budget (W.state wire.old) (W.state wire.new)
+        (λ some. H.Follows host.old some host.new) }
+    ensures code { (H.host host.new).code ≡ (H.host host.old).code }
+    ensures init { (H.host host.new).init ≡ (H.host host.old).init }
+    ensures seed { (H.host host.new).seed ≡ (H.host host.old).seed }
     ensures read_fault { result ≡ HostEnd.ReadFault
         → Rose (W.Source.faults wire.old) (W.Source.faults wire.new) }
     ensures write_fault { result ≡ HostEnd.WriteFault
@@ -116,14 +130,16 @@ fn serve_on<W: Wire>(alloc: Global, host: &mut Host<'_>, wire: &mut W, budget: u
 }
 
 /// Handles one frame, and tells the end that it makes.
-fn handle<W: Wire>(alloc: Global, host: &mut Host<'_>, wire: &mut W) -> Option<HostEnd>
+fn handle<H: Servable, W: Wire>(alloc: Global, host: &mut H, wire: &mut W) -> Option<HostEnd>
     ensures goes_on { IfNone result
-        (GoesOn host.old host.new (W.state wire.old) (W.state wire.new)) }
+        (GoesOn (λ events. H.Follows host.old events host.new)
+        (H.host host.old) (H.host host.new) (W.state wire.old) (W.state wire.new)) }
     ensures ends { IfSome result
-        (EndsAt host.old host.new (W.state wire.old) (W.state wire.new)) }
-    ensures code { host.new.code ≡ host.old.code }
-    ensures init { host.new.init ≡ host.old.init }
-    ensures seed { host.new.seed ≡ host.old.seed }
+        (EndsAt (λ events. H.Follows host.old events host.new)
+        (H.host host.old) (H.host host.new) (W.state wire.old) (W.state wire.new)) }
+    ensures code { (H.host host.new).code ≡ (H.host host.old).code }
+    ensures init { (H.host host.new).init ≡ (H.host host.old).init }
+    ensures seed { (H.host host.new).seed ≡ (H.host host.old).seed }
     ensures read_fault { IfSome result (λ end. end ≡ HostEnd.ReadFault
         → Rose (W.Source.faults wire.old) (W.Source.faults wire.new)) }
     ensures write_fault { IfSome result (λ end. end ≡ HostEnd.WriteFault

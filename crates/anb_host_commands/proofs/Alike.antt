@@ -29,11 +29,11 @@ both_bytes : (xs ys : List (List ℕ)) → AreBytes xs → AreBytes ys → AreBy
 both_bytes [] ys none bytes = bytes
 both_bytes (x ∷ xs) ys (b, more) bytes = (b, both_bytes xs ys more bytes)
 
-both_have : (xs ys : List HostEvent) → HaveBytes xs → HaveBytes ys → HaveBytes (xs ++ ys)
+pub both_have : (xs ys : List HostEvent) → HaveBytes xs → HaveBytes ys → HaveBytes (xs ++ ys)
 both_have [] ys none have = have
 both_have (x ∷ xs) ys (b, more) have = (b, both_have xs ys more have)
 
-of_session : (s : ℕ) (events : List HostEvent) → HaveBytes events → HaveBytes (events_of s events)
+pub of_session : (s : ℕ) (events : List HostEvent) → HaveBytes events → HaveBytes (events_of s events)
 of_session s [] none = tt
 of_session s (e ∷ events) (b, more) = by (session_of e == s) (of_session s events more) where
   by : (c : Bool) → HaveBytes (events_of s events) → HaveBytes (cond c (e ∷ events_of s events) (events_of s events))
@@ -103,7 +103,7 @@ module _ (P Q : Run) (alike : (arrivals : List (List ℕ)) → AreBytes arrivals
       (cond ended (Refused s cause.Ended ∷ [])
       (cond (is_oversize x) (Refused s cause.Oversize ∷ []) (map (Message s) (drop (length before) sent) ++ ending)))))
 
-  same_own : (s : ℕ) (past : List HostEvent) (x : HostEvent) → HaveBytes past → HasBytes x → own P s past x ≡ own Q s past x
+  pub same_own : (s : ℕ) (past : List HostEvent) (x : HostEvent) → HaveBytes past → HasBytes x → own P s past x ≡ own Q s past x
   same_own s past x have b =
       let so_far = same_accepted false [] past tt have in
       let at = accepted Q past in

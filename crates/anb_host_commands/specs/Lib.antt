@@ -1,3 +1,2 @@
 pub mod HostCommand
--- for proofs alone
 pub mod Serving

@@ -65,7 +65,7 @@ pub fn host<F: Shelf, W: Wire>(
 }
 
 /// Serves sessions of the code over the wire, which it reaches at the place.
-fn serve_over<W: Wire>(
+pub fn serve_over<W: Wire>(
     alloc: Global,
     wire: &mut W,
     endpoint: Endpoint,
@@ -109,7 +109,7 @@ fn serve_now<W: Wire>(alloc: Global, host: &mut Host<'_>, wire: &mut W) -> Statu
 }
 
 /// The status of serving that ended so.
-fn status_of(end: HostEnd) -> Status
+pub fn status_of(end: HostEnd) -> Status
     ensures { result ≡ status_of end }
 {
     match end {

@@ -3,4 +3,4 @@
 
 mod hosting;
 
-pub use hosting::{FRAMES, host};
+pub use hosting::{FRAMES, host, serve_over, status_of};

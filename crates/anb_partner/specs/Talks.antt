@@ -152,7 +152,7 @@ pub record Drained (old new : WireState) (end : TalkEnd) (behind : ℕ) (is_loos
 
 module _ (R : Run) (handed : List (List ℕ)) (at : Option ℕ) (corrupt : Corruption) (words : List (List ℕ))
     (old new : Trial) where
-  -- The child was started once with these words, talked with, drained, and finished.
+  -- These words were asked of the child once; it was talked with, drained, and finished.
   pub record Converses (c : Conversation) : Type 0 where
     pub mid : WireState
     pub talks : Talks R handed at corrupt old.pipes mid c.lines c.end

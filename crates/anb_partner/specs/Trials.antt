@@ -1,5 +1,6 @@
 -- What is told of the child of each case, and what each call changes.
-use Rattle.std.specs.Prelude.{◌≡◌, ◌≢◌, ℕ, Bool, List, Option}
+use Rattle.std.specs.Prelude.{◌≡◌, ◌≢◌, ℕ, Bool, List, ◌∷◌, Option}
+use Rattle.anb_stage.specs.Children.{limit_word}
 use Rattle.anb_base.specs.Wires.{WireState}
 use Rattle.anb_partner.specs.declared.trials.ChildEnd.{ChildEnd}
 
@@ -14,6 +15,11 @@ pub record Trial : Type 0 where
   pub faults : ℕ
   pub silent : Bool
   pub phase : ℕ
+
+-- What is asked of a child: for how many seconds it may be silent, as a word, which is empty where there is no limit; and
+-- its words.
+abbrev pub asked_words : (limit : Option ℕ) → (words : List (List ℕ)) → List (List ℕ)
+asked_words limit words = limit_word limit ∷ words
 
 -- what a start that failed leaves
 pub record IsUnstarted (old new : Trial) : Type 0 where

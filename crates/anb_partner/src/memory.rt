@@ -2,11 +2,13 @@
 
 ghost use Rattle.std.specs.Prelude.{◌≡◌, ◌<◌, ◌≤◌, ◌++◌, ℕ, [], length, true, Some, None, IfOk, OnOk, IfSome};
 ghost use Rattle.anb_base.specs.Moves.{Rose};
-ghost use Rattle.anb_stage.specs.Children.{lines};
+ghost use Rattle.anb_stage.specs.Children.{limit_word, lines};
 ghost use Rattle.anb_partner.specs.Memory.{fresh_trials, trial_at, trials_of};
+ghost use Rattle.anb_partner.specs.Trials.{asked_words};
 
 use crate::{ChildEnd, Trials};
 use anb_base::{Failed, MemWire, NoMemory, Text};
+use itoa::Buffer;
 use std::alloc::Global;
 use std::marker::Model;
 
@@ -62,7 +64,6 @@ pub struct MemTrials {
     calls: u64,
     fails: Vec<u32>,
     is_silence: bool,
-    limit: Option<u32>,
 }
 
 impl Model for MemTrials {
@@ -109,7 +110,6 @@ impl MemTrials {
             calls: 0,
             fails,
             is_silence: false,
-            limit: None,
         })
     }
 
@@ -118,11 +118,6 @@ impl MemTrials {
         ensures { self.new ≡ record self.old { is_silence = true } }
     {
         self.is_silence = true;
-    }
-
-    /// How many seconds are to be waited for a child at most.
-    pub fn limit(&self) -> Option<u32> {
-        self.limit
     }
 
     /// How many cases have a child.
@@ -140,7 +135,8 @@ impl MemTrials {
         self.trials[case as usize].wire.as_ref()
     }
 
-    /// The words that were asked of a case's child, each with a line feed.
+    /// What was asked of a case's child: the limit, which is empty where there is none, and its words,
+    /// each with a line feed.
     pub fn asked(&self, case: u32) -> &[u8]
         requires { case < length self.now.trials }
         ensures { result.now ≡ (trial_at self.now case).asked }
@@ -159,11 +155,20 @@ impl MemTrials {
     }
 }
 
-/// What was asked so far, and the words, each with a line feed.
-fn asked_too(alloc: Global, asked: &[u8], words: &[Text]) -> Result<Vec<u8>, NoMemory>
-    ensures { IfOk result (λ all. all.items ≡ asked.now ++ lines words.now) }
+/// What was asked so far, and the limit and the words, each with a line feed.
+fn asked_too(
+    alloc: Global,
+    asked: &[u8],
+    limit: Option<u32>,
+    words: &[Text],
+) -> Result<Vec<u8>, NoMemory>
+    ensures { IfOk result (λ all.
+        all.items ≡ asked.now ++ lines (asked_words limit words.now)) }
 {
+    let mut digits = Buffer::new();
     let mut all = Vec::from_slice(alloc, asked)?;
+    all.extend_from_slice(text_of(&mut digits, limit).as_bytes())?;
+    all.push(b'\n')?;
     for word in words {
         all.extend_from_slice(word.as_str().as_bytes())?;
         all.push(b'\n')?;
@@ -171,12 +176,22 @@ fn asked_too(alloc: Global, asked: &[u8], words: &[Text]) -> Result<Vec<u8>, NoM
     Ok(all)
 }
 
+/// The limit as it is asked.
+fn text_of(digits: &mut Buffer, limit: Option<u32>) -> &str
+    ensures { result.now ≡ limit_word limit }
+{
+    match limit {
+        Some(seconds) => digits.format(seconds),
+        None => "",
+    }
+}
+
 impl Trials for MemTrials {
     type Child = MemWire;
 
     ghost trial = { trials_of };
 
-    fn start(&mut self, case: u32, words: &[Text]) -> Result<MemWire, Failed> {
+    fn start(&mut self, case: u32, limit: Option<u32>, words: &[Text]) -> Result<MemWire, Failed> {
         let fails = self.next_fails();
         let alloc = self.alloc;
         if case as usize >= self.trials.len() {
@@ -186,7 +201,7 @@ impl Trials for MemTrials {
         if fails {
             return Err(trial.fail(false));
         }
-        let Ok(asked) = asked_too(alloc, &trial.asked, words) else {
+        let Ok(asked) = asked_too(alloc, &trial.asked, limit, words) else {
             return Err(trial.fail(false));
         };
         let Some(wire) = trial.wire.take() else {
@@ -209,10 +224,6 @@ impl Trials for MemTrials {
             return Err(trial.fail(silent));
         }
         Ok(trial.end)
-    }
-
-    fn wait_at_most(&mut self, seconds: u32) {
-        self.limit = Some(seconds);
     }
 
     fn was_silent(&self, case: u32) -> bool {

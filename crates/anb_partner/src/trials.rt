@@ -3,7 +3,7 @@
 ghost use Rattle.std.specs.Prelude.{◌≡◌, ◌≤◌, ℕ, IfOk, IfSome, OnOk, OnErr};
 ghost use Rattle.anb_base.specs.Moves.{Rose, Put};
 ghost use Rattle.anb_stage.specs.Children.{lines};
-ghost use Rattle.anb_partner.specs.Trials.{Trial, IsUnstarted, KeptByFinish, OthersStay};
+ghost use Rattle.anb_partner.specs.Trials.{Trial, IsUnstarted, KeptByFinish, OthersStay, asked_words};
 
 use anb_base::{Failed, Text, Wire};
 
@@ -23,13 +23,21 @@ pub trait Trials {
     /// What is told of each case's child.
     ghost trial: { Self → ℕ → Trial };
 
-    /// Starts the child of a case with these words.
-    fn start(&mut self, case: u32, words: &[Text]) -> Result<Self::Child, Failed>
+    /// Starts the child of a case with these words. Where there is a limit, each call for the child fails
+    /// once it was silent for so many seconds: it gave no byte that was waited for, took none, or didn't
+    /// end.
+    fn start(
+        &mut self,
+        case: u32,
+        limit: Option<u32>,
+        words: &[Text],
+    ) -> Result<Self::Child, Failed>
         requires unstarted { (trial self.old case).phase ≡ 0 }
         ensures child { IfOk result (λ child.
             Self.Child.state child ≡ (trial self.old case).pipes) }
         ensures asked { OnOk result
-            (Put (trial self.old case).asked (trial self.new case).asked (lines words.now)) }
+            (Put (trial self.old case).asked (trial self.new case).asked
+            (lines (asked_words limit words.now))) }
         ensures started { OnOk result ((trial self.new case).phase ≡ 1) }
         ensures failed { OnErr result (IsUnstarted (trial self.old case) (trial self.new case)) }
         ensures cause { OnErr result
@@ -60,11 +68,6 @@ pub trait Trials {
         ensures never_falls { (trial self.old case).faults ≤ (trial self.new case).faults }
         ensures kept { KeptByFinish (trial self.old case) (trial self.new case) }
         ensures others { OthersStay case (trial self.old) (trial self.new) };
-
-    /// From now on a call for a child that is started fails once the child was silent for so many
-    /// seconds: it gave no byte that was waited for, took none, or didn't end.
-    fn wait_at_most(&mut self, seconds: u32)
-        ensures { trial self.new ≡ trial self.old };
 
     /// Whether the child of a case that was finished was silent for too long.
     fn was_silent(&self, case: u32) -> bool

@@ -29,7 +29,7 @@ use Rattle.anb_probe_commands.specs.Cases.{is_beyond}
 use Rattle.anb_probe_commands.specs.Probings.{Probing}
 use Rattle.anb_probe_commands.specs.Reports.{is_failed, notes, status_for}
 use Rattle.anb_probe_commands.specs.Tasks.{agenda_by}
-use Rattle.anb_probe_commands.specs.Words.{Trying}
+use Rattle.anb_probe_commands.specs.Words.{Trying, order_of}
 use Rattle.anb_probe_commands.specs.declared.cases.Prepared.{Prepared}
 use Rattle.anb_probe_commands.specs.declared.writing.PlayNo.{PlayNo}
 use Rattle.anb_probe_commands.specs.declared.writing.PlayNo.TheVariants.{Failed, NotStarted, NoMemory}
@@ -159,7 +159,7 @@ module _ (q : Probing) (x : Prepared) (program : List (List ℕ)) where
 -- ---- what it comes to
 
 module _ (q : Probing) (trying : Trying) (g : Agenda) (name : List ℕ) (old new : ℕ → Trial) (S T : WireState) where
-  pub comes_all : (vs : List Verdict) → is_beyond trying.case g.count ≡ false → PlaysAll q g trying.program old new S T vs → ComesTo q trying g name old new S.written T.written (status_for vs)
+  pub comes_all : (vs : List Verdict) → is_beyond trying.case g.count ≡ false → PlaysAll q g (order_of trying) old new S T vs → ComesTo q trying g name old new S.written T.written (status_for vs)
   comes_all vs there all = by (count_by is_failed vs == 0) refl where
     reported : (s : Status) → s ≡ status_for vs → IsReported q trying g name old new S.written T.written s
     reported s is = record {
@@ -176,13 +176,13 @@ module _ (q : Probing) (trying : Trying) (g : Agenda) (name : List ℕ) (old new
     by true e = inl (reported status.Done (sym (ap (λ c. cond c status.Done (status.CasesNotOk (count_by is_failed vs) (length vs))) e)))
     by false e = inl (reported (status.CasesNotOk (count_by is_failed vs) (length vs)) (sym (ap (λ c. cond c status.Done (status.CasesNotOk (count_by is_failed vs) (length vs))) e)))
 
-  pub ends_all : (vs : List Verdict) → PlaysAll q g trying.program old new S T vs → EndsLate old new S T (status_for vs)
+  pub ends_all : (vs : List Verdict) → PlaysAll q g (order_of trying) old new S T vs → EndsLate old new S T (status_for vs)
   ends_all vs all = by (count_by is_failed vs == 0) where
     by : (b : Bool) → EndsLate old new S T (cond b status.Done (status.CasesNotOk (count_by is_failed vs) (length vs)))
     by true = record { only = all.wrote.only; cause = all.wrote.quiet }
     by false = record { only = all.wrote.only; cause = all.wrote.quiet }
 
-  pub comes_less : (why : PlayNo) → is_beyond trying.case g.count ≡ false → PlaysLess q g trying.program old new S.written T.written why → ComesTo q trying g name old new S.written T.written (status_of why name)
+  pub comes_less : (why : PlayNo) → is_beyond trying.case g.count ≡ false → PlaysLess q g (order_of trying) old new S.written T.written why → ComesTo q trying g name old new S.written T.written (status_of why name)
   comes_less NotStarted there (ends, part, within, next, put) =
       record { there = there; reached = part.reached; ends = ends; within = within; played = part.played; next = next; put = put; is = refl }
   comes_less Failed there (ends, part, inl put) = record { idle = λ e. absurd (cc); reached = part.reached; ends = ends; played = part.played; writes = inl put }
@@ -190,7 +190,7 @@ module _ (q : Probing) (trying : Trying) (g : Agenda) (name : List ℕ) (old new
   comes_less NoMemory there (ends, part, inl put) = record { idle = λ e. absurd (cc); reached = part.reached; ends = ends; played = part.played; writes = inl put }
   comes_less NoMemory there (ends, part, inr put) = record { idle = λ e. absurd (cc); reached = part.reached; ends = ends; played = part.played; writes = inr (inl put) }
 
-  pub ends_less : length g.cases ≤ MOST → (why : PlayNo) → PlaysLess q g trying.program old new S.written T.written why → Broke S T why → EndsLate old new S T (status_of why name)
+  pub ends_less : length g.cases ≤ MOST → (why : PlayNo) → PlaysLess q g (order_of trying) old new S.written T.written why → Broke S T why → EndsLate old new S T (status_of why name)
   ends_less few NotStarted (ends, part, within, next, put) broke =
       record { only = broke.only; cause = ((length ends, omega (arith, few, within), next), broke.quiet (λ e. absurd (cc))) }
   ends_less few Failed less broke = record { only = broke.only; cause = broke.cause refl }
@@ -207,7 +207,7 @@ module _ (q : Probing) (trying : Trying) (g : Agenda) (name : List ℕ) (old : �
   pub comes_beyond_cut : (why : PlayNo) → ((i : ℕ) → (old i).phase ≡ 0) → BrokeIn (no_such_case g.count) S T why → ComesTo q trying g name old old S.written T.written (status_of why name)
   comes_beyond_cut why fresh broke = by why broke.started where
     short : IsCutShort q trying g name old old S.written T.written
-    short = record { idle = λ e. refl; reached = 0; ends = []; played = none_played q g.scenes trying.program g.cases old 0 1 fresh; writes = inr (inr broke.part) }
+    short = record { idle = λ e. refl; reached = 0; ends = []; played = none_played q g.scenes (order_of trying) g.cases old 0 1 fresh; writes = inr (inr broke.part) }
 
     by : (w : PlayNo) → w ≢ NotStarted → ComesTo q trying g name old old S.written T.written (status_of w name)
     by NotStarted never = absurd (never refl)

@@ -100,14 +100,14 @@ module _ (q : Probing) (x : Prepared) where
   abbrev pub texts_of : List CaseEnd → List ℕ
   texts_of ends = played_lines q.protocol q.role x.scenes.items x.is_shown 1 x.cases.items ends
 
-module _ (q : Probing) (x : Prepared) (program : List (List ℕ)) where
+module _ (q : Probing) (x : Prepared) (order : List (List ℕ)) where
   -- Of a case, what was asked for want of something: its child can't be started, or no line of it is written, or a part
   abbrev pub IsCaseCut : (number reached : ℕ) → (old new : Trial) → (w now : Option (List ℕ)) → PlayNo → Type 0
   IsCaseCut number reached old new w now NotStarted = IsNotStarted old new × (now ≡ w)
   IsCaseCut number reached old new w now why =
       (now ≡ w)
       ⊎ ((a : Attempt) × (end : CaseEnd) × (got : ℕ) × (slice_get x.cases.items number ≡ Some a)
-      × IsTried q x.scenes.items program a reached old new end got
+      × IsTried q x.scenes.items order a reached old new end got
       × PutPrefix w now (text_of q x (number + 1) a end))
 
   -- all cases were played, and came to these verdicts
@@ -116,13 +116,13 @@ module _ (q : Probing) (x : Prepared) (program : List (List ℕ)) where
     pub ends : List CaseEnd
     pub verdicts_are : verdicts_of ends ≡ verdicts
     pub all : length ends ≡ length x.cases.items
-    pub played : ArePlayed q x.scenes.items program x.cases.items reached ends (length ends) old new
+    pub played : ArePlayed q x.scenes.items order x.cases.items reached ends (length ends) old new
     pub wrote : Wrote S T (texts_of q x ends)
 
   module _ (old new : ℕ → Trial) (w now : Option (List ℕ)) where
     pub record IsPlayedPart (ends : List CaseEnd) : Type 0 where
       pub reached : ℕ
-      pub played : ArePlayed q x.scenes.items program x.cases.items reached ends (length ends + 1) old new
+      pub played : ArePlayed q x.scenes.items order x.cases.items reached ends (length ends + 1) old new
       pub within : length ends ≤ length x.cases.items
 
     -- the same of all of them
@@ -142,19 +142,19 @@ report_in q g ends = report q.protocol q.role g.scenes g.is_shown g.cases g.untr
 abbrev pub part_in : Probing → Agenda → List CaseEnd → List ℕ
 part_in q g ends = report_so_far q.protocol q.role g.scenes g.is_shown g.cases ends
 
-module _ (q : Probing) (g : Agenda) (program : List (List ℕ)) (old new : ℕ → Trial) where
+module _ (q : Probing) (g : Agenda) (order : List (List ℕ)) (old new : ℕ → Trial) where
   pub record PlaysAll (S T : WireState) (verdicts : List Verdict) : Type 0 where
     pub reached : ℕ
     pub ends : List CaseEnd
     pub verdicts_are : verdicts_of ends ≡ verdicts
     pub all : length ends ≡ length g.cases
-    pub played : ArePlayed q g.scenes program g.cases reached ends (length ends) old new
+    pub played : ArePlayed q g.scenes order g.cases reached ends (length ends) old new
     pub wrote : Wrote S T (report_in q g ends)
 
   module _ (w now : Option (List ℕ)) where
     pub record PlaysPart (ends : List CaseEnd) : Type 0 where
       pub reached : ℕ
-      pub played : ArePlayed q g.scenes program g.cases reached ends (length ends + 1) old new
+      pub played : ArePlayed q g.scenes order g.cases reached ends (length ends + 1) old new
 
     abbrev pub PlaysLess : PlayNo → Type 0
     PlaysLess NotStarted = (ends : List CaseEnd) × PlaysPart ends × (length ends < length g.cases)

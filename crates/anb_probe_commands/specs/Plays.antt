@@ -51,8 +51,8 @@ pub record IsNotStarted (old new : Trial) : Type 0 where
 abbrev pub reached_in : (i reached : ℕ) → ℕ
 reached_in i reached = if i == 0 then 0 else reached
 
-module _ (q : Probing) (scenes : List Scene) (program : List (List ℕ)) where
-  -- The child was started once with the program's words, and the partner of the attempt's scene conversed with it; the
+module _ (q : Probing) (scenes : List Scene) (order : List (List ℕ)) where
+  -- These words were asked of the child once, and the partner of the attempt's scene conversed with it; the
   -- verdict is that on what was seen, where the first case got as far as `reached`; and this one got as far as `got`.
   pub record IsTried (a : Attempt) (reached : ℕ) (old new : Trial) (end : CaseEnd) (got : ℕ) : Type 0 where
     pub scene : Scene
@@ -61,7 +61,7 @@ module _ (q : Probing) (scenes : List Scene) (program : List (List ℕ)) where
     pub partner : IsPartner (script_in q.protocol q.role scene) code
     pub conversation : Conversation
     pub converses : Converses (run_bytes code (initial q) (replicate 32 0) 0) (handed q) (hook_at (script_in q.protocol q.role scene))
-        (wrong_by code.formats a.wrong) program old new conversation
+        (wrong_by code.formats a.wrong) order old new conversation
     pub lines : end.lines ≡ conversation.lines
     pub judged : IsTriedVerdict (judged_over q conversation.lines) (seen_of conversation scene.due reached) conversation.end end.verdict
     pub got_is : got ≡ reached_by end.verdict conversation.lines

@@ -32,7 +32,7 @@ use Rattle.anb_probe_commands.specs.Cases.{AreMade, all_untried, case_count, cas
 use Rattle.anb_probe_commands.specs.Plays.{ArePlayed, CaseEnd, IsNotStarted, verdicts_of}
 use Rattle.anb_probe_commands.specs.Probings.{IsReadToProbe, Probing, ProbingIs}
 use Rattle.anb_probe_commands.specs.Reports.{report, report_so_far, status_for}
-use Rattle.anb_probe_commands.specs.Words.{Probed, Trying}
+use Rattle.anb_probe_commands.specs.Words.{Probed, Trying, order_of}
 use Rattle.anb_probe_commands.specs.declared.partners.Lack.{Lack}
 
 -- ---- what is tried, found before any program is started
@@ -103,7 +103,7 @@ pub record RefusesHonest (q : Probing) (trying : Trying) (status : Status) : Typ
 module _ (q : Probing) (trying : Trying) (g : Agenda) (name : List ℕ) (old new : ℕ → Trial) (written written_now : Option (List ℕ)) where
   -- the first cases came to these ends; the children from the last on are as they were
   abbrev pub Plays : ℕ → (reached : ℕ) → List CaseEnd → Type 0
-  Plays last reached ends = ArePlayed q g.scenes trying.program g.cases reached ends last old new
+  Plays last reached ends = ArePlayed q g.scenes (order_of trying) g.cases reached ends last old new
 
   abbrev pub so_far : List CaseEnd → List ℕ
   so_far ends = report_so_far q.protocol q.role g.scenes g.is_shown g.cases ends

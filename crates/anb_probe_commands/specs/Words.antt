@@ -2,6 +2,7 @@
 use Rattle.std.specs.Prelude.{ℕ, Bool, true, false, ◌&&◌, nat_le, List, [], ◌∷◌, codes, bytes_eq, Option, Some, None, if◌then◌else◌}
 use Rattle.std.specs.Option.{option_map}
 use Rattle.anb_words.specs.Words.{is_operand, seconds_in}
+use Rattle.anb_partner.specs.Trials.{asked_words}
 
 -- whether all cases are tried, the number of the one that is asked for, for how many seconds a program
 -- may be silent, where these are said; and the words of the program
@@ -20,6 +21,10 @@ pub record Probed : Type 0 where
 
 abbrev pub trying : Bool → (case limit : Option ℕ) → List (List ℕ) → Trying
 trying all case limit program = record { all = all; case = case; limit = limit; program = program }
+
+-- what is asked of each child: the limit and the words of the program
+abbrev pub order_of : Trying → List (List ℕ)
+order_of trying = asked_words trying.limit trying.program
 
 abbrev pub probed : (narration role values : List ℕ) → Trying → Probed
 probed narration role values trying = record { narration = narration; role = role; values = values; trying = trying }

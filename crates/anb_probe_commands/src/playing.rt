@@ -4,16 +4,19 @@ ghost use Rattle.anb_attempts.specs.declared.attempts.TheConstants.{MOST};
 ghost use Rattle.anb_partner.specs.Trials.{OthersStay};
 ghost use Rattle.anb_probe_commands.specs.Plays.{IsNotStarted, IsTried};
 ghost use Rattle.anb_probe_commands.specs.Playing.{Broke, BrokeIn, CanPlay, IsCaseCut, IsCut, IsPlaced, IsPlayedOut, Wrote, end_in, text_of};
+ghost use Rattle.anb_probe_commands.specs.Asking.{trying_by};
 ghost use Rattle.anb_probe_commands.specs.Reports.{shown_frames};
 ghost use Rattle.anb_probe_commands.specs.Tasks.{probing_by};
+ghost use Rattle.anb_probe_commands.specs.Words.{order_of};
 
 use crate::cases::Prepared;
 use crate::files::Task;
 use crate::frames::put_frames_in;
 use crate::partners::partner_at;
+use crate::words::TryWords;
 use crate::writing::{PlayNo, write_lines};
 use anb_attempts::Attempt;
-use anb_base::{NoMemory, Text, Wire};
+use anb_base::{NoMemory, Wire};
 use anb_partner::{Conversation, ConverseNo, Trials};
 use anb_transcript::Transcript;
 use anb_tries::{Tried, try_case};
@@ -35,20 +38,20 @@ pub(crate) fn play_cases<T: Trials, W: Wire>(
     wire: &mut W,
     task: &Task,
     prepared: &Prepared,
-    program: &[Text],
+    trying: TryWords,
 ) -> Result<Vec<Verdict>, PlayNo>
     requires can { CanPlay (probing_by task.now.protocol task.now.role task.now.values task.now.seed)
         prepared.now }
     requires untried { (case : ℕ) → (T.trial trials.old case).phase ≡ 0 }
     ensures played { IfOk result (λ verdicts. IsPlayedOut
         (probing_by task.now.protocol task.now.role task.now.values task.now.seed)
-        prepared.now program.now (T.trial trials.old) (T.trial trials.new)
+        prepared.now (order_of (trying_by trying.entry)) (T.trial trials.old) (T.trial trials.new)
         (W.state wire.old) (W.state wire.new) verdicts.items) }
     ensures all { IfOk result (λ verdicts.
         length verdicts.items ≡ length prepared.now.cases.items) }
     ensures cut { IfErr result (IsCut
         (probing_by task.now.protocol task.now.role task.now.values task.now.seed)
-        prepared.now program.now (T.trial trials.old) (T.trial trials.new)
+        prepared.now (order_of (trying_by trying.entry)) (T.trial trials.old) (T.trial trials.new)
         (W.state wire.old).written (W.state wire.new).written) }
     ensures broke { IfErr result (Broke (W.state wire.old) (W.state wire.new)) }
     ensures none_left { (case : ℕ) → (T.trial trials.new case).phase ≢ 1 }
@@ -56,7 +59,7 @@ pub(crate) fn play_cases<T: Trials, W: Wire>(
     let mut verdicts = Vec::new(alloc);
     let mut reached = 0;
     for i in 0..prepared.cases.len() as u32 {
-        match play_case(alloc, trials, wire, task, prepared, i, program, reached) {
+        match play_case(alloc, trials, wire, task, prepared, i, trying, reached) {
             Ok(outcome) => {
                 reached = next_reached(i, reached, outcome.reached);
                 match verdicts.push(outcome.verdict) {
@@ -86,7 +89,7 @@ fn play_case<T: Trials, W: Wire>(
     task: &Task,
     prepared: &Prepared,
     number: u32,
-    program: &[Text],
+    trying: TryWords,
     reached: usize,
 ) -> Result<Outcome, PlayNo>
     requires can { CanPlay (probing_by task.now.protocol task.now.role task.now.values task.now.seed)
@@ -96,14 +99,14 @@ fn play_case<T: Trials, W: Wire>(
     ensures played { IfOk result (λ o. (a : Attempt)
         → slice_get prepared.now.cases.items number ≡ Some a
         → IsTried (probing_by task.now.protocol task.now.role task.now.values task.now.seed)
-        prepared.now.scenes.items program.now a reached
+        prepared.now.scenes.items (order_of (trying_by trying.entry)) a reached
         (T.trial trials.old number) (T.trial trials.new number) (end_in o) o.reached
         × Wrote (W.state wire.old) (W.state wire.new)
         (text_of (probing_by task.now.protocol task.now.role task.now.values task.now.seed)
         prepared.now (number + 1) a (end_in o))) }
     ensures cut { IfErr result (IsCaseCut
         (probing_by task.now.protocol task.now.role task.now.values task.now.seed)
-        prepared.now program.now number reached
+        prepared.now (order_of (trying_by trying.entry)) number reached
         (T.trial trials.old number) (T.trial trials.new number)
         (W.state wire.old).written (W.state wire.new).written) }
     ensures broke { IfErr result (Broke (W.state wire.old) (W.state wire.new)) }
@@ -112,7 +115,7 @@ fn play_case<T: Trials, W: Wire>(
 {
     let attempt = &prepared.cases[number as usize];
     match try_attempt(
-        alloc, trials, task, prepared, number, attempt, program, reached,
+        alloc, trials, task, prepared, number, attempt, trying, reached,
     ) {
         Ok(outcome) => match write_case(alloc, wire, task, prepared, number, attempt, &outcome) {
             Ok(()) => Ok(outcome),
@@ -203,7 +206,7 @@ fn try_attempt<T: Trials>(
     prepared: &Prepared,
     number: u32,
     attempt: &Attempt,
-    program: &[Text],
+    trying: TryWords,
     reached: usize,
 ) -> Result<Outcome, ConverseNo>
     requires can { CanPlay (probing_by task.now.protocol task.now.role task.now.values task.now.seed)
@@ -212,7 +215,7 @@ fn try_attempt<T: Trials>(
     requires unstarted { (T.trial trials.old number).phase ≡ 0 }
     ensures tried { IfOk result (λ o. IsTried
         (probing_by task.now.protocol task.now.role task.now.values task.now.seed)
-        prepared.now.scenes.items program.now attempt.now reached
+        prepared.now.scenes.items (order_of (trying_by trying.entry)) attempt.now reached
         (T.trial trials.old number) (T.trial trials.new number) (end_in o) o.reached) }
     ensures not_started { IfErr result (λ no. no ≡ ConverseNo.NotStarted
         → IsNotStarted (T.trial trials.old number) (T.trial trials.new number)) }
@@ -225,7 +228,8 @@ fn try_attempt<T: Trials>(
         alloc,
         trials,
         number,
-        program,
+        trying.limit,
+        trying.program,
         &task.protocol,
         task.role,
         partner,

@@ -8,6 +8,7 @@ ghost use Rattle.anb_probe_commands.specs.Playing.{Broke, BrokeIn, CanPlay, Ends
 ghost use Rattle.anb_probe_commands.specs.ProbeCommand.{ComesTo};
 ghost use Rattle.anb_probe_commands.specs.Reports.{notes};
 ghost use Rattle.anb_probe_commands.specs.Tasks.{agenda_by, probing_by};
+ghost use Rattle.anb_probe_commands.specs.Words.{order_of};
 
 use crate::cases::Prepared;
 use crate::counting::status_for;
@@ -49,8 +50,7 @@ pub(crate) fn probe_reached<T: Trials, W: Wire>(
             Err(no) => status_of(no, name),
         };
     }
-    wait_at_most(trials, trying.limit);
-    match play_all(alloc, trials, wire, task, prepared, trying.program) {
+    match play_all(alloc, trials, wire, task, prepared, trying) {
         Ok(verdicts) => status_for(&verdicts),
         Err(no) => status_of(no, name),
     }
@@ -63,15 +63,6 @@ fn is_beyond(case: Option<u32>, count: u32) -> bool
     match case {
         Some(number) => count < number,
         None => false,
-    }
-}
-
-/// Sets how long a program may be silent, where that is said.
-fn wait_at_most<T: Trials>(trials: &mut T, limit: Option<u32>)
-    ensures { T.trial trials.new ≡ T.trial trials.old }
-{
-    if let Some(seconds) = limit {
-        trials.wait_at_most(seconds);
     }
 }
 
@@ -92,18 +83,20 @@ fn play_all<T: Trials, W: Wire>(
     wire: &mut W,
     task: &Task,
     prepared: &Prepared,
-    program: &[Text],
+    trying: TryWords,
 ) -> Result<Vec<Verdict>, PlayNo>
     requires can { CanPlay (probing_by task.now.protocol task.now.role task.now.values task.now.seed)
         prepared.now }
     requires untried { (case : ℕ) → (T.trial trials.old case).phase ≡ 0 }
     ensures all { IfOk result (λ verdicts. PlaysAll
         (probing_by task.now.protocol task.now.role task.now.values task.now.seed)
-        (agenda_by prepared.now) program.now (T.trial trials.old) (T.trial trials.new)
+        (agenda_by prepared.now) (order_of (trying_by trying.entry))
+        (T.trial trials.old) (T.trial trials.new)
         (W.state wire.old) (W.state wire.new) verdicts.items) }
     ensures cut { IfErr result (PlaysLess
         (probing_by task.now.protocol task.now.role task.now.values task.now.seed)
-        (agenda_by prepared.now) program.now (T.trial trials.old) (T.trial trials.new)
+        (agenda_by prepared.now) (order_of (trying_by trying.entry))
+        (T.trial trials.old) (T.trial trials.new)
         (W.state wire.old).written (W.state wire.new).written) }
     ensures broke { IfErr result (Broke (W.state wire.old) (W.state wire.new)) }
     ensures none_left { (case : ℕ) → (T.trial trials.new case).phase ≢ 1 }
@@ -112,7 +105,7 @@ fn play_all<T: Trials, W: Wire>(
         Ok(()) => {}
         Err(no) => return Err(no),
     }
-    let verdicts = match play_cases(alloc, trials, wire, task, prepared, program) {
+    let verdicts = match play_cases(alloc, trials, wire, task, prepared, trying) {
         Ok(verdicts) => verdicts,
         Err(no) => return Err(no),
     };

@@ -18,12 +18,12 @@ fn words(alloc: Global, texts: &[&str]) -> Result<Vec<Text>, AllocError> {
     Ok(words)
 }
 
-/// The child of the first case, which has these words.
-fn started(trials: &mut RealTrials, words: &[Text]) -> Result<RealChild, Fail>
+/// The child of the first case, which has this limit and these words.
+fn started(trials: &mut RealTrials, limit: Option<u32>, words: &[Text]) -> Result<RealChild, Fail>
     requires { (trial_of trials.old 0).phase ≡ 0 }
     ensures { IfOk result (λ _. (trial_of trials.new 0).phase ≡ 1) }
 {
-    match trials.start(0, words) {
+    match trials.start(0, limit, words) {
         Ok(child) => Ok(child),
         Err(Failed) => Err("not started".into()),
     }
@@ -32,9 +32,8 @@ fn started(trials: &mut RealTrials, words: &[Text]) -> Result<RealChild, Fail>
 /// How a shell that runs this line ends, and whether it was silent for a second.
 fn end_of(rt: HostRuntime, line: &str) -> Result<(Result<ChildEnd, Failed>, bool), Fail> {
     let mut trials = RealTrials::new(rt);
-    trials.wait_at_most(1);
     let words = words(rt.alloc(), &["sh", "-c", line])?;
-    let child = started(&mut trials, &words)?;
+    let child = started(&mut trials, Some(1), &words)?;
     let end = trials.finish(0, child);
     let was_silent = trials.was_silent(0);
     trials.end();
@@ -55,7 +54,7 @@ fn a_childs_end_is_told(rt: HostRuntime) -> Result<(), Fail> {
 #[test]
 fn a_child_hears_and_says(rt: HostRuntime) -> Result<(), Fail> {
     let mut trials = RealTrials::new(rt);
-    let mut child = started(&mut trials, &words(rt.alloc(), &["cat"])?)?;
+    let mut child = started(&mut trials, None, &words(rt.alloc(), &["cat"])?)?;
     let mut buf = [0u8; 3];
     assert_eq!(rt; child.write(b"ab"), Ok(2));
     assert_eq!(rt; child.read(&mut buf), Ok(2));
@@ -70,9 +69,9 @@ fn a_child_hears_and_says(rt: HostRuntime) -> Result<(), Fail> {
 #[test]
 fn a_child_may_speak_before_it_hears(rt: HostRuntime) -> Result<(), Fail> {
     let mut trials = RealTrials::new(rt);
-    trials.wait_at_most(5);
     let line = "head -c 200000 /dev/zero; cat > /dev/null";
-    let mut child = started(&mut trials, &words(rt.alloc(), &["sh", "-c", line])?)?;
+    let words = words(rt.alloc(), &["sh", "-c", line])?;
+    let mut child = started(&mut trials, Some(5), &words)?;
     let mut bytes = vec![in rt.alloc(); 1u8; 200_000]?;
     assert_eq!(rt; write_whole(&mut child, &bytes), Ok(()));
     assert_eq!(rt; read_full(&mut child, &mut bytes), Ok(200_000));
@@ -86,7 +85,7 @@ fn a_child_may_speak_before_it_hears(rt: HostRuntime) -> Result<(), Fail> {
 fn a_program_that_is_not_there_is_not_started(rt: HostRuntime) -> Result<(), Fail> {
     let mut trials = RealTrials::new(rt);
     let words = words(rt.alloc(), &["/no/such/program"])?;
-    assert!(rt; trials.start(0, &words).is_err());
+    assert!(rt; trials.start(0, None, &words).is_err());
     trials.end();
     Ok(())
 }

@@ -30,7 +30,6 @@ const CASES: usize = 4_096;
 pub struct RealTrials {
     rt: HostRuntime,
     cases: Vec<Case>,
-    limit: Option<Duration>,
     /// What kills a child where a signal ends this program. There is none without a shell.
     watcher: Option<Watcher>,
 }
@@ -52,7 +51,6 @@ impl RealTrials {
         RealTrials {
             rt,
             cases: fresh_cases(rt.alloc()),
-            limit: None,
             watcher: None,
         }
     }
@@ -87,14 +85,15 @@ fn some_cases(alloc: Global, count: usize) -> Result<Vec<Case>, AllocError>
     Ok(cases)
 }
 
-/// Starts a child with these words, the first of which names its program.
-fn start(rt: &HostRuntime, limit: Option<Duration>, words: &[Text]) -> io::Result<Running> {
+/// Starts a child with these words, the first of which names its program, and with this limit.
+fn start(rt: &HostRuntime, limit: Option<u32>, words: &[Text]) -> io::Result<Running> {
     let [program, words @ ..] = words else {
         return Err(io::Error::from(ErrorKind::InvalidInput));
     };
     if program.as_str().is_empty() {
         return Err(io::Error::from(ErrorKind::InvalidInput));
     }
+    let limit = limit.map(|seconds| Duration::from_secs(u64::from(seconds)));
     let mut running = Running::start(rt, program.as_str(), limit, words)?;
     running.keep(rt.alloc());
     Ok(running)
@@ -164,11 +163,16 @@ impl Trials for RealTrials {
 
     ghost trial = { trial_of };
 
-    fn start(&mut self, case: u32, words: &[Text]) -> Result<RealChild, Failed> {
+    fn start(
+        &mut self,
+        case: u32,
+        limit: Option<u32>,
+        words: &[Text],
+    ) -> Result<RealChild, Failed> {
         if case as usize >= self.cases.len() {
             return Err(Failed);
         }
-        let started = start(&self.rt, self.limit, words);
+        let started = start(&self.rt, limit, words);
         let case = &mut self.cases[case as usize];
         match started {
             Ok(running) => {
@@ -200,10 +204,6 @@ impl Trials for RealTrials {
             Ok(end) => Ok(end),
             Err(error) => Err(case.fail(is_silence(&error))),
         }
-    }
-
-    fn wait_at_most(&mut self, seconds: u32) {
-        self.limit = Some(Duration::from_secs(u64::from(seconds)));
     }
 
     fn was_silent(&self, case: u32) -> bool {

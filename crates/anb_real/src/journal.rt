@@ -1,13 +1,13 @@
 //! Recordings in folders of the machine.
 
 use crate::faults::one_more;
-use crate::store::{RealStore, create};
+use crate::store::{MODE, RealStore, create};
 use anb_recording::{BeginNo, Journal};
 use anb_store::StoreNo;
 use std::alloc::Global;
 use std::fs::{DirBuilder, OpenOptions};
 use std::io::Write;
-use std::os::unix::fs::DirBuilderExt;
+use std::os::unix::fs::{DirBuilderExt, OpenOptionsExt};
 use std::{fs, io};
 
 /// Only the owner sees what is in a folder that was made.
@@ -29,6 +29,15 @@ fn make_both(rt: &HostRuntime, first: &str, bytes: &[u8], second: &str) -> io::R
     Ok(())
 }
 
+/// Makes the file, and its folder where it isn't there.
+fn make_one(rt: &HostRuntime, name: &str, bytes: &[u8]) -> io::Result<()> {
+    if let Some((folder, _)) = name.rsplit_once('/') {
+        make_folder(rt, folder)?;
+    }
+    let mut file = create(rt, name)?;
+    file.write_all(bytes)
+}
+
 /// Makes the folder, where nothing of this name is there.
 fn make_folder(rt: &HostRuntime, folder: &str) -> io::Result<()> {
     if fs::metadata(rt, folder).is_ok() {
@@ -38,10 +47,11 @@ fn make_folder(rt: &HostRuntime, folder: &str) -> io::Result<()> {
     builder.mode(FOLDER_MODE).create(rt, folder)
 }
 
-/// Appends to a file that is there, with one write where the system takes the whole at once.
+/// Appends to the file, or makes it, with one write where the system takes the whole at once.
 fn append_to(rt: &HostRuntime, name: &str, bytes: &[u8]) -> io::Result<()> {
     let mut options = OpenOptions::new();
-    let mut file = options.append(true).open(rt, name)?;
+    let options = options.append(true).create(true);
+    let mut file = options.mode(MODE).open(rt, name)?;
     file.write_all(bytes)
 }
 
@@ -64,6 +74,20 @@ impl Journal for RealStore {
             Err(_) => {
                 self.faults = one_more(self.faults);
                 Err(BeginNo::Failed)
+            }
+        }
+    }
+
+    fn has(&self, name: &str) -> bool {
+        is_there(&self.rt, name)
+    }
+
+    fn make(&mut self, _alloc: Global, name: &str, bytes: &[u8]) -> Result<(), StoreNo> {
+        match make_one(&self.rt, name, bytes) {
+            Ok(()) => Ok(()),
+            Err(_) => {
+                self.faults = one_more(self.faults);
+                Err(StoreNo::Failed)
             }
         }
     }

@@ -13,7 +13,7 @@ use std::random::RandomSource;
 use std::{fs, io};
 
 /// Only the owner reads and writes what is kept.
-const MODE: u32 = 0o600;
+pub(crate) const MODE: u32 = 0o600;
 
 /// Files of the machine. A file is written whole under a name of its own beside the one that it
 /// replaces, flushed to the disk, and renamed over that one. All names share one count of faults.

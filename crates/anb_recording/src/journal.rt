@@ -1,7 +1,8 @@
 //! Stores that can also make two files at once and append to one.
 
-ghost use Rattle.std.specs.Prelude.{◌≡◌, ◌≢◌, ◌≤◌, OnOk, IsErrOf, Err};
+ghost use Rattle.std.specs.Prelude.{◌≡◌, ◌≢◌, ◌≤◌, OnOk, IsErrOf, Err, true, false};
 ghost use Rattle.anb_base.specs.Moves.{Rose};
+ghost use Rattle.anb_store.specs.Stores.{replaced};
 ghost use Rattle.anb_recording.specs.Journals.{IsAbsent, IsEither, IsThere, OthersStay, appended, begun};
 
 use anb_store::{Store, StoreNo};
@@ -50,7 +51,25 @@ pub trait Journal: Store {
         ensures others { OthersStay (IsEither first.now second.now)
             (Self.state self.old) (Self.state self.new) };
 
-    /// Appends these bytes to the file. Where this fails some of them may stand there.
+    /// Whether something of this name is there.
+    fn has(&self, name: &str) -> bool
+        ensures there { result ≡ true → IsThere (Self.state self.now) name.now }
+        ensures absent { result ≡ false → IsAbsent (Self.state self.now) name.now };
+
+    /// Makes the file with these bytes, and the folder that it is in where this isn't there.
+    fn make(&mut self, alloc: Global, name: &str, bytes: &[u8]) -> Result<(), StoreNo>
+        ensures made { OnOk result
+            (Self.state self.new ≡ replaced (Self.state self.old) name.now bytes.now) }
+        ensures cause { IsErrOf result StoreNo.Failed
+            → Rose (Self.state self.old).faults (Self.state self.new).faults }
+        ensures quiet { result ≢ Err StoreNo.Failed
+            → (Self.state self.new).faults ≡ (Self.state self.old).faults }
+        ensures never_falls { (Self.state self.old).faults ≤ (Self.state self.new).faults }
+        ensures others { OthersStay (λ other. other ≡ name.now)
+            (Self.state self.old) (Self.state self.new) };
+
+    /// Appends these bytes to the file, which is made where it isn't there. Where this fails some of
+    /// them may stand there.
     fn append(&mut self, alloc: Global, name: &str, bytes: &[u8]) -> Result<(), StoreNo>
         ensures appended { OnOk result
             (Self.state self.new ≡ appended (Self.state self.old) name.now bytes.now) }

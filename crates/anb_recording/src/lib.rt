@@ -12,4 +12,5 @@ mod recording;
 
 pub use journal::{BeginNo, Journal};
 pub use laws::written_lines_are_read;
+pub use lines::line_of;
 pub use recording::{Kept, Recorded, Recording, record_play};

@@ -7,7 +7,7 @@ use anb_base::{Bytes, NoMemory};
 use std::alloc::Global;
 
 /// The line with this sign and the digits of these bytes.
-pub(crate) fn line_of(alloc: Global, sign: u8, bytes: &[u8]) -> Result<Bytes, NoMemory>
+pub fn line_of(alloc: Global, sign: u8, bytes: &[u8]) -> Result<Bytes, NoMemory>
     ensures { IfOk result (λ line. line ≡ spelled sign bytes.now) }
 {
     let digits = hex::encode(alloc, bytes)?;

@@ -93,6 +93,14 @@ impl Journal for MemStore {
         }
     }
 
+    fn has(&self, name: &str) -> bool {
+        is_kept(self.kept(), name)
+    }
+
+    fn make(&mut self, alloc: Global, name: &str, bytes: &[u8]) -> Result<(), StoreNo> {
+        self.replace(alloc, name, bytes)
+    }
+
     /// A call costs a copy of all that the file holds by then.
     fn append(&mut self, alloc: Global, name: &str, bytes: &[u8]) -> Result<(), StoreNo> {
         match grown(alloc, self.kept(), name, bytes) {

@@ -25,7 +25,7 @@ use Rattle.anb_stage.proofs.Stamps.{own_here, own_there, stamps_joined, stamps_o
 use Rattle.anb_stage.proofs.Totals.{put_below}
 
 -- what stands first behind so many stands at that place
-drop_first : {X : Type 0} (xs : List X) (n : ℕ) (x : X) (rest : List X) → drop n xs ≡ x ∷ rest → (slice_get xs n ≡ Some x) × (drop (suc n) xs ≡ rest)
+pub drop_first : {X : Type 0} (xs : List X) (n : ℕ) (x : X) (rest : List X) → drop n xs ≡ x ∷ rest → (slice_get xs n ≡ Some x) × (drop (suc n) xs ≡ rest)
 drop_first [] zero x rest e = absurd cc
 drop_first [] (suc n) x rest e = absurd cc
 drop_first (y ∷ ys) zero x rest e = let h : y ≡ x = cc in let t : ys ≡ rest = cc in (ap Some h, t)

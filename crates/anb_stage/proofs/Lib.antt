@@ -10,6 +10,7 @@ pub mod HonestSends
 pub mod HonestStage
 pub mod Lines
 pub mod Messages
+pub mod Noting
 pub mod PlaysGrow
 pub mod Roles
 pub mod Stamps

@@ -1,6 +1,7 @@
 pub mod Children
 pub mod Words
 pub mod Relays
+pub mod Notes
 pub mod Memory
 pub mod Due
 pub mod Honest

@@ -9,19 +9,21 @@ ghost use Rattle.anb_frame.specs.Answers.{Follows, OnFailed, UnlessFailed};
 ghost use Rattle.anb_stage.specs.Children.{KeptByRead, KeptByWrite, written_to_all};
 ghost use Rattle.anb_stage.specs.Relays.{AreCut, AreHeard, IsReported, SomeInTime, report};
 ghost use Rattle.anb_stage.specs.Steps.{Begins, OthersStayBelow, AreWithin, AreRunning, FitsIn, OnFrame, Takes, IsMissing, Carries, CarryKeeps, FailsCarrying, IsCaused, Carried, FailsCarryingSome, CarryingKeeps, SameFaults};
+ghost use Rattle.anb_stage.specs.Notes.{IsOfAction, IsTold, Note, TellsAlone, both_notes, notes_of};
 ghost use Rattle.anb_stage.specs.declared.TheConstants.{ROLES};
 
 use crate::ends::Ends;
 use crate::sides::{Input, Output};
-use crate::{RelayNo, Spawner};
+use crate::{Log, RelayNo, Spawner};
 use anb_base::{ARRIVAL, Bytes, Failed, Sent};
 use anb_frame::{FrameNo, Taken, put, take};
 use std::alloc::Global;
 
-/// Carries the messages of all actions, through the buffer.
-pub(crate) fn carry_all<P: Spawner>(
+/// Carries the messages of all actions, through the buffer, and tells the log of them.
+pub(crate) fn carry_all<P: Spawner, L: Log>(
     alloc: Global,
     spawner: &mut P,
+    log: &mut L,
     actions: &[Ends],
     buffer: &mut [u8],
 ) -> Result<Vec<Sent>, RelayNo>
@@ -49,11 +51,18 @@ pub(crate) fn carry_all<P: Spawner>(
     ensures reported { IfErr result (IsReported (P.child spawner.old) (P.child spawner.new)) }
     ensures kept { (roles : ℕ) → roles ≤ ROLES → AreWithin roles actions.now
         → CarryingKeeps (P.child spawner.old) (P.child spawner.new) roles }
+    ensures told { IfOk result (λ sent.
+        L.After log.old (notes_of actions.now sent.items) log.new) }
+    ensures count { IfOk result (λ sent. length sent.items ≡ length actions.now) }
+    ensures told_so_far { (roles : ℕ) → roles ≤ ROLES → AreWithin roles actions.now
+        → IfErr result (λ no. (told : List Note)
+        × IsTold actions.now roles (P.child spawner.old) no told
+        × L.After log.old told log.new) }
 {
     let mut sent = Vec::new(alloc);
     for (i, ends) in actions.iter().enumerate() {
         let action = i as u32 + 1;
-        let bytes = match carry(alloc, spawner, *ends, action, buffer) {
+        let bytes = match carry(alloc, spawner, log, *ends, action, buffer) {
             Ok(bytes) => bytes,
             Err(no) => return Err(no),
         };
@@ -64,10 +73,12 @@ pub(crate) fn carry_all<P: Spawner>(
     Ok(sent)
 }
 
-/// Carries the message of one action, through the buffer.
-fn carry<P: Spawner>(
+/// Carries the message of one action, through the buffer, and tells the log of it: once it was said, and
+/// once it was heard.
+fn carry<P: Spawner, L: Log>(
     alloc: Global,
     spawner: &mut P,
+    log: &mut L,
     ends: Ends,
     action: u32,
     buffer: &mut [u8],
@@ -94,13 +105,21 @@ fn carry<P: Spawner>(
     ensures quiet { OnOk result (SameFaults (P.child spawner.old) (P.child spawner.new)) }
     ensures reported { IfErr result (IsReported (P.child spawner.old) (P.child spawner.new)) }
     ensures kept { CarryKeeps (P.child spawner.old) (P.child spawner.new) ends.from ends.to }
+    ensures told { IfOk result (λ bytes. L.After log.old
+        (both_notes ends (record { action = action; bytes = bytes })) log.new) }
+    ensures told_alone { IfErr result (TellsAlone (λ told. L.After log.old told log.new)
+        (P.child spawner.old ends.from).left action ends.from) }
 {
     let bytes = match receive(alloc, spawner, ends.from, action, buffer) {
         Ok(bytes) => bytes,
         Err(no) => return Err(no),
     };
+    log.said(action, ends.from, bytes.as_slice());
     match put_to(spawner, ends.to, bytes.as_slice()) {
-        Ok(()) => Ok(bytes),
+        Ok(()) => {
+            log.heard(action, ends.to, bytes.as_slice());
+            Ok(bytes)
+        }
         Err(_) => Err(RelayNo::Fault(ends.to)),
     }
 }
@@ -123,6 +142,7 @@ fn receive<P: Spawner>(
     ensures missing { (bs : List (List ℕ)) (tail : Tail)
         → CutLeft ARRIVAL (P.child spawner.old role).left bs tail
         → IfErr result (IsMissing bs tail action) }
+    ensures at { IfErr result (IsOfAction action) }
     ensures stamped { IfOk result (λ bytes. Stamped (P.child spawner.old role).taken_at
         (P.child spawner.new role).taken_at (written_to_all (P.child spawner.old))
         (length (frame bytes))) }

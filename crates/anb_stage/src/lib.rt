@@ -6,6 +6,7 @@ mod carrying;
 mod ends;
 mod finishing;
 mod laws;
+mod log;
 mod memory;
 mod refusal;
 mod relaying;
@@ -16,10 +17,11 @@ mod starting;
 mod words;
 
 pub use laws::{relays_are_due, stages_are_honest};
+pub use log::{Log, NoLog};
 pub use memory::MemSpawner;
 pub use refusal::RelayNo;
 pub use spawner::Spawner;
-pub use stage::relay;
+pub use stage::{relay, relay_telling};
 pub use words::ChildWords;
 
 /// The most roles that a protocol has.

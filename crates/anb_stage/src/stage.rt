@@ -3,11 +3,13 @@
 ghost use Rattle.std.specs.Prelude.{◌≡◌, ◌<◌, ℕ, List, length, IfErr, IfOk, OnOk};
 ghost use Rattle.anb_frame.specs.Cuts.{Tail};
 ghost use Rattle.anb_stage.specs.Words.{asked_lists};
+ghost use Rattle.anb_stage.specs.Notes.{IsTold, Note, notes_of};
 ghost use Rattle.anb_stage.specs.Relays.{AreCut, ends_in, report, IsRelayed, IsRefused};
 
 use crate::ends::ends_of;
+use crate::log::NoLog;
 use crate::relaying::relay_all;
-use crate::{ChildWords, RelayNo, Spawner};
+use crate::{ChildWords, Log, RelayNo, Spawner};
 use anb_base::{ARRIVAL, Sent};
 use anb_protocol::{Protocol, protocols_hold};
 use std::alloc::Global;
@@ -37,6 +39,40 @@ pub fn relay<P: Spawner>(
     ensures refused { IfErr result (IsRefused (length words.now) (P.child spawner.old)
         (P.child spawner.new) (asked_lists limit words.now) (ends_in p.now)) }
 {
+    relay_telling(alloc, p, words, limit, spawner, &mut NoLog)
+}
+
+/// Relays as [`relay`] does, and tells a log of each message: once its sender said it, and once its
+/// receiver was handed all of it.
+pub fn relay_telling<P: Spawner, L: Log>(
+    alloc: Global,
+    p: &Protocol,
+    words: &[ChildWords],
+    limit: Option<u32>,
+    spawner: &mut P,
+    log: &mut L,
+) -> Result<Vec<Sent>, RelayNo>
+    requires words { length words.now ≡ length p.now.roles }
+    requires unstarted { (role : ℕ) → role < length words.now
+        → (P.child spawner.old role).phase ≡ 0 }
+
+    // The report of children whose outputs are told, and all else that comes of it.
+    ensures report { (outputs : ℕ → List (List ℕ)) (tails : ℕ → Tail)
+        → AreCut (length words.now) (P.child spawner.old) outputs tails
+        → IfOk result (λ sent. sent.items ≡ report outputs (ends_in p.now)) }
+    ensures relayed { OnOk result (IsRelayed (length words.now) (P.child spawner.old)
+        (P.child spawner.new) (asked_lists limit words.now) (ends_in p.now)) }
+    ensures refused { IfErr result (IsRefused (length words.now) (P.child spawner.old)
+        (P.child spawner.new) (asked_lists limit words.now) (ends_in p.now)) }
+
+    // What the log is told, in both cases.
+    ensures told { IfOk result (λ sent.
+        L.After log.old (notes_of (ends_in p.now) sent.items) log.new) }
+    ensures count { IfOk result (λ sent. length sent.items ≡ length (ends_in p.now)) }
+    ensures told_so_far { IfErr result (λ no. (told : List Note)
+        × IsTold (ends_in p.now) (length words.now) (P.child spawner.old) no told
+        × L.After log.old told log.new) }
+{
     protocols_hold();
     let _ = p.name();
     let Ok(actions) = ends_of(alloc, p) else {
@@ -45,5 +81,5 @@ pub fn relay<P: Spawner>(
     let Ok(mut buffer) = vec![in alloc; 0u8; ARRIVAL as usize] else {
         return Err(RelayNo::NoMemory);
     };
-    relay_all(alloc, words, limit, &actions, spawner, &mut buffer)
+    relay_all(alloc, words, limit, &actions, spawner, log, &mut buffer)
 }

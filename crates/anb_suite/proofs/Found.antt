@@ -26,7 +26,7 @@ use Rattle.anb_unify.specs.Substitutions.{put_in, KeepsNames, IsNamed, AreNamed}
 use Rattle.anb_unify.specs.Equations.{IsSolution, atoms_of}
 use Rattle.anb_unify.proofs.Solutions.{after_keeps, after_solves, map_after}
 use Rattle.anb_probe.specs.Cases.{less, drawn, CaseValue, IsCase, IsImplied, run_in_terms}
-use Rattle.anb_distinguish.specs.Finding.{less_equations, received_in, HasPatterns, case_with}
+use Rattle.anb_distinguish.specs.Finding.{IsCheck, less_equations, received_in, HasPatterns, case_with}
 use Rattle.anb_distinguish.specs.Apart.{MakesOne, AreOneFor, TellsApart}
 use Rattle.anb_distinguish.specs.Laws.{SameSidesAreImplied, TwoSidesMakeACase}
 use Rattle.anb_distinguish.proofs.Dropped.{received_less, can_less, taking_less}
@@ -34,9 +34,12 @@ use Rattle.anb_distinguish.proofs.Sides.{all_named_more, drawn_named, sides_of}
 use Rattle.anb_distinguish.proofs.Making.{spared_keeps, each_formed_still}
 use Rattle.anb_suite.specs.declared.cases.Case.{Case}
 use Rattle.anb_suite.specs.declared.solving.Solved.{Solved}
-use Rattle.anb_suite.specs.Suites.{case_value, IsCaseOf}
+use Rattle.anb_suite.specs.Reading.{read_by}
+use Rattle.anb_suite.specs.declared.reading.Reading.{Reading}
+use Rattle.anb_suite.specs.Suites.{case_value, IsCaseOf, IsImpliedAs}
 use Rattle.anb_suite.specs.Walks.{sent_in}
 use Rattle.anb_suite.specs.Sparing.{narrated_at, spared_at, IsPutInto, is_exchange, event_before, asked, IsSolved}
+use Rattle.anb_suite.proofs.Behind.{stops_by}
 use Rattle.anb_suite.proofs.Lessening.{sent_less}
 use Rattle.anb_suite.proofs.Messages.{exchanges, sends_solved, stops_behind}
 use Rattle.anb_suite.proofs.Honest.{term_named}
@@ -71,7 +74,7 @@ case_by xs w o t = record { arrivals = xs; wrong = w; sides = record { one = o; 
 same_case : (xs ys : List Tree) (w u o q t s : Tree) → xs ≡ ys → w ≡ u → o ≡ q → t ≡ s → case_by xs w o t ≡ case_by ys u q s
 same_case xs ys w u o q t s a b c d = ap (λ l. case_by l w o t) a ∙ ap (λ x. case_by ys x o t) b ∙ ap (λ x. case_by ys u x t) c ∙ ap (λ x. case_by ys u q x) d
 
-module _ (p : ProtocolValue) (role : ℕ) (code : CodeValue) (check : ℕ) (solved : Solved) (s : IsSolved p role code check solved) where
+module _ (p : ProtocolValue) (role : ℕ) (code : CodeValue) (reading : Reading) (check a b : ℕ) (compares : IsCheck (acts_of code) check a b) (solved : Solved) (s : IsSolved p role (read_by reading check a b (acts_of code)) check a b solved) where
   abbrev names : ℕ
   names = length p.atoms
 
@@ -85,7 +88,10 @@ module _ (p : ProtocolValue) (role : ℕ) (code : CodeValue) (check : ℕ) (solv
   plan = events_of p role
 
   abbrev acts : List Act
-  acts = acts_of code
+  acts = read_by reading check a b (acts_of code)
+
+  abbrev own : List Act
+  own = acts_of code
 
   abbrev rs : List ℕ
   rs = received_in plan acts
@@ -106,44 +112,44 @@ module _ (p : ProtocolValue) (role : ℕ) (code : CodeValue) (check : ℕ) (solv
   f = s.general.put
 
   abbrev one : Tree
-  one = f (N + s.a)
+  one = f (N + a)
 
   abbrev other : Tree
-  other = f (N + s.b)
+  other = f (N + b)
 
   abbrev arrivals : List Tree
   arrivals = take (length rs) ps
 
   abbrev front : List ℕ
-  front = atoms_of N (rs ++ s.a ∷ s.b ∷ [])
+  front = atoms_of N (rs ++ a ∷ b ∷ [])
 
-  pub parts : AreParted f N s.a s.b rs ss ps
-  parts = subst (AreParted f N s.a s.b rs ss) (sym s.general.is) (parted f N s.a s.b rs ss)
+  pub parts : AreParted f N a b rs ss ps
+  parts = subst (AreParted f N a b rs ss) (sym s.general.is) (parted f N a b rs ss)
 
-  split : atoms_of N (asked p role acts s.a s.b) ≡ front ++ atoms_of N ss
-  split = atoms_both N rs (s.a ∷ s.b ∷ ss) ∙ go (atoms_of N rs) ∙ ap (λ l. l ++ atoms_of N ss) (sym (atoms_both N rs (s.a ∷ s.b ∷ [])))
+  split : atoms_of N (asked p role acts a b) ≡ front ++ atoms_of N ss
+  split = atoms_both N rs (a ∷ b ∷ ss) ∙ go (atoms_of N rs) ∙ ap (λ l. l ++ atoms_of N ss) (sym (atoms_both N rs (a ∷ b ∷ [])))
     where
-      go : (xs : List ℕ) → xs ++ atoms_of N (s.a ∷ s.b ∷ ss) ≡ (xs ++ atoms_of N (s.a ∷ s.b ∷ [])) ++ atoms_of N ss
+      go : (xs : List ℕ) → xs ++ atoms_of N (a ∷ b ∷ ss) ≡ (xs ++ atoms_of N (a ∷ b ∷ [])) ++ atoms_of N ss
       go [] = refl
       go (x ∷ xs) = ap (λ l. x ∷ l) (go xs)
 
   -- each solution is an instance, at both parts
   at_parts : (g : ℕ → Tree) → IsSolution N (less_equations names plan acts check) g → (map g front ≡ map (λ k. put_in g (f k)) front) × (map g (atoms_of N ss) ≡ map (λ k. put_in g (f k)) (atoms_of N ss))
   at_parts g sol =
-      let all = s.general.general g sol ∙ ap (map (put_in g)) s.general.is ∙ map_after g f (atoms_of N (asked p role acts s.a s.b)) in
+      let all = s.general.general g sol ∙ ap (map (put_in g)) s.general.is ∙ map_after g f (atoms_of N (asked p role acts a b)) in
       front_same g (λ k. put_in g (f k)) front (atoms_of N ss) (subst (λ l. map g l ≡ map (λ k. put_in g (f k)) l) split all)
 
-  pub patterns : HasPatterns names plan acts check s.a s.b arrivals one other
+  pub patterns : HasPatterns names plan acts check a b arrivals one other
   patterns =
       let is : arrivals ++ one ∷ other ∷ [] ≡ map f front =
-      ap (λ l. l ++ one ∷ other ∷ []) parts.arrivals ∙ sym (map-append f (atoms_of N rs) ((N + s.a) ∷ (N + s.b) ∷ [])) ∙ ap (map f) (sym (atoms_both N rs (s.a ∷ s.b ∷ []))) in
+      ap (λ l. l ++ one ∷ other ∷ []) parts.arrivals ∙ sym (map-append f (atoms_of N rs) ((N + a) ∷ (N + b) ∷ [])) ∙ ap (map f) (sym (atoms_both N rs (a ∷ b ∷ []))) in
       record {
         count = ap length parts.arrivals ∙ length-map (atoms_of N rs) f ∙ length-map rs (λ i. N + i);
         are = record { put = f; solution = s.general.solution; is = is; general = λ g sol. (at_parts g sol).0 ∙ sym (map_after g f front) ∙ ap (map (put_in g)) (sym is) };
       }
 
-  at_honest : (map honest (atoms_of N rs) ≡ map (put_in honest) arrivals) × (honest (N + s.a) ≡ put_in honest one) × (honest (N + s.b) ≡ put_in honest other)
-  at_honest = sides_of N s.a s.b honest (put_in honest) rs arrivals one other patterns.count (patterns.are.general honest s.honest.solution)
+  at_honest : (map honest (atoms_of N rs) ≡ map (put_in honest) arrivals) × (honest (N + a) ≡ put_in honest one) × (honest (N + b) ≡ put_in honest other)
+  at_honest = sides_of N a b honest (put_in honest) rs arrivals one other patterns.count (patterns.are.general honest s.honest.solution)
 
   makes_one : MakesOne names honest one other
   makes_one = record { keeps = s.honest.solution.keeps; same = sym at_honest.1 ∙ s.same ∙ at_honest.2; named = subst (IsNamed names) at_honest.1 s.named }
@@ -152,14 +158,14 @@ module _ (p : ProtocolValue) (role : ℕ) (code : CodeValue) (check : ℕ) (solv
   are_one = (honest, makes_one)
 
   pub implied : SameSidesAreImplied → one ≡ other → IsImplied has plan acts check
-  implied law e = law has names plan acts check s.a s.b arrivals one s.over s.is (subst (HasPatterns names plan acts check s.a s.b arrivals one) (sym e) patterns)
+  implied law e = law has names plan acts check a b arrivals one s.over s.is (subst (HasPatterns names plan acts check a b arrivals one) (sym e) patterns)
 
   module _ (v : ℕ) (told : TellsApart names one other v) where
     abbrev sp : ℕ → Tree
     sp = spared_at names v ts
 
     made_case : TwoSidesMakeACase → IsCase has names plan acts check (case_with names v honest arrivals one other)
-    made_case law = law has names plan acts check s.a s.b arrivals one other honest v s.over s.is patterns s.honest told.0 (told.1 honest makes_one)
+    made_case law = law has names plan acts check a b arrivals one other honest v s.over s.is patterns s.honest told.0 (told.1 honest makes_one)
 
     keeps : KeepsNames N sp
     keeps = spared_keeps names v honest told.0 s.honest.solution.keeps
@@ -207,18 +213,22 @@ module _ (p : ProtocolValue) (role : ℕ) (code : CodeValue) (check : ℕ) (solv
       value_is : case_value case ≡ case_with names v honest arrivals one other
       value_is = same_case (map tree_of case.arrivals.items) came (tree_of case.wrong) (honest v) (tree_of case.one) (put_in sp one) (tree_of case.other) (put_in sp other) put.arrivals put.wrong (put.one one parts.one) (put.other other parts.other)
 
-      pub case_found : TwoSidesMakeACase → IsCaseOf p role code check case
+      pub case_found : TwoSidesMakeACase → IsCaseOf p role code reading check case
       case_found law =
           let is = made_case law in
-          let at = stops_behind (terms_over has) (drawn plan) acts [] (known plan) 0 0 0 came is.stops.0 check is.stops.1 in
+          let stops = stops_by (terms_over has) (drawn plan) reading check a b own (known plan) came is.stops.0 is.stops.1 in
+          let at = stops_behind (terms_over has) (drawn plan) own [] (known plan) 0 0 0 came is.stops.0 check stops in
           let place : at.before ≡ check - 1 = omega (arith, at.counts) in
           let here : is.stops.0 ≡ case.event =
-          at.done ∙ ap (λ k. 0 + count_by exchanges (take k acts)) place ∙ ap (λ l. 0 + count_by exchanges l) (sym (map-take (act_of code.formats) (check - 1) code.instrs))
+          at.done ∙ ap (λ k. 0 + count_by exchanges (take k own)) place ∙ ap (λ l. 0 + count_by exchanges l) (sym (map-take (act_of code.formats) (check - 1) code.instrs))
           ∙ ap (λ k. 0 + k) (exchanges_of code.formats (take (check - 1) code.instrs)) ∙ (let z : 0 + event_before code.instrs check ≡ event_before code.instrs check = omega arith in z) ∙ sym event in
           record {
+            a = a;
+            b = b;
+            compares = compares;
             number = number;
             is = subst (IsCase has names plan acts check) (sym value_is) is;
-            event = ap (λ l. (run_in_terms has plan acts l).end) arrives ∙ is.stops.1 ∙ ap (λ e. stopped e check) here;
+            event = ap (λ l. (run_in_terms has plan own l).end) arrives ∙ stops ∙ ap (λ e. stopped e check) here;
             messages = ap (λ l. (run_in_terms has plan (less check acts) l).sent) arrives ∙ sends ∙ sym put.messages;
             formed = subst (λ l. AreFormed has (trees_of l)) (sym put.messages) messages_formed;
             named = both_named N (map tree_of case.messages.items) (map tree_of case.arrivals.items) (subst (λ l. AreNamed N (trees_of l)) (sym put.messages) (each_named_put N sp spared_named (drop (length rs + 2) ps)))
@@ -229,25 +239,25 @@ module _ (p : ProtocolValue) (role : ℕ) (code : CodeValue) (check : ℕ) (solv
 
   module _ (t u : Tree) (at_one : slice_get ps solved.count ≡ Some t) (at_other : slice_get ps (solved.count + 1) ≡ Some u) where
     one_is : one ≡ t
-    one_is = let a = subst (λ k. slice_get ps k ≡ Some t) s.count at_one in let b = parts.one in cc
+    one_is = let here = subst (λ k. slice_get ps k ≡ Some t) s.count at_one in let part = parts.one in cc
 
     other_is : other ≡ u
-    other_is = let a = subst (λ k. slice_get ps (k + 1) ≡ Some u) s.count at_other in let b = parts.other in cc
+    other_is = let here = subst (λ k. slice_get ps (k + 1) ≡ Some u) s.count at_other in let part = parts.other in cc
 
     pub given_one : AreOneFor solved.spare t u
     given_one = subst (λ k. AreOneFor k t u) (sym s.spare) (subst (λ x. AreOneFor names x u) one_is (subst (AreOneFor names one) other_is are_one))
 
-    pub given_implied : SameSidesAreImplied → t ≡ u → IsImplied has plan acts check
-    given_implied law e = implied law (one_is ∙ e ∙ sym other_is)
+    pub given_implied : SameSidesAreImplied → t ≡ u → IsImpliedAs p role code reading check
+    given_implied law e = record { a = a; b = b; compares = compares; is = implied law (one_is ∙ e ∙ sym other_is) }
 
-    pub given_case : TwoSidesMakeACase → (v : ℕ) → TellsApart solved.spare t u v → (case : Case) → case.check ≡ check → case.event ≡ event_before code.instrs check → IsPutInto solved.spare v ts solved.count ps case → IsCaseOf p role code check case
+    pub given_case : TwoSidesMakeACase → (v : ℕ) → TellsApart solved.spare t u v → (case : Case) → case.check ≡ check → case.event ≡ event_before code.instrs check → IsPutInto solved.spare v ts solved.count ps case → IsCaseOf p role code reading check case
     given_case law v told case number event put =
-        let a = subst (λ k. TellsApart k t u v) s.spare told in
-        let b = subst (λ x. TellsApart names x u v) (sym one_is) a in
-        let c = subst (λ x. TellsApart names one x v) (sym other_is) b in
-        let d = subst (λ k. IsPutInto k v ts solved.count ps case) s.spare put in
-        let e = subst (λ k. IsPutInto names v ts k ps case) s.count d in
-        case_found v c case number event e law
+        let told_here = subst (λ k. TellsApart k t u v) s.spare told in
+        let told_one = subst (λ x. TellsApart names x u v) (sym one_is) told_here in
+        let told_both = subst (λ x. TellsApart names one x v) (sym other_is) told_one in
+        let put_here = subst (λ k. IsPutInto k v ts solved.count ps case) s.spare put in
+        let put_all = subst (λ k. IsPutInto names v ts k ps case) s.count put_here in
+        case_found v told_both case number event put_all law
 
   pub many : solved.count + 2 ≤ length ps
   many = subst (λ k. k + 2 ≤ length ps) (sym s.count) parts.long

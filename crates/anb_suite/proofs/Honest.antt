@@ -41,10 +41,13 @@ use Rattle.anb_distinguish.specs.Laws.{IsHonest}
 use Rattle.anb_distinguish.proofs.Registers.{HoldsFrom, assigned_keeps, assigned_at}
 use Rattle.anb_distinguish.proofs.Sides.{all_named_more, drawn_named}
 use Rattle.anb_distinguish.proofs.Solved.{held_solved}
+use Rattle.anb_suite.specs.Reading.{read_by}
+use Rattle.anb_suite.specs.declared.reading.Reading.{Reading}
 use Rattle.anb_suite.specs.Walks.{sent_in}
 use Rattle.anb_suite.specs.Sparing.{asked}
 use Rattle.anb_suite.proofs.Narrated.{begun, whole_is}
 use Rattle.anb_suite.proofs.Lessening.{each_less, sides_same}
+use Rattle.anb_suite.proofs.Replaced.{can_by, check_by, received_by, sent_by, solved_by, taking_by, within_by}
 use Rattle.anb_suite.proofs.Spared.{assigned_holds, formed_atoms}
 
 -- ---- terms of a protocol are over its names
@@ -104,8 +107,95 @@ held_within : (us : List Tree) (k m : ℕ) → ((j : ℕ) (t : Tree) → slice_g
 held_within [] k m h = tt
 held_within (t ∷ us) k m h = (omega (arith, h 0 t refl), held_within us (k + 1) m (λ j u e. omega (arith, h (suc j) u e)))
 
+-- What is told of all registers of acts, with their terms.
+module _ (p : ProtocolValue) (role : ℕ) (acts : List Act) (a b : ℕ) (ts : List Tree) where
+  abbrev told_names : ℕ
+  told_names = length p.atoms + 1
+
+  abbrev told_plan : List Event
+  told_plan = events_of p role
+
+  abbrev told_count : ℕ
+  told_count = length (known (events_of p role))
+
+  pub record Narrated : Type 0 where
+    pub knows : (k : ℕ) (t : Tree) → slice_get (known told_plan) k ≡ Some t → slice_get ts k ≡ Some t
+    pub solves : AllByRecursion (Solves told_names (assigned told_names ts)) (equations_from told_names (drawn told_plan) acts told_count 0)
+    pub within : AreOfVariables (length ts) (equations_from told_names (drawn told_plan) acts told_count 0)
+    pub came : heard told_plan ≡ map (assigned told_names ts) (atoms_of told_names (received_in told_plan acts))
+    pub came_within : AreVariables (length ts) (received_in told_plan acts)
+    pub sent_within : AreVariables (length ts) (sent_in acts)
+    pub sides_within : (a < length ts) × (b < length ts)
+
+-- those of a role's code
 module _ (p : ProtocolValue) (role : ℕ) (code : CodeValue) (check a b : ℕ) (ts : List Tree) (fits : FitsRole p role code) (taking : HasTakes (has_operator p.formats) (acts_of code) 0 (length (known (events_of p role))))
-    (of_plan : AllByRecursion (λ e. IsTermOf p (term_in e)) (plan_of p role)) (are : register_terms p role code ≡ Some ts) (ours : AllByRecursion (IsTermOf p) ts) (is : IsCheck (acts_of code) check a b) where
+    (of_plan : AllByRecursion (λ e. IsTermOf p (term_in e)) (plan_of p role)) (are : register_terms p role code ≡ Some ts) (is : IsCheck (acts_of code) check a b) where
+  abbrev own : List Act
+  own = acts_of code
+
+  narrated : Narrated p role own a b ts
+  narrated =
+      let N = length p.atoms + 1 in
+      let plan = events_of p role in
+      let n = length (known plan) in
+      let named = drawn_named (length p.atoms) plan (made_named p (plan_of p role) of_plan) in
+      let g = begun p.formats p.suite plan own N (drawn plan) named n refl (plan_of p role) refl taking fits.fits.sound (λ k t e. ap (λ o. unwrap_or o (leaf 0)) e) in
+      let r = g.rest in
+      let P : List FormatValue → Type 0 = λ f. values (terms_over (has_operator f)) (all_labels plan) (recipe_trees (register_recipes own)) ≡ Some ts in
+      let whole : r.whole ≡ ts = whole_is p.formats p.suite plan own N (drawn plan) named r.whole ts r.ends (subst P fits.formats are) in
+      record {
+        knows = λ k t e. subst (λ l. slice_get l k ≡ Some t) whole (g.knows k t e);
+        solves = subst (λ l. AllByRecursion (Solves N (assigned N l)) (equations_from N (drawn plan) own n 0)) whole r.solves;
+        within = subst (λ l. AreOfVariables (length l) (equations_from N (drawn plan) own n 0)) whole r.within;
+        came = subst (λ l. heard plan ≡ map (assigned N l) (atoms_of N (received_in plan own))) whole r.came;
+        came_within = subst (λ l. AreVariables (length l) (received_in plan own)) whole r.came_within;
+        sent_within = subst (λ l. AreVariables (length l) (sent_in own)) whole r.sent_within;
+        sides_within = subst (λ l. (a < length l) × (b < length l)) whole (r.sides_within is.at a b is.here);
+      }
+
+  -- and of the code as it is read behind a check
+  pub narrated_as : (reading : Reading) → Narrated p role (read_by reading check a b own) a b ts
+  narrated_as reading =
+      let g = narrated in
+      let N = length p.atoms + 1 in
+      let plan = events_of p role in
+      let n = length (known plan) in
+      let put = assigned N ts in
+      let same : put (N + a) ≡ put (N + b) = sides_same N put (drawn plan) own n 0 is.at a b g.solves is.here in
+      let came : received_in plan (read_by reading check a b own) ≡ received_in plan own = received_by reading check a b own n in
+      record {
+        knows = g.knows;
+        solves = solved_by N (drawn plan) put reading check a b own n 0 same g.solves;
+        within = within_by N (drawn plan) reading check a b own (length ts) n 0 g.sides_within.0 g.sides_within.1 g.within;
+        came = g.came ∙ ap (λ l. map put (atoms_of N l)) (sym came);
+        came_within = subst (AreVariables (length ts)) (sym came) g.came_within;
+        sent_within = sent_by reading check a b own (length ts) g.sides_within.0 g.sides_within.1 g.sent_within;
+        sides_within = g.sides_within;
+      }
+
+-- what is told of a code as it is read behind a check
+pub record ToldAs (p : ProtocolValue) (role : ℕ) (code : CodeValue) (reading : Reading) (check a b : ℕ) (ts : List Tree) : Type 0 where
+  pub taking : HasTakes (has_operator p.formats) (read_by reading check a b (acts_of code)) 0 (length (known (events_of p role)))
+  pub can : CanUndoAll (read_by reading check a b (acts_of code))
+  pub of_plan : AllByRecursion (λ e. IsTermOf p (term_in e)) (plan_of p role)
+  pub ours : AllByRecursion (IsTermOf p) ts
+  pub told : Narrated p role (read_by reading check a b (acts_of code)) a b ts
+  pub is : IsCheck (read_by reading check a b (acts_of code)) check a b
+
+pub reads_told : (p : ProtocolValue) (role : ℕ) (code : CodeValue) (reading : Reading) (check a b : ℕ) (ts : List Tree) → FitsRole p role code → HasTakes (has_operator p.formats) (acts_of code) 0 (length (known (events_of p role)))
+    → AllByRecursion (λ e. IsTermOf p (term_in e)) (plan_of p role) → register_terms p role code ≡ Some ts → AllByRecursion (IsTermOf p) ts → IsCheck (acts_of code) check a b → ToldAs p role code reading check a b ts
+reads_told p role code reading check a b ts fits taking of_plan are ours is = record {
+  taking = taking_by (has_operator p.formats) reading check a b (acts_of code) (length (known (events_of p role))) is taking;
+  can = can_by reading check a b (acts_of code) (can_undo code.formats code.instrs);
+  of_plan = of_plan;
+  ours = ours;
+  told = narrated_as p role code check a b ts fits taking of_plan are is reading;
+  is = check_by reading check a b (acts_of code) is;
+}
+
+-- what it comes to, of acts that follow the plan
+module _ (p : ProtocolValue) (role : ℕ) (acts : List Act) (check a b : ℕ) (ts : List Tree) (taking : HasTakes (has_operator p.formats) acts 0 (length (known (events_of p role)))) (can : CanUndoAll acts)
+    (of_plan : AllByRecursion (λ e. IsTermOf p (term_in e)) (plan_of p role)) (ours : AllByRecursion (IsTermOf p) ts) (g : Narrated p role acts a b ts) (is : IsCheck acts check a b) where
   abbrev names : ℕ
   names = length p.atoms
 
@@ -118,9 +208,6 @@ module _ (p : ProtocolValue) (role : ℕ) (code : CodeValue) (check a b : ℕ) (
   abbrev plan : List Event
   plan = events_of p role
 
-  abbrev acts : List Act
-  acts = acts_of code
-
   abbrev n : ℕ
   n = length (known plan)
 
@@ -128,38 +215,10 @@ module _ (p : ProtocolValue) (role : ℕ) (code : CodeValue) (check a b : ℕ) (
   put = assigned N ts
 
   pub over_names : IsOverNames has names plan acts
-  over_names = record { taking = taking; can = can_undo code.formats code.instrs; known = known_named p (plan_of p role) of_plan; made = made_named p (plan_of p role) of_plan }
-
-  -- what is told of all registers, with their terms
-  pub record Narrated : Type 0 where
-    pub knows : (k : ℕ) (t : Tree) → slice_get (known plan) k ≡ Some t → slice_get ts k ≡ Some t
-    pub solves : AllByRecursion (Solves N put) (equations_from N (drawn plan) acts n 0)
-    pub within : AreOfVariables (length ts) (equations_from N (drawn plan) acts n 0)
-    pub came : heard plan ≡ map put (atoms_of N (received_in plan acts))
-    pub came_within : AreVariables (length ts) (received_in plan acts)
-    pub sent_within : AreVariables (length ts) (sent_in acts)
-    pub sides_within : (a < length ts) × (b < length ts)
-
-  narrated : Narrated
-  narrated =
-      let named = drawn_named names plan (made_named p (plan_of p role) of_plan) in
-      let g = begun p.formats p.suite plan acts N (drawn plan) named n refl (plan_of p role) refl taking fits.fits.sound (λ k t e. ap (λ o. unwrap_or o (leaf 0)) e) in
-      let r = g.rest in
-      let P : List FormatValue → Type 0 = λ f. values (terms_over (has_operator f)) (all_labels plan) (recipe_trees (register_recipes acts)) ≡ Some ts in
-      let whole : r.whole ≡ ts = whole_is p.formats p.suite plan acts N (drawn plan) named r.whole ts r.ends (subst P fits.formats are) in
-      record {
-        knows = λ k t e. subst (λ l. slice_get l k ≡ Some t) whole (g.knows k t e);
-        solves = subst (λ l. AllByRecursion (Solves N (assigned N l)) (equations_from N (drawn plan) acts n 0)) whole r.solves;
-        within = subst (λ l. AreOfVariables (length l) (equations_from N (drawn plan) acts n 0)) whole r.within;
-        came = subst (λ l. heard plan ≡ map (assigned N l) (atoms_of N (received_in plan acts))) whole r.came;
-        came_within = subst (λ l. AreVariables (length l) (received_in plan acts)) whole r.came_within;
-        sent_within = subst (λ l. AreVariables (length l) (sent_in acts)) whole r.sent_within;
-        sides_within = subst (λ l. (a < length l) × (b < length l)) whole (r.sides_within is.at a b is.here);
-      }
+  over_names = record { taking = taking; can = can; known = known_named p (plan_of p role) of_plan; made = made_named p (plan_of p role) of_plan }
 
   solution : IsSolution N (less_equations names plan acts check) put
   solution =
-      let g = narrated in
       let keeps = assigned_keeps N ts in
       let held : HoldsFrom N put 0 (known plan) = λ j t e. (let z : 0 + j ≡ j = omega arith in ap (λ k. put (N + k)) z ∙ assigned_at N ts j t (g.knows j t e)) in
       record {
@@ -174,14 +233,12 @@ module _ (p : ProtocolValue) (role : ℕ) (code : CodeValue) (check a b : ℕ) (
 
   pub of_registers : AreOfVariables (length ts) (less_equations names plan acts check)
   of_registers =
-      let g = narrated in
       each_in_both (λ (q : EquationValue). q.variable < length ts) (held_from (known plan) 0) (equations_from N (drawn plan) (less check acts) n 0)
       (held_within (known plan) 0 (length ts) (λ j t e. omega (arith, got_within ts j t (g.knows j t e))))
       (each_less check (λ (q : EquationValue). q.variable < length ts) N (drawn plan) acts 0 n 0 g.within)
 
   pub asked_within : AreVariables (length ts) (asked p role acts a b)
   asked_within =
-      let g = narrated in
       each_in_both (λ i. i < length ts) (received_in plan acts) (a ∷ b ∷ sent_in acts) g.came_within (g.sides_within.0, (g.sides_within.1, g.sent_within))
 
   pub terms_formed : (k : ℕ) → IsFormed has (put k)
@@ -190,15 +247,15 @@ module _ (p : ProtocolValue) (role : ℕ) (code : CodeValue) (check a b : ℕ) (
   pub is_honest : IsHonest has names plan acts check a b put
   is_honest = record {
     solution = solution;
-    narrated = sym narrated.came;
+    narrated = sym g.came;
     named = heard_named p (plan_of p role) of_plan;
     formed = formed_atoms has put (atoms_of N (received_in plan acts ++ a ∷ b ∷ [])) terms_formed;
   }
 
   pub sides_one : put (N + a) ≡ put (N + b)
-  sides_one = sides_same N put (drawn plan) acts n 0 is.at a b narrated.solves is.here
+  sides_one = sides_same N put (drawn plan) acts n 0 is.at a b g.solves is.here
 
   pub side_named : IsNamed names (put (N + a))
   side_named =
-      let t = slice_get-there ts a narrated.sides_within.0 in
+      let t = slice_get-there ts a g.sides_within.0 in
       subst (IsNamed names) (sym (assigned_at N ts a t.0 t.1)) (term_named p t.0 (each_got (IsTermOf p) ts a t.0 ours t.1))

@@ -1,3 +1,5 @@
+pub mod Behind
+pub mod Replaced
 pub mod Stepping
 pub mod Turns
 pub mod Comparisons

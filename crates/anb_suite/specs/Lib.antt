@@ -1,3 +1,4 @@
+pub mod Reading
 pub mod Suites
 -- for proofs alone
 pub mod Walks

@@ -17,6 +17,8 @@ use Rattle.anb_unify.specs.Equations.{IsMostGeneral, atoms_of}
 use Rattle.anb_distinguish.specs.Equations.{assigned}
 use Rattle.anb_distinguish.specs.Finding.{IsOverNames, IsCheck, less_equations, received_in, spared}
 use Rattle.anb_distinguish.specs.Laws.{IsHonest}
+use Rattle.anb_suite.specs.Reading.{read_by}
+use Rattle.anb_suite.specs.declared.reading.Reading.{Reading}
 use Rattle.anb_suite.specs.declared.cases.Case.{Case}
 use Rattle.anb_suite.specs.declared.solving.Solved.{Solved}
 use Rattle.anb_suite.specs.Walks.{sent_in}
@@ -51,16 +53,21 @@ event_before instrs check = count_by is_exchange (take (check - 1) instrs)
 abbrev pub asked : ProtocolValue → ℕ → List Act → ℕ → ℕ → List ℕ
 asked p role acts a b = received_in (events_of p role) acts ++ a ∷ b ∷ sent_in acts
 
--- the most general solution of a code less a check, and the narrated one
-pub record IsSolved (p : ProtocolValue) (role : ℕ) (code : CodeValue) (check : ℕ) (solved : Solved) : Type 0 where
-  pub a : ℕ
-  pub b : ℕ
-  pub is : IsCheck (acts_of code) check a b
+-- the most general solution of acts less a check, and the narrated one
+pub record IsSolved (p : ProtocolValue) (role : ℕ) (acts : List Act) (check a b : ℕ) (solved : Solved) : Type 0 where
+  pub is : IsCheck acts check a b
   pub spare : solved.spare ≡ length p.atoms
-  pub over : IsOverNames (has_operator p.formats) (length p.atoms) (events_of p role) (acts_of code)
-  pub honest : IsHonest (has_operator p.formats) (length p.atoms) (events_of p role) (acts_of code) check a b (narrated_at (length p.atoms) solved.explanation.terms)
+  pub over : IsOverNames (has_operator p.formats) (length p.atoms) (events_of p role) acts
+  pub honest : IsHonest (has_operator p.formats) (length p.atoms) (events_of p role) acts check a b (narrated_at (length p.atoms) solved.explanation.terms)
   pub same : narrated_at (length p.atoms) solved.explanation.terms (length p.atoms + 1 + a) ≡ narrated_at (length p.atoms) solved.explanation.terms (length p.atoms + 1 + b)
   pub named : IsNamed (length p.atoms) (narrated_at (length p.atoms) solved.explanation.terms (length p.atoms + 1 + a))
   pub terms : AllByRecursion (IsTermOf p) solved.explanation.terms
-  pub general : IsMostGeneral (length p.atoms + 1) (less_equations (length p.atoms) (events_of p role) (acts_of code) check) (atoms_of (length p.atoms + 1) (asked p role (acts_of code) a b)) (map tree_of solved.patterns.items)
-  pub count : solved.count ≡ length (received_in (events_of p role) (acts_of code))
+  pub general : IsMostGeneral (length p.atoms + 1) (less_equations (length p.atoms) (events_of p role) acts check) (atoms_of (length p.atoms + 1) (asked p role acts a b)) (map tree_of solved.patterns.items)
+  pub count : solved.count ≡ length (received_in (events_of p role) acts)
+
+-- those of a code as it is read behind the check
+pub record IsSolvedAs (p : ProtocolValue) (role : ℕ) (code : CodeValue) (reading : Reading) (check : ℕ) (solved : Solved) : Type 0 where
+  pub a : ℕ
+  pub b : ℕ
+  pub compares : IsCheck (acts_of code) check a b
+  pub solved_is : IsSolved p role (read_by reading check a b (acts_of code)) check a b solved

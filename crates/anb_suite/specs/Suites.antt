@@ -12,6 +12,8 @@ use Rattle.anb_protocol.specs.Plays.{events_of}
 use Rattle.anb_unify.specs.Substitutions.{AreNamed}
 use Rattle.anb_probe.specs.Cases.{CaseValue, IsCase, IsImplied, is_comparison, less, run_in_terms}
 use Rattle.anb_distinguish.specs.Finding.{IsCheck}
+use Rattle.anb_suite.specs.Reading.{read_by}
+use Rattle.anb_suite.specs.declared.reading.Reading.{Reading}
 use Rattle.anb_suite.specs.declared.cases.Case.{Case}
 use Rattle.anb_suite.specs.declared.cases.Finding.{Finding}
 use Rattle.anb_suite.specs.declared.cases.Finding.TheVariants as finding
@@ -50,16 +52,26 @@ case_value case = record {
 abbrev pub run_of_role : ProtocolValue → ℕ → List Act → List Tree → Played Tree
 run_of_role p role acts arrivals = run_in_terms (has_operator p.formats) (events_of p role) acts arrivals
 
--- A case of a check of a role's code, whose spare name has the number of names. The code stops there at this event, and
--- the code less the check sends these messages.
-pub record IsCaseOf (p : ProtocolValue) (role : ℕ) (code : CodeValue) (check : ℕ) (case : Case) : Type 0 where
+-- A case of a check of a role's code, as it is read behind it, whose spare name has the number of names. The code itself
+-- stops there at this event, and the code as it is read, less the check, sends these messages.
+pub record IsCaseOf (p : ProtocolValue) (role : ℕ) (code : CodeValue) (reading : Reading) (check : ℕ) (case : Case) : Type 0 where
+  pub a : ℕ
+  pub b : ℕ
+  pub compares : IsCheck (acts_of code) check a b
   pub number : case.check ≡ check
-  pub is : IsCase (has_operator p.formats) (length p.atoms) (events_of p role) (acts_of code) check (case_value case)
+  pub is : IsCase (has_operator p.formats) (length p.atoms) (events_of p role) (read_by reading check a b (acts_of code)) check (case_value case)
   pub event : (run_of_role p role (acts_of code) (map tree_of case.arrivals.items)).end ≡ stopped case.event check
-  pub messages : (run_of_role p role (less check (acts_of code)) (map tree_of case.arrivals.items)).sent ≡ map tree_of case.messages.items
+  pub messages : (run_of_role p role (less check (read_by reading check a b (acts_of code))) (map tree_of case.arrivals.items)).sent ≡ map tree_of case.messages.items
   pub formed : AreFormed (has_operator p.formats) (trees_of (map tree_of case.messages.items))
   pub named : AreNamed (length p.atoms + 1) (trees_of (map tree_of case.messages.items ++ map tree_of case.arrivals.items))
 
-abbrev pub IsFinding : ProtocolValue → ℕ → CodeValue → ℕ → Finding → Type 0
-IsFinding p role code check (finding.Case case) = IsCaseOf p role code check case
-IsFinding p role code check finding.Implied = IsImplied (has_operator p.formats) (events_of p role) (acts_of code) check
+-- as the code is read, its other checks imply this one
+pub record IsImpliedAs (p : ProtocolValue) (role : ℕ) (code : CodeValue) (reading : Reading) (check : ℕ) : Type 0 where
+  pub a : ℕ
+  pub b : ℕ
+  pub compares : IsCheck (acts_of code) check a b
+  pub is : IsImplied (has_operator p.formats) (events_of p role) (read_by reading check a b (acts_of code)) check
+
+abbrev pub IsFinding : ProtocolValue → ℕ → CodeValue → Reading → ℕ → Finding → Type 0
+IsFinding p role code reading check (finding.Case case) = IsCaseOf p role code reading check case
+IsFinding p role code reading check finding.Implied = IsImpliedAs p role code reading check

@@ -1,5 +1,5 @@
 -- For proofs alone: a walk over the instructions of a code.
-use Rattle.std.specs.Prelude.{◌≡◌, ◌+◌, ℕ, List, [], ◌∷◌, ◌++◌, length, map}
+use Rattle.std.specs.Prelude.{◌≡◌, ◌+◌, ℕ, nat_lt, List, [], ◌∷◌, ◌++◌, length, map, if◌then◌else◌}
 use Rattle.anb_term.specs.Tree.{Tree}
 use Rattle.anb_plays.specs.Plans.{Event, known}
 use Rattle.anb_plays.specs.Codes.{Act, takes, draws, receives, sends, works}
@@ -11,11 +11,29 @@ use Rattle.anb_unify.specs.Equations.{EquationValue}
 use Rattle.anb_unify.specs.Views.{equation_value}
 use Rattle.anb_probe.specs.Cases.{drawn, less}
 use Rattle.anb_distinguish.specs.Equations.{equations_from, equations_of, held_from, received_from}
+use Rattle.anb_suite.specs.declared.reading.Reading.{Reading}
+use Rattle.anb_suite.specs.declared.reading.Reading.TheVariants.{Both, First, Second}
 use Rattle.anb_suite.specs.declared.walking.Walk.{Walk}
+use Rattle.anb_suite.specs.Reading.{act_for}
 
 -- the events of a plan
 abbrev pub events_in : List code.Event → List Event
 events_in events = map event_of (map plan_event events)
+
+-- which register of a check is read for which behind it
+abbrev pub gone_by : Reading → (a b : ℕ) → ℕ
+gone_by Both a b = a
+gone_by First a b = b
+gone_by Second a b = a
+
+abbrev pub used_by : Reading → (a b : ℕ) → ℕ
+used_by Both a b = a
+used_by First a b = a
+used_by Second a b = b
+
+-- an act as it is read with so many before it
+abbrev pub act_at : (check gone used at : ℕ) → Act → Act
+act_at check gone used at act = if nat_lt at check then act else act_for gone used act
 
 -- the registers that are sent, in order
 abbrev pub sent_in : List Act → List ℕ

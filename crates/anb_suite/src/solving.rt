@@ -6,8 +6,10 @@ ghost use Rattle.anb_code.specs.Meaning.{act_of, acts_of};
 ghost use Rattle.anb_compile.specs.Fitting.{FitsRole};
 ghost use Rattle.anb_distinguish.specs.Finding.{IsCheck};
 ghost use Rattle.anb_suite.specs.Suites.{HasCheck};
-ghost use Rattle.anb_suite.specs.Sparing.{IsSolved};
+ghost use Rattle.anb_suite.specs.Sparing.{IsSolvedAs};
+ghost use Rattle.anb_suite.specs.Walks.{gone_by, used_by};
 
+use crate::reading::Reading;
 use crate::walking::walk_over;
 use anb_base::NoMemory;
 use anb_code::{Instr, RoleCode, verified_is_runnable};
@@ -30,26 +32,29 @@ pub(crate) struct Solved {
     pub(crate) patterns: Vec<Term>,
 }
 
-/// Solves the equations of a code less a check.
+/// Solves the equations of a code less a check, as it is read behind that.
 pub(crate) fn solve(
     alloc: Global,
     p: &Protocol,
     role: u32,
     code: &RoleCode,
     check: u32,
+    reading: Reading,
 ) -> Result<Solved, NoMemory>
     requires role { role < length p.now.roles }
     requires fits { FitsRole p.now role code.now }
     requires check { HasCheck code.now check }
-    ensures solved { IfOk result (IsSolved p.now role code.now check) }
+    ensures solved { IfOk result (IsSolvedAs p.now role code.now reading check) }
     ensures many { IfOk result (λ solved. solved.count + 2 ≤ length solved.patterns.items) }
 {
     verified_is_runnable();
     let _ = code.formats();
     let explanation = explanation_of(alloc, p, role, code)?;
     let spare = count_names(p)?;
-    let walked = walk_over(alloc, spare + 1, explanation.events(), code, check)?;
     let (a, b) = compared(code, check);
+    let (gone, used) = read_in_place(reading, a, b);
+    let events = explanation.events();
+    let walked = walk_over(alloc, spare + 1, events, code, check, gone, used)?;
     let at = asked(alloc, &walked.received, a, b, &walked.sent)?;
     let terms = explanation.terms();
     let patterns = most_general(alloc, spare + 1, terms, &walked.equations, &at)?;
@@ -69,6 +74,18 @@ fn compared(code: &RoleCode, check: u32) -> (u32, u32)
     let instrs = code.instrs();
     let at = check as usize - 1;
     sides_of(&instrs[at])
+}
+
+/// Which register of these two is read for which.
+fn read_in_place(reading: Reading, a: u32, b: u32) -> (u32, u32)
+    ensures gone { result.0 ≡ gone_by reading a b }
+    ensures used { result.1 ≡ used_by reading a b }
+{
+    match reading {
+        Reading::Both => (a, a),
+        Reading::First => (b, a),
+        Reading::Second => (a, b),
+    }
 }
 
 /// The two registers that an instruction compares, if it does.

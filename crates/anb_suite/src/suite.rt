@@ -5,6 +5,7 @@ ghost use Rattle.anb_suite.specs.Suites.{HasCheck, IsFinding};
 ghost use Rattle.anb_suite.specs.Sparing.{event_before, is_exchange};
 
 use crate::cases::Finding;
+use crate::reading::Reading;
 use crate::solving::solve;
 use crate::sparing::{case_of, nth};
 use anb_base::NoMemory;
@@ -13,23 +14,25 @@ use anb_distinguish::{same_sides_are_implied, two_sides_make_a_case, variable_ap
 use anb_protocol::Protocol;
 use std::alloc::Global;
 
-/// A case of a comparison of a role's code, or that the others imply it. The spare name of a case has
-/// the number of names. Near-linear in the code and in the nodes of the terms of its registers.
+/// A case of a comparison of a role's code, as it is read behind that, or that the others imply it. The
+/// spare name of a case has the number of names. Near-linear in the code and in the nodes of the terms of
+/// its registers.
 pub fn finding(
     alloc: Global,
     p: &Protocol,
     role: u32,
     code: &RoleCode,
     check: u32,
+    reading: Reading,
 ) -> Result<Finding, NoMemory>
     requires role { role < length p.now.roles }
     requires fits { FitsRole p.now role code.now }
     requires check { HasCheck code.now check }
-    ensures { IfOk result (IsFinding p.now role code.now check) }
+    ensures { IfOk result (IsFinding p.now role code.now reading check) }
 {
     same_sides_are_implied();
     two_sides_make_a_case();
-    let solved = solve(alloc, p, role, code, check)?;
+    let solved = solve(alloc, p, role, code, check, reading)?;
     let one = nth(&solved.patterns, solved.count);
     let other = nth(&solved.patterns, solved.count + 1);
     match variable_apart(solved.spare, one, other) {

@@ -11,9 +11,11 @@ ghost use Rattle.anb_plays.specs.Honest.{made};
 ghost use Rattle.anb_code.specs.Meaning.{act_of, acts_of};
 ghost use Rattle.anb_code.specs.Verified.{HasItsFormat};
 ghost use Rattle.anb_distinguish.specs.Equations.{registers};
+ghost use Rattle.anb_suite.specs.Reading.{read_behind};
 ghost use Rattle.anb_suite.specs.Suites.{HasCheck};
-ghost use Rattle.anb_suite.specs.Walks.{events_in, HasHeld, HasStepped, IsBegun, IsWalked};
+ghost use Rattle.anb_suite.specs.Walks.{act_at, events_in, HasHeld, HasStepped, IsBegun, IsWalked};
 
+use crate::reading::read_for;
 use anb_base::NoMemory;
 use anb_code::{Instr, RoleCode};
 use anb_format::Format;
@@ -37,23 +39,29 @@ pub(crate) struct Walk {
     drawn: u32,
 }
 
-/// Walks over a code less a check, along a plan. One pass.
+/// Walks over a code less a check, along a plan, where behind the check one register is read for another.
+/// One pass.
 pub(crate) fn walk_over(
     alloc: Global,
     names: u32,
     events: &[Event],
     code: &RoleCode,
     check: u32,
+    gone: u32,
+    used: u32,
 ) -> Result<Walk, NoMemory>
     requires { HasCheck code.now check }
-    ensures { IfOk result (IsWalked names (events_in events.now) (acts_of code.now) check) }
+    ensures { IfOk result (IsWalked names (events_in events.now)
+        (read_behind check gone used (acts_of code.now)) check) }
 {
     let formats = code.formats();
     let made = made_in(alloc, events)?;
     let mut walk = begin(alloc, events)?;
     for (i, instr) in code.instrs().iter().enumerate() {
         if i + 1 != check as usize {
-            step(alloc, names, formats, &made, instr, &mut walk)?;
+            step_at(
+                alloc, names, formats, &made, instr, i, check, gone, used, &mut walk,
+            )?;
         }
     }
     Ok(walk)
@@ -129,6 +137,33 @@ fn behind(register: u32, count: u16) -> Result<u32, NoMemory>
     match register.checked_add(u32::from(count)) {
         Some(next) => Ok(next),
         None => Err(NoMemory),
+    }
+}
+
+/// One instruction more, with so many before it.
+fn step_at(
+    alloc: Global,
+    names: u32,
+    formats: &[Format],
+    made: &[Term],
+    instr: &Instr,
+    at: usize,
+    check: u32,
+    gone: u32,
+    used: u32,
+    walk: &mut Walk,
+) -> Result<(), NoMemory>
+    requires fields { AllByRecursion (λ format. field_count format.pieces ≤ 32) formats.now }
+    requires format { HasItsFormat formats.now instr.now }
+    ensures { OnOk result (HasStepped names
+        (λ i. unwrap_or (slice_get (map tree_of made.now) i) (leaf 0))
+        (act_at check gone used at (act_of formats.now instr.now)) walk.old walk.new) }
+{
+    if at < check as usize {
+        step(alloc, names, formats, made, instr, walk)
+    } else {
+        let read = read_for(alloc, instr, gone, used)?;
+        step(alloc, names, formats, made, &read, walk)
     }
 }
 

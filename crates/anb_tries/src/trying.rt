@@ -8,7 +8,7 @@ ghost use Rattle.anb_code.specs.Taking.{take_texts};
 ghost use Rattle.anb_machine.specs.ByteRuns.{run_bytes};
 ghost use Rattle.anb_protocol.specs.Texts.{known_by, known_texts};
 ghost use Rattle.anb_partner.specs.Talks.{Converses, IsShort};
-ghost use Rattle.anb_partner.specs.Trials.{IsUnstarted, OthersStay};
+ghost use Rattle.anb_partner.specs.Trials.{IsUnstarted, OthersStay, asked_words};
 ghost use Rattle.anb_partner.specs.declared.conversation.TalkEnd.TheVariants as talk;
 ghost use Rattle.anb_spoil.specs.Wrongs.{wrong_by};
 ghost use Rattle.anb_judge.specs.Verdicts.{line_bytes};
@@ -35,14 +35,16 @@ pub struct Tried {
     pub reached: usize,
 }
 
-/// One attempt on a program: the partner converses with the child of this case, and the verdict says
-/// whether what came is what the role does, for some draws. `due` is the event at which the role stops
-/// whatever it drew, where that is known, and `reached` how far the honest case got; in the honest case
-/// itself it's 0. Beside the conversation it takes as long as compiling the role and running it.
+/// One attempt on a program: the partner converses with the child of this case, which is started with
+/// this limit and these words, and the verdict says whether what came is what the role does, for some
+/// draws. `due` is the event at which the role stops whatever it drew, where that is known, and `reached`
+/// how far the honest case got; in the honest case itself it's 0. Beside the conversation it takes as
+/// long as compiling the role and running it.
 pub fn try_case<T: Trials>(
     alloc: Global,
     trials: &mut T,
     case: u32,
+    limit: Option<u32>,
     words: &[Text],
     p: &Protocol,
     role: u32,
@@ -62,7 +64,8 @@ pub fn try_case<T: Trials>(
     ensures converses { IfOk result (λ tried. Converses
         (run_bytes partner.now.code values.now.initial.items (replicate 32 0) 0)
         values.now.handed.items partner.now.hook (wrong_by partner.now.code.formats wrong)
-        words.now (T.trial trials.old case) (T.trial trials.new case) tried.conversation) }
+        (asked_words limit words.now) (T.trial trials.old case) (T.trial trials.new case)
+        tried.conversation) }
     ensures verdict { IfOk result (λ tried. IsTriedVerdict (record {
       protocol = p.now;
       role = role;
@@ -81,7 +84,7 @@ pub fn try_case<T: Trials>(
     ensures none_left { (T.trial trials.new case).phase ≢ 1 }
     ensures others { OthersStay case (T.trial trials.old) (T.trial trials.new) }
 {
-    match converse(alloc, trials, case, words, partner, values, wrong) {
+    match converse(alloc, trials, case, limit, words, partner, values, wrong) {
         Ok(conversation) => {
             lines_are_bytes(conversation.lines.lines());
             lengths_are_small(conversation.end);

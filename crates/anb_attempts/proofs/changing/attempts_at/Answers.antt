@@ -13,7 +13,7 @@ pub loop-change-preserved : goal.loop-change-preserved
 loop-change-preserved c =
     let xs = c.args.changes.now in
     let i = c.loop-change.change-index in
-    let R : Change → Attempt → Type 0 = IsAttempt c.args.p.now c.args.role c.args.scene (place_value c.args.place.now) in
+    let R : Change → Attempt → Type 0 = IsAttempt c.args.p.now c.args.role c.args.scene (place_value c.args.place.now) c.args.reading in
     let one = c.in_ok-attempt.ensures c.args.p.now c.args.role c.in_ok-other.ensures in
     let more = zip_and_last R (take i xs) c.loop-change.attempts.items _ c.in_ok-attempt.attempt c.loop-change.invariant one in
     subst (λ (l : List Change). AllZip R l c.push.new.self.items) (sym (taken_next xs i LastByte (omega arith)))

@@ -5,4 +5,4 @@ use Rattle.anb_attempts.specs.Attempts.{IsAttempt}
 use Rattle.anb_attempts.proofs.changing.attempts_at.Given as goal
 
 abbrev pub invariant-loop-change : goal.invariant-loop-change
-invariant-loop-change l = AllZip (IsAttempt l.p l.role l.scene (place_value l.place)) (take l.change-index l.changes) l.attempts.items
+invariant-loop-change l = AllZip (IsAttempt l.p l.role l.scene (place_value l.place) l.reading) (take l.change-index l.changes) l.attempts.items

@@ -14,20 +14,21 @@ returns c =
     let p = c.args.p.now in
     let role = c.args.role in
     let case = c.args.case in
+    let reading = c.args.reading in
     let changes = c.args.changes.now in
     let attempts = c.in_ok-attempts.attempts.items in
     let place : place_value c.in_ok-place.place ≡ case_place p role case = c.in_ok-place.ensures ∙ ap (λ (l : List Term). place_at p role (map tree_of l) case.event) c.deref.ensures.value in
-    let tried = subst (λ (at : Place). AllZip (IsAttempt p role c.args.scene at) changes attempts) place c.in_ok-attempts.ensures in
+    let tried = subst (λ (at : Place). AllZip (IsAttempt p role c.args.scene at reading) changes attempts) place c.in_ok-attempts.ensures in
     let is = subst (λ (spare : ℕ). IsSceneOf spare case c.scene_of.result) c.in_ok-spare.ensures c.scene_of.ensures in
     let yes : IsTrue c.in_ok-terms_may_stand.field-0 = c.if-not-branch.false in
     let stands = subst (λ (l : List Term). TermsMayStand p (map tree_of l) (map tree_of case.messages.items) (tree_of case.wrong)) c.deref-2.ensures.value
     (subst (λ (l : List Term). TermsMayStand p (map tree_of c.deref-2.result.now) (map tree_of l) (tree_of case.wrong)) c.deref-3.ensures.value (c.in_ok-terms_may_stand.ensures.0 yes)) in
-    if_three c.one_scene.result _ _ _ (λ (part : Part). IsPartOfCase p role changes c.args.scene case (part_value part)) c.one_scene.ensures.scene c.one_scene.ensures.attempts c.one_scene.ensures.gaps
+    if_three c.one_scene.result _ _ _ (λ (part : Part). IsPartOfCase p role reading changes c.args.scene case (part_value part)) c.one_scene.ensures.scene c.one_scene.ensures.attempts c.one_scene.ensures.gaps
     (λ part s a g. inl (record {
       stands = stands;
       scene = c.scene_of.result;
       is = is;
       scenes = s;
-      attempts = subst (AllZip (IsAttempt p role c.args.scene (case_place p role case)) changes) (sym a) tried;
+      attempts = subst (AllZip (IsAttempt p role c.args.scene (case_place p role case) reading) changes) (sym a) tried;
       gaps = g;
     }))

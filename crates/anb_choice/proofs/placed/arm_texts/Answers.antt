@@ -19,7 +19,7 @@ texts_of-requires c =
     let ok : order c.deref.result.now ≡ Ok spans = rw c.in-Ok.is at c.in_ok-found.ensures in
     let there : order ms ≡ Ok spans = ap order (sym c.deref.ensures.value) ∙ ok in
     let stand : AllByRecursion (IsSpanOf c.args.text.now (stem_end ms)) spans = (parts_stand c.args.text.now ms spans c.in_ok-marks.ensures.stand.0 there c.in_ok-marks.ensures.stand.1).arms in
-    record { spans = rw (c.deref-in-Ok.ensures.value, c.deref-in-Ok-2.ensures.value) stand; }
+    record { spans = rw (c.deref-in-Ok.ensures.value, c.deref-in-Ok-2.ensures.value) stand }
 
 pub returns-in-Ok-clause-are : goal.returns-in-Ok-clause-are
 returns-in-Ok-clause-are c =

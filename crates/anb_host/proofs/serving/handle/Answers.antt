@@ -13,7 +13,7 @@ returns-in-Err-clause-ends g c =
     let same = kept_first _ _ _ _ _ _ _ _ c.read_event.ensures.kept (g.met.W.Wire.beside_source c.args.wire.now) (g.met.W.Wire.beside_source c.read_event.new.src) in
     let n = count_written (g.W.Source.kept c.args.wire.now) in
     rw (g.met.W.Wire.state_tells c.args.wire.now, g.met.W.Wire.state_tells c.read_event.new.src)
-    (read_ended c.args.host.now s t n (λ k. stamped_told _ _ _ _ _ _ k (g.met.W.Wire.beside_source c.args.wire.now)) same c.in-Err.end c.in-Err.ensures.reads)
+    (read_ended (g.H.Servable.host c.args.host.now) s t n (λ k. stamped_told _ _ _ _ _ _ k (g.met.W.Wire.beside_source c.args.wire.now)) same (λ events. g.H.Servable.Follows c.args.host.now events c.args.host.now) (g.met.H.Servable.stays c.args.host.now) c.in-Err.end c.in-Err.ensures.reads)
 
 pub returns-in_default-clause-ends : goal.returns-in_default-clause-ends
 returns-in_default-clause-ends g c =
@@ -23,7 +23,7 @@ returns-in_default-clause-ends g c =
     let n = count_written (g.W.Source.kept c.args.wire.now) in
     let reads = c.in-Ok.ensures.reads in
     rw (g.met.W.Wire.state_tells c.args.wire.now, g.met.W.Wire.state_tells c.read_event.new.src)
-    (inr (unanswered c.args.host.now s t n (λ k. stamped_told _ _ _ _ _ _ k (g.met.W.Wire.beside_source c.args.wire.now)) same c.in-Ok.event reads.0 reads.1 reads.2))
+    (inr (unanswered (g.H.Servable.host c.args.host.now) s t n (λ k. stamped_told _ _ _ _ _ _ k (g.met.W.Wire.beside_source c.args.wire.now)) same c.in-Ok.event reads.0 reads.1 reads.2))
 
 pub returns-clause-goes_on : goal.returns-clause-goes_on
 returns-clause-goes_on g c =
@@ -35,12 +35,12 @@ returns-clause-goes_on g c =
     let left = kept_first _ _ _ _ _ _ _ _ c.write_notices.ensures.kept (g.met.W.Wire.beside_sink c.read_event.new.src) (g.met.W.Wire.beside_sink c.write_notices.new.wire) in
     let taken_at = kept_third _ _ _ _ _ _ _ _ _ _ c.write_notices.ensures.kept (g.met.W.Wire.beside_sink c.read_event.new.src) (g.met.W.Wire.beside_sink c.write_notices.new.wire) in
     let reads = c.in-Ok.ensures.reads in
-    let h = c.args.host.now in
-    let h' = c.event.new.self in
+    let h = (g.H.Servable.host c.args.host.now) in
+    let h' = (g.H.Servable.host c.event.new.self) in
     rw (g.met.W.Wire.state_tells c.args.wire.now, g.met.W.Wire.state_tells c.write_notices.new.wire)
     (no_error c.write_notices.result c.err.result _ _ c.err.ensures.value c.write_notices.ensures.put
     (λ put. answered_whole h s t n (λ k. stamped_told _ _ _ _ _ _ k (g.met.W.Wire.beside_source c.args.wire.now)) same u left taken_at c.in-Ok.event reads.0 reads.1 reads.2 c.in-Ok-event.told.items c.in-Ok-event.ensures.own
-    h' c.in-Ok-event.ensures.stands (same_plays h h' c.event.ensures.code c.event.ensures.init c.event.ensures.seed)
+    (λ events. g.H.Servable.Follows c.args.host.now events c.event.new.self) c.in-Ok-event.ensures.followed h' c.in-Ok-event.ensures.stands (same_plays h h' c.event.ensures.code c.event.ensures.init c.event.ensures.seed)
     (subst (λ ns. Put t.written u.written (out ns)) c.deref.ensures.value put)))
 
 pub returns-clause-ends : goal.returns-clause-ends
@@ -53,9 +53,9 @@ returns-clause-ends g c =
     let left = kept_first _ _ _ _ _ _ _ _ c.write_notices.ensures.kept (g.met.W.Wire.beside_sink c.read_event.new.src) (g.met.W.Wire.beside_sink c.write_notices.new.wire) in
     let taken_at = kept_third _ _ _ _ _ _ _ _ _ _ c.write_notices.ensures.kept (g.met.W.Wire.beside_sink c.read_event.new.src) (g.met.W.Wire.beside_sink c.write_notices.new.wire) in
     let reads = c.in-Ok.ensures.reads in
-    let h = c.args.host.now in
+    let h = (g.H.Servable.host c.args.host.now) in
     rw (g.met.W.Wire.state_tells c.args.wire.now, g.met.W.Wire.state_tells c.write_notices.new.wire)
-    (failed_so h c.event.new.self s u c.write_notices.result c.err.result _ c.err.ensures.value c.write_notices.ensures.failed c.write_notices.ensures.prefix
+    (failed_so (λ events. g.H.Servable.Follows c.args.host.now events c.event.new.self) h (g.H.Servable.host c.event.new.self) s u c.write_notices.result c.err.result _ c.err.ensures.value c.write_notices.ensures.failed c.write_notices.ensures.prefix
     (λ put. answered_so h s t n (λ k. stamped_told _ _ _ _ _ _ k (g.met.W.Wire.beside_source c.args.wire.now)) same u left taken_at c.in-Ok.event reads.0 reads.1 reads.2 c.in-Ok-event.told.items c.in-Ok-event.ensures.own
-    c.event.new.self c.in-Ok-event.ensures.stands
+    (λ events. g.H.Servable.Follows c.args.host.now events c.event.new.self) c.in-Ok-event.ensures.followed (g.H.Servable.host c.event.new.self) c.in-Ok-event.ensures.stands
     (subst (λ ns. PutPrefix t.written u.written (out ns)) c.deref.ensures.value put)))

@@ -3,13 +3,13 @@ use Rattle.anb_base.specs.Wires.{WireState}
 use Rattle.anb_base.proofs.Moving.{Rose-later}
 use Rattle.anb_host.specs.HostFrames.{FramesLeft}
 use Rattle.anb_host.specs.Runs.{Handled}
-use Rattle.anb_host.proofs.Served.{handled_none, handled_further, served, spent, stands_after, stands_spent}
+use Rattle.anb_host.proofs.Served.{follows_after, follows_spent, handled_none, handled_further, served, spent, stands_after, stands_spent}
 use Rattle.anb_host.proofs.Turning.{same_count}
 use Rattle.anb_host.proofs.serving.serve_on.Goals as goal
 
 pub loop-init : goal.loop-init
 loop-init g c = record {
-  handled = handled_none c.args.host.now (g.W.Wire.state c.args.wire.now);
+  handled = handled_none (λ events. g.H.Servable.Follows c.args.host.now events c.args.host.now) (g.met.H.Servable.stays c.args.host.now) (g.H.Servable.host c.args.host.now) (g.W.Wire.state c.args.wire.now);
   quiet_reading = refl;
   quiet_writing = refl;
   code = refl;
@@ -26,7 +26,8 @@ loop-preserved g c =
     let was = c.loop.invariant in
     let now = c.in_default.ensures in
     record {
-      handled = handled_further c.args.host.now c.loop.host (g.W.Wire.state c.args.wire.now) (g.W.Wire.state c.loop.wire) (g.W.Wire.state c.handle.new.wire) c.loop.counter was.handled c.handle.new.host now.goes_on;
+      handled = handled_further (λ events. g.H.Servable.Follows c.args.host.now events c.loop.host) (g.H.Servable.host c.args.host.now) (g.H.Servable.host c.loop.host) (g.W.Wire.state c.args.wire.now) (g.W.Wire.state c.loop.wire) (g.W.Wire.state c.handle.new.wire) c.loop.counter was.handled
+          (λ events. g.H.Servable.Follows c.loop.host events c.handle.new.host) (λ events. g.H.Servable.Follows c.args.host.now events c.handle.new.host) (g.met.H.Servable.joined c.args.host.now c.loop.host c.handle.new.host) (g.H.Servable.host c.handle.new.host) now.goes_on;
       quiet_reading = same_count _ _ _ was.quiet_reading now.reading_never_falls (λ rose. let never = now.read_told rose in cc);
       quiet_writing = same_count _ _ _ was.quiet_writing now.writing_never_falls (λ rose. let never = now.write_told rose in cc);
       code = now.code ∙ was.code;
@@ -44,11 +45,15 @@ returns-in-Some g c =
     let now = c.in-Some.ensures in
     record {
       serves = λ past events tail st left.
-          served c.args.host.now c.loop.host (g.W.Wire.state c.args.wire.now) (g.W.Wire.state c.loop.wire) (g.W.Wire.state c.handle.new.wire) c.loop.counter was.handled c.args.budget c.loop-test.true past events tail st
-          (subst (λ l. FramesLeft l events tail) (sym (ap (λ (s : WireState). s.left) (g.met.W.Wire.state_tells c.args.wire.now))) left) c.handle.new.host c.in-Some.end now.ends;
+          served (λ events. g.H.Servable.Follows c.args.host.now events c.loop.host) (g.H.Servable.host c.args.host.now) (g.H.Servable.host c.loop.host) (g.W.Wire.state c.args.wire.now) (g.W.Wire.state c.loop.wire) (g.W.Wire.state c.handle.new.wire) c.loop.counter was.handled c.args.budget c.loop-test.true past events tail st
+          (subst (λ l. FramesLeft l events tail) (sym (ap (λ (s : WireState). s.left) (g.met.W.Wire.state_tells c.args.wire.now))) left) (λ events. g.H.Servable.Follows c.loop.host events c.handle.new.host) (g.H.Servable.host c.handle.new.host) c.in-Some.end now.ends;
       stands = λ past events tail st left.
-          stands_after c.args.host.now c.loop.host (g.W.Wire.state c.args.wire.now) (g.W.Wire.state c.loop.wire) (g.W.Wire.state c.handle.new.wire) c.loop.counter was.handled c.args.budget c.loop-test.true past events tail st
-          (subst (λ l. FramesLeft l events tail) (sym (ap (λ (s : WireState). s.left) (g.met.W.Wire.state_tells c.args.wire.now))) left) c.handle.new.host c.in-Some.end now.ends;
+          stands_after (λ events. g.H.Servable.Follows c.args.host.now events c.loop.host) (g.H.Servable.host c.args.host.now) (g.H.Servable.host c.loop.host) (g.W.Wire.state c.args.wire.now) (g.W.Wire.state c.loop.wire) (g.W.Wire.state c.handle.new.wire) c.loop.counter was.handled c.args.budget c.loop-test.true past events tail st
+          (subst (λ l. FramesLeft l events tail) (sym (ap (λ (s : WireState). s.left) (g.met.W.Wire.state_tells c.args.wire.now))) left) (λ events. g.H.Servable.Follows c.loop.host events c.handle.new.host) (g.H.Servable.host c.handle.new.host) c.in-Some.end now.ends;
+      followed =
+          follows_after (λ events. g.H.Servable.Follows c.args.host.now events c.loop.host) (g.H.Servable.host c.args.host.now) (g.H.Servable.host c.loop.host) (g.W.Wire.state c.args.wire.now) (g.W.Wire.state c.loop.wire) (g.W.Wire.state c.handle.new.wire) c.loop.counter was.handled c.args.budget c.loop-test.true
+          (λ events. g.H.Servable.Follows c.loop.host events c.handle.new.host) (λ events. g.H.Servable.Follows c.args.host.now events c.handle.new.host) (g.met.H.Servable.joined c.args.host.now c.loop.host c.handle.new.host)
+          (g.H.Servable.host c.handle.new.host) c.in-Some.end now.ends;
       code = now.code ∙ was.code;
       init = now.init ∙ was.init;
       seed = now.seed ∙ was.seed;
@@ -68,14 +73,18 @@ returns g c =
     record {
       serves = λ past events tail st left.
           let all : c.loop.counter ≡ c.args.budget = omega (arith, c.loop.auto.counter-end, c.loop-test.false) in
-          spent c.args.host.now c.loop.host (g.W.Wire.state c.args.wire.now) (g.W.Wire.state c.loop.wire) c.args.budget
-          (subst (Handled c.args.host.now c.loop.host (g.W.Wire.state c.args.wire.now) (g.W.Wire.state c.loop.wire)) all was.handled) past events tail st
+          spent (λ events. g.H.Servable.Follows c.args.host.now events c.loop.host) (g.H.Servable.host c.args.host.now) (g.H.Servable.host c.loop.host) (g.W.Wire.state c.args.wire.now) (g.W.Wire.state c.loop.wire) c.args.budget
+          (subst (Handled (λ events. g.H.Servable.Follows c.args.host.now events c.loop.host) (g.H.Servable.host c.args.host.now) (g.H.Servable.host c.loop.host) (g.W.Wire.state c.args.wire.now) (g.W.Wire.state c.loop.wire)) all was.handled) past events tail st
           (subst (λ l. FramesLeft l events tail) (sym (ap (λ (s : WireState). s.left) (g.met.W.Wire.state_tells c.args.wire.now))) left);
       stands = λ past events tail st left other.
           let all : c.loop.counter ≡ c.args.budget = omega (arith, c.loop.auto.counter-end, c.loop-test.false) in
-          stands_spent c.args.host.now c.loop.host (g.W.Wire.state c.args.wire.now) (g.W.Wire.state c.loop.wire) c.args.budget
-          (subst (Handled c.args.host.now c.loop.host (g.W.Wire.state c.args.wire.now) (g.W.Wire.state c.loop.wire)) all was.handled) past events tail st
+          stands_spent (λ events. g.H.Servable.Follows c.args.host.now events c.loop.host) (g.H.Servable.host c.args.host.now) (g.H.Servable.host c.loop.host) (g.W.Wire.state c.args.wire.now) (g.W.Wire.state c.loop.wire) c.args.budget
+          (subst (Handled (λ events. g.H.Servable.Follows c.args.host.now events c.loop.host) (g.H.Servable.host c.args.host.now) (g.H.Servable.host c.loop.host) (g.W.Wire.state c.args.wire.now) (g.W.Wire.state c.loop.wire)) all was.handled) past events tail st
           (subst (λ l. FramesLeft l events tail) (sym (ap (λ (s : WireState). s.left) (g.met.W.Wire.state_tells c.args.wire.now))) left);
+      followed = λ other.
+          let all : c.loop.counter ≡ c.args.budget = omega (arith, c.loop.auto.counter-end, c.loop-test.false) in
+          follows_spent (λ events. g.H.Servable.Follows c.args.host.now events c.loop.host) (g.H.Servable.host c.args.host.now) (g.H.Servable.host c.loop.host) (g.W.Wire.state c.args.wire.now) (g.W.Wire.state c.loop.wire) c.args.budget
+          (subst (Handled (λ events. g.H.Servable.Follows c.args.host.now events c.loop.host) (g.H.Servable.host c.args.host.now) (g.H.Servable.host c.loop.host) (g.W.Wire.state c.args.wire.now) (g.W.Wire.state c.loop.wire)) all was.handled);
       code = was.code;
       init = was.init;
       seed = was.seed;

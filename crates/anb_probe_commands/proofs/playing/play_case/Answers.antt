@@ -4,19 +4,21 @@ use Rattle.std.proofs.lemmas.Option.{slice_get_read}
 use Rattle.std.proofs.Common.{refl}
 use Rattle.anb_probe_commands.proofs.Tried.{cut_lines, played_at}
 use Rattle.anb_probe_commands.specs.Tasks.{probing_by}
+use Rattle.anb_probe_commands.specs.Asking.{trying_by}
+use Rattle.anb_probe_commands.specs.Words.{order_of}
 use Rattle.anb_probe_commands.proofs.playing.play_case.Goals as goal
 
 pub returns-in-Ok-write_case-clause-played : goal.returns-in-Ok-write_case-clause-played
 returns-in-Ok-write_case-clause-played g c = λ a at.
     let t = c.args.task.now in
-    played_at (probing_by t.protocol t.role t.values t.seed) c.args.prepared.now c.args.program.now c.args.number c.args.reached (g.T.Trials.trial c.args.trials.now c.args.number) (g.T.Trials.trial c.try_attempt.new.trials c.args.number)
+    played_at (probing_by t.protocol t.role t.values t.seed) c.args.prepared.now (order_of (trying_by c.args.trying)) c.args.number c.args.reached (g.T.Trials.trial c.args.trials.now c.args.number) (g.T.Trials.trial c.try_attempt.new.trials c.args.number)
     (g.W.Wire.state c.args.wire.now) (g.W.Wire.state c.write_case.new.wire) c.index-attempt.result.now a (end_in c.in-Ok.outcome) c.in-Ok.outcome.reached
     (slice_get_read c.args.prepared.now.cases.items _ c.args.number c.index-attempt.result.now refl c.requires.within c.index-attempt.ensures) at c.in-Ok.ensures.tried c.in-Ok-write_case.ensures.wrote
 
 pub returns-in-Err-clause-cut : goal.returns-in-Err-clause-cut
 returns-in-Err-clause-cut g c =
     let t = c.args.task.now in
-    cut_lines (probing_by t.protocol t.role t.values t.seed) c.args.prepared.now c.args.program.now c.args.number c.args.reached (g.T.Trials.trial c.args.trials.now c.args.number) (g.T.Trials.trial c.try_attempt.new.trials c.args.number)
+    cut_lines (probing_by t.protocol t.role t.values t.seed) c.args.prepared.now (order_of (trying_by c.args.trying)) c.args.number c.args.reached (g.T.Trials.trial c.args.trials.now c.args.number) (g.T.Trials.trial c.try_attempt.new.trials c.args.number)
     (g.W.Wire.state c.args.wire.now) (g.W.Wire.state c.write_case.new.wire) c.index-attempt.result.now (end_in c.in-Ok.outcome) c.in-Ok.outcome.reached c.in-Err.no
     (slice_get_read c.args.prepared.now.cases.items _ c.args.number c.index-attempt.result.now refl c.requires.within c.index-attempt.ensures) c.in-Ok.ensures.tried c.in-Err.ensures.broke
 

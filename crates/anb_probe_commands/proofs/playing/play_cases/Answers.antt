@@ -1,5 +1,7 @@
 use Rattle.std.proofs.Common.{rules, ◌≡◌, ◌<◌, [], length, refl, sym}
 use Rattle.anb_probe_commands.specs.Tasks.{probing_by}
+use Rattle.anb_probe_commands.specs.Asking.{trying_by}
+use Rattle.anb_probe_commands.specs.Words.{order_of}
 use Rattle.anb_probe_commands.proofs.Played.{none_played}
 use Rattle.anb_probe_commands.proofs.Tried.{count_out, cut_at, cut_pushing, got_some, played_out, so_further, wrote_next, wrote_none}
 use Rattle.anb_probe_commands.proofs.playing.play_cases.Goals as goal
@@ -14,7 +16,7 @@ loop-i-init g c =
       verdicts_are = sym c.new-verdicts.ensures.items;
       count = refl;
       begun = λ z. z;
-      played = none_played q x.scenes.items c.args.program.now x.cases.items (g.T.Trials.trial c.args.trials.now) 0 0 c.requires.untried;
+      played = none_played q x.scenes.items (order_of (trying_by c.args.trying)) x.cases.items (g.T.Trials.trial c.args.trials.now) 0 0 c.requires.untried;
       wrote = wrote_none q x (g.W.Wire.state c.args.wire.now);
     }
 
@@ -22,7 +24,7 @@ pub returns-in-Err-clause-cut : goal.returns-in-Err-clause-cut
 returns-in-Err-clause-cut g c =
     let t = c.args.task.now in
     let inv = c.loop-i.invariant in
-    cut_at (probing_by t.protocol t.role t.values t.seed) c.args.prepared.now c.args.program.now (g.T.Trials.trial c.args.trials.now) (g.T.Trials.trial c.loop-i.trials) (g.T.Trials.trial c.play_case.new.trials)
+    cut_at (probing_by t.protocol t.role t.values t.seed) c.args.prepared.now (order_of (trying_by c.args.trying)) (g.T.Trials.trial c.args.trials.now) (g.T.Trials.trial c.loop-i.trials) (g.T.Trials.trial c.play_case.new.trials)
     (g.W.Wire.state c.args.wire.now) (g.W.Wire.state c.loop-i.wire) (g.W.Wire.state c.play_case.new.wire) c.loop-i.reached inv.ends c.loop-i.i inv.count inv.played inv.begun inv.wrote (search rules) c.play_case.ensures.others
     c.play_case.ensures.none_left c.in-Err.no c.in-Err.ensures.cut
 
@@ -33,7 +35,7 @@ returns-in-Err-push-clause-cut g c =
     let x = c.args.prepared.now in
     let within : c.loop-i.i < length x.cases.items = search rules in
     let at = got_some x.cases.items c.loop-i.i within in
-    cut_pushing q x c.args.program.now (g.T.Trials.trial c.args.trials.now) (g.T.Trials.trial c.loop-i.trials) (g.T.Trials.trial c.play_case.new.trials)
+    cut_pushing q x (order_of (trying_by c.args.trying)) (g.T.Trials.trial c.args.trials.now) (g.T.Trials.trial c.loop-i.trials) (g.T.Trials.trial c.play_case.new.trials)
     (g.W.Wire.state c.args.wire.now) (g.W.Wire.state c.loop-i.wire) (g.W.Wire.state c.play_case.new.wire) c.loop-i.verdicts.items c.loop-i.i c.loop-i.reached c.loop-i.invariant
     c.in-Ok.outcome at.0 c.next_reached-reached.result c.play_case.ensures.others c.play_case.ensures.none_left within at.1 (c.in-Ok.ensures.played at.0 at.1) c.next_reached-reached.ensures.before c.next_reached-reached.ensures.first
 
@@ -44,7 +46,7 @@ returns-in-Err-push-clause-broke g c =
     let x = c.args.prepared.now in
     let within : c.loop-i.i < length x.cases.items = search rules in
     let at = got_some x.cases.items c.loop-i.i within in
-    let wrote = wrote_next q x c.args.program.now (g.T.Trials.trial c.args.trials.now) (g.T.Trials.trial c.loop-i.trials) (g.T.Trials.trial c.play_case.new.trials)
+    let wrote = wrote_next q x (order_of (trying_by c.args.trying)) (g.T.Trials.trial c.args.trials.now) (g.T.Trials.trial c.loop-i.trials) (g.T.Trials.trial c.play_case.new.trials)
     (g.W.Wire.state c.args.wire.now) (g.W.Wire.state c.loop-i.wire) (g.W.Wire.state c.play_case.new.wire) c.loop-i.verdicts.items c.loop-i.i c.loop-i.reached c.loop-i.invariant
     c.in-Ok.outcome at.0 c.next_reached-reached.result c.play_case.ensures.others c.play_case.ensures.none_left within at.1 (c.in-Ok.ensures.played at.0 at.1) c.next_reached-reached.ensures.before c.next_reached-reached.ensures.first in
     record { only = wrote.only; cause = λ e. absurd (cc); quiet = λ e. wrote.quiet }
@@ -56,7 +58,7 @@ loop-i-preserved g c =
     let x = c.args.prepared.now in
     let within : c.loop-i.i < length x.cases.items = search rules in
     let at = got_some x.cases.items c.loop-i.i within in
-    so_further q x c.args.program.now (g.T.Trials.trial c.args.trials.now) (g.T.Trials.trial c.loop-i.trials) (g.T.Trials.trial c.play_case.new.trials)
+    so_further q x (order_of (trying_by c.args.trying)) (g.T.Trials.trial c.args.trials.now) (g.T.Trials.trial c.loop-i.trials) (g.T.Trials.trial c.play_case.new.trials)
     (g.W.Wire.state c.args.wire.now) (g.W.Wire.state c.loop-i.wire) (g.W.Wire.state c.play_case.new.wire) c.loop-i.verdicts.items c.loop-i.i c.loop-i.reached c.loop-i.invariant
     c.in-Ok.outcome at.0 c.next_reached-reached.result c.play_case.ensures.others c.play_case.ensures.none_left within at.1 (c.in-Ok.ensures.played at.0 at.1) c.next_reached-reached.ensures.before c.next_reached-reached.ensures.first
     _ c.in-Ok-push.ensures.items
@@ -66,7 +68,7 @@ returns-clause-played g c =
     let t = c.args.task.now in
     let x = c.args.prepared.now in
     let all : c.loop-i.i ≡ length x.cases.items = search rules in
-    played_out (probing_by t.protocol t.role t.values t.seed) x c.args.program.now (g.T.Trials.trial c.args.trials.now) (g.T.Trials.trial c.loop-i.trials) (g.T.Trials.trial c.loop-i.trials)
+    played_out (probing_by t.protocol t.role t.values t.seed) x (order_of (trying_by c.args.trying)) (g.T.Trials.trial c.args.trials.now) (g.T.Trials.trial c.loop-i.trials) (g.T.Trials.trial c.loop-i.trials)
     (g.W.Wire.state c.args.wire.now) (g.W.Wire.state c.loop-i.wire) (g.W.Wire.state c.loop-i.wire) c.loop-i.verdicts.items c.loop-i.i c.loop-i.reached c.loop-i.invariant all
 
 pub returns-clause-all : goal.returns-clause-all
@@ -74,5 +76,5 @@ returns-clause-all g c =
     let t = c.args.task.now in
     let x = c.args.prepared.now in
     let all : c.loop-i.i ≡ length x.cases.items = search rules in
-    count_out (probing_by t.protocol t.role t.values t.seed) x c.args.program.now (g.T.Trials.trial c.args.trials.now) (g.T.Trials.trial c.loop-i.trials) (g.T.Trials.trial c.loop-i.trials)
+    count_out (probing_by t.protocol t.role t.values t.seed) x (order_of (trying_by c.args.trying)) (g.T.Trials.trial c.args.trials.now) (g.T.Trials.trial c.loop-i.trials) (g.T.Trials.trial c.loop-i.trials)
     (g.W.Wire.state c.args.wire.now) (g.W.Wire.state c.loop-i.wire) (g.W.Wire.state c.loop-i.wire) c.loop-i.verdicts.items c.loop-i.i c.loop-i.reached c.loop-i.invariant all

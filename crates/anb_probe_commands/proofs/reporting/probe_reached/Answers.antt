@@ -1,8 +1,6 @@
-use Rattle.std.proofs.Common.{sym, subst, ◌∙◌, ℕ}
-use Rattle.anb_partner.specs.Trials.{Trial}
+use Rattle.std.proofs.Common.{sym, subst, ◌∙◌}
 use Rattle.anb_status.specs.declared.status.Status.{Status}
 use Rattle.anb_probe_commands.specs.Asking.{trying_by}
-use Rattle.anb_probe_commands.specs.Playing.{status_of}
 use Rattle.anb_probe_commands.specs.ProbeCommand.{ComesTo}
 use Rattle.anb_probe_commands.specs.Tasks.{agenda_by, probing_by}
 use Rattle.anb_probe_commands.proofs.Ending.{comes_beyond_cut, comes_less}
@@ -26,5 +24,4 @@ returns-in-Err-play_all-clause-comes g c =
     let T = g.W.Wire.state c.play_all.new.wire in
     let new = g.T.Trials.trial c.play_all.new.trials in
     subst (λ (s : Status). ComesTo q (trying_by c.args.trying) (agenda_by c.args.prepared.now) c.args.name (g.T.Trials.trial c.args.trials.now) new S.written T.written s) (sym c.status_of-in-Err-play_all.ensures)
-    (subst (λ (old : ℕ → Trial). ComesTo q (trying_by c.args.trying) (agenda_by c.args.prepared.now) c.args.name old new S.written T.written (status_of c.in-Err-play_all.no c.args.name)) c.wait_at_most.ensures
-    (comes_less q (trying_by c.args.trying) (agenda_by c.args.prepared.now) c.args.name (g.T.Trials.trial c.wait_at_most.new.trials) new S T c.in-Err-play_all.no (sym c.is_beyond.ensures ∙ c.if-is_beyond.false) c.in-Err-play_all.ensures.cut))
+    (comes_less q (trying_by c.args.trying) (agenda_by c.args.prepared.now) c.args.name (g.T.Trials.trial c.args.trials.now) new S T c.in-Err-play_all.no (sym c.is_beyond.ensures ∙ c.if-is_beyond.false) c.in-Err-play_all.ensures.cut)

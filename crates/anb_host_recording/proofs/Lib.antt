@@ -1,0 +1,5 @@
+mod Transcribing
+pub mod Filing
+mod Putting
+mod Keeping
+pub mod Plain

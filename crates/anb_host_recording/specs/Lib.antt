@@ -1,0 +1,6 @@
+pub mod Entries
+pub mod Sessions
+pub mod Keeps
+pub mod Laws
+-- for proofs alone
+pub mod Following
