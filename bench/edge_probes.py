@@ -3,7 +3,7 @@ import os
 import signal
 import time
 
-from edge_runs import LATE, is_process, wait_until, want, want_below, write_ping
+from edge_runs import FRAME, LATE, accept, free_address, is_process, listener, read_all, wait_until, want, want_below, write_ping
 from edge_stages import HEARS, SAYS, SHORT, WAITS, lines, pids, want_nobody
 
 # A child of a test, with what A does after its message.
@@ -30,6 +30,16 @@ CHILDREN = (
     (f"{HEARS}; kill -9 $$", 3),
     (rf"{HEARS}; printf '\0\0'", 3),
     (f"{HEARS}; {SAYS}", 3),
+)
+
+
+# What A does over TCP, and how many of its cases aren't ok: where it stops isn't seen.
+PEERS = (
+    ("says its message, hears and closes", 0, lambda peer: (peer.sendall(FRAME), read_all(peer))),
+    ("closes and leaves bytes unread", 0, lambda peer: (peer.sendall(FRAME), peer.recv(1))),
+    ("closes at once", 3, lambda peer: None),
+    ("says its message twice", 3, lambda peer: (peer.sendall(FRAME * 2), read_all(peer))),
+    ("says a part of it", 3, lambda peer: peer.sendall(FRAME[:-1])),
 )
 
 
@@ -78,6 +88,34 @@ def silent_tests(program):
     return f"{', '.join(found)} s for {CASES} cases"
 
 
+def dial_test(program, at, limit):
+    return program.start("probe", "ping.anb", "A", "ping.values", "--timeout", limit, "--dial", at)
+
+
+def dialled_tests(program):
+    """with --dial a test makes a connection a case, one after the other, and needs no status of its peer"""
+    write_ping(program)
+    for what, bad, does in PEERS:
+        made, at = listener()
+        run = dial_test(program, at, "10")
+        for _ in range(CASES):
+            peer = accept(made)
+            does(peer)
+            peer.close()
+        status, _, line = run.end()
+        want(f"the status and the line of a peer that {what}", (status, line), not_ok(bad))
+    made, at = listener()
+    run = dial_test(program, at, "1")
+    peers = [accept(made) for _ in range(CASES)]
+    status, report, line = run.end(within=SHORT + CASES)
+    want("the status and the line of silent peers", (status, line), not_ok(CASES))
+    want("silent cases", report.count(b"# silent for too long\n"), CASES)
+    for peer in peers:
+        peer.close()
+    want("where nobody listens", dial_test(program, free_address(), "1").end()[::2], (31, lines("child A failed")))
+    return f"{len(PEERS)} kinds of peers, and silent ones"
+
+
 def signalled_tests(program):
     """a signal that ends a test ends its program"""
     write_ping(program)
@@ -95,4 +133,4 @@ def signalled_tests(program):
     return f"{', '.join(kind.name for kind in kinds)}, to the test alone and to its group"
 
 
-PROBES = (children_of_tests, silent_tests, signalled_tests)
+PROBES = (children_of_tests, silent_tests, dialled_tests, signalled_tests)

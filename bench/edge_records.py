@@ -157,4 +157,76 @@ def killed_plays(program):
     return f"{kills} kills after the first message"
 
 
-RECORDS = (records_in_files, silent_records, killed_records, recorded_plays, killed_plays)
+def recorded_hosts(program):
+    """host --record leaves the values and a transcript of each session, for their owner alone, also where it is killed"""
+    write_ping(program)
+    hosts = ("host", *ROLE, "ping.values")
+    digits = FRAME[4:].hex().encode()
+
+    def number(session):
+        return session.to_bytes(4, "big")
+
+    def start(session):
+        return b"\0" + number(session)
+
+    given = start(1) + start(0) + b"\1" + number(1) + FRAME
+    told = b"\0" + number(1) + FRAME + b"\0" + number(0) + FRAME + b"\2" + number(1)
+    want("host", program.run(*hosts, "--record", "r", given=given, before="umask 0;")[1], (0, told, b""))
+    names = ("r", "r/values", "r/transcript-0", "r/transcript-1")
+    modes = [oct(os.stat(os.path.join(program.folder, name)).st_mode & 0o7777) for name in names]
+    want("modes", modes, ["0o700", "0o600", "0o600", "0o600"])
+    want("session 1", program.read("r/transcript-1"), b"> " + digits + b"\n< " + digits + b"\n")
+    want("session 0", program.read("r/transcript-0"), b"> " + digits + b"\n")
+    for session, status in (("1", 0), ("0", 19)):
+        words = ("replay", *ROLE, "r/values", f"r/transcript-{session}", "--session", session)
+        want("its replay", program.run(*words)[1][0], status)
+    want("the folder again", program.run(*hosts, "--record", "r", given=given)[1], (38, b"", UNWRITTEN % b"r/values"))
+    os.remove(os.path.join(program.folder, "r/values"))
+    line = UNWRITTEN % b"r/transcript-0"
+    want("a session's file alone", program.run(*hosts, "--record", "r", given=given)[1], (38, b"", line))
+    for turn in range(program.times):
+        made, at = listener()
+        run = program.start(*hosts, "--dial", at, "--record", f"s{turn}")
+        peer = accept(made)
+        peer.sendall(start(3))
+        want("what the peer got", peer.recv(5 + len(FRAME), socket.MSG_WAITALL), b"\0" + number(3) + FRAME)
+        run.kill()
+        run.end()
+        peer.close()
+        want("the lines so far", program.read(f"s{turn}/transcript-3"), b"> " + digits + b"\n")
+    return "modes 700 and 600; each session is replayed; killed after a message"
+
+
+def removed_transcripts(program):
+    """a transcript that somebody removes isn't begun anew: what was played is told, and status 38 in the end"""
+    write_ping(program)
+    number = (1).to_bytes(4, "big")
+    tries = (
+        ("play", "transcript", b"", b"", FRAME, b""),
+        ("host", "transcript-1", b"\0" + number, b"\0" + number, b"\1" + number + FRAME, b"\2" + number),
+    )
+    for command, name, first, before, then, behind in tries:
+        made, at = listener()
+        run = program.start(command, *ROLE, "ping.values", "--dial", at, "--record", command)
+        peer = accept(made)
+        peer.sendall(first)
+        want("what the peer got", peer.recv(len(before + FRAME), socket.MSG_WAITALL), before + FRAME)
+        os.remove(os.path.join(program.folder, command, name))
+        peer.sendall(then)
+        peer.shutdown(socket.SHUT_WR)
+        want("and then", peer.recv(len(behind) + 1, socket.MSG_WAITALL), behind)
+        want(command, run.end(), (38, b"", UNWRITTEN % f"{command}/{name}".encode()))
+        peer.close()
+        want("what is in the folder", os.listdir(os.path.join(program.folder, command)), ["values"])
+    return "status 38 of a play and of a host, which go on, and no transcript"
+
+
+RECORDS = (
+    records_in_files,
+    silent_records,
+    killed_records,
+    recorded_plays,
+    killed_plays,
+    recorded_hosts,
+    removed_transcripts,
+)

@@ -401,6 +401,79 @@ def own_values(program):
     return f"modes 700 and 600; gone after the end, a child that fails, and {', '.join(kind.name for kind in kinds)}"
 
 
+# A transcript of A, and of B.
+TRANSCRIPTS = {"A": b"> 6162\n< 6162\n", "B": b"< 6162\n> 6162\n"}
+
+
+def recorded_stages(program):
+    """a record has what was carried, whatever ends the stage, and each child's errors in a file of its own"""
+    write_ping(program)
+    program.write("all.values", 'N = "ab"\n@seed = x' + "00" * 32 + "\n")
+    numbers = iter(range(100))
+
+    def start(a, b, values=".", folder=None):
+        write_child(program, f"echo a >&2; {a}", f"echo b >&2; {b}")
+        folder = folder or f"record{next(numbers)}"
+        run = program.start("stage", "ping.anb", values, "--record", folder, before="export ANB_CHILD=./child;")
+        return run, folder
+
+    def want_record(what, folder, report, **transcripts):
+        for name, found in (("report", report), *((f"{role}.transcript", said) for role, said in transcripts.items())):
+            want(f"the file {name}, {what}", program.read(f"{folder}/{name}"), found)
+        for role in "AB":
+            want(f"the errors of {role}, {what}", program.read(f"{folder}/{role}.errors"), role.lower().encode() + b"\n")
+        at = os.path.join(program.folder, folder)
+        modes = {oct(os.stat(os.path.join(at, name)).st_mode & 0o777) for name in os.listdir(at)}
+        want(f"modes, {what}", (oct(os.stat(at).st_mode & 0o777), modes), ("0o700", {"0o600"}))
+
+    run, folder = start(PLAYS, ANSWERS)
+    want("a stage with a record", run.end(), ended(0))
+    want_record("a whole one", folder, REPORT, **TRANSCRIPTS)
+    want("what is left over", program.read(f"{folder}/left"), b"")
+    for role in "AB":
+        words = ("ping.anb", role, f"{role}.values", f"{folder}/{role}.transcript")
+        want(f"a replay of {role}", program.run("replay", *words)[1], (0, b"", b""))
+    run, _ = start(PLAYS, ANSWERS, folder=folder)
+    want("the same folder", run.end(), (38, b"", lines(f"can't write {folder}/report")))
+    want("children", pids(program), [])
+    want_record("which stays", folder, REPORT, **TRANSCRIPTS)
+
+    run, folder = start(PLAYS, f"{ANSWERS}; {SAYS}; printf x")
+    want("a child that says too much", run.end(), ended(0))
+    want_record("too much", folder, REPORT, **TRANSCRIPTS)
+    want("what is left over", program.read(f"{folder}/left"), b"B 1 7\n")
+
+    run, folder = start(PLAYS, ANSWERS, "all.values")
+    want("a stage from a values file", run.end(), ended(0))
+    want_record("with values", folder, REPORT, **TRANSCRIPTS)
+    for role in "AB":
+        own = program.run("values", "ping.anb", role, "all.values")[1][1]
+        want(f"the values of {role}", program.read(f"{folder}/{role}.values"), own)
+
+    run, folder = start(PLAYS, f"{HEARS}; exit 4")
+    told = f"child B ended with 4\nsee {folder}/B.transcript and {folder}/B.errors\nno message of action 2"
+    status, said, line = run.end()
+    want("a child that ends early", (status, said, sorted(line.splitlines())), (32, b"", sorted(lines(told).splitlines())))
+    want_record("one message", folder, b"1 6162\n", A=b"> 6162\n", B=b"< 6162\n")
+
+    for kind in (signal.SIGTERM, signal.SIGKILL):
+        run, folder = start(f"{SAYS}; {WAITS}", f"{HEARS}; {WAITS}")
+        at = os.path.join(program.folder, folder, "report")
+        wait_until("a line", lambda: os.path.exists(at) and os.path.getsize(at) > 0)
+        errors = [os.path.join(program.folder, folder, f"{role}.errors") for role in "AB"]
+        wait_until("the errors of both", lambda: all(os.path.getsize(it) > 0 for it in errors))
+        os.kill(run.child.pid, kind)
+        wait_until(f"nobody is left after {kind.name}", lambda: not any(map(is_process, pids(program))), SHORT)
+        want("the status", run.end()[0], -kind)
+        want_record(kind.name, folder, b"1 6162\n", A=b"> 6162\n", B=b"< 6162\n")
+
+    os.mkdir(os.path.join(program.folder, "full"))
+    os.symlink("/dev/full", os.path.join(program.folder, "full", "A.errors"))
+    run, _ = start(PLAYS, ANSWERS, folder="full")
+    want("a file of A", run.end(), (38, b"", lines("can't write full/A.errors")))
+    return "whole, too much said, from a values file, refused, and after SIGTERM and SIGKILL"
+
+
 # A message of 200,000 bytes, which no pipe takes at once, and one whose bytes come one after another.
 LONG = r"printf '\0\3\15\100'; head -c 200000 /dev/zero"
 SLOW = "; ".join(f"printf '{byte}'; sleep 0.6" for byte in (r"\0", r"\0", r"\0", r"\2", "a", "b"))
@@ -442,6 +515,7 @@ STAGES = (
     named_children,
     cast_roles,
     own_values,
+    recorded_stages,
     ended_children,
     dropped_output,
     silent_children,

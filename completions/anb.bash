@@ -30,11 +30,12 @@ _anb_options() {
     case $command in
         branch) arm=--arm place='--dial --listen' ;;
         play | host | park | resume | enact) place='--dial --listen' ;;
-        stage) place='--as --timeout' ;;
+        stage) place='--as --timeout' record=--record ;;
     esac
-    case $command in play | enact | branch | park | resume) record=--record ;; esac
+    case $command in play | enact | branch | host | park | resume) record=--record ;; esac
     [[ $1 == --arm ]] && shift 2 && arm=''
     while [[ $1 == --as ]] && (($# >= 3)); do shift 3; done
+    [[ $command == stage && $1 == --timeout ]] && (($# == 2)) && echo --record
     case $# in
         0) echo "$arm" "$place" "$record" ;;
         2) [[ $1 == --dial || $1 == --listen ]] && echo --timeout "$record" ;;
@@ -42,12 +43,13 @@ _anb_options() {
     esac
 }
 
-# The words of probe that can follow these, before the program.
+# The words of probe that can follow these, before the program or the place.
 _anb_probing() {
-    local words='--all --case --timeout --'
-    [[ $1 == --all ]] && shift && words='--case --timeout --'
-    [[ $1 == --case ]] && shift 2 && words='--timeout --'
-    [[ $1 == --timeout ]] && shift 2 && words=--
+    local words='--all --case --timeout --record --dial --'
+    [[ $1 == --all ]] && shift && words='--case --timeout --record --dial --'
+    [[ $1 == --case ]] && shift 2 && words='--timeout --record --dial --'
+    [[ $1 == --timeout ]] && shift 2 && words='--record --dial --'
+    [[ $1 == --record ]] && shift 2 && words='--dial --'
     (($#)) || echo "$words"
 }
 
@@ -135,7 +137,7 @@ _anb() {
                 --dial | --listen | --timeout | --case | --session) ;;
                 --record)
                     case ${words[1]} in
-                        play | enact | branch) compopt -o filenames 2>/dev/null; mapfile -t COMPREPLY < <(compgen -d -- "$(_anb_file "$word")") ;;
+                        play | enact | branch | host | probe | stage) compopt -o filenames 2>/dev/null; mapfile -t COMPREPLY < <(compgen -d -- "$(_anb_file "$word")") ;;
                         *) _anb_files '' ;;
                     esac
                     ;;

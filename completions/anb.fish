@@ -60,6 +60,9 @@ function __anb_option
             contains -- "$rest[1]" --dial --listen
             and test (count $rest) -eq 2 -o \( (count $rest) -eq 3 -a "$rest[-1]" = --timeout \)
         case record
+            if test "$words[2]" = stage -a (count $rest) -ge 2 -a "$rest[1]" = --timeout
+                set -e rest[1..2]
+            end
             if contains -- "$rest[1]" --dial --listen; and test (count $rest) -ge 2
                 set -e rest[1..2]
                 test (count $rest) -ge 2 -a "$rest[1]" = --timeout; and set -e rest[1..2]
@@ -74,7 +77,7 @@ function __anb_cast
     test (count $words) -ge 6 -a "$words[2]" = stage -a "$words[-2]" = --as
 end
 
-# Whether this word of probe can stand here: before the program, in its order and once.
+# Whether this word of probe can stand here: before the program or the place, in its order and once.
 function __anb_probing
     set -l words (commandline -opc)
     test (count $words) -ge 5 -a "$words[2]" = probe
@@ -82,8 +85,8 @@ function __anb_probing
     set -l rest
     test (count $words) -gt 5; and set rest $words[6..]
     contains -- -- $rest; and return 1
-    for word in --all --case --timeout --
-        if test "$argv[1]" = $word
+    for word in --all --case --timeout --record --dial
+        if test "$argv[1]" = $word; or test $word = --dial -a "$argv[1]" = --
             test (count $rest) -eq 0
             return
         end
@@ -173,10 +176,13 @@ complete -c anb -n __anb_cast -F
 complete -c anb -n '__anb_option silence stage' -x -l timeout -d 'Seconds that a child may be silent'
 complete -c anb -n "__anb_option timeout $with_place" -x -l timeout -d 'Seconds to wait'
 complete -c anb -n '__anb_option record park resume' -r -F -l record -d 'The file of the record'
-complete -c anb -n '__anb_option record play enact branch' -x -l record -a '(__fish_complete_directories)' -d 'The folder of the recording'
+complete -c anb -n '__anb_option record play enact branch host' -x -l record -a '(__fish_complete_directories)' -d 'The folder of the recording'
+complete -c anb -n '__anb_option record stage' -x -l record -a '(__fish_complete_directories)' -d 'The folder of the record'
 complete -c anb -n '__anb_probing --all' -l all -d 'Try more of each check'
 complete -c anb -n '__anb_probing --case' -x -l case -d 'The case of this number alone'
 complete -c anb -n '__anb_probing --timeout' -x -l timeout -d 'Seconds that the program may be silent'
+complete -c anb -n '__anb_probing --record' -x -l record -a '(__fish_complete_directories)' -d 'The folder of the record'
+complete -c anb -n '__anb_probing --dial' -x -l dial -d 'Connect to host:port'
 complete -c anb -n '__anb_probing --' -a -- -d 'The program and its words'
 complete -c anb -n __anb_program_first -a '(__fish_complete_command)'
 complete -c anb -n __anb_program -F

@@ -14,7 +14,8 @@ that `compile` wrote is certified, and less one of its checks it is not, where i
 beside its values. What the gate runs of each example is a copy, in crates/anb_examples.
 
 Texts with a choice, `choice.anb` in a folder of their own: in each arm all roles play to their ends under `branch`, and
-the messages are those of the narration that the common actions and the arm are.
+the messages are those of the narration that the common actions and the arm are; and `check` says of each arm what it
+says of that narration.
 
 Pages: in a fenced block that begins with a line `$ ...` each such line is a command for sh, and what follows is what
 it writes, errors too. The commands run in a folder of their own with a copy of examples/, block by block, with `anb` on
@@ -64,7 +65,7 @@ GATE = ROOT / "crates" / "anb_examples"
 # What names each command of the program.
 LISTS = ["README.md", "docs/REFERENCE.md", "anb.1", "completions/anb.bash", "completions/_anb", "completions/anb.fish"]
 # The words of commands that stand for no file.
-NO_FILES = {"role", "name", "n", "folder", "place", "seconds", "file", "program", "word"}
+NO_FILES = {"role", "name", "n", "folder", "place", "seconds", "file", "program", "word", "where"}
 # The options of a place, which `help` lists as one word.
 PLACES = {"--dial", "--listen"}
 # What the program takes beside the words that `help` lists.
@@ -408,10 +409,23 @@ def arms_of(text):
     return chooser, [stem + arm for arm in re.split(r"\bActions:", arms)[1:]]
 
 
+def check_reported(program, path, arms):
+    """`check` says of each arm what it says of the narration that the common actions and this arm are."""
+    told = ""
+    for number, text in enumerate(arms, 1):
+        with tempfile.NamedTemporaryFile("w", suffix=".anb") as file:
+            file.write(text)
+            file.flush()
+            told += f"arm {number}:\n" + run(program, "check", file.name)
+    if run(program, "check", path) != told:
+        raise ValueError("`check` doesn't say of each arm what it says of its narration")
+
+
 def check_choice(program, folder):
     """A line for each arm of a text with a choice."""
     path = folder / "choice.anb"
     chooser, arms = arms_of(path.read_text())
+    check_reported(program, path, arms)
     for number, text in enumerate(arms, 1):
         story = narration.Narration(text)
         told = {chooser: ["--arm", str(number)]}

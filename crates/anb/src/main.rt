@@ -1,14 +1,16 @@
 //! The program: it hands its words, the files, the store, the wire, standard error and the child
-//! programs of the machine to `run_in_session`, and ends with the number of the status.
+//! programs of the machine to `run_staging`, and ends with the number of the status.
 #![tactic(auto)]
 
 use anb_base::Text;
 use anb_command::tell;
+use anb_probe_commands::ProbeWords;
 use anb_processes::{RealSpawner, RealTrials, child_program};
 use anb_real::{
     RealShelf, RealStore, RealWire, StandardError, fill_standard_descriptors, seed, words,
 };
-use anb_run::{Status, run_in_session};
+use anb_run::{Status, run_staging};
+use anb_stage_commands::StageRecordWords;
 use std::process::ExitCode;
 
 fn main(rt: HostRuntime) -> ExitCode {
@@ -32,7 +34,15 @@ fn status(rt: HostRuntime, skipped: usize) -> Status {
     if parks(&words) {
         wire.end_at_silence();
     }
-    let status = run_in_session(
+    if let Some(words) = StageRecordWords::read(&words) {
+        spawner.record_in(words.folder);
+    }
+    if let Some(words) = ProbeWords::read(&words)
+        && let Some(folder) = words.trying.folder
+    {
+        trials.record_in(folder);
+    }
+    let status = run_staging(
         rt.alloc(),
         &words,
         &mut shelf,
@@ -43,12 +53,20 @@ fn status(rt: HostRuntime, skipped: usize) -> Status {
         &mut err,
         seed(rt),
     );
+    if blames(&status) {
+        spawner.blame();
+    }
     // The children end before the line is told, so one that can't be written leaves none behind.
     spawner.end();
     trials.end();
     err.finish();
     wire.finish();
     status
+}
+
+/// Whether a stage ended so for what a child did.
+fn blames(status: &Status) -> bool {
+    matches!(status.number(), 31..=35 | 37)
 }
 
 /// Whether a role that waits for a silent peer is to be parked.

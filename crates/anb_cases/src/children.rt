@@ -11,11 +11,14 @@ use std::alloc::Global;
 /// How many bytes a child takes or gives at once, and for how many it has room.
 const PLENTY: u32 = 65_536;
 
-/// What a row begins with where a signal ends the child.
+/// What a row begins with where a signal ends the child, and where its connection ends.
 const SIGNAL: &str = "signal";
 
-/// The children that the case says: a row each, with how it ends, a status or `signal9`, and then what it
-/// says, in hexadecimal digits. Their starts and ends whose numbers stand under `children fail` are faults.
+const CLOSED: &str = "closed";
+
+/// The children that the case says: a row each, with how it ends, a status, `signal9` or `closed`, and then
+/// what it says, in hexadecimal digits. Their starts and ends whose numbers stand under `children fail` are
+/// faults, and where `children silent` is set such an end is that the child was silent.
 pub(crate) fn children(alloc: Global, case: Case) -> Result<MemTrials, No>
     ensures { IfOk result (λ trials. (case : ℕ) → (trials_of trials case).phase ≡ 0) }
 {
@@ -29,7 +32,11 @@ pub(crate) fn children(alloc: Global, case: Case) -> Result<MemTrials, No>
         }
     }
     let fails = case.numbers(alloc, "children fail")?;
-    Ok(unstarted(alloc, wires, ends, fails)?)
+    let mut trials = unstarted(alloc, wires, ends, fails)?;
+    if case.is_set("children silent")? {
+        trials.fall_silent();
+    }
+    Ok(trials)
 }
 
 /// Children of these wires and ends, none of which was started.
@@ -66,6 +73,9 @@ pub(crate) fn child(alloc: Global, row: &str) -> Result<(ChildEnd, Bytes), No> {
 
 /// The end that a word says.
 fn end_of(word: &str) -> Result<ChildEnd, No> {
+    if word == CLOSED {
+        return Ok(ChildEnd::Closed);
+    }
     let (number, is_signal) = match word.strip_prefix(SIGNAL) {
         Some(number) => (number, true),
         None => (word, false),

@@ -94,6 +94,13 @@ fn store_difference(alloc: Global, case: Case, store: &MemStore) -> Result<Optio
     if let Some(transcript) = case.bytes(alloc, "kept transcript")? {
         return folder_difference(alloc, case, store, &transcript);
     }
+    if let Some(files) = case.bytes(alloc, "kept files")? {
+        let kept = all_kept(alloc, store)?;
+        if kept == files {
+            return Ok(None);
+        }
+        return Ok(Some(told(alloc, "kept files", &kept)?));
+    }
     let Some(content) = case.bytes(alloc, "kept")? else {
         return Ok(kept_anyway(alloc, store)?);
     };
@@ -145,6 +152,22 @@ fn last_kept<'s>(store: &'s MemStore, folder: &str, file: &str) -> &'s [u8] {
         }
     }
     last
+}
+
+/// All files that are kept, as they first came: a line with the name, and what the file holds in the end.
+fn all_kept(alloc: Global, store: &MemStore) -> Result<Vec<u8>, AllocError> {
+    let mut all = Vec::new(alloc);
+    let mut names: Vec<&str> = Vec::new(alloc);
+    for (name, _) in store.kept() {
+        let name = name.as_str();
+        if !names.contains(&name) {
+            names.push(name)?;
+            all.extend_from_slice(name.as_bytes())?;
+            all.push(b'\n')?;
+            all.extend_from_slice(last_kept(store, name, ""))?;
+        }
+    }
+    Ok(all)
 }
 
 /// The last file that is kept, where there is one.

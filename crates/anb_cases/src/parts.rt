@@ -8,7 +8,7 @@ const INDENT: &str = "    ";
 
 /// The keys of a group, a row or a case whose values are bytes: text, or with `hex` behind the key
 /// hexadecimal digits.
-const BYTES: [&str; 12] = [
+const BYTES: [&str; 13] = [
     "n",
     "v",
     "t",
@@ -20,12 +20,14 @@ const BYTES: [&str; 12] = [
     "kept",
     "kept values",
     "kept transcript",
+    "kept files",
     "heard",
 ];
 
 /// The other keys.
-const WORDS: [&str; 20] = [
+const WORDS: [&str; 22] = [
     "words",
+    "there",
     "piece",
     "room",
     "wire fails",
@@ -42,6 +44,7 @@ const WORDS: [&str; 20] = [
     "reached",
     "children",
     "children fail",
+    "children silent",
     "roles",
     "roles fail",
     "asked",

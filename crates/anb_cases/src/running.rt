@@ -10,9 +10,9 @@ use crate::stages::roles;
 use crate::unfailing::run_unfailing;
 use anb_base::{Bytes, MemShelf, MemWire, NeverFails, NoMemory, Text};
 use anb_partner::MemTrials;
-use anb_run::run_in_session;
+use anb_run::run_staging;
 use anb_stage::MemSpawner;
-use anb_store::MemStore;
+use anb_store::{MemStore, Store};
 use hex::FromHex;
 use std::alloc::Global;
 
@@ -48,7 +48,7 @@ pub(crate) fn run_case(alloc: Global, case: Case, turn: Turn) -> Result<Ran, No>
     let mut shelf = shelf_of(alloc, case)?;
     let fails = case.numbers(alloc, "sink fails")?;
     let mut err = MemWire::new(alloc, none(alloc), PLENTY, PLENTY, fails)?;
-    let mut store = MemStore::new(alloc, case.numbers(alloc, "store fails")?);
+    let mut store = store_of(alloc, case)?;
     let mut spawner = roles(alloc, case)?;
     let mut trials = children(alloc, case)?;
     if case.is_set("unfailing wire")? {
@@ -101,7 +101,7 @@ fn status_of(
     requires unstarted { (role : ℕ) → (child_at spawner.old role).phase ≡ 0 }
     requires untried { (case : ℕ) → (trials_of trials.old case).phase ≡ 0 }
 {
-    let status = run_in_session(alloc, words, shelf, spawner, store, trials, wire, err, seed);
+    let status = run_staging(alloc, words, shelf, spawner, store, trials, wire, err, seed);
     status.number()
 }
 
@@ -160,6 +160,24 @@ fn shelf_of(alloc: Global, case: Case) -> Result<MemShelf, No> {
     files.push((name(alloc, "r")?, bytes_of(alloc, case, "r")?))?;
     let fails = case.numbers(alloc, "file fails")?;
     Ok(MemShelf::new(alloc, files, fails)?)
+}
+
+/// A store in which the files that are there before are kept, with nothing in them.
+fn store_of(alloc: Global, case: Case) -> Result<MemStore, No> {
+    let mut store = MemStore::new(alloc, case.numbers(alloc, "store fails")?);
+    if let Some(there) = case.text(alloc, "there")? {
+        for name in there.split_whitespace() {
+            keep_empty(alloc, &mut store, name)?;
+        }
+    }
+    Ok(store)
+}
+
+fn keep_empty(alloc: Global, store: &mut MemStore, name: &str) -> Result<(), No> {
+    match store.replace(alloc, name, b"") {
+        Ok(()) => Ok(()),
+        Err(_) => Err(No::Value("there")),
+    }
 }
 
 fn name(alloc: Global, name: &str) -> Result<Text, NoMemory>

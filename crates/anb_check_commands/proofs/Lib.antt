@@ -1,3 +1,5 @@
+pub mod Blinded
+pub mod Choosing
 pub mod Checked
 pub mod Verdicts
 pub mod Lacks

@@ -1,4 +1,5 @@
 pub mod CheckCommand
+pub mod ChoiceLines
 pub mod CheckValues
 pub mod Laws
 -- for proofs alone

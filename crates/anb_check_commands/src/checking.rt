@@ -12,12 +12,13 @@ ghost use Rattle.anb_check_commands.specs.Telling.{IsLast, IsTold};
 
 use crate::verdict::{Verdict, verdict_on};
 use anb_base::{NoMemory, Shelf, Text, Wire};
+use anb_choice::{arm_texts_are_unique, branch_refusals_are_unique, choices_are_unique};
 use anb_command::{NARRATION_LIMIT, Status, fetch_file, write_text};
 use anb_read::{narrations_are_unique, none_is_both, refusals_are_unique};
 use std::alloc::Global;
 
 /// Says where and why the narration in the file is refused, with what would mend it; or reports what
-/// each of its roles does. The text is made in memory before the streams are reached. A text that
+/// each of its roles does, of a text with a choice in each arm. The text is made in memory before the streams are reached. A text that
 /// isn't of the grammar is read once more for each word of the grammar.
 pub fn check<F: Shelf, W: Wire>(
     alloc: Global,
@@ -43,6 +44,9 @@ pub fn check<F: Shelf, W: Wire>(
     narrations_are_unique();
     refusals_are_unique();
     none_is_both();
+    choices_are_unique();
+    branch_refusals_are_unique();
+    arm_texts_are_unique();
     let text = match fetch_file(alloc, shelf, narration, NARRATION_LIMIT) {
         Ok(text) => text,
         Err(status) => return status,

@@ -3,9 +3,12 @@
 #![tactic(auto)]
 
 mod asking;
+mod blindness;
 mod checking;
+mod choices;
 mod finding;
 mod laws;
+mod order;
 mod part;
 mod verdict;
 

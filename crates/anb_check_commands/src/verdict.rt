@@ -3,6 +3,7 @@ ghost use Rattle.std.specs.Prelude.{◌≡◌, ◌≤◌, ◌++◌, length, IfOk
 ghost use Rattle.std.specs.List.{AllByRecursion};
 ghost use Rattle.anb_base.specs.declared.TheConstants.{ARRIVAL, WIDE};
 ghost use Rattle.anb_code.specs.Verified.{IsVerifiedCode};
+ghost use Rattle.anb_read.specs.Refusals.{IsRefusal};
 ghost use Rattle.anb_syntax.specs.Grammar.{IsSpellable};
 ghost use Rattle.anb_syntax.specs.Sizes.{size};
 ghost use Rattle.anb_syntax.specs.Text.{Text as IsTextOf};
@@ -11,9 +12,10 @@ ghost use Rattle.anb_command.specs.declared.limits.TheConstants.{NARRATION_LIMIT
 ghost use Rattle.anb_status.specs.Statuses.{why_ill_formed};
 ghost use Rattle.anb_compile.specs.Fitting.{FitRoles};
 ghost use Rattle.anb_compile.specs.Unsent.{IsFirstUnsentOfAll};
-ghost use Rattle.anb_check_commands.specs.CheckCommand.{AreTaken, IsLackSaid, IsReport, IsShownVerdict, IsVerdict};
+ghost use Rattle.anb_check_commands.specs.CheckCommand.{AreTaken, IsLackSaid, IsReport, IsShownVerdict, IsVerdict, IsVerdictOnText};
 ghost use Rattle.anb_check_commands.specs.Telling.{IsLast, IsVerdictOnNarration, IsVerdictOnProtocol};
 
+use crate::choices::verdict_on_unread;
 use anb_base::{Bytes, NoMemory, Text};
 use anb_code::RoleCode;
 use anb_command::{NarrationNo, Status, ill_formed};
@@ -61,11 +63,39 @@ fn plain_verdict_on(alloc: Global, name: &Text, text: &[u8]) -> Result<Verdict, 
     match read(alloc, text) {
         Ok(narration) => verdict_on_narration(alloc, name, text, &narration),
         Err(ReadNo::NoMemory) => Err(NoMemory),
-        Err(why) => Ok(Verdict {
-            said: unread_text(alloc, name, text, why)?,
-            status: Status::BadNarration(NarrationNo::Read(why)),
-        }),
+        Err(why) => verdict_on_unread(alloc, name, text, why),
     }
+}
+
+/// The verdict on a text as that of a narration.
+pub(crate) fn verdict_on_text(alloc: Global, name: &Text, text: &[u8]) -> Result<Verdict, NoMemory>
+    requires { length text.now ≤ NARRATION_LIMIT }
+    ensures is { IfOk result (λ v. IsVerdictOnText name.now text.now v.status v.said) }
+    ensures last { IfOk result (λ v. IsLast v.status) }
+{
+    match read(alloc, text) {
+        Ok(narration) => verdict_on_narration(alloc, name, text, &narration),
+        Err(ReadNo::NoMemory) => Err(NoMemory),
+        Err(why) => unread_verdict(alloc, name, text, why),
+    }
+}
+
+/// The verdict on a text that is no narration, and is told as such.
+pub(crate) fn unread_verdict(
+    alloc: Global,
+    name: &Text,
+    text: &[u8],
+    why: ReadNo,
+) -> Result<Verdict, NoMemory>
+    requires within { length text.now ≤ NARRATION_LIMIT }
+    requires refused { IsRefusal text.now why }
+    ensures is { IfOk result (λ v. IsVerdictOnText name.now text.now v.status v.said) }
+    ensures last { IfOk result (λ v. IsLast v.status) }
+{
+    Ok(Verdict {
+        said: unread_text(alloc, name, text, why)?,
+        status: Status::BadNarration(NarrationNo::Read(why)),
+    })
 }
 
 /// The verdict on the narration of a text.

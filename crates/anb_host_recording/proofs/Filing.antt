@@ -10,7 +10,7 @@ use Rattle.anb_lemmas.proofs.Items.{bytes_differ, bytes_eq-same}
 use Rattle.anb_plays.specs.Plays.{Run}
 use Rattle.anb_store.specs.Stores.{StoreState, with_file}
 use Rattle.anb_transcript.specs.declared.transcript.TranscriptLine.{TranscriptLine}
-use Rattle.anb_recording.specs.Journals.{Files, content_of}
+use Rattle.anb_recording.specs.Journals.{Files}
 use Rattle.anb_recording.specs.Lines.{line_text, lines_text}
 use Rattle.anb_host.specs.declared.event.HostEvent.{HostEvent}
 use Rattle.anb_host.specs.declared.event.HostEvent.TheVariants.{Start, Arrive, Oversize}
@@ -18,7 +18,7 @@ use Rattle.anb_host.specs.declared.event.Notice.{Notice}
 use Rattle.anb_host.specs.Own.{answer, events_of, has_start, is_start, notices, own, session_of}
 use Rattle.anb_host.proofs.Past.{accepted-none, events_of-last, has_start-last}
 use Rattle.anb_host.proofs.Responding.{is_low}
-use Rattle.anb_host_recording.specs.Entries.{all_noted, is_refusal, lines_of, noted, transcript_of}
+use Rattle.anb_host_recording.specs.Entries.{all_noted, is_refusal, lines_of, noted, put_into, transcript_of}
 use Rattle.anb_host_recording.specs.Laws.{FilesAreOfSessions, IsOfStarted}
 use Rattle.anb_host_recording.specs.Sessions.{lines_after, session_lines}
 use Rattle.anb_host_recording.proofs.Transcribing.{no_refusal}
@@ -65,44 +65,64 @@ module _ (play : Run) (s : ℕ) where
 
 -- ---- what a session's own events make of its file
 
+-- what stands before the lines that come: nothing where the file is made
+abbrev had : (starts : Bool) → Option (List ℕ) → List ℕ
+had true o = []
+had false o = unwrap_or o []
+
+put_files : (starts : Bool) (name lines : List ℕ) (store : StoreState) (files : Files) → store.files ≡ Some files
+    → (put_into starts store name lines).files ≡ Some (with_file files name (had starts (files name) ++ lines))
+put_files true name lines store files told = rw told refl
+put_files false name lines store files told = rw told refl
+
 module _ (play : Run) (s : ℕ) where
   abbrev grown_by : Option (List ℕ) → List HostEvent → HostEvent → Option (List ℕ)
-  grown_by o past x = cond (is_refusal (own play s past x)) o (Some (unwrap_or o [] ++ lines_text (lines_of x (own play s past x))))
+  grown_by o past x = cond (is_refusal (own play s past x)) o (Some (had (is_start x) o ++ lines_text (lines_of x (own play s past x))))
 
   abbrev grown : Option (List ℕ) → (past : List HostEvent) → List HostEvent → Option (List ℕ)
   grown o past [] = o
   grown o past (x ∷ events) = grown (grown_by o past x) (past ++ x ∷ []) events
 
-  -- a file that is there has the lines behind what it had
-  grown_there : (text : List ℕ) (past events : List HostEvent) → grown (Some text) past events ≡ Some (text ++ lines_text (lines_after play s past events))
-  grown_there text past [] = ap (λ (t : List ℕ). Some t) (sym (append-nil text))
-  grown_there text past (x ∷ events) = by (λ t. grown_there t (past ++ x ∷ []) events) (is_refusal (own play s past x)) refl where
-    by : ((t : List ℕ) → grown (Some t) (past ++ x ∷ []) events ≡ Some (t ++ lines_text (lines_after play s (past ++ x ∷ []) events)))
-        → (b : Bool) → is_refusal (own play s past x) ≡ b → grown (Some text) past (x ∷ events) ≡ Some (text ++ lines_text (lines_after play s past (x ∷ events)))
-    by again true refused =
-        let told : List Notice = own play s past x in
-        let none : lines_of x told ≡ [] = rw refused refl in
-        ap (λ (b : Bool). grown (cond b (Some text) (Some (text ++ lines_text (lines_of x told)))) (past ++ x ∷ []) events) refused
-        ∙ again text
-        ∙ ap (λ (l : List TranscriptLine). Some (text ++ lines_text (l ++ lines_after play s (past ++ x ∷ []) events))) (sym none)
-    by again false goes =
-        let told : List Notice = own play s past x in
-        let rest : List TranscriptLine = lines_after play s (past ++ x ∷ []) events in
-        ap (λ (b : Bool). grown (cond b (Some text) (Some (text ++ lines_text (lines_of x told)))) (past ++ x ∷ []) events) goes
-        ∙ again (text ++ lines_text (lines_of x told))
-        ∙ ap (λ (t : List ℕ). Some t) (append_assoc text (lines_text (lines_of x told)) (lines_text rest) ∙ ap (λ (t : List ℕ). text ++ t) (sym (text_joined (lines_of x told) rest)))
-
   -- a refused event adds nothing
   passed_over : (o : Option (List ℕ)) (past : List HostEvent) (x : HostEvent) (events : List HostEvent) → is_refusal (own play s past x) ≡ true
-      → grown o (past ++ x ∷ []) events ≡ Some (unwrap_or o [] ++ lines_text (lines_after play s (past ++ x ∷ []) events))
-      → grown o past (x ∷ events) ≡ Some (unwrap_or o [] ++ lines_text (lines_after play s past (x ∷ events)))
+      → grown o (past ++ x ∷ []) events ≡ Some (lines_text (lines_after play s (past ++ x ∷ []) events))
+      → grown o past (x ∷ events) ≡ Some (lines_text (lines_after play s past (x ∷ events)))
   passed_over o past x events refused rest =
       let none : lines_of x (own play s past x) ≡ [] = rw refused refl in
-      ap (λ (b : Bool). grown (cond b o (Some (unwrap_or o [] ++ lines_text (lines_of x (own play s past x))))) (past ++ x ∷ []) events) refused
+      ap (λ (b : Bool). grown (cond b o (Some (had (is_start x) o ++ lines_text (lines_of x (own play s past x))))) (past ++ x ∷ []) events) refused
       ∙ rest
-      ∙ ap (λ (l : List TranscriptLine). Some (unwrap_or o [] ++ lines_text (l ++ lines_after play s (past ++ x ∷ []) events))) (sym none)
+      ∙ ap (λ (l : List TranscriptLine). Some (lines_text (l ++ lines_after play s (past ++ x ∷ []) events))) (sym none)
 
   module _ (small : nat_lt 1023 s ≡ false) where
+    -- once the session was started, what isn't refused is appended
+    had_there : (text : List ℕ) (past : List HostEvent) (x : HostEvent) → has_start past ≡ true → is_refusal (own play s past x) ≡ false → had (is_start x) (Some text) ≡ text
+    had_there text past (Start t) h goes = absurd (let never : true ≡ false = sym (rw (small, h) refl) ∙ goes in cc)
+    had_there text past (Arrive t y) h goes = refl
+    had_there text past (Oversize t n) h goes = refl
+
+    still_started : (past : List HostEvent) (x : HostEvent) → has_start past ≡ true → has_start (past ++ x ∷ []) ≡ true
+    still_started past x h = has_start-last past x ∙ rw h refl
+
+    -- a file that is there has the lines behind what it had
+    grown_there : (text : List ℕ) (past events : List HostEvent) → has_start past ≡ true → grown (Some text) past events ≡ Some (text ++ lines_text (lines_after play s past events))
+    grown_there text past [] h = ap (λ (t : List ℕ). Some t) (sym (append-nil text))
+    grown_there text past (x ∷ events) h = by (λ t. grown_there t (past ++ x ∷ []) events (still_started past x h)) (is_refusal (own play s past x)) refl where
+      by : ((t : List ℕ) → grown (Some t) (past ++ x ∷ []) events ≡ Some (t ++ lines_text (lines_after play s (past ++ x ∷ []) events)))
+          → (b : Bool) → is_refusal (own play s past x) ≡ b → grown (Some text) past (x ∷ events) ≡ Some (text ++ lines_text (lines_after play s past (x ∷ events)))
+      by again true refused =
+          let told : List Notice = own play s past x in
+          let none : lines_of x told ≡ [] = rw refused refl in
+          ap (λ (b : Bool). grown (cond b (Some text) (Some (had (is_start x) (Some text) ++ lines_text (lines_of x told)))) (past ++ x ∷ []) events) refused
+          ∙ again text
+          ∙ ap (λ (l : List TranscriptLine). Some (text ++ lines_text (l ++ lines_after play s (past ++ x ∷ []) events))) (sym none)
+      by again false goes =
+          let told : List Notice = own play s past x in
+          let rest : List TranscriptLine = lines_after play s (past ++ x ∷ []) events in
+          ap (λ (b : Bool). grown (cond b (Some text) (Some (had (is_start x) (Some text) ++ lines_text (lines_of x told)))) (past ++ x ∷ []) events) goes
+          ∙ ap (λ (t : List ℕ). grown (Some (t ++ lines_text (lines_of x told))) (past ++ x ∷ []) events) (had_there text past x h goes)
+          ∙ again (text ++ lines_text (lines_of x told))
+          ∙ ap (λ (t : List ℕ). Some t) (append_assoc text (lines_text (lines_of x told)) (lines_text rest) ∙ ap (λ (t : List ℕ). text ++ t) (sym (text_joined (lines_of x told) rest)))
+
     started_is_not_refused : (past : List HostEvent) (t : ℕ) → has_start past ≡ false → is_refusal (own play s past (Start t)) ≡ false
     started_is_not_refused past t h =
         let o : own play s past (Start t) ≡ notices s (play []).sent (play []).end = rw (small, h, accepted-none play past h) refl in
@@ -110,19 +130,13 @@ module _ (play : Run) (s : ℕ) where
 
     -- before the start nothing is done, and the start makes the file
     grown_first : (o : Option (List ℕ)) (past events : List HostEvent) → has_start past ≡ false → has_start events ≡ true
-        → grown o past events ≡ Some (unwrap_or o [] ++ lines_text (lines_after play s past events))
+        → grown o past events ≡ Some (lines_text (lines_after play s past events))
     grown_first o past [] h never = absurd cc
-    grown_first o past (Start t ∷ events) h on = by (is_refusal (own play s past (Start t))) refl where
-      goes : is_refusal (own play s past (Start t)) ≡ false
-      goes = started_is_not_refused past t h
-
-      by : (b : Bool) → is_refusal (own play s past (Start t)) ≡ b → grown o past (Start t ∷ events) ≡ Some (unwrap_or o [] ++ lines_text (lines_after play s past (Start t ∷ events)))
-      by true refused = absurd (let never : true ≡ false = sym refused ∙ goes in cc)
-      by false _ =
-          ap (λ (b : Bool). grown (cond b o (Some (unwrap_or o [] ++ lines_text (lines_of (Start t) (own play s past (Start t)))))) (past ++ Start t ∷ []) events) goes
-          ∙ grown_there (unwrap_or o [] ++ lines_text (lines_of (Start t) (own play s past (Start t)))) (past ++ Start t ∷ []) events
-          ∙ ap (λ (l : List ℕ). Some l) (append_assoc (unwrap_or o []) (lines_text (lines_of (Start t) (own play s past (Start t)))) (lines_text (lines_after play s (past ++ Start t ∷ []) events))
-          ∙ ap (λ (l : List ℕ). unwrap_or o [] ++ l) (sym (text_joined (lines_of (Start t) (own play s past (Start t))) (lines_after play s (past ++ Start t ∷ []) events))))
+    grown_first o past (Start t ∷ events) h on =
+        let first : List TranscriptLine = lines_of (Start t) (own play s past (Start t)) in
+        ap (λ (b : Bool). grown (cond b o (Some (lines_text first))) (past ++ Start t ∷ []) events) (started_is_not_refused past t h)
+        ∙ grown_there (lines_text first) (past ++ Start t ∷ []) events (has_start-last past (Start t) ∙ rw h refl)
+        ∙ ap (λ (l : List ℕ). Some l) (sym (text_joined first (lines_after play s (past ++ Start t ∷ []) events)))
     grown_first o past (Arrive t y ∷ events) h on =
         passed_over o past (Arrive t y) events (rw (small, h) refl) (grown_first o (past ++ Arrive t y ∷ []) events (not_start past (Arrive t y) refl ∙ h) on)
     grown_first o past (Oversize t n ∷ events) h on =
@@ -216,9 +230,11 @@ module _ (plays : ℕ → Run) (folder : List ℕ) where
           others = λ name other. f.others name (λ s within on is. other s within (ap (λ (p : List HostEvent). has_start (events_of s p)) (sym (whole past x events files)) ∙ on) is);
         }
     by again false goes =
-        let text : List ℕ = content_of files (file_of (session_of x)) ++ lines_text (lines_of x (answer plays past x)) in
+        let lines : List ℕ = lines_text (lines_of x (answer plays past x)) in
+        let text : List ℕ = had (is_start x) (files (file_of (session_of x))) ++ lines in
         let next : Files = with_file files (file_of (session_of x)) text in
-        let grew : (noted folder store x (answer plays past x)).files ≡ Some next = rw (goes, told) refl in
+        let grew : (noted folder store x (answer plays past x)).files ≡ Some next =
+        ap (λ (b : Bool). (cond b store (put_into (is_start x) store (file_of (session_of x)) lines)).files) goes ∙ put_files (is_start x) (file_of (session_of x)) lines store files told in
         let f = again (noted folder store x (answer plays past x)) next grew in
         let all = started_all past x events files goes in
         record {

@@ -5,13 +5,13 @@ use Rattle.anb_base.specs.Moves.{Rose}
 use Rattle.anb_plays.specs.Plays.{Run}
 use Rattle.anb_store.specs.Stores.{StoreState}
 use Rattle.anb_recording.specs.Joining.{others_still, plain_joined}
-use Rattle.anb_recording.specs.Journals.{Files, OthersStay, appended}
+use Rattle.anb_recording.specs.Journals.{Files, OthersStay}
 use Rattle.anb_recording.specs.Lines.{IsPlain, lines_text}
 use Rattle.anb_transcript.specs.declared.transcript.TranscriptLine.{TranscriptLine}
 use Rattle.anb_host.specs.declared.event.HostEvent.{HostEvent}
 use Rattle.anb_host.specs.declared.event.Notice.{Notice}
-use Rattle.anb_host.specs.Own.{answer, events_of, session_of}
-use Rattle.anb_host_recording.specs.Entries.{is_refusal, line_in, line_out, lines_of, noted, transcript_of}
+use Rattle.anb_host.specs.Own.{answer, events_of, is_start, session_of}
+use Rattle.anb_host_recording.specs.Entries.{is_refusal, line_in, line_out, lines_of, noted, put_into, transcript_of}
 use Rattle.anb_host_recording.specs.Keeps.{IsOfSession, Keeps, KeepsOne}
 use Rattle.anb_host_recording.specs.declared.recording.Noted.{Noted}
 use Rattle.anb_host_recording.specs.declared.recording.Noted.TheVariants.{Whole, Unwritten, NoMemory}
@@ -49,7 +49,7 @@ module _ (plays : ℕ → Run) (folder : List ℕ) (past : List HostEvent) (x : 
   keeps_refused : (store : StoreState) → is_refusal told ≡ true → Keeps plays folder past (x ∷ []) store store Whole Whole
   keeps_refused store refused =
       let none : lines_of x told ≡ [] = ap (λ (b : Bool). cond b [] (line_in x ++ flat_map line_out told)) refused in
-      let same : noted folder store x told ≡ store = ap (λ (b : Bool). cond b store (appended store (transcript_of folder (session_of x)) (lines_text (lines_of x told)))) refused in
+      let same : noted folder store x told ≡ store = ap (λ (b : Bool). cond b store (put_into (is_start x) store (transcript_of folder (session_of x)) (lines_text (lines_of x told)))) refused in
       record {
         stuck = λ not. absurd (not refl);
         whole = λ is. (refl, sym same ∙ ap (noted folder store x) told_is);
@@ -75,17 +75,17 @@ module _ (plays : ℕ → Run) (folder : List ℕ) (past : List HostEvent) (x : 
     lines_are : lines_of x told ≡ line_in x ++ flat_map line_out told
     lines_are = ap (λ (b : Bool). cond b [] (line_in x ++ flat_map line_out told)) goes
 
-    grows : noted folder old x told ≡ appended old (transcript_of folder (session_of x)) (lines_text (lines_of x told))
-    grows = ap (λ (b : Bool). cond b old (appended old (transcript_of folder (session_of x)) (lines_text (lines_of x told)))) goes
+    grows : noted folder old x told ≡ put_into (is_start x) old (transcript_of folder (session_of x)) (lines_text (lines_of x told))
+    grows = ap (λ (b : Bool). cond b old (put_into (is_start x) old (transcript_of folder (session_of x)) (lines_text (lines_of x told)))) goes
 
     keeps_noted : (lines : List ℕ) → lines ≡ lines_text (line_in x) ++ lines_text (flat_map line_out told) → AllByRecursion IsPlain (line_in x) → AllByRecursion IsPlain (flat_map line_out told)
-        → new ≡ appended old name lines → new.faults ≡ old.faults → OthersStay (λ other. other ≡ name) old new → Keeps plays folder past (x ∷ []) old new Whole Whole
+        → new ≡ put_into (is_start x) old name lines → new.faults ≡ old.faults → OthersStay (λ other. other ≡ name) old new → Keeps plays folder past (x ∷ []) old new Whole Whole
     keeps_noted lines are first rest grew same others = record {
       stuck = λ not. absurd (not refl);
       whole = λ is. (
         refl,
-        grew ∙ ap (λ (n : List ℕ). appended old n lines) is_name
-            ∙ ap (λ (t : List ℕ). appended old (transcript_of folder (session_of x)) t) (are ∙ sym (text_joined (line_in x) (flat_map line_out told)) ∙ ap lines_text (sym lines_are))
+        grew ∙ ap (λ (n : List ℕ). put_into (is_start x) old n lines) is_name
+            ∙ ap (λ (t : List ℕ). put_into (is_start x) old (transcript_of folder (session_of x)) t) (are ∙ sym (text_joined (line_in x) (flat_map line_out told)) ∙ ap lines_text (sym lines_are))
             ∙ sym grows ∙ ap (noted folder old x) told_is,
       );
       plain = λ is. subst (λ (t : List Notice). AllByRecursion IsPlain (lines_of x t ++ [])) told_is
@@ -131,7 +131,7 @@ module _ (folder : List ℕ) (x : HostEvent) (told : List Notice) where
     the_file = is_name ∙ ap (transcript_of folder) (sym of_session)
 
     pub one_noted : (lines : List ℕ) → lines ≡ lines_text (line_in x) ++ lines_text (flat_map line_out told) → AllByRecursion IsPlain (line_in x) → AllByRecursion IsPlain (flat_map line_out told)
-        → new ≡ appended old name lines → new.faults ≡ old.faults → OthersStay (λ other. other ≡ name) old new → KeepsOne folder x told old new Whole Whole
+        → new ≡ put_into (is_start x) old name lines → new.faults ≡ old.faults → OthersStay (λ other. other ≡ name) old new → KeepsOne folder x told old new Whole Whole
     one_noted lines are first rest grew same others plays past is = keeps_noted plays folder past x told is goes name the_file old new lines are first rest grew same others
 
     pub one_unwritten : Rose old.faults new.faults → old.faults ≤ new.faults → OthersStay (λ other. other ≡ name) old new → KeepsOne folder x told old new Whole (Unwritten name)

@@ -1,8 +1,8 @@
 -- What is recorded of a host is the transcript of each session.
-use Rattle.std.specs.Prelude.{◌≡◌, ℕ, ◌<◌, true, List, [], ◌++◌, Some}
+use Rattle.std.specs.Prelude.{◌≡◌, ℕ, ◌<◌, true, List, [], Some}
 use Rattle.anb_plays.specs.Plays.{Run}
 use Rattle.anb_store.specs.Stores.{StoreState}
-use Rattle.anb_recording.specs.Journals.{Files, content_of}
+use Rattle.anb_recording.specs.Journals.{Files}
 use Rattle.anb_recording.specs.Lines.{lines_text}
 use Rattle.anb_host.specs.declared.event.HostEvent.{HostEvent}
 use Rattle.anb_host.specs.Alone.{SendsOn}
@@ -20,13 +20,13 @@ abbrev pub IsOfStarted : (folder : List ℕ) → List HostEvent → (name : List
 IsOfStarted folder events name =
     (session : ℕ) × (session < 1024) × (has_start (events_of session events) ≡ true) × (name ≡ transcript_of folder session)
 
--- What new events of a host leave in a store: each started session's lines stand behind what was in its file,
--- and each other file is as it was.
+-- What new events of a host leave in a store: each started session's file has its lines, and each other file is
+-- as it was.
 abbrev pub FilesAreOfSessions : Type 0
 FilesAreOfSessions = (plays : ℕ → Run) (folder : List ℕ) (events : List HostEvent) (store : StoreState) (files : Files)
     → store.files ≡ Some files
     → (now : Files) × ((all_noted plays folder store [] events).files ≡ Some now)
     × ((session : ℕ) → session < 1024 → has_start (events_of session events) ≡ true
     → now (transcript_of folder session)
-    ≡ Some (content_of files (transcript_of folder session) ++ lines_text (session_lines (plays session) session (events_of session events))))
+    ≡ Some (lines_text (session_lines (plays session) session (events_of session events))))
     × ((name : List ℕ) → (IsOfStarted folder events name → ⊥) → now name ≡ files name)

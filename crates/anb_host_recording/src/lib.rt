@@ -1,8 +1,8 @@
 //! Recordings of hosts: the transcript of each session, written to a file of its own while the host
 //! is served.
 //!
-//! [`record_sessions`] serves what `anb_host` serves, in its one loop, and appends the lines of each
-//! event as it is answered. What can't be appended never holds the host up.
+//! [`record_sessions`] serves what `anb_host` serves, in its one loop, and writes the lines of each
+//! event as it is answered. What can't be written never holds the host up.
 #![tactic(auto)]
 
 mod laws;

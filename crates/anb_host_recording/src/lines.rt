@@ -4,6 +4,7 @@ ghost use Rattle.std.specs.Prelude.{◌≡◌, ◌++◌, IfOk, OnOk};
 ghost use Rattle.std.specs.List.{AllByRecursion, flat_map};
 ghost use Rattle.anb_base.specs.Bytes.{IsBytes};
 ghost use Rattle.anb_host.specs.Hosts.{Fits};
+ghost use Rattle.anb_host.specs.Own.{is_start};
 ghost use Rattle.anb_recording.specs.Lines.{IsPlain, lines_text, spelled};
 ghost use Rattle.anb_host_recording.specs.Entries.{is_refusal, line_in, line_out, transcript_of};
 
@@ -63,6 +64,17 @@ fn put_message(alloc: Global, out: &mut Vec<u8>, notice: &Notice) -> Result<(), 
         Notice::Stopped(_session, _event) => Ok(()),
         Notice::Finished(_session) => Ok(()),
         Notice::Refused(_session, _cause) => Ok(()),
+    }
+}
+
+/// Whether the event starts a session.
+pub(crate) fn is_start(event: &HostEvent) -> bool
+    ensures { result ≡ is_start event.now }
+{
+    match event {
+        HostEvent::Start(_session) => true,
+        HostEvent::Arrive(_session, _bytes) => false,
+        HostEvent::Oversize(_session, _len) => false,
     }
 }
 

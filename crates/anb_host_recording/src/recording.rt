@@ -1,6 +1,6 @@
 //! A host that is recorded as it is served.
 
-ghost use Rattle.std.specs.Prelude.{◌≡◌, ◌≢◌, ◌<◌, ◌≤◌, ◌++◌, ℕ, List, IfOk, OnOk};
+ghost use Rattle.std.specs.Prelude.{◌≡◌, ◌≢◌, ◌<◌, ◌≤◌, ◌++◌, ℕ, List, Err, IfOk, IsErrOf, OnOk};
 ghost use Rattle.std.specs.List.{AllByRecursion, flat_map};
 ghost use Rattle.anb_base.specs.Moves.{Rose};
 ghost use Rattle.anb_host.specs.declared.event.HostEvent.{HostEvent};
@@ -8,12 +8,13 @@ ghost use Rattle.anb_host.specs.declared.serving.HostEnd.TheVariants as ended;
 ghost use Rattle.anb_host.specs.HostFrames.{FramesLeft, Tail};
 ghost use Rattle.anb_host.specs.Hosts.{StandsFor, plays_of};
 ghost use Rattle.anb_host.specs.Serving.{FollowsAfter, Serves};
-ghost use Rattle.anb_host_recording.specs.Entries.{line_in, line_out, transcript_of};
-ghost use Rattle.anb_host.specs.Own.{session_of};
+ghost use Rattle.anb_host_recording.specs.Entries.{line_in, line_out, put_into, transcript_of};
+ghost use Rattle.anb_host.specs.Own.{is_start, session_of};
+ghost use Rattle.anb_recording.specs.Journals.{OthersStay};
 ghost use Rattle.anb_recording.specs.Lines.{IsPlain, lines_text};
 ghost use Rattle.anb_host_recording.specs.Keeps.{Keeps, KeepsOne};
 
-use crate::lines::{arrival_line, is_refused, put_messages, transcript_of};
+use crate::lines::{arrival_line, is_refused, is_start, put_messages, transcript_of};
 use anb_base::{Bytes, NoMemory, Text, Wire};
 use anb_host::{Host, HostEnd, HostEvent, Notice, Servable, serve};
 use anb_recording::Journal;
@@ -48,36 +49,54 @@ pub struct RecordingHost<'h, 'c, 'j, 'f, 'n, J: Journal> {
 }
 
 impl<J: Journal> RecordingHost<'_, '_, '_, '_, '_, J> {
-    /// Appends the lines of an event that was answered so, where nothing is missing.
-    fn note(&mut self, alloc: Global, session: u32, line: Result<Bytes, NoMemory>, told: &[Notice])
+    /// Writes the lines of an event that was answered so, where nothing is missing.
+    fn note(
+        &mut self,
+        alloc: Global,
+        session: u32,
+        starts: bool,
+        line: Result<Bytes, NoMemory>,
+        told: &[Notice],
+    )
         ensures same_reference { self.new.journal.ghost_name ≡ self.old.journal.ghost_name }
         ensures same_host { self.new.host.now ≡ self.old.host.now }
         ensures same_place { self.new.host.ghost_name ≡ self.old.host.ghost_name }
         ensures same_folder { self.new.folder.now ≡ self.old.folder.now }
         ensures same_noted { self.new.noted.ghost_name ≡ self.old.noted.ghost_name }
         ensures notes { (event : HostEvent) → session_of event ≡ session
+            → is_start event ≡ starts
             → IfOk line (λ bytes. bytes ≡ lines_text (line_in event))
             → AllByRecursion IsPlain (line_in event)
             → KeepsOne self.old.folder.now event told.now (J.state self.old.journal.now)
             (J.state self.new.journal.now) self.old.noted.now self.new.noted.now }
     {
         if let Noted::Whole = *self.noted {
-            *self.noted = note_event(alloc, self.journal, self.folder, session, line, told);
+            *self.noted = note_event(
+                alloc,
+                self.journal,
+                self.folder,
+                session,
+                starts,
+                line,
+                told,
+            );
         }
     }
 }
 
-/// Appends the lines of an event that was answered so to its session's file, where nothing is
+/// Writes the lines of an event that was answered so to its session's file, where nothing is
 /// missing, and says what is then.
 fn note_event<J: Journal>(
     alloc: Global,
     journal: &mut J,
     folder: &Text,
     session: u32,
+    starts: bool,
     line: Result<Bytes, NoMemory>,
     told: &[Notice],
 ) -> Noted
     ensures { (event : HostEvent) → session_of event ≡ session
+        → is_start event ≡ starts
         → IfOk line (λ bytes. bytes ≡ lines_text (line_in event))
         → AllByRecursion IsPlain (line_in event)
         → KeepsOne folder.now event told.now (J.state journal.old) (J.state journal.new)
@@ -89,10 +108,35 @@ fn note_event<J: Journal>(
     let Ok((name, lines)) = entry(alloc, folder, session, line, told) else {
         return Noted::NoMemory;
     };
-    match journal.append(alloc, name.as_str(), &lines) {
+    match put(alloc, journal, starts, name.as_str(), &lines) {
         Ok(()) => Noted::Whole,
         Err(StoreNo::Failed) => Noted::Unwritten(name),
         Err(StoreNo::NoMemory) => Noted::NoMemory,
+    }
+}
+
+/// Puts the lines into the file, which a start makes.
+fn put<J: Journal>(
+    alloc: Global,
+    journal: &mut J,
+    starts: bool,
+    name: &str,
+    lines: &[u8],
+) -> Result<(), StoreNo>
+    ensures put { OnOk result (J.state journal.new
+        ≡ put_into starts (J.state journal.old) name.now lines.now) }
+    ensures cause { IsErrOf result StoreNo.Failed
+        → Rose (J.state journal.old).faults (J.state journal.new).faults }
+    ensures quiet { result ≢ Err StoreNo.Failed
+        → (J.state journal.new).faults ≡ (J.state journal.old).faults }
+    ensures never_falls { (J.state journal.old).faults ≤ (J.state journal.new).faults }
+    ensures others { OthersStay (λ other. other ≡ name.now)
+        (J.state journal.old) (J.state journal.new) }
+{
+    if starts {
+        journal.make(alloc, name, lines)
+    } else {
+        journal.append(alloc, name, lines)
     }
 }
 
@@ -156,16 +200,17 @@ impl<J: Journal> Servable for RecordingHost<'_, '_, '_, '_, '_, J> {
 
     fn event(&mut self, alloc: Global, event: HostEvent) -> Result<Vec<Notice>, NoMemory> {
         let session = event.session();
+        let starts = is_start(&event);
         let line = arrival_line(alloc, &event);
         let told = self.host.event(alloc, event)?;
-        self.note(alloc, session, line, &told);
+        self.note(alloc, session, starts, line, &told);
         Ok(told)
     }
 }
 
-/// Serves the sessions of a host over a wire as `serve` does, and appends the lines of each event to
+/// Serves the sessions of a host over a wire as `serve` does, and writes the lines of each event to
 /// its session's file in the folder of the journal, before any of its messages is sent. A start makes
-/// the file.
+/// the file, and what comes later is appended.
 pub fn record_sessions<W: Wire, J: Journal>(
     alloc: Global,
     host: &mut Host<'_>,

@@ -11,24 +11,24 @@ ghost use Rattle.anb_partner.specs.Trials.{IsUnstarted, KeptByFinish, OthersStay
 ghost use Rattle.anb_partner.specs.Steps.{HasTalked};
 
 use crate::talking::{Left, drain, hand_in, talk};
-use crate::{Conversation, ConverseNo, Partner, TalkEnd, Trials, Values};
-use anb_base::{ARRIVAL, NoMemory, Text, Wire};
+use crate::{Conversation, ConverseNo, Partner, TalkEnd, Target, Trials, Values};
+use anb_base::{ARRIVAL, NoMemory, Wire};
 use anb_format::Format;
 use anb_machine::Machine;
 use anb_spoil::Wrong;
 use anb_transcript::Transcript;
 use std::alloc::Global;
 
-/// Starts the child of a case with this limit and these words, plays the partner against it, ends its
-/// input, reads what is left of its output, and waits for its end. Each message is written before the
-/// next one is waited for. The memory for the partner is taken before the child is started; and whatever
-/// comes then, the child doesn't run any more behind it.
+/// Starts the child of a case, this one with this limit, plays the partner against it, ends its input,
+/// reads what is left of its output, and waits for its end. Each message is written before the next one
+/// is waited for. The memory for the partner is taken before the child is started; and whatever comes
+/// then, the child doesn't run any more behind it.
 pub fn converse<T: Trials>(
     alloc: Global,
     trials: &mut T,
     case: u32,
     limit: Option<u32>,
-    words: &[Text],
+    target: Target,
     partner: &Partner,
     values: &Values,
     wrong: Wrong,
@@ -41,7 +41,7 @@ pub fn converse<T: Trials>(
     ensures converses { IfOk result (Converses
         (run_bytes partner.now.code values.now.initial.items (replicate 32 0) 0)
         values.now.handed.items partner.now.hook (wrong_by partner.now.code.formats wrong)
-        (asked_words limit words.now) (T.trial trials.old case) (T.trial trials.new case)) }
+        (asked_words limit target.entry) (T.trial trials.old case) (T.trial trials.new case)) }
     ensures not_started { IfErr result (λ no. no ≡ ConverseNo.NotStarted
         → IsUnstarted (T.trial trials.old case) (T.trial trials.new case)
         × Rose (T.trial trials.old case).faults (T.trial trials.new case).faults) }
@@ -51,7 +51,7 @@ pub fn converse<T: Trials>(
     let mut buffer = vec![in alloc; 0u8; ARRIVAL as usize]?;
     let mut machine = Machine::start(alloc, &partner.code, &values.initial, &[0; 32], 0)?;
     hand_in(alloc, &mut machine, &values.handed)?;
-    match trials.start(case, limit, words) {
+    match trials.start(case, limit, target) {
         Ok(child) => talk_with(
             alloc,
             trials,

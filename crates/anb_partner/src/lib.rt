@@ -22,7 +22,7 @@ pub use laws::partners_play;
 pub use memory::MemTrials;
 pub use planning::{Narrated, Partner, PartnerNo, narrated_terms, partner_for};
 pub use standing::may_stand;
-pub use trials::{ChildEnd, Trials};
+pub use trials::{ChildEnd, Target, Trials};
 pub use valuing::{Values, values_for};
 
 /// The most messages that are read behind a talk.

@@ -1,12 +1,12 @@
 //! Children in memory, which tell all that they hold.
 
-ghost use Rattle.std.specs.Prelude.{◌≡◌, ◌<◌, ◌≤◌, ◌++◌, ℕ, [], length, true, Some, None, IfOk, OnOk, IfSome};
+ghost use Rattle.std.specs.Prelude.{◌≡◌, ◌<◌, ◌≤◌, ◌++◌, ℕ, [], ◌∷◌, length, true, Some, None, IfOk, OnOk, IfSome};
 ghost use Rattle.anb_base.specs.Moves.{Rose};
 ghost use Rattle.anb_stage.specs.Children.{limit_word, lines};
 ghost use Rattle.anb_partner.specs.Memory.{fresh_trials, trial_at, trials_of};
-ghost use Rattle.anb_partner.specs.Trials.{asked_words};
+ghost use Rattle.anb_partner.specs.Trials.{asked_words, target_words};
 
-use crate::{ChildEnd, Trials};
+use crate::{ChildEnd, Target, Trials};
 use anb_base::{Failed, MemWire, NoMemory, Text};
 use itoa::Buffer;
 use std::alloc::Global;
@@ -135,8 +135,8 @@ impl MemTrials {
         self.trials[case as usize].wire.as_ref()
     }
 
-    /// What was asked of a case's child: the limit, which is empty where there is none, and its words,
-    /// each with a line feed.
+    /// What was asked of a case's child: the limit, which is empty where there is none, and behind it
+    /// `--` and a program's words, or `--dial` and a place; each with a line feed.
     pub fn asked(&self, case: u32) -> &[u8]
         requires { case < length self.now.trials }
         ensures { result.now ≡ (trial_at self.now case).asked }
@@ -155,25 +155,56 @@ impl MemTrials {
     }
 }
 
-/// What was asked so far, and the limit and the words, each with a line feed.
+/// What was asked so far, and the limit and what is tried, each word with a line feed.
 fn asked_too(
     alloc: Global,
     asked: &[u8],
     limit: Option<u32>,
-    words: &[Text],
+    target: Target,
 ) -> Result<Vec<u8>, NoMemory>
     ensures { IfOk result (λ all.
-        all.items ≡ asked.now ++ lines (asked_words limit words.now)) }
+        all.items ≡ asked.now ++ lines (asked_words limit target.entry)) }
 {
     let mut digits = Buffer::new();
     let mut all = Vec::from_slice(alloc, asked)?;
-    all.extend_from_slice(text_of(&mut digits, limit).as_bytes())?;
-    all.push(b'\n')?;
-    for word in words {
-        all.extend_from_slice(word.as_str().as_bytes())?;
-        all.push(b'\n')?;
-    }
+    put_line(&mut all, text_of(&mut digits, limit))?;
+    put_target(&mut all, target)?;
     Ok(all)
+}
+
+/// Appends what is tried, each word with a line feed.
+fn put_target(all: &mut Vec<u8>, target: Target) -> Result<(), NoMemory>
+    ensures { OnOk result (all.new.items ≡ all.old.items ++ lines (target_words target.entry)) }
+{
+    match target {
+        Target::Program(words) => {
+            put_line(all, "--")?;
+            put_lines(all, words)
+        }
+        Target::Dial(place) => {
+            put_line(all, "--dial")?;
+            put_line(all, place.as_str())
+        }
+    }
+}
+
+/// Appends words, each with a line feed.
+fn put_lines(all: &mut Vec<u8>, words: &[Text]) -> Result<(), NoMemory>
+    ensures { OnOk result (all.new.items ≡ all.old.items ++ lines words.now) }
+{
+    for word in words {
+        put_line(all, word.as_str())?;
+    }
+    Ok(())
+}
+
+/// Appends a word with a line feed.
+fn put_line(all: &mut Vec<u8>, word: &str) -> Result<(), NoMemory>
+    ensures { OnOk result (all.new.items ≡ all.old.items ++ word.now ++ 10 ∷ []) }
+{
+    all.extend_from_slice(word.as_bytes())?;
+    all.push(b'\n')?;
+    Ok(())
 }
 
 /// The limit as it is asked.
@@ -191,7 +222,7 @@ impl Trials for MemTrials {
 
     ghost trial = { trials_of };
 
-    fn start(&mut self, case: u32, limit: Option<u32>, words: &[Text]) -> Result<MemWire, Failed> {
+    fn start(&mut self, case: u32, limit: Option<u32>, target: Target) -> Result<MemWire, Failed> {
         let fails = self.next_fails();
         let alloc = self.alloc;
         if case as usize >= self.trials.len() {
@@ -201,7 +232,7 @@ impl Trials for MemTrials {
         if fails {
             return Err(trial.fail(false));
         }
-        let Ok(asked) = asked_too(alloc, &trial.asked, limit, words) else {
+        let Ok(asked) = asked_too(alloc, &trial.asked, limit, target) else {
             return Err(trial.fail(false));
         };
         let Some(wire) = trial.wire.take() else {

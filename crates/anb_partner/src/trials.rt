@@ -1,4 +1,4 @@
-//! Child programs, one for each case.
+//! Children, one for each case: programs that are started, or peers that are dialled.
 
 ghost use Rattle.std.specs.Prelude.{◌≡◌, ◌≤◌, ℕ, IfOk, IfSome, OnOk, OnErr};
 ghost use Rattle.anb_base.specs.Moves.{Rose, Put};
@@ -7,15 +7,25 @@ ghost use Rattle.anb_partner.specs.Trials.{Trial, IsUnstarted, KeptByFinish, Oth
 
 use anb_base::{Failed, Text, Wire};
 
-/// How a child ended: by itself, with a status, or by a signal.
+/// What is tried: a program with its words, or whoever is dialled at a place.
+#[derive(Clone, Copy)]
+pub enum Target<'w> {
+    Program(&'w [Text]),
+    Dial(&'w Text),
+}
+
+/// How a child ended: by itself, with a status, or by a signal; or its connection ended, which tells
+/// nothing more.
 #[derive(Clone, Copy, Debug, PartialEq, Eq, Drop)]
 pub enum ChildEnd {
     Status(u8),
     Signal(u8),
+    Closed,
 }
 
-/// Child programs, one for each case of a test suite. A child that runs is a wire of its own, which is
-/// its output and its input, and so what is read and written there touches no other child.
+/// Children, one for each case of a test suite: programs, or peers at the other end of a connection. A
+/// child that runs is a wire of its own, which is its output and its input, and so what is read and
+/// written there touches no other child.
 pub trait Trials {
     /// A child that runs.
     type Child: Wire + Drop;
@@ -23,21 +33,21 @@ pub trait Trials {
     /// What is told of each case's child.
     ghost trial: { Self → ℕ → Trial };
 
-    /// Starts the child of a case with these words. Where there is a limit, each call for the child fails
-    /// once it was silent for so many seconds: it gave no byte that was waited for, took none, or didn't
-    /// end.
+    /// Starts the child of a case: a program with its words, or a connection to a place. Where there is a
+    /// limit, each call for the child fails once it was silent for so many seconds: it gave no byte that
+    /// was waited for, took none, didn't end, or couldn't be dialled.
     fn start(
         &mut self,
         case: u32,
         limit: Option<u32>,
-        words: &[Text],
+        target: Target,
     ) -> Result<Self::Child, Failed>
         requires unstarted { (trial self.old case).phase ≡ 0 }
         ensures child { IfOk result (λ child.
             Self.Child.state child ≡ (trial self.old case).pipes) }
         ensures asked { OnOk result
             (Put (trial self.old case).asked (trial self.new case).asked
-            (lines (asked_words limit words.now))) }
+            (lines (asked_words limit target.entry))) }
         ensures started { OnOk result ((trial self.new case).phase ≡ 1) }
         ensures failed { OnErr result (IsUnstarted (trial self.old case) (trial self.new case)) }
         ensures cause { OnErr result
@@ -54,7 +64,7 @@ pub trait Trials {
         ensures trials { trial self.new ≡ trial self.old };
 
     /// Ends the input of a case's child, waits for its end, and tells it. Whatever it answers, the child
-    /// doesn't run any more: one that is silent for too long is killed.
+    /// doesn't run any more: one that is silent for too long is killed, or its connection is closed.
     fn finish(&mut self, case: u32, child: Self::Child) -> Result<ChildEnd, Failed>
         requires running { (trial self.old case).phase ≡ 1 }
         ensures end { IfOk result (λ end.

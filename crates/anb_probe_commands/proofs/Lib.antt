@@ -6,3 +6,7 @@ mod Short
 mod Preparing
 mod Ending
 mod Outcomes
+mod Holding
+mod Own
+mod Kept
+mod Told

@@ -40,7 +40,7 @@ module _ (q : Probing) (trying : Trying) (g : Agenda) (name : List ℕ) (old new
   late_end s (inl r) = ap probe_phase r.is ∙ status_late (verdicts_of r.ends)
   late_end s (inr b) = ap probe_phase b.is
 
-  never_early : (P : Type 0) (s : Status) (phase : Phase) → phase ≡ before_reach → probe_phase s ≡ phase → ComesTo q trying g name old new S.written T.written s → P
+  pub never_early : (P : Type 0) (s : Status) (phase : Phase) → phase ≡ before_reach → probe_phase s ≡ phase → ComesTo q trying g name old new S.written T.written s → P
   never_early P WriteFault phase is e c = let never : after_reach ≡ before_reach = e ∙ is in absurd (cc)
   never_early P NoMemory phase is e c = let never = e ∙ is in absurd (cc)
   never_early P (ChildFault child) phase is e c = let never : after_reach ≡ before_reach = e ∙ is in absurd (cc)

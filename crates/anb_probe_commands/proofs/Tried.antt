@@ -22,6 +22,7 @@ use Rattle.anb_tries.specs.Seen.{seen_of}
 use Rattle.anb_tries.specs.Tries.{IsTriedVerdict}
 use Rattle.anb_verdict.specs.Verdicts.{reached_by}
 use Rattle.anb_verdict.specs.declared.verdict.Verdict.{Verdict}
+use Rattle.anb_probe_commands.specs.Keeping.{Told, told_from}
 use Rattle.anb_probe_commands.specs.Plays.{ArePlayed, CaseEnd, IsNotStarted, IsTried, reached_in, verdict_in, verdicts_of}
 use Rattle.anb_probe_commands.specs.Playing.{BrokeIn, CanPlay, IsCaseCut, IsCut, IsPlayedOut, IsPlayedPart, Wrote, end_in, text_of, texts_of}
 use Rattle.anb_probe_commands.specs.Probings.{Probing}
@@ -256,6 +257,12 @@ module _ (q : Probing) (x : Prepared) (program : List (List ℕ)) (old mid new :
       played = next.0;
       wrote = wrote_next;
     }
+
+    -- and what was told of them all
+    pub so_kept : (By : List Told → Type 0) (now : List Verdict) → now ≡ verdicts ++ o.verdict ∷ [] → By (told_from 0 (so.ends ++ end_in o ∷ []))
+        → (further : PlayedSoFar q x program old new S U now (i + 1) r) × By (told_from 0 further.ends)
+    unfolding so_further
+    so_kept By now pushed kept = (so_further now pushed, kept)
 
   -- all were
   pub played_out : i ≡ length x.cases.items → IsPlayedOut q x program old mid S T verdicts

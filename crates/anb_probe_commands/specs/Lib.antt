@@ -6,6 +6,9 @@ pub mod Frames
 pub mod Reports
 pub mod Plays
 pub mod ProbeCommand
+pub mod Records
+pub mod ProbeInto
 -- for proofs alone
 pub mod Tasks
 pub mod Playing
+pub mod Keeping

@@ -22,9 +22,10 @@ abbrev pub is_passed : Verdict → Bool
 is_passed says.Good = true
 is_passed verdict = false
 
--- nothing is said against it, as nothing could be tried
+-- nothing is said against it, as nothing could be tried, or seen
 abbrev pub is_skipped : Verdict → Bool
 is_skipped says.Skipped = true
+is_skipped says.NotSeen = true
 is_skipped says.Unchanged = true
 is_skipped says.TooLong = true
 is_skipped verdict = false

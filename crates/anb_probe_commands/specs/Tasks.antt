@@ -6,6 +6,7 @@ use Rattle.anb_compile.specs.Fitting.{FitsRole}
 use Rattle.anb_command.specs.Roles.{Part}
 use Rattle.anb_partner.specs.declared.planning.PartnerNo.TheVariants as no
 use Rattle.anb_protocol.specs.Protocols.{ActionValue, ProtocolValue}
+use Rattle.anb_values.specs.declared.fitted.Fitted.{Fitted}
 use Rattle.anb_values.specs.declared.refusal.ValuesNo.TheVariants.{Long}
 use Rattle.anb_status.specs.declared.status.Status.{Status}
 use Rattle.anb_status.specs.declared.status.Status.TheVariants.{BadValues, CannotSend, NoMemory}
@@ -20,6 +21,10 @@ part_by p role = record { protocol = p; role = role }
 
 abbrev pub probing_by : ProtocolValue → ℕ → (values : List (List ℕ)) → (seed : List ℕ) → Probing
 probing_by p role values seed = record { protocol = p; role = role; values = values; seed = seed }
+
+-- the values and the seed that the file gives
+abbrev pub fitted_by : (values : List (List ℕ)) → (seed : Option (List ℕ)) → Fitted
+fitted_by values seed = record { values = values; seed = seed }
 
 -- what all roles begin with is short
 abbrev pub AllShort : ProtocolValue → List (List ℕ) → Type 0

@@ -13,7 +13,7 @@ fn is_passed(verdict: Verdict) -> bool
     verdict == Verdict::Good
 }
 
-/// Whether nothing could be tried.
+/// Whether nothing could be tried, or seen.
 fn is_skipped(verdict: Verdict) -> bool
     ensures { result ≡ is_skipped verdict }
 {
@@ -29,8 +29,10 @@ pub(crate) fn is_lax(verdict: Verdict) -> bool
         Verdict::Good
         | Verdict::Skipped
         | Verdict::Unchanged
+        | Verdict::NotSeen
         | Verdict::TooLong
         | Verdict::StrictMessage { .. }
+        | Verdict::StrictUnseen { .. }
         | Verdict::StrictEnd { .. }
         | Verdict::Wrong { .. }
         | Verdict::Unnarrated

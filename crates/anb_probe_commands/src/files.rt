@@ -1,14 +1,17 @@
 //! What is probed, from the files of its words.
-ghost use Rattle.std.specs.Prelude.{◌≡◌, ◌⊎◌, ◌<◌, ◌≤◌, ℕ, [], ◌∷◌, length, All, IfOk, IfErr};
+ghost use Rattle.std.specs.Prelude.{◌≡◌, ◌⊎◌, ◌<◌, ◌≤◌, ℕ, List, [], ◌∷◌, length, All, IfOk, IfErr};
 ghost use Rattle.anb_base.specs.Moves.{Rose};
 ghost use Rattle.anb_base.specs.declared.TheConstants.{ARRIVAL};
 ghost use Rattle.anb_compile.specs.Fitting.{FitsRole};
 ghost use Rattle.anb_command.specs.Fetches.{Fetches, IfTold, IsOneOf};
+ghost use Rattle.anb_command.specs.Files.{ValuesInFile};
 ghost use Rattle.anb_command.specs.Reported.{TellsFileFaults};
 ghost use Rattle.anb_command.specs.Steps.{IsFailure, refused, given};
+ghost use Rattle.anb_protocol.specs.Texts.{known_names};
 ghost use Rattle.anb_status.specs.Statuses.{IsEarly};
+ghost use Rattle.anb_values_commands.specs.RoleValuesCommand.{OwnIs, RoleValuesText};
 ghost use Rattle.anb_probe_commands.specs.Probings.{BeginningsAre, IsReadToProbe, ProbingIs, ProbingOf, Settles, begins, long_label};
-ghost use Rattle.anb_probe_commands.specs.Tasks.{AllShort, CanProbe, IsLongOf, part_by, probing_by};
+ghost use Rattle.anb_probe_commands.specs.Tasks.{AllShort, CanProbe, IsLongOf, fitted_by, part_by, probing_by};
 
 use crate::words::ProbeWords;
 use anb_base::{Bytes, NoMemory, Shelf, Text};
@@ -17,7 +20,7 @@ use anb_command::{Playable, Status, playable_in_file, seed_of};
 use anb_honest::known_values;
 use anb_protocol::{Protocol, protocols_hold};
 use anb_values::{Fitted, ValueList};
-use anb_values_commands::{first_long, long_value, values_for};
+use anb_values_commands::{first_long, long_value, own_text_of, values_for};
 use std::alloc::Global;
 
 /// A role with its code, the values of the names that occur in some role's knowledge, and the seed of
@@ -29,6 +32,8 @@ pub(crate) struct Task {
     pub(crate) code: RoleCode,
     pub(crate) values: ValueList,
     pub(crate) seed: [u8; 32],
+    /// That of the values file, where it has one.
+    pub(crate) file_seed: Option<[u8; 32]>,
 }
 
 /// What the words ask to probe.
@@ -52,6 +57,10 @@ pub(crate) fn task_in_files<F: Shelf>(
         (IfTold (F.files shelf.old) (λ files.
         ProbingIs files words.entry.narration.now words.entry.name.now words.entry.values.now
         host_seed (refused status)))) }
+    ensures own { IfOk result (λ t. IfTold (F.files shelf.old) (λ files. (text : List ℕ)
+        → OwnIs t.protocol t.role (fitted_by t.values t.file_seed) (given text)
+        → RoleValuesText files words.entry.narration.now words.entry.name.now
+        words.entry.values.now (given text))) }
     ensures early { IfErr result IsEarly }
     ensures fetches { Fetches (words.entry.narration.now ∷ words.entry.values.now ∷ [])
         (F.files shelf.old) (F.files shelf.new) (F.faults shelf.old) (F.faults shelf.new) }
@@ -83,6 +92,11 @@ fn task_of<F: Shelf>(
         (IfTold (F.files shelf.old) (λ files.
         ProbingOf files values.now host_seed (part_by playable.protocol playable.role)
         (refused status)))) }
+    ensures same { IfOk result (λ t.
+        part_by t.protocol t.role ≡ part_by playable.protocol playable.role) }
+    ensures fitted { IfOk result (λ t. IfTold (F.files shelf.old) (λ files.
+        ValuesInFile files values.now (known_names playable.protocol)
+        (given (fitted_by t.values t.file_seed)))) }
     ensures early { IfErr result IsEarly }
     ensures fetches { Fetches (values.now ∷ [])
         (F.files shelf.old) (F.files shelf.new) (F.faults shelf.old) (F.faults shelf.new) }
@@ -110,6 +124,9 @@ fn settle(
         CanProbe (probing_by t.protocol t.role t.values t.seed) t.code) }
     ensures refused { IfErr result (λ status. IsFailure status (λ file. ⊥)
         (Settles (part_by playable.protocol playable.role) fitted host_seed (refused status))) }
+    ensures same { IfOk result (λ t.
+        part_by t.protocol t.role ≡ part_by playable.protocol playable.role) }
+    ensures fitted { IfOk result (λ t. fitted_by t.values t.file_seed ≡ fitted) }
     ensures early { IfErr result IsEarly }
 {
     let Playable {
@@ -128,8 +145,22 @@ fn settle(
             code,
             values: fitted.values,
             seed,
+            file_seed: fitted.seed,
         }),
         Err(status) => Err(status),
+    }
+}
+
+/// The values file of the role, as `values` writes it. No value of it is too long for one.
+pub(crate) fn values_of(alloc: Global, task: &Task) -> Result<Bytes, NoMemory>
+    requires { task.now.role < length task.now.protocol.roles }
+    ensures { IfOk result (λ text. OwnIs task.now.protocol task.now.role
+        (fitted_by task.now.values task.now.file_seed) (given text)) }
+{
+    let values = task.values.as_slice();
+    match own_text_of(alloc, &task.protocol, task.role, values, task.file_seed) {
+        Ok(text) => Ok(text),
+        Err(_) => Err(NoMemory),
     }
 }
 

@@ -155,7 +155,11 @@ fn put_due(
 }
 
 /// Appends a line of a transcript.
-fn put_line(alloc: Global, out: &mut Vec<u8>, line: &TranscriptLine) -> Result<(), NoMemory>
+pub(crate) fn put_line(
+    alloc: Global,
+    out: &mut Vec<u8>,
+    line: &TranscriptLine,
+) -> Result<(), NoMemory>
     ensures { OnOk result (out.new.items ≡ out.old.items ++ line_text line.now) }
 {
     match line {

@@ -6,14 +6,18 @@ mod cases;
 mod counting;
 mod files;
 mod frames;
+mod into;
+mod keeping;
 mod partners;
 mod playing;
 mod probing;
+mod record;
 mod report;
 mod reporting;
 mod untried;
 mod words;
 mod writing;
 
+pub use into::probe_into;
 pub use probing::probe;
 pub use words::{ProbeWords, TryWords};

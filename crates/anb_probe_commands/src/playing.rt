@@ -1,7 +1,8 @@
 //! The cases, each on a child of its own, and their lines.
-ghost use Rattle.std.specs.Prelude.{◌≡◌, ◌≢◌, ◌<◌, ◌+◌, ◌++◌, ℕ, length, slice_get, Some, IfOk, IfErr, OnOk};
+ghost use Rattle.std.specs.Prelude.{◌≡◌, ◌≢◌, ◌<◌, ◌+◌, ◌++◌, [], ◌∷◌, ℕ, length, slice_get, Some, IfOk, IfErr, OnOk};
 ghost use Rattle.anb_attempts.specs.declared.attempts.TheConstants.{MOST};
 ghost use Rattle.anb_partner.specs.Trials.{OthersStay};
+ghost use Rattle.anb_probe_commands.specs.Keeping.{IsSame, Keeps, KeepsCase, KeepsLess, told};
 ghost use Rattle.anb_probe_commands.specs.Plays.{IsNotStarted, IsTried};
 ghost use Rattle.anb_probe_commands.specs.Playing.{Broke, BrokeIn, CanPlay, IsCaseCut, IsCut, IsPlaced, IsPlayedOut, Wrote, end_in, text_of};
 ghost use Rattle.anb_probe_commands.specs.Asking.{trying_by};
@@ -12,6 +13,7 @@ ghost use Rattle.anb_probe_commands.specs.Words.{order_of};
 use crate::cases::Prepared;
 use crate::files::Task;
 use crate::frames::put_frames_in;
+use crate::keeping::Keeper;
 use crate::partners::partner_at;
 use crate::words::TryWords;
 use crate::writing::{PlayNo, write_lines};
@@ -31,11 +33,13 @@ pub(crate) struct Outcome {
     pub(crate) reached: usize,
 }
 
-/// Tries the program in all cases, one after the other, and writes the lines of each when it is over.
-pub(crate) fn play_cases<T: Trials, W: Wire>(
+/// Tries the program in all cases, one after the other; tells of each when it is over, and writes its
+/// lines.
+pub(crate) fn play_cases<T: Trials, W: Wire, K: Keeper>(
     alloc: Global,
     trials: &mut T,
     wire: &mut W,
+    keeper: &mut K,
     task: &Task,
     prepared: &Prepared,
     trying: TryWords,
@@ -53,13 +57,25 @@ pub(crate) fn play_cases<T: Trials, W: Wire>(
         (probing_by task.now.protocol task.now.role task.now.values task.now.seed)
         prepared.now (order_of (trying_by trying.entry)) (T.trial trials.old) (T.trial trials.new)
         (W.state wire.old).written (W.state wire.new).written) }
+    ensures kept { OnOk result (Keeps
+        (probing_by task.now.protocol task.now.role task.now.values task.now.seed)
+        prepared.now.scenes.items (order_of (trying_by trying.entry)) prepared.now.cases.items
+        (λ some. K.After keeper.old some keeper.new) (T.trial trials.old) (T.trial trials.new)
+        IsSame) }
+    ensures kept_less { IfErr result (KeepsLess
+        (probing_by task.now.protocol task.now.role task.now.values task.now.seed)
+        prepared.now.scenes.items (order_of (trying_by trying.entry)) prepared.now.cases.items
+        (λ some. K.After keeper.old some keeper.new)
+        (T.trial trials.old) (T.trial trials.new)) }
     ensures broke { IfErr result (Broke (W.state wire.old) (W.state wire.new)) }
     ensures none_left { (case : ℕ) → (T.trial trials.new case).phase ≢ 1 }
 {
     let mut verdicts = Vec::new(alloc);
     let mut reached = 0;
     for i in 0..prepared.cases.len() as u32 {
-        match play_case(alloc, trials, wire, task, prepared, i, trying, reached) {
+        match play_case(
+            alloc, trials, wire, keeper, task, prepared, i, trying, reached,
+        ) {
             Ok(outcome) => {
                 reached = next_reached(i, reached, outcome.reached);
                 match verdicts.push(outcome.verdict) {
@@ -81,11 +97,12 @@ fn next_reached(number: u32, reached: usize, got: usize) -> usize
     if number == 0 { got } else { reached }
 }
 
-/// Tries the program in the case with this number, from 0, and writes its lines.
-fn play_case<T: Trials, W: Wire>(
+/// Tries the program in the case with this number, from 0, tells of it, and writes its lines.
+fn play_case<T: Trials, W: Wire, K: Keeper>(
     alloc: Global,
     trials: &mut T,
     wire: &mut W,
+    keeper: &mut K,
     task: &Task,
     prepared: &Prepared,
     number: u32,
@@ -109,6 +126,12 @@ fn play_case<T: Trials, W: Wire>(
         prepared.now (order_of (trying_by trying.entry)) number reached
         (T.trial trials.old number) (T.trial trials.new number)
         (W.state wire.old).written (W.state wire.new).written) }
+    ensures kept { IfOk result (λ o. K.After keeper.old (told number o.lines ∷ []) keeper.new) }
+    ensures kept_less { IfErr result (KeepsCase
+        (probing_by task.now.protocol task.now.role task.now.values task.now.seed)
+        prepared.now.scenes.items (order_of (trying_by trying.entry)) prepared.now.cases.items
+        (λ some. K.After keeper.old some keeper.new) number reached
+        (T.trial trials.old number) (T.trial trials.new number)) }
     ensures broke { IfErr result (Broke (W.state wire.old) (W.state wire.new)) }
     ensures none_left { (T.trial trials.new number).phase ≢ 1 }
     ensures others { OthersStay number (T.trial trials.old) (T.trial trials.new) }
@@ -117,10 +140,13 @@ fn play_case<T: Trials, W: Wire>(
     match try_attempt(
         alloc, trials, task, prepared, number, attempt, trying, reached,
     ) {
-        Ok(outcome) => match write_case(alloc, wire, task, prepared, number, attempt, &outcome) {
-            Ok(()) => Ok(outcome),
-            Err(no) => Err(no),
-        },
+        Ok(outcome) => {
+            keeper.keep(number, outcome.lines.lines());
+            match write_case(alloc, wire, task, prepared, number, attempt, &outcome) {
+                Ok(()) => Ok(outcome),
+                Err(no) => Err(no),
+            }
+        }
         Err(ConverseNo::NotStarted) => Err(PlayNo::NotStarted),
         Err(ConverseNo::NoMemory) => Err(PlayNo::NoMemory),
     }
@@ -229,7 +255,7 @@ fn try_attempt<T: Trials>(
         trials,
         number,
         trying.limit,
-        trying.program,
+        trying.target,
         &task.protocol,
         task.role,
         partner,

@@ -7,12 +7,15 @@ ghost use Rattle.anb_command.specs.Reaches.{Reaches};
 ghost use Rattle.anb_command.specs.Reported.{TellsFaults};
 ghost use Rattle.anb_command.specs.Touches.{Touches};
 ghost use Rattle.anb_probe_commands.specs.Asking.{probing, trying_by};
+ghost use Rattle.anb_probe_commands.specs.Keeping.{KeepsBy};
 ghost use Rattle.anb_probe_commands.specs.Playing.{CanPlay, OverTrials, TaskComesTo};
 ghost use Rattle.anb_probe_commands.specs.ProbeCommand.{ComesTo, CompletesProbe, DoesProbe, HasProbeCause, StartFailed, probe_files, probe_phase};
 ghost use Rattle.anb_probe_commands.specs.Tasks.{CanProbe, agenda_by, probing_by};
+ghost use Rattle.anb_probe_commands.specs.Words.{order_of};
 
 use crate::cases::{Prepared, prepare};
 use crate::files::{Task, task_in_files};
+use crate::keeping::{Keeper, NoKeeper};
 use crate::reporting::probe_reached;
 use crate::words::{ProbeWords, TryWords};
 use anb_base::{Shelf, Text, Wire};
@@ -86,16 +89,26 @@ fn probe_task<T: Trials, W: Wire>(
         return Status::NoMemory;
     };
     match prepare(alloc, task, words.trying) {
-        Ok(prepared) => probe_over(alloc, trials, wire, task, &prepared, words.trying, name),
+        Ok(prepared) => probe_over(
+            alloc,
+            trials,
+            wire,
+            &mut NoKeeper,
+            task,
+            &prepared,
+            words.trying,
+            name,
+        ),
         Err(status) => status,
     }
 }
 
 /// Reaches the standard streams and tries the program.
-fn probe_over<T: Trials, W: Wire>(
+pub(crate) fn probe_over<T: Trials, W: Wire, K: Keeper>(
     alloc: Global,
     trials: &mut T,
     wire: &mut W,
+    keeper: &mut K,
     task: &Task,
     prepared: &Prepared,
     trying: TryWords,
@@ -108,12 +121,17 @@ fn probe_over<T: Trials, W: Wire>(
         task.now.seed) (trying_by trying.entry) (agenda_by prepared.now) name
         (T.trial trials.old) (T.trial trials.new)
         (W.state wire.old).written (W.state wire.new).written result }
+    ensures kept { KeepsBy
+        (probing_by task.now.protocol task.now.role task.now.values task.now.seed)
+        prepared.now.scenes.items (order_of (trying_by trying.entry)) prepared.now.cases.items
+        (λ some. K.After keeper.old some keeper.new)
+        (T.trial trials.old) (T.trial trials.new) result }
     ensures over { OverTrials (T.trial trials.old) (T.trial trials.new)
         (W.state wire.old) (W.state wire.new) result }
     ensures none_left { (case : ℕ) → (T.trial trials.new case).phase ≢ 1 }
 {
     match reach_stdio(wire) {
-        Ok(()) => probe_reached(alloc, trials, wire, task, prepared, trying, name),
+        Ok(()) => probe_reached(alloc, trials, wire, keeper, task, prepared, trying, name),
         Err(status) => status,
     }
 }

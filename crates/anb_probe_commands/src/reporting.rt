@@ -4,6 +4,7 @@ ghost use Rattle.anb_attempts.specs.declared.attempts.TheConstants.{MOST};
 ghost use Rattle.anb_verdict.specs.Texts.{first_lines, no_such_case};
 ghost use Rattle.anb_probe_commands.specs.Asking.{trying_by};
 ghost use Rattle.anb_probe_commands.specs.Cases.{is_beyond};
+ghost use Rattle.anb_probe_commands.specs.Keeping.{IsSame, Keeps, KeepsBy, KeepsLess};
 ghost use Rattle.anb_probe_commands.specs.Playing.{Broke, BrokeIn, CanPlay, EndsLate, PlaysAll, PlaysLess, Wrote, status_of};
 ghost use Rattle.anb_probe_commands.specs.ProbeCommand.{ComesTo};
 ghost use Rattle.anb_probe_commands.specs.Reports.{notes};
@@ -13,6 +14,7 @@ ghost use Rattle.anb_probe_commands.specs.Words.{order_of};
 use crate::cases::Prepared;
 use crate::counting::status_for;
 use crate::files::Task;
+use crate::keeping::Keeper;
 use crate::playing::play_cases;
 use crate::report::notes;
 use crate::words::TryWords;
@@ -24,10 +26,11 @@ use anb_verdict::{Verdict, first_lines, no_such_case};
 use std::alloc::Global;
 
 /// Tries the program, where there is what is asked for.
-pub(crate) fn probe_reached<T: Trials, W: Wire>(
+pub(crate) fn probe_reached<T: Trials, W: Wire, K: Keeper>(
     alloc: Global,
     trials: &mut T,
     wire: &mut W,
+    keeper: &mut K,
     task: &Task,
     prepared: &Prepared,
     trying: TryWords,
@@ -40,6 +43,11 @@ pub(crate) fn probe_reached<T: Trials, W: Wire>(
         task.now.seed) (trying_by trying.entry) (agenda_by prepared.now) name
         (T.trial trials.old) (T.trial trials.new)
         (W.state wire.old).written (W.state wire.new).written result }
+    ensures kept { KeepsBy
+        (probing_by task.now.protocol task.now.role task.now.values task.now.seed)
+        prepared.now.scenes.items (order_of (trying_by trying.entry)) prepared.now.cases.items
+        (λ some. K.After keeper.old some keeper.new)
+        (T.trial trials.old) (T.trial trials.new) result }
     ensures ends { EndsLate (T.trial trials.old) (T.trial trials.new)
         (W.state wire.old) (W.state wire.new) result }
     ensures none_left { (case : ℕ) → (T.trial trials.new case).phase ≢ 1 }
@@ -50,7 +58,7 @@ pub(crate) fn probe_reached<T: Trials, W: Wire>(
             Err(no) => status_of(no, name),
         };
     }
-    match play_all(alloc, trials, wire, task, prepared, trying) {
+    match play_all(alloc, trials, wire, keeper, task, prepared, trying) {
         Ok(verdicts) => status_for(&verdicts),
         Err(no) => status_of(no, name),
     }
@@ -77,10 +85,11 @@ fn write_none<W: Wire>(alloc: Global, wire: &mut W, count: u32) -> Result<(), Pl
 }
 
 /// Tries the program in all cases, and writes the report.
-fn play_all<T: Trials, W: Wire>(
+fn play_all<T: Trials, W: Wire, K: Keeper>(
     alloc: Global,
     trials: &mut T,
     wire: &mut W,
+    keeper: &mut K,
     task: &Task,
     prepared: &Prepared,
     trying: TryWords,
@@ -98,6 +107,16 @@ fn play_all<T: Trials, W: Wire>(
         (agenda_by prepared.now) (order_of (trying_by trying.entry))
         (T.trial trials.old) (T.trial trials.new)
         (W.state wire.old).written (W.state wire.new).written) }
+    ensures kept { OnOk result (Keeps
+        (probing_by task.now.protocol task.now.role task.now.values task.now.seed)
+        prepared.now.scenes.items (order_of (trying_by trying.entry)) prepared.now.cases.items
+        (λ some. K.After keeper.old some keeper.new) (T.trial trials.old) (T.trial trials.new)
+        IsSame) }
+    ensures kept_less { IfErr result (KeepsLess
+        (probing_by task.now.protocol task.now.role task.now.values task.now.seed)
+        prepared.now.scenes.items (order_of (trying_by trying.entry)) prepared.now.cases.items
+        (λ some. K.After keeper.old some keeper.new)
+        (T.trial trials.old) (T.trial trials.new)) }
     ensures broke { IfErr result (Broke (W.state wire.old) (W.state wire.new)) }
     ensures none_left { (case : ℕ) → (T.trial trials.new case).phase ≢ 1 }
 {
@@ -105,7 +124,7 @@ fn play_all<T: Trials, W: Wire>(
         Ok(()) => {}
         Err(no) => return Err(no),
     }
-    let verdicts = match play_cases(alloc, trials, wire, task, prepared, trying) {
+    let verdicts = match play_cases(alloc, trials, wire, keeper, task, prepared, trying) {
         Ok(verdicts) => verdicts,
         Err(no) => return Err(no),
     };

@@ -1,10 +1,13 @@
 //! The words of `probe`.
 ghost use Rattle.std.specs.Prelude.{◌≡◌};
 ghost use Rattle.anb_words.specs.Words.{seconds_in};
-ghost use Rattle.anb_probe_commands.specs.Words.{case_of};
+ghost use Rattle.std.specs.Option.{option_map};
+ghost use Rattle.anb_partner.specs.Trials.{target_words};
+ghost use Rattle.anb_probe_commands.specs.Words.{case_of, target_in};
 
 use anb_base::Text;
 use anb_command::{is_operand, read_seconds};
+use anb_partner::Target;
 
 /// What is asked of `probe`: the names of the narration's file, of the role and of the values file, and
 /// how the program is tried.
@@ -17,13 +20,15 @@ pub struct ProbeWords<'w> {
 }
 
 /// How a program is tried: whether in all cases, the number of the one that is asked for, from 1, for how
-/// many seconds it may be silent; and its own words, the first of which is its name.
+/// many seconds it may be silent, and the name of the folder where that is recorded; and its own words,
+/// the first of which is its name, or where it is dialled.
 #[derive(Clone, Copy)]
 pub struct TryWords<'w> {
     pub all: bool,
     pub case: Option<u32>,
     pub limit: Option<u32>,
-    pub program: &'w [Text],
+    pub folder: Option<&'w Text>,
+    pub target: Target<'w>,
 }
 
 impl<'w> ProbeWords<'w> {
@@ -65,8 +70,8 @@ impl<'w> ProbeWords<'w> {
 
 impl<'w> TryWords<'w> {
     ghost use Rattle.std.specs.Prelude.{◌≡◌};
-    ghost use Rattle.anb_probe_commands.specs.Asking.{tried_by};
-    ghost use Rattle.anb_probe_commands.specs.Words.{marked_in, numbered_in, timed_in, trying_in};
+    ghost use Rattle.anb_probe_commands.specs.Asking.{folder_by, tried_by};
+    ghost use Rattle.anb_probe_commands.specs.Words.{marked_in, numbered_in, recorded_in, timed_in, trying_in};
 
     /// Reads the words behind the names.
     fn read(words: &'w [Text]) -> Option<Self>
@@ -96,33 +101,74 @@ impl<'w> TryWords<'w> {
     {
         match words {
             [flag, seconds, words @ ..] if flag.as_str() == "--timeout" => {
-                Self::read_marked(all, case, Some(read_seconds(seconds)?), words)
+                Self::read_recorded(all, case, Some(read_seconds(seconds)?), words)
             }
-            words => Self::read_marked(all, case, None, words),
+            words => Self::read_recorded(all, case, None, words),
         }
     }
 
-    /// Reads the mark and the program's words.
-    fn read_marked(
+    /// Reads those behind the limit.
+    fn read_recorded(
         all: bool,
         case: Option<u32>,
         limit: Option<u32>,
         words: &'w [Text],
     ) -> Option<Self>
-        ensures { tried_by result ≡ marked_in all case limit words.now }
+        ensures { tried_by result ≡ recorded_in all case limit words.now }
     {
-        let [mark, program @ ..] = words else {
-            return None;
-        };
-        if mark.as_str() != "--" || program.is_empty() {
-            return None;
+        match words {
+            [flag, folder, words @ ..] if flag.as_str() == "--record" => {
+                if is_operand(folder) {
+                    Self::read_marked(all, case, limit, Some(folder), words)
+                } else {
+                    None
+                }
+            }
+            words => Self::read_marked(all, case, limit, None, words),
         }
+    }
+
+    /// Reads what is tried.
+    fn read_marked(
+        all: bool,
+        case: Option<u32>,
+        limit: Option<u32>,
+        folder: Option<&'w Text>,
+        words: &'w [Text],
+    ) -> Option<Self>
+        ensures { tried_by result ≡ marked_in all case limit (folder_by folder.entry) words.now }
+    {
+        let target = read_target(words)?;
         Some(TryWords {
             all,
             case,
             limit,
-            program,
+            folder,
+            target,
         })
+    }
+}
+
+/// What is tried: `--` and the words of a program, or `--dial` and where.
+fn read_target(words: &[Text]) -> Option<Target<'_>>
+    ensures { option_map target_words result ≡ target_in words.now }
+{
+    match words {
+        [mark, program @ ..] if mark.as_str() == "--" => {
+            if program.is_empty() {
+                None
+            } else {
+                Some(Target::Program(program))
+            }
+        }
+        [flag, place] if flag.as_str() == "--dial" => {
+            if is_operand(place) {
+                Some(Target::Dial(place))
+            } else {
+                None
+            }
+        }
+        _ => None,
     }
 }
 

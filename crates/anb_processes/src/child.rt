@@ -1,21 +1,22 @@
-//! The child of a case, as a wire over its two pipes.
+//! The child of a case, as a wire over its two pipes or its connection.
 
 ghost use Rattle.std.specs.Prelude.{◌≡◌, ◌<◌, ◌≤◌, ℕ, List, [], ◌∷◌, None, refl};
 ghost use Rattle.anb_processes.specs.Trials.{state_of};
 
-use crate::running::{Running, is_silence};
+use crate::peer::Peer;
+use crate::running::is_silence;
 use anb_base::{Failed, Place, Sink, Source, Wire};
 use std::io;
 use std::marker::Model;
 use std::time::Duration;
 
-/// The child of a case, which was started: its output and its input. It tells nothing of the bytes. Each
+/// The child of a case, which was started or dialled: its output and its input. It tells nothing of the bytes. Each
 /// count rises by one with each fault. What it no longer takes is dropped, and is no fault. There is no
 /// place to be reached, so reaching one changes nothing.
 #[derive(Drop)]
 pub struct RealChild {
     rt: HostRuntime,
-    running: Running,
+    peer: Peer,
     read_faults: u64,
     write_faults: u64,
     /// Whether a call failed since it was silent.
@@ -32,12 +33,12 @@ impl Model for RealChild {
 
 impl RealChild {
     /// A child that runs, with these counts of faults so far.
-    pub(crate) fn new(rt: HostRuntime, running: Running, reads: u64, writes: u64) -> Self
+    pub(crate) fn new(rt: HostRuntime, peer: Peer, reads: u64, writes: u64) -> Self
         ensures { result ≡ record { reads = reads; writes = writes } }
     {
         RealChild {
             rt,
-            running,
+            peer,
             read_faults: reads,
             write_faults: writes,
             silent: false,
@@ -48,7 +49,7 @@ impl RealChild {
     pub(crate) fn close(&mut self)
         ensures { self.new ≡ self.old }
     {
-        self.running.close();
+        self.peer.close();
     }
 
     /// How often reading its output has failed.
@@ -70,9 +71,9 @@ impl RealChild {
         self.silent
     }
 
-    /// The process alone.
-    pub(crate) fn into_running(self) -> Running {
-        self.running
+    /// The process or the connection alone.
+    pub(crate) fn into_peer(self) -> Peer {
+        self.peer
     }
 
     /// Keeps in mind why a call failed.
@@ -95,7 +96,7 @@ impl Source for RealChild {
     ghost kept = { λ child. (None, child.writes) ∷ (None, 0) ∷ [] };
 
     fn read(&mut self, buf: &mut [u8]) -> Result<usize, Failed> {
-        match self.running.read(&self.rt, buf) {
+        match self.peer.read(&self.rt, buf) {
             Ok(n) => Ok(n),
             Err(error) => {
                 self.note(&error);
@@ -114,7 +115,7 @@ impl Sink for RealChild {
     ghost kept = { λ child. (None, child.reads) ∷ (None, 0) ∷ (None, 0) ∷ [] };
 
     fn write(&mut self, piece: &[u8]) -> Result<usize, Failed> {
-        match self.running.write(&self.rt, piece) {
+        match self.peer.write(&self.rt, piece) {
             Ok(n) if n > 0 || piece.is_empty() => Ok(n),
             Ok(_) => {
                 self.write_faults = self.write_faults.saturating_add(1);
@@ -147,7 +148,6 @@ impl Wire for RealChild {
     }
 
     fn wait_at_most(&mut self, seconds: u32) {
-        self.running
-            .set_limit(Duration::from_secs(u64::from(seconds)));
+        self.peer.set_limit(Duration::from_secs(u64::from(seconds)));
     }
 }

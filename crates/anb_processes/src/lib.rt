@@ -1,15 +1,18 @@
-//! Child programs of the machine, one for each role of a stage or for each case of a test. They tell their
-//! phases alone, and count their faults.
+//! Child programs of the machine, one for each role of a stage or for each case of a test, where it may be
+//! whoever is dialled in place of a program. They tell their phases alone, and count their faults.
 #![tactic(auto)]
 
 mod case;
 mod child;
 mod chosen;
 mod counts;
+mod dialled;
 mod folder;
 mod kept;
+mod left_over;
 mod notes;
 mod pauses;
+mod peer;
 mod running;
 mod spawner;
 mod trials;

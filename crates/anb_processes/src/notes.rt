@@ -50,6 +50,14 @@ pub(crate) fn tell_unwritten(rt: &HostRuntime, path: &str) -> io::Result<()> {
     tell(rt, line.as_str())
 }
 
+/// Tells where the record of a role's child is.
+pub(crate) fn tell_record(rt: &HostRuntime, folder: &str, role: &Text) -> io::Result<()> {
+    let role = role.as_str();
+    let files = format!(in rt.alloc(); "{folder}/{role}.transcript and {folder}/{role}.errors")?;
+    let line = format!(in rt.alloc(); "anb: see {}\n", files.as_str())?;
+    tell(rt, line.as_str())
+}
+
 /// Tells that a folder is left.
 pub(crate) fn tell_unremoved(rt: &HostRuntime, path: &str) -> io::Result<()> {
     let line = format!(in rt.alloc(); "anb: can't remove {path}\n")?;

@@ -3,6 +3,7 @@
 ghost use Rattle.std.specs.Prelude.{◌≤◌, length, IfOk};
 
 use crate::kept::Kept;
+use crate::left_over::LeftOver;
 use crate::pauses::{Pauses, is_over};
 use anb_base::Text;
 use std::alloc::Global;
@@ -15,12 +16,12 @@ use std::time::{Duration, Instant};
 
 /// How many bytes of the output of a child that is finished are read and dropped at most, and for how
 /// many milliseconds. What it writes beyond that fails.
-const DROPPED_BYTES: usize = 4 * 1024 * 1024;
+pub(crate) const DROPPED_BYTES: usize = 4 * 1024 * 1024;
 
 const DROPPING_TIME: u64 = 2_000;
 
 /// How many bytes are read at once there, or kept.
-const DROPPED_PIECE: usize = 4_096;
+pub(crate) const DROPPED_PIECE: usize = 4_096;
 
 /// The descriptor above those of the standard streams.
 const FIRST_FREE: RawFd = 3;
@@ -38,16 +39,19 @@ pub(crate) struct Running {
     /// When it was found to have ended.
     ended: Option<Instant>,
     is_left: bool,
+    /// What it said behind its last message, as far as that was read.
+    left_over: LeftOver,
 }
 
 impl Running {
-    /// Starts the program with these words. It has this program's standard error as its own, also
-    /// where that was closed.
+    /// Starts the program with these words, and with this as its standard error: a file, or that of this
+    /// program, also where that was closed.
     pub(crate) fn start(
         rt: &HostRuntime,
         program: &str,
         limit: Option<Duration>,
         words: &[Text],
+        errors: Stdio,
     ) -> io::Result<Self> {
         let mut command = Command::new(rt.alloc(), program)?;
         for word in words {
@@ -56,7 +60,7 @@ impl Running {
         let _ = command
             .stdin(Stdio::piped())
             .stdout(Stdio::piped())
-            .stderr(rt.stderr());
+            .stderr(errors);
         let mut running = Running {
             limit,
             child: command.spawn(rt)?,
@@ -65,6 +69,7 @@ impl Running {
             kept: None,
             ended: None,
             is_left: false,
+            left_over: LeftOver::new(),
         };
         match running.take_pipes() {
             Ok(()) => Ok(running),
@@ -203,6 +208,7 @@ impl Running {
         let mut dropped = 0usize;
         for _ in 0..u64::MAX {
             if let Some(status) = self.child.try_wait()? {
+                self.drop_rest();
                 return Ok(status);
             }
             let count = self.drop_some();
@@ -235,11 +241,23 @@ impl Running {
             return 0;
         };
         match output.read(&mut piece) {
-            Ok(n) if n > 0 => n,
+            Ok(n) if n > 0 => {
+                self.left_over.count(&piece[..n]);
+                n
+            }
             Err(error) if is_for_the_moment(error.kind()) => 0,
             _ => {
                 self.output = None;
                 0
+            }
+        }
+    }
+
+    /// Reads and drops what is still there of the output of a child that has ended.
+    fn drop_rest(&mut self) {
+        for _ in 0..DROPPED_BYTES / DROPPED_PIECE {
+            if self.drop_some() == 0 {
+                break;
             }
         }
     }
@@ -282,6 +300,11 @@ impl Running {
         self.is_left
     }
 
+    /// What it said behind its last message, where it was finished.
+    pub(crate) fn left_over(&self) -> LeftOver {
+        self.left_over
+    }
+
     /// The number of its process.
     pub(crate) fn id(&self) -> u32 {
         self.child.id()
@@ -289,7 +312,11 @@ impl Running {
 }
 
 /// Whether more time went by since then than there is, where there is a limit.
-fn is_beyond(rt: &HostRuntime, limit: Option<Duration>, start: Instant) -> io::Result<bool> {
+pub(crate) fn is_beyond(
+    rt: &HostRuntime,
+    limit: Option<Duration>,
+    start: Instant,
+) -> io::Result<bool> {
     match limit {
         Some(limit) => is_over(rt, limit, start),
         None => Ok(false),
@@ -306,7 +333,7 @@ pub(crate) fn is_silence(error: &io::Error) -> bool {
     error.kind() == ErrorKind::TimedOut
 }
 
-fn dropping_time() -> Duration {
+pub(crate) fn dropping_time() -> Duration {
     Duration::from_millis(DROPPING_TIME)
 }
 
@@ -322,7 +349,7 @@ fn unblocked(pipe: OwnedFd) -> io::Result<OwnedFd> {
 }
 
 /// Whether a read or a write may be made again, since nothing is there yet or a signal came.
-fn is_for_the_moment(kind: ErrorKind) -> bool {
+pub(crate) fn is_for_the_moment(kind: ErrorKind) -> bool {
     matches!(kind, ErrorKind::WouldBlock | ErrorKind::Interrupted)
 }
 

@@ -5,7 +5,7 @@ ghost use Rattle.anb_processes.specs.Children.{child_of};
 
 use crate::counts::Counts;
 use crate::folder::Folder;
-use crate::notes::{tell_end, tell_left, tell_no_program, tell_unstarted};
+use crate::notes::{tell_end, tell_left, tell_no_program, tell_record, tell_unstarted};
 use crate::running::{Running, is_silence};
 use crate::watcher::Watcher;
 use anb_base::{Bytes, Failed, Text};
@@ -13,7 +13,7 @@ use anb_stage::{ChildWords, Spawner};
 use std::alloc::{AllocError, Global};
 use std::io::ErrorKind;
 use std::marker::Model;
-use std::process::ExitStatus;
+use std::process::{ExitStatus, Stdio};
 use std::time::Duration;
 use std::{fs, io};
 
@@ -63,11 +63,17 @@ pub struct RealSpawner {
     children: Vec<Named>,
     /// Where the files of children's values stand, once there is one.
     folder: Option<Folder>,
+    /// That of the record, where there is one: their values and their standard error go there.
+    record: Option<Folder>,
     /// What kills the children and removes the folder where a signal ends this program. There is none
     /// without a shell.
     watcher: Option<Watcher>,
     /// The role whose output was last found at its end.
     at_end: Option<u32>,
+    /// The role whose child was last started, read, written or finished, and that of the child whose record
+    /// is told in the end.
+    last: Option<u32>,
+    blamed: Option<u32>,
     counts: Counts,
 }
 
@@ -90,10 +96,31 @@ impl RealSpawner {
             program,
             children: Vec::new(alloc),
             folder: None,
+            record: None,
             watcher: None,
             at_end: None,
+            last: None,
+            blamed: None,
             counts: Counts::new(),
         }
+    }
+
+    /// From now on the files of children stand in the folder of a record, which is kept: their values, and
+    /// their standard error, for which the files are there.
+    pub fn record_in(&mut self, folder: &Text)
+        ensures { self.new.phases ≡ self.old.phases }
+    {
+        // Where there is no memory for its name they stand where they stand without.
+        if let Ok(path) = String::from_str(self.rt.alloc(), folder.as_str()) {
+            self.record = Some(Folder::of_record(path));
+        }
+    }
+
+    /// At the end standard error is told where the record of the child is that was looked after last.
+    pub fn blame(&mut self)
+        ensures { self.new.phases ≡ self.old.phases }
+    {
+        self.blamed = self.last;
     }
 
     /// Kills each child that wasn't finished, and waits for it, so that none is left behind. Then
@@ -106,8 +133,11 @@ impl RealSpawner {
             program: _,
             mut children,
             folder,
+            record,
             watcher,
             at_end,
+            last: _,
+            blamed,
             counts: _,
         } = self;
         let ended = match at_end {
@@ -116,6 +146,9 @@ impl RealSpawner {
         };
         for child in children.iter_mut() {
             child.running.kill();
+        }
+        if let Some(record) = &record {
+            put_all_left(&rt, record, &children);
         }
         if let Some(folder) = folder {
             folder.remove(&rt);
@@ -128,10 +161,34 @@ impl RealSpawner {
         if let Some((name, status)) = ended {
             let _ = tell_end(&rt, &name, status);
         }
+        if let (Some(record), Some(role)) = (&record, blamed) {
+            tell_record_of(&rt, record, &children, role);
+        }
         for child in children.iter() {
             if child.running.is_left() {
                 let _ = tell_left(&rt, child.running.id());
             }
+        }
+    }
+}
+
+/// Writes down what each child said behind its last message, where it said something.
+fn put_all_left(rt: &HostRuntime, record: &Folder, children: &[Named]) {
+    for child in children {
+        let left = child.running.left_over();
+        if left.bytes > 0 {
+            // What can't be written isn't.
+            let _ = record.put_left(rt, child.name.as_str(), left);
+        }
+    }
+}
+
+/// Tells where the record of a role's child is, where it was started.
+fn tell_record_of(rt: &HostRuntime, record: &Folder, children: &[Named], role: u32) {
+    for child in children {
+        if child.role == role {
+            // What can't be told isn't.
+            let _ = tell_record(rt, record.path(), &child.name);
         }
     }
 }
@@ -151,6 +208,7 @@ fn end_of(
 fn start(
     rt: &HostRuntime,
     program: &ChildProgram,
+    record: &Option<Folder>,
     folder: &mut Option<Folder>,
     watcher: &mut Option<Watcher>,
     children: &mut Vec<Named>,
@@ -165,10 +223,11 @@ fn start(
         [first, more @ ..] => (first.as_str(), joined(rt.alloc(), more, &own.words)?),
     };
     let words = match &own.values {
-        Some(values) => with_file(rt, folder, watcher, &name, values, words)?,
+        Some(values) => with_file(rt, record, folder, watcher, &name, values, words)?,
         None => words,
     };
-    let running = match Running::start(rt, path, limit, &words) {
+    let errors = errors_for(rt, record, &name);
+    let running = match Running::start(rt, path, limit, &words, errors) {
         Ok(running) => running,
         Err(error) => {
             explain(rt, program, own);
@@ -207,15 +266,34 @@ fn joined(alloc: Global, words: &[Text], more: &[Text]) -> Result<Vec<Text>, All
     Ok(all)
 }
 
-/// These words, and behind them the name of a new file with a role's values.
+/// Where a role's child tells its faults: in the record, or where this program does.
+fn errors_for(rt: &HostRuntime, record: &Option<Folder>, role: &Text) -> Stdio {
+    match record {
+        Some(record) => match record.errors(rt, role.as_str()) {
+            Ok(errors) => errors,
+            Err(_) => Stdio::from(rt.stderr()),
+        },
+        None => Stdio::from(rt.stderr()),
+    }
+}
+
+/// These words, and behind them the name of a new file with a role's values: in the record, or where that
+/// can't be written, in a folder that is made for them.
 fn with_file(
     rt: &HostRuntime,
+    record: &Option<Folder>,
     folder: &mut Option<Folder>,
     watcher: &mut Option<Watcher>,
     role: &Text,
     values: &Bytes,
     mut words: Vec<Text>,
 ) -> io::Result<Vec<Text>> {
+    if let Some(record) = record
+        && let Ok(file) = record.put(rt, role.as_str(), values.as_slice())
+    {
+        words.push(Text::new(file))?;
+        return Ok(words);
+    }
     if folder.is_none() {
         // Without a watcher the folder is as good.
         let _ = start_watcher(rt, watcher);
@@ -289,9 +367,11 @@ impl Spawner for RealSpawner {
     ghost child = { child_of };
 
     fn start(&mut self, role: u32, limit: Option<u32>, own: &ChildWords) -> Result<(), Failed> {
+        self.last = Some(role);
         match start(
             &self.rt,
             &self.program,
+            &self.record,
             &mut self.folder,
             &mut self.watcher,
             &mut self.children,
@@ -310,6 +390,7 @@ impl Spawner for RealSpawner {
     }
 
     fn read(&mut self, role: u32, buf: &mut [u8]) -> Result<usize, Failed> {
+        self.last = Some(role);
         let got = match child_in(&mut self.children, role) {
             Some(child) => child.running.read(&self.rt, buf),
             None => Err(no_child()),
@@ -326,6 +407,7 @@ impl Spawner for RealSpawner {
     }
 
     fn write(&mut self, role: u32, piece: &[u8]) -> Result<usize, Failed> {
+        self.last = Some(role);
         let put = match child_in(&mut self.children, role) {
             Some(child) => child.running.write(&self.rt, piece),
             None => Err(no_child()),
@@ -338,6 +420,7 @@ impl Spawner for RealSpawner {
     }
 
     fn finish(&mut self, role: u32) -> Result<u8, Failed> {
+        self.last = Some(role);
         let status = match child_in(&mut self.children, role) {
             Some(child) => {
                 let status = child.running.finish_with_status(&self.rt);

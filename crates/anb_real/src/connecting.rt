@@ -19,19 +19,33 @@ pub(crate) fn connect(
     place: &Place,
     wait: Option<Duration>,
 ) -> io::Result<Option<TcpStream>> {
-    let stream = match (place, wait) {
-        (Place::Stdio, _) => return Ok(None),
-        (Place::Dial(at), None) => dial_once(rt, at.as_str())?,
-        (Place::Dial(at), Some(wait)) => dial_within(rt, at.as_str(), wait)?,
-        (Place::Listen(at), None) => listen(rt, at.as_str())?.accept()?.0,
-        (Place::Listen(at), Some(wait)) => accept_within(rt, at.as_str(), wait)?,
-    };
+    match (place, wait) {
+        (Place::Stdio, _) => Ok(None),
+        (Place::Dial(at), wait) => Ok(Some(dial(rt, at.as_str(), wait)?)),
+        (Place::Listen(at), None) => Ok(Some(usable(listen(rt, at.as_str())?.accept()?.0)?)),
+        (Place::Listen(at), Some(wait)) => {
+            Ok(Some(usable(accept_within(rt, at.as_str(), wait)?)?))
+        }
+    }
+}
+
+/// A connection with whoever listens there. With a limit it is dialled again and again until that time
+/// is over.
+pub fn dial(rt: &HostRuntime, at: &str, wait: Option<Duration>) -> io::Result<TcpStream> {
+    match wait {
+        None => usable(dial_once(rt, at)?),
+        Some(wait) => usable(dial_within(rt, at, wait)?),
+    }
+}
+
+/// A new connection, whose writes go out at once.
+fn usable(stream: TcpStream) -> io::Result<TcpStream> {
     // A standard stream that was closed is no connection.
     if stream.as_raw_fd() < FIRST_FREE {
         return Err(io::Error::from(ErrorKind::AddrInUse));
     }
     stream.set_nodelay(true)?;
-    Ok(Some(stream))
+    Ok(stream)
 }
 
 fn dial_once(rt: &HostRuntime, at: &str) -> io::Result<TcpStream> {
@@ -45,7 +59,7 @@ fn dial_once(rt: &HostRuntime, at: &str) -> io::Result<TcpStream> {
 fn dial_within(rt: &HostRuntime, at: &str, wait: Duration) -> io::Result<TcpStream> {
     let start = Instant::now(rt)?;
     for _ in 0..u64::MAX {
-        if let Some(stream) = dial(rt, at, wait, start)? {
+        if let Some(stream) = dial_each(rt, at, wait, start)? {
             return Ok(stream);
         }
         thread::sleep(rt, pause_of(left_of(rt, wait, start)?));
@@ -55,7 +69,7 @@ fn dial_within(rt: &HostRuntime, at: &str, wait: Duration) -> io::Result<TcpStre
 
 /// Dials each address once, where the name can be looked up. Each has an equal part of the time that
 /// is left.
-fn dial(
+fn dial_each(
     rt: &HostRuntime,
     at: &str,
     wait: Duration,

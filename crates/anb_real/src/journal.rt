@@ -1,13 +1,13 @@
 //! Recordings in folders of the machine.
 
 use crate::faults::one_more;
-use crate::store::{MODE, RealStore, create};
+use crate::store::{RealStore, create};
 use anb_recording::{BeginNo, Journal};
 use anb_store::StoreNo;
 use std::alloc::Global;
 use std::fs::{DirBuilder, OpenOptions};
 use std::io::Write;
-use std::os::unix::fs::{DirBuilderExt, OpenOptionsExt};
+use std::os::unix::fs::DirBuilderExt;
 use std::{fs, io};
 
 /// Only the owner sees what is in a folder that was made.
@@ -47,11 +47,10 @@ fn make_folder(rt: &HostRuntime, folder: &str) -> io::Result<()> {
     builder.mode(FOLDER_MODE).create(rt, folder)
 }
 
-/// Appends to the file, or makes it, with one write where the system takes the whole at once.
+/// Appends to the file that is there, with one write where the system takes the whole at once.
 fn append_to(rt: &HostRuntime, name: &str, bytes: &[u8]) -> io::Result<()> {
     let mut options = OpenOptions::new();
-    let options = options.append(true).create(true);
-    let mut file = options.mode(MODE).open(rt, name)?;
+    let mut file = options.append(true).open(rt, name)?;
     file.write_all(bytes)
 }
 
@@ -93,6 +92,7 @@ impl Journal for RealStore {
     }
 
     /// The bytes are the system's when this returns, so whatever ends the program later leaves them.
+    /// A file that isn't there any more is a fault: it isn't begun anew.
     fn append(&mut self, _alloc: Global, name: &str, bytes: &[u8]) -> Result<(), StoreNo> {
         match append_to(&self.rt, name, bytes) {
             Ok(()) => Ok(()),

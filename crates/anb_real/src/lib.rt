@@ -16,6 +16,7 @@ mod store;
 mod wire;
 
 pub use arguments::{seed, words};
+pub use connecting::dial;
 pub use descriptors::fill_standard_descriptors;
 pub use shelf::RealShelf;
 pub use standard_error::StandardError;

@@ -38,11 +38,11 @@ use Rattle.anb_record_commands.proofs.Recorded.{in_folder, placeless}
 module _ (b : BranchedValue) (role : List ℕ) (told : Option ℕ) (initial : List (List ℕ)) (seed : List ℕ) (codes : List CodeValue)
     (file : List ℕ) (old new : StoreState) (left : Option (List ℕ)) (end : PlayEnd) where
   pub misses_arm : (k : Kept) → (end ≢ ended.NoMemory → RecordsTaken b role told initial seed codes file old new k left end) → MissesLines file old new (status_of end) (missing_of k file)
-  misses_arm kept.Whole is = λ some. (is (λ none. some (ap status_of none))).records.recorded.records.quiet (λ e. cc)
-  misses_arm kept.NoMemory is = λ some. (is (λ none. some (ap status_of none))).records.recorded.records.quiet (λ e. cc)
+  misses_arm kept.Whole is = λ some. let r = (is (λ none. some (ap status_of none))).records.recorded.records in (r.quiet (λ e. cc), r.others)
+  misses_arm kept.NoMemory is = λ some. let r = (is (λ none. some (ap status_of none))).records.recorded.records in (r.quiet (λ e. cc), r.others)
   misses_arm kept.Unwritten is = (
     refl,
-    λ some. elim ((is (λ none. some (ap status_of none))).records.recorded.records.failed refl) [ inl never ↦ absurd (cc) | inr rose ↦ rose ],
+    λ some. let r = (is (λ none. some (ap status_of none))).records.recorded.records in elim (r.failed refl) [ inl never ↦ absurd (cc) | inr rose ↦ (rose, r.others) ],
   )
 
   pub records_arm : (k : Kept) → CodesPlay b role initial seed codes → (end ≢ ended.NoMemory → RecordsTaken b role told initial seed codes file old new k left end) → status_of end ≢ NoMemory → missing_of k file ≡ missing.Nothing

@@ -8,6 +8,7 @@ use Rattle.anb_status.specs.declared.status.Status.TheVariants.{NoMemory}
 use Rattle.anb_command.specs.Causes.{DidNotRise}
 use Rattle.anb_command.specs.Fetches.{Files, IfTold}
 use Rattle.anb_branch_commands.specs.BranchCommand.{CompletesBranch}
+use Rattle.anb_host_commands.specs.HostCommand.{CompletesHost}
 use Rattle.anb_role_commands.specs.EnactCommand.{CompletesEnact}
 use Rattle.anb_role_commands.specs.PlayCommand.{CompletesPlay}
 use Rattle.anb_record_commands.specs.Outcomes.{CompletesInFolder, IsMissing, IsTaken, told_as}
@@ -15,29 +16,29 @@ use Rattle.anb_record_commands.specs.declared.ended.Missing.{Missing}
 use Rattle.anb_record_commands.specs.declared.ended.Missing.TheVariants as missing
 use Rattle.anb_record_commands.proofs.Telling.{calm_memory}
 
-module _ (S T : WireState) (folder : List ℕ) (store store_now : StoreState) (end : Status) (missed : Missing) (why : IsMissing folder store store_now S T end missed)
+module _ (S T : WireState) (IsMine : List ℕ → Type 0) (store store_now : StoreState) (end : Status) (missed : Missing) (why : IsMissing IsMine store store_now S T end missed)
     (calm : DidNotRise store.faults store_now.faults) (only : is_fault end ≡ true → end ≡ NoMemory) where
   -- a file was there, nothing is missing, or memory was wanting
-  by_what_is_missing : (P : Type 0) → (IsTaken S T folder store store_now (told_as end missed) → P) → (missed ≡ missing.Nothing → told_as end missed ≡ end → P)
+  pub by_what_is_missing : (P : Type 0) → (IsTaken S T IsMine store store_now (told_as end missed) → P) → (missed ≡ missing.Nothing → told_as end missed ≡ end → P)
       → (told_as end missed ≡ NoMemory → P) → P
   by_what_is_missing P taken whole wanting = of missed why taken whole wanting where
-    of : (m : Missing) → IsMissing folder store store_now S T end m → (IsTaken S T folder store store_now (told_as end m) → P) → (m ≡ missing.Nothing → told_as end m ≡ end → P)
+    of : (m : Missing) → IsMissing IsMine store store_now S T end m → (IsTaken S T IsMine store store_now (told_as end m) → P) → (m ≡ missing.Nothing → told_as end m ≡ end → P)
         → (told_as end m ≡ NoMemory → P) → P
     of missing.Nothing is taken whole wanting = whole refl refl
     of (missing.There name) is taken whole wanting = taken (name, refl, is.0, is.1, is.3, is.4)
     of (missing.Unwritten name) is taken whole wanting = fault (is_fault end) refl where
       fault : (b : Bool) → is_fault end ≡ b → P
       fault true e = wanting (rw e (only e))
-      fault false e = absurd (calm (is.1 (calm_memory end e)))
+      fault false e = absurd (calm ((is (calm_memory end e)).1))
     of missing.NoMemory is taken whole wanting = fault (is_fault end) refl where
       fault : (b : Bool) → is_fault end ≡ b → P
       fault true e = wanting (rw e (only e))
       fault false e = wanting (rw e refl)
 
   pub completes_in_folder : (Does Has Completes : Status → Type 0) → Does end → ((phase_of end ≡ before_reach → ⊥) → end ≢ NoMemory → missed ≡ missing.Nothing → Has end)
-      → Completes end → Completes NoMemory → CompletesInFolder S T folder store store_now (told_as end missed) Does Has Completes
+      → Completes end → Completes NoMemory → CompletesInFolder S T IsMine store store_now (told_as end missed) Does Has Completes
   completes_in_folder Does Has Completes does has completes wants =
-      by_what_is_missing (CompletesInFolder S T folder store store_now (told_as end missed) Does Has Completes) (λ taken. inl taken)
+      by_what_is_missing (CompletesInFolder S T IsMine store store_now (told_as end missed) Does Has Completes) (λ taken. inl taken)
       (λ nothing same. inr (record {
         ends = inl (subst Does (sym same) does);
         completes = subst Completes (sym same) completes;
@@ -59,3 +60,6 @@ enact_wants code values told host_seed S T = always told _ (λ files. always S.l
 
 pub branch_wants : (narration role values : List ℕ) (arm : Option ℕ) (told : Option Files) (host_seed : Option (List ℕ)) (S T : WireState) → CompletesBranch narration role values arm told host_seed S T NoMemory
 branch_wants narration role values arm told host_seed S T = always told _ (λ files. always S.left _ (λ left job later bytes asks hears. inr refl))
+
+pub host_wants : (narration name values : List ℕ) (told : Option Files) (host_seed : Option (List ℕ)) (S T : WireState) → CompletesHost narration name values told host_seed S T NoMemory
+host_wants narration name values told host_seed S T = always told _ (λ files. always S.left _ (λ left job events bytes asks frames fewer. inr refl))

@@ -5,11 +5,11 @@ use Rattle.std.proofs.lemmas.List.{append-nil}
 use Rattle.anb_lemmas.proofs.Items.{bytes_differ, bytes_eq-same}
 use Rattle.anb_store.specs.Stores.{StoreState, with_file}
 use Rattle.anb_transcript.specs.declared.transcript.TranscriptLine.{TranscriptLine}
-use Rattle.anb_recording.specs.Journals.{Files, appended, begun}
+use Rattle.anb_recording.specs.Journals.{Files, IsAbsent, IsEither, OthersStay, appended, begun}
 use Rattle.anb_recording.specs.Lines.{line_text, lines_text}
 use Rattle.anb_recording.specs.Recordings.{all_appended}
 use Rattle.anb_record_commands.specs.Names.{transcript_in, values_in}
-use Rattle.anb_record_commands.specs.Outcomes.{HoldsIn}
+use Rattle.anb_record_commands.specs.Outcomes.{AreAbsent, HoldsIn, IsOfFolder}
 
 pub names_differ : (folder : List ℕ) → values_in folder ≢ transcript_in folder
 names_differ folder is =
@@ -18,10 +18,18 @@ names_differ folder is =
     let eleven : length (codes "/transcript") ≡ 11 = refl in
     omega (arith, same, seven, eleven, length-append folder (codes "/values"), length-append folder (codes "/transcript"))
 
-with_same : (files : Files) (name content : List ℕ) → with_file files name content name ≡ Some content
+-- neither file is there
+pub both_absent : (folder values transcript : List ℕ) (store : StoreState) → values ≡ values_in folder → transcript ≡ transcript_in folder → IsAbsent store values → IsAbsent store transcript
+    → AreAbsent (IsOfFolder folder) store
+both_absent folder values transcript store v t first second name mine = elim mine [
+  | inl is ↦ subst (IsAbsent store) (v ∙ sym is) first
+  | inr is ↦ subst (IsAbsent store) (t ∙ sym is) second
+]
+
+pub with_same : (files : Files) (name content : List ℕ) → with_file files name content name ≡ Some content
 with_same files name content = rw (bytes_eq-same name) refl
 
-with_other : (files : Files) (name content other : List ℕ) → other ≢ name → with_file files name content other ≡ files other
+pub with_other : (files : Files) (name content other : List ℕ) → other ≢ name → with_file files name content other ≡ files other
 with_other files name content other differ = rw (bytes_differ other name differ) refl
 
 -- a store with these files, in which one holds a text and the others are as they were at first
@@ -61,3 +69,22 @@ folder_holds folder values lines store files told =
       h.holds,
       λ name other. h.others name (λ is. other (inr is)) ∙ with_other files v values name (λ is. other (inl is)),
     )
+
+-- ---- no other file is touched
+
+pub others_within : (IsMine IsOurs : List ℕ → Type 0) (store now : StoreState) → ((name : List ℕ) → IsMine name → IsOurs name) → OthersStay IsMine store now → OthersStay IsOurs store now
+others_within IsMine IsOurs store now within others files told =
+    let o = others files told in
+    (o.0, o.1, λ name not. o.2 name (λ is. not (within name is)))
+
+pub both_mine : (folder values transcript : List ℕ) (store now : StoreState) → values ≡ values_in folder → transcript ≡ transcript_in folder → OthersStay (IsEither values transcript) store now
+    → OthersStay (IsOfFolder folder) store now
+both_mine folder values transcript store now v t others = others_within (IsEither values transcript) (IsOfFolder folder) store now mine others where
+  mine : (name : List ℕ) → IsEither values transcript name → IsOfFolder folder name
+  mine name (inl is) = inl (is ∙ v)
+  mine name (inr is) = inr (is ∙ t)
+
+pub begun_alone : (folder text : List ℕ) (store mid : StoreState) → mid ≡ begun store (values_in folder) text (transcript_in folder) → OthersStay (IsOfFolder folder) store mid
+begun_alone folder text store mid is = subst (OthersStay (IsOfFolder folder) store) (sym is) at_once where
+  at_once : OthersStay (IsOfFolder folder) store (begun store (values_in folder) text (transcript_in folder))
+  at_once files told = let h = folder_holds folder text [] store files told in (h.0, h.1, h.4)

@@ -6,3 +6,4 @@ pub mod Asked
 pub mod Recorded
 pub mod Replayed
 pub mod Arms
+pub mod Hosted

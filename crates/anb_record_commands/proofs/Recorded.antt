@@ -16,28 +16,29 @@ use Rattle.anb_transcript.specs.declared.transcript.TranscriptLine.{TranscriptLi
 use Rattle.anb_values.specs.Fit.{Fit}
 use Rattle.anb_command.specs.Prepared.{status_of}
 use Rattle.anb_branch.specs.Stems.{no_halt}
-use Rattle.anb_recording.specs.Journals.{begun}
+use Rattle.anb_recording.specs.Joining.{others_joined}
+use Rattle.anb_recording.specs.Journals.{OthersStay, begun}
 use Rattle.anb_recording.specs.Lines.{lines_text}
 use Rattle.anb_recording.specs.Recordings.{IsRecorded, ReplaysAs, all_appended}
 use Rattle.anb_recording.specs.declared.recording.Kept.{Kept}
 use Rattle.anb_recording.specs.declared.recording.Kept.TheVariants as kept
 use Rattle.anb_record_commands.specs.Names.{transcript_in, values_in}
-use Rattle.anb_record_commands.specs.Outcomes.{Valued, HasTranscript, HoldsIn, IsMissing, IsReadAgain, ReplaysTo, text_of}
+use Rattle.anb_record_commands.specs.Outcomes.{Valued, HasTranscript, HoldsIn, IsMissing, IsOfFolder, IsReadAgain, ReplaysTo, text_of}
 use Rattle.anb_record_commands.specs.Running.{MissesLines, RecordsRun, missing_of}
 use Rattle.anb_record_commands.specs.declared.ended.Missing.{Missing}
 use Rattle.anb_record_commands.specs.declared.ended.Missing.TheVariants as missing
-use Rattle.anb_record_commands.proofs.Holding.{folder_holds}
+use Rattle.anb_record_commands.proofs.Holding.{folder_holds, others_within}
 use Rattle.anb_record_commands.proofs.Placeless.{are_due, falls_short, follows, stops}
 
 -- ---- behind the play
 
 module _ (R : Run) (file : List ℕ) (old new : StoreState) (left : Option (List ℕ)) (end : PlayEnd) where
   pub misses : (k : Kept) → (end ≢ ended.NoMemory → IsRecorded R file old new k left end) → MissesLines file old new (status_of end) (missing_of k file)
-  misses kept.Whole is = λ some. (is (λ none. some (ap status_of none))).records.quiet (λ e. cc)
-  misses kept.NoMemory is = λ some. (is (λ none. some (ap status_of none))).records.quiet (λ e. cc)
+  misses kept.Whole is = λ some. let r = (is (λ none. some (ap status_of none))).records in (r.quiet (λ e. cc), r.others)
+  misses kept.NoMemory is = λ some. let r = (is (λ none. some (ap status_of none))).records in (r.quiet (λ e. cc), r.others)
   misses kept.Unwritten is = (
     refl,
-    λ some. elim ((is (λ none. some (ap status_of none))).records.failed refl) [ inl never ↦ absurd (cc) | inr rose ↦ rose ],
+    λ some. let r = (is (λ none. some (ap status_of none))).records in elim (r.failed refl) [ inl never ↦ absurd (cc) | inr rose ↦ (rose, r.others) ],
   )
 
   pub records_run : (k : Kept) → (end ≢ ended.NoMemory → IsRecorded R file old new k left end) → status_of end ≢ NoMemory → missing_of k file ≡ missing.Nothing
@@ -75,22 +76,27 @@ in_folder R folder text valued store mid now left end begins written reads is = 
 }
 
 -- what the lines miss is missing in the folder
-pub missing_in_folder : (folder : List ℕ) (store mid now : StoreState) (old new : WireState) (end : Status) (m : Missing) → mid.faults ≡ store.faults
-    → MissesLines (transcript_in folder) mid now end m → IsMissing folder store now old new end m
-missing_in_folder folder store mid now old new end missing.Nothing same is = λ some. is some ∙ same
-missing_in_folder folder store mid now old new end missing.NoMemory same is = λ some. is some ∙ same
-missing_in_folder folder store mid now old new end (missing.Unwritten name) same is = (inr is.0, λ some. subst (λ (n : ℕ). Rose n now.faults) same (is.1 some))
-missing_in_folder folder store mid now old new end (missing.There name) same is = absurd is
+pub missing_in_folder : (folder : List ℕ) (store mid now : StoreState) (old new : WireState) (end : Status) (m : Missing) → mid.faults ≡ store.faults → OthersStay (IsOfFolder folder) store mid
+    → MissesLines (transcript_in folder) mid now end m → IsMissing (IsOfFolder folder) store now old new end m
+missing_in_folder folder store mid now old new end m same first is = of m is where
+  others : OthersStay (λ name. name ≡ transcript_in folder) mid now → OthersStay (IsOfFolder folder) store now
+  others then = others_joined (IsOfFolder folder) store mid now first (others_within (λ name. name ≡ transcript_in folder) (IsOfFolder folder) mid now (λ name it. inr it) then)
+
+  of : (m : Missing) → MissesLines (transcript_in folder) mid now end m → IsMissing (IsOfFolder folder) store now old new end m
+  of missing.Nothing is = λ some. let c = is some in (c.0 ∙ same, others c.1)
+  of missing.NoMemory is = λ some. let c = is some in (c.0 ∙ same, others c.1)
+  of (missing.Unwritten name) is = λ some. let r = is.1 some in (inr is.0, subst (λ (n : ℕ). Rose n now.faults) same r.0, others r.1)
+  of (missing.There name) is = absurd is
 
 -- ---- as a play tells it
 
 -- the same is missing where a stop tells no instruction
-pub missing_stopped : (folder : List ℕ) (store now : StoreState) (old new : WireState) (halt : Halt) (m : Missing) → IsMissing folder store now old new (Stopped halt) m
-    → IsMissing folder store now old new (Stopped (record { event = halt.event; at = 0 })) m
-missing_stopped folder store now old new halt missing.Nothing is = λ some. is (λ e. cc)
-missing_stopped folder store now old new halt missing.NoMemory is = λ some. is (λ e. cc)
-missing_stopped folder store now old new halt (missing.Unwritten name) is = (is.0, λ some. is.1 (λ e. cc))
-missing_stopped folder store now old new halt (missing.There name) is = let never : Stopped halt ≡ NoMemory = is.2 in absurd (cc)
+pub missing_stopped : (IsMine : List ℕ → Type 0) (store now : StoreState) (old new : WireState) (halt : Halt) (m : Missing) → IsMissing IsMine store now old new (Stopped halt) m
+    → IsMissing IsMine store now old new (Stopped (record { event = halt.event; at = 0 })) m
+missing_stopped IsMine store now old new halt missing.Nothing is = λ some. is (λ e. cc)
+missing_stopped IsMine store now old new halt missing.NoMemory is = λ some. is (λ e. cc)
+missing_stopped IsMine store now old new halt (missing.Unwritten name) is = λ some. is (λ e. cc)
+missing_stopped IsMine store now old new halt (missing.There name) is = let never : Stopped halt ≡ NoMemory = is.2 in absurd (cc)
 
 -- a stop without its instruction
 abbrev untold : Status → Status

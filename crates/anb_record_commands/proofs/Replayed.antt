@@ -2,7 +2,10 @@
 use Rattle.std.proofs.Common.{◌≡◌, ◌≢◌, ◌+◌, ◌≤◌, ℕ, List, length, Option, Some, None, refl, sym, ap, ◌∙◌, subst, inl, inr}
 use Rattle.std.specs.List.{AllByRecursion}
 use Rattle.anb_base.specs.Bytes.{IsBytes}
-use Rattle.anb_plays.specs.Plays.{Run}
+use Rattle.anb_plays.specs.Plays.{End, Run, done, stopped, waiting}
+use Rattle.anb_host.specs.declared.event.HostEvent.{HostEvent}
+use Rattle.anb_host.specs.Own.{accepted}
+use Rattle.anb_host_recording.specs.Sessions.{replay_end}
 use Rattle.anb_recording.specs.Laws.{WrittenLinesAreRead}
 use Rattle.anb_recording.specs.Lines.{IsPlain, lines_text}
 use Rattle.anb_recording.specs.Recordings.{ReplaysAs}
@@ -31,7 +34,7 @@ use Rattle.anb_branch_commands.specs.Laws.{ArmsAreNarrations}
 use Rattle.anb_branch_commands.proofs.Preparing.{job_seated}
 use Rattle.anb_branch_commands.proofs.Seats.{known_at}
 use Rattle.anb_record_commands.specs.BranchInto.{arm_values}
-use Rattle.anb_record_commands.specs.Laws.{RecordedArmsReplay, RecordedPlaysReplay, replayed_as}
+use Rattle.anb_record_commands.specs.Laws.{RecordedArmsReplay, RecordedPlaysReplay, RecordedSessionsReplay, replayed_as, replayed_session}
 use Rattle.anb_record_commands.specs.Names.{transcript_in, values_in}
 use Rattle.anb_record_commands.specs.Outcomes.{IsReadAgain, ReplaysTo, Valued, text_of}
 use Rattle.anb_record_commands.specs.PlayInto.{job_values}
@@ -135,3 +138,28 @@ arms_replay read narrations alike files later branched role values folder name t
     (narrations files branched role values told host_seed job asks text tells place arm straight arm_at straight_at name has) are plain replays
     (subst IsReadAgain values_are reads) same (subst (λ (g : Valued). later (values_in folder) ≡ Some (text_of g)) values_are values_there) (subst (λ (g : Valued). length (text_of g) ≤ VALUES_LIMIT) values_are values_short)
     lines_there lines_short is
+
+-- ---- a session of a host
+
+ended_so : (lines : List TranscriptLine) (e : End) → status_of (replay_end lines e) ≡ replayed_session lines e
+ended_so lines done = refl
+ended_so lines (stopped e at) = refl
+ended_so lines (waiting e) = refl
+
+some_end : (lines : List TranscriptLine) (e : End) → replay_end lines e ≢ replayed.NoMemory
+some_end lines done is = cc
+some_end lines (stopped e at) is = cc
+some_end lines (waiting e) is = cc
+
+pub sessions_replay : WrittenLinesAreRead → RecordedSessionsReplay
+sessions_replay read files later narration name values folder host_seed other_seed job session run events lines asks are plain is reads same values_there values_short lines_there lines_short =
+    let end = (run (accepted run events)).end in
+    inr (
+      record { job = job; lines = lines },
+      inr (
+        job,
+        job_again files later narration name values (values_in folder) host_seed other_seed job asks reads same values_there values_short,
+        inr (lines, inr (lines_text lines, record { holds = lines_there; short = lines_short }, read lines plain), refl),
+      ),
+      record { plays = run; are = are; end = replay_end lines end; some = some_end lines end; replays = is.replays; is = sym (ended_so lines end) },
+    )

@@ -15,7 +15,7 @@ use Rattle.anb_command.specs.Reported.{TellsFaults, TellsWireFaults, is_file_fau
 use Rattle.anb_command.specs.Touches.{Touches}
 use Rattle.anb_command.proofs.OverWire.{untouched}
 use Rattle.anb_command.proofs.Reported.{calm_told, nothing_failed}
-use Rattle.anb_record_commands.specs.Outcomes.{HasRecordCause, IsMissing, IsOfFolder, recorded_phase, told_as}
+use Rattle.anb_record_commands.specs.Outcomes.{HasRecordCause, IsMissing, recorded_phase, told_as}
 use Rattle.anb_record_commands.specs.declared.ended.Missing.{Missing}
 use Rattle.anb_record_commands.specs.declared.ended.Missing.TheVariants as missing
 
@@ -26,12 +26,12 @@ calm_file : (s : Status) → is_fault s ≡ false → is_file_fault s ≡ false
 calm_file (FileFault file) calm = absurd (cc)
 calm_file _ calm = refl
 
-calm_place : (s : Status) → is_fault s ≡ false → phase_of s ≡ at_reach → ⊥
+pub calm_place : (s : Status) → is_fault s ≡ false → phase_of s ≡ at_reach → ⊥
 calm_place (Unreached place) calm at = cc
 calm_place _ calm at = cc
 
 -- the wire at any time
-any_time : (place : Place) (phase : Phase) (old new : Option (List ℕ)) → Reaches (Some place) phase old new → (new ≡ old) ⊎ Put old new (line_of place)
+pub any_time : (place : Place) (phase : Phase) (old new : Option (List ℕ)) → Reaches (Some place) phase old new → (new ≡ old) ⊎ Put old new (line_of place)
 any_time place before_reach old new is = inl is
 any_time place at_reach old new is = inl is
 any_time place after_reach old new is = inr is
@@ -50,35 +50,35 @@ touches_any S T phase not_at t = record {
   reaches = t.reaches;
 }
 
-module _ (folder : List ℕ) (store store_now : StoreState) (S T : WireState) (end : Status) (missed : Missing)
-    (why : IsMissing folder store store_now S T end missed) where
+module _ (IsMine : List ℕ → Type 0) (store store_now : StoreState) (S T : WireState) (end : Status) (missed : Missing)
+    (why : IsMissing IsMine store store_now S T end missed) where
   -- what holds of the status that is told
-  told_by : (P : Status → Type 0) → P end
-      → ((name : List ℕ) → IsOfFolder folder name → is_fault end ≡ false → Rose store.faults store_now.faults → P (Unwritten name))
+  pub told_by : (P : Status → Type 0) → P end
+      → ((name : List ℕ) → IsMine name → is_fault end ≡ false → Rose store.faults store_now.faults → P (Unwritten name))
       → (is_fault end ≡ false → P NoMemory)
-      → ((name : List ℕ) → IsOfFolder folder name → IsThere store name → end ≡ NoMemory → T ≡ S → P (Unwritten name))
+      → ((name : List ℕ) → IsMine name → IsThere store name → end ≡ NoMemory → T ≡ S → P (Unwritten name))
       → P (told_as end missed)
   told_by P by_end by_file by_memory by_there = of missed why where
-    of : (m : Missing) → IsMissing folder store store_now S T end m → P (told_as end m)
+    of : (m : Missing) → IsMissing IsMine store store_now S T end m → P (told_as end m)
     of missing.Nothing is = by_end
     of (missing.There name) is = by_there name is.0 is.1 is.2 is.3
     of (missing.Unwritten name) is = fault (is_fault end) refl where
       fault : (b : Bool) → is_fault end ≡ b → P (told_as end (missing.Unwritten name))
       fault true e = rw e by_end
-      fault false e = rw e (by_file name is.0 e (is.1 (calm_memory end e)))
+      fault false e = let mine = is (calm_memory end e) in rw e (by_file name mine.0 e mine.1)
     of missing.NoMemory is = fault (is_fault end) refl where
       fault : (b : Bool) → is_fault end ≡ b → P (told_as end missing.NoMemory)
       fault true e = rw e by_end
       fault false e = rw e (by_memory e)
 
   module _ (names : List (List ℕ)) (place : Place) (faults faults_now : List ℕ → ℕ) where
-    own_cause : (s : Status) → HasCause names (Some place) faults faults_now S T s → HasRecordCause folder store store_now names (Some place) faults faults_now S T s
+    own_cause : (s : Status) → HasCause names (Some place) faults faults_now S T s → HasRecordCause IsMine store store_now names (Some place) faults faults_now S T s
     own_cause (Unwritten name) never = absurd never
     own_cause _ cause = cause
 
-    pub told_cause : HasCause names (Some place) faults faults_now S T end → HasRecordCause folder store store_now names (Some place) faults faults_now S T (told_as end missed)
+    pub told_cause : HasCause names (Some place) faults faults_now S T end → HasRecordCause IsMine store store_now names (Some place) faults faults_now S T (told_as end missed)
     told_cause cause =
-        told_by (HasRecordCause folder store store_now names (Some place) faults faults_now S T) (own_cause end cause) (λ name mine calm rose. (mine, inr rose)) (λ calm. tt)
+        told_by (HasRecordCause IsMine store store_now names (Some place) faults faults_now S T) (own_cause end cause) (λ name mine calm rose. (mine, inr rose)) (λ calm. tt)
         (λ name mine there is same. (mine, inl there))
 
     pub told_faults : TellsFaults faults faults_now S T end → TellsFaults faults faults_now S T (told_as end missed)

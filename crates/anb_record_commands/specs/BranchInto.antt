@@ -16,7 +16,7 @@ use Rattle.anb_command.specs.Fetches.{Files, IfTold}
 use Rattle.anb_command.specs.Steps.{Answer, given}
 use Rattle.anb_branch_commands.specs.BranchCommand.{CompletesBranch, DoesBranch}
 use Rattle.anb_branch_commands.specs.BranchJobs.{BranchJob, BranchJobIs, known_in}
-use Rattle.anb_record_commands.specs.Outcomes.{CompletesInFolder, DoesInFolder, HasTranscript, Valued}
+use Rattle.anb_record_commands.specs.Outcomes.{CompletesInFolder, DoesInFolder, HasTranscript, IsOfFolder, Valued}
 
 -- What is recorded of a role is a transcript of its play in the arm that is taken over what was heard.
 pub record HasArmTranscript (b : BranchedValue) (role : List ℕ) (arm_told : Option ℕ) (initial : List (List ℕ)) (seed : List ℕ)
@@ -46,9 +46,9 @@ module _ (narration role values : List ℕ) (arm : Option ℕ) (told : Option Fi
       phase_of end ≡ after_reach → IfTold told (λ files. HasArmRecord (BranchJobIs files narration role values arm host_seed) folder store store_now old.left end)
 
   abbrev pub DoesBranchInto : Status → Type 0
-  DoesBranchInto status = DoesInFolder old new folder store store_now status (DoesBranch narration role values arm told host_seed old new) RecordsBranch
+  DoesBranchInto status = DoesInFolder old new (IsOfFolder folder) store store_now status (DoesBranch narration role values arm told host_seed old new) RecordsBranch
 
   abbrev pub CompletesBranchInto : Status → Type 0
   CompletesBranchInto status =
-      CompletesInFolder old new folder store store_now status (DoesBranch narration role values arm told host_seed old new) RecordsBranch
+      CompletesInFolder old new (IsOfFolder folder) store store_now status (DoesBranch narration role values arm told host_seed old new) RecordsBranch
       (CompletesBranch narration role values arm told host_seed old new)

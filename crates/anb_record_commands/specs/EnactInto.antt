@@ -7,7 +7,7 @@ use Rattle.anb_status.specs.declared.status.Status.{Status}
 use Rattle.anb_command.specs.Errands.{Errand}
 use Rattle.anb_command.specs.Fetches.{Files, IfTold}
 use Rattle.anb_role_commands.specs.EnactCommand.{CompletesEnact, DoesEnact, ErrandIs, RunOf}
-use Rattle.anb_record_commands.specs.Outcomes.{CompletesInFolder, DoesInFolder, HasRecord, Valued}
+use Rattle.anb_record_commands.specs.Outcomes.{CompletesInFolder, DoesInFolder, HasRecord, IsOfFolder, Valued}
 
 -- the values of an errand, and the seed of its draws
 abbrev pub errand_values : Errand → Valued
@@ -21,9 +21,9 @@ module _ (code values : List ℕ) (told : Option Files) (host_seed : Option (Lis
       IfTold told (λ files. HasRecord RunOf errand_values (ErrandIs files code values host_seed) folder store store_now old.left end)
 
   abbrev pub DoesEnactInto : Status → Type 0
-  DoesEnactInto status = DoesInFolder old new folder store store_now status (DoesEnact code values told host_seed old new) RecordsEnact
+  DoesEnactInto status = DoesInFolder old new (IsOfFolder folder) store store_now status (DoesEnact code values told host_seed old new) RecordsEnact
 
   abbrev pub CompletesEnactInto : Status → Type 0
   CompletesEnactInto status =
-      CompletesInFolder old new folder store store_now status (DoesEnact code values told host_seed old new) RecordsEnact
+      CompletesInFolder old new (IsOfFolder folder) store store_now status (DoesEnact code values told host_seed old new) RecordsEnact
       (CompletesEnact code values told host_seed old new)

@@ -2,11 +2,15 @@
 use Rattle.std.specs.Prelude.{◌≡◌, ◌+◌, ◌≤◌, ℕ, List, length, Option, Some, None, slice_get}
 use Rattle.std.specs.List.{AllByRecursion}
 use Rattle.anb_base.specs.Bytes.{IsBytes}
-use Rattle.anb_plays.specs.Plays.{Run}
+use Rattle.anb_plays.specs.Plays.{End, Run, done, stopped, waiting}
 use Rattle.anb_choice.specs.Branching.{BranchedText, straights}
 use Rattle.anb_protocol.specs.Plays.{IsPlay}
 use Rattle.anb_protocol.specs.Protocols.{ProtocolValue, role_number}
 use Rattle.anb_recording.specs.Lines.{IsPlain, lines_text}
+use Rattle.anb_host.specs.declared.event.HostEvent.{HostEvent}
+use Rattle.anb_host.specs.Own.{accepted}
+use Rattle.anb_host_recording.specs.Entries.{transcript_of}
+use Rattle.anb_host_recording.specs.Sessions.{IsTranscript}
 use Rattle.anb_status.specs.declared.status.Status.{Status}
 use Rattle.anb_status.specs.declared.status.Status.TheVariants.{Done, ReadFault, Short, Stopped, TooLarge, Truncated, Waiting}
 use Rattle.anb_transcript.specs.declared.transcript.TranscriptLine.{TranscriptLine}
@@ -17,6 +21,7 @@ use Rattle.anb_command.specs.declared.limits.TheConstants.{NARRATION_LIMIT, TRAN
 use Rattle.anb_branch_commands.specs.BranchJobs.{BranchJob, BranchJobIs}
 use Rattle.anb_role_commands.specs.Jobs.{Job, JobIs}
 use Rattle.anb_role_commands.specs.PlayCommand.{PlayOf}
+use Rattle.anb_role_commands.specs.Playing.{PlayIn}
 use Rattle.anb_role_commands.specs.ReplayCommand.{ReplayOutcome}
 use Rattle.anb_record_commands.specs.BranchInto.{arm_values}
 use Rattle.anb_record_commands.specs.Names.{transcript_in, values_in}
@@ -69,3 +74,24 @@ RecordedArmsReplay =
     → later (transcript_in folder) ≡ Some (lines_text lines) → length (lines_text lines) ≤ TRANSCRIPT_LIMIT
     → replayed_as (length lines) end ≡ Some due
     → ReplayOutcome name role (values_in folder) (transcript_in folder) other_seed 0 later due
+
+-- The status of a replay of a session's lines, where its play ended so
+abbrev pub replayed_session : List TranscriptLine → End → Status
+replayed_session lines done = Done
+replayed_session lines (stopped e at) = Stopped (record { event = e; at = 0 })
+replayed_session lines (waiting e) = Short (length lines + 1)
+
+-- Wherever the narration is as it was, and the values and the transcript of a session of a recorded host are there
+-- and short enough to be read, `replay` of that session ends as the session did.
+abbrev pub RecordedSessionsReplay : Type 0
+RecordedSessionsReplay =
+    (files later : Files) (narration name values folder : List ℕ) (host_seed other_seed : Option (List ℕ))
+    (job : Job) (session : ℕ) (run : Run) (events : List HostEvent) (lines : List TranscriptLine)
+    → JobIs files narration name values host_seed (given job)
+    → ((arrivals : List (List ℕ)) → AllByRecursion IsBytes arrivals → PlayIn session job arrivals (run arrivals))
+    → AllByRecursion IsPlain lines → IsTranscript run events lines → IsReadAgain (job_values job)
+    → later narration ≡ files narration
+    → later (values_in folder) ≡ Some (text_of (job_values job)) → length (text_of (job_values job)) ≤ VALUES_LIMIT
+    → later (transcript_of folder session) ≡ Some (lines_text lines) → length (lines_text lines) ≤ TRANSCRIPT_LIMIT
+    → ReplayOutcome narration name (values_in folder) (transcript_of folder session) other_seed session later
+    (replayed_session lines (run (accepted run events)).end)

@@ -4,6 +4,7 @@ pub mod Outcomes
 pub mod PlayInto
 pub mod EnactInto
 pub mod BranchInto
+pub mod HostInto
 pub mod Laws
 pub mod Asking
 -- for proofs alone

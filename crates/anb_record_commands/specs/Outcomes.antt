@@ -8,7 +8,7 @@ use Rattle.anb_base.specs.declared.TheConstants.{ARRIVAL}
 use Rattle.anb_base.specs.declared.place.Place.{Place}
 use Rattle.anb_frame.specs.Cuts.{Tail, CutLeft}
 use Rattle.anb_plays.specs.Plays.{Played, Run}
-use Rattle.anb_recording.specs.Journals.{Files, IsEither, IsThere, OthersStay}
+use Rattle.anb_recording.specs.Journals.{Files, IsAbsent, IsEither, IsThere, OthersStay}
 use Rattle.anb_recording.specs.Lines.{IsPlain, lines_text}
 use Rattle.anb_recording.specs.Recordings.{ReplaysAs}
 use Rattle.anb_session.specs.declared.PlayEnd.{PlayEnd}
@@ -47,31 +47,41 @@ recorded_phase s = phase_of s
 abbrev pub IsOfFolder : (folder : List ℕ) → List ℕ → Type 0
 IsOfFolder folder name = IsEither (values_in folder) (transcript_in folder) name
 
--- no fault of the store occurred, unless the play itself ended for want of memory
-abbrev pub IsCalm : (store store_now : StoreState) → (end : Status) → Type 0
-IsCalm store store_now end = end ≢ NoMemory → store_now.faults ≡ store.faults
+-- none of these files is there
+abbrev pub AreAbsent : (IsMine : List ℕ → Type 0) → StoreState → Type 0
+AreAbsent IsMine store = (name : List ℕ) → IsMine name → IsAbsent store name
 
-module _ (folder : List ℕ) (store store_now : StoreState) where
+-- the files of a recording are these
+module _ (IsMine : List ℕ → Type 0) (store store_now : StoreState) where
+  -- no fault of the store occurred, and each other file is as it was, unless the play itself ended for want of memory
+  abbrev pub IsCalm : (end : Status) → Type 0
+  IsCalm end = end ≢ NoMemory → (store_now.faults ≡ store.faults) × OthersStay IsMine store store_now
+
   -- Why something is missing. A file that is there already is left, and so is the wire. One that couldn't
   -- be written is counted by the store, and where nothing else is missing than for want of memory nothing was
-  -- counted: so a fault of the store is told.
+  -- counted: so a fault of the store is told. No file but those of the recording is touched.
   abbrev pub IsMissing : (old new : WireState) → (end : Status) → Missing → Type 0
-  IsMissing old new end missing.Nothing = IsCalm store store_now end
-  IsMissing old new end missing.NoMemory = IsCalm store store_now end
-  IsMissing old new end (missing.Unwritten name) = IsOfFolder folder name × (end ≢ NoMemory → Rose store.faults store_now.faults)
+  IsMissing old new end missing.Nothing = IsCalm end
+  IsMissing old new end missing.NoMemory = IsCalm end
+  IsMissing old new end (missing.Unwritten name) =
+      end ≢ NoMemory → IsMine name × Rose store.faults store_now.faults × OthersStay IsMine store store_now
   IsMissing old new end (missing.There name) =
-      IsOfFolder folder name × IsThere store name × (end ≡ NoMemory) × (new ≡ old) × (store_now ≡ store)
+      IsMine name × IsThere store name × (end ≡ NoMemory) × (new ≡ old) × (store_now ≡ store)
+
+  -- no recording is taken over: the wire is as it was, or none of the files was there, or the store failed
+  abbrev pub TakesNoneOver : (old new : WireState) → Type 0
+  TakesNoneOver old new = (new ≡ old) ⊎ (AreAbsent IsMine store ⊎ Rose store.faults store_now.faults)
 
   -- why a fault is answered
   abbrev pub HasRecordCause : (names : List (List ℕ)) → Option Place → (faults faults_now : List ℕ → ℕ) → (old new : WireState) → Status → Type 0
-  HasRecordCause names place faults faults_now old new (Unwritten name) = IsOfFolder folder name × (IsThere store name ⊎ Rose store.faults store_now.faults)
+  HasRecordCause names place faults faults_now old new (Unwritten name) = IsMine name × (IsThere store name ⊎ Rose store.faults store_now.faults)
   HasRecordCause names place faults faults_now old new s = HasCause names place faults faults_now old new s
 
-  -- wherever the files are told, these two are in the folder now, and each other one is as it was
-  abbrev pub HoldsIn : (values transcript : List ℕ) → Type 0
-  HoldsIn values transcript = (files : Files) → store.files ≡ Some files
-      → (now : Files) × (store_now.files ≡ Some now) × (now (values_in folder) ≡ Some values) × (now (transcript_in folder) ≡ Some transcript)
-      × ((name : List ℕ) → (IsOfFolder folder name → ⊥) → now name ≡ files name)
+-- wherever the files are told, these two are in the folder now, and each other one is as it was
+abbrev pub HoldsIn : (folder : List ℕ) → (store store_now : StoreState) → (values transcript : List ℕ) → Type 0
+HoldsIn folder store store_now values transcript = (files : Files) → store.files ≡ Some files
+    → (now : Files) × (store_now.files ≡ Some now) × (now (values_in folder) ≡ Some values) × (now (transcript_in folder) ≡ Some transcript)
+    × ((name : List ℕ) → (IsOfFolder folder name → ⊥) → now name ≡ files name)
 
 -- What a replay of these lines comes to where the play ended so: it ends as the play did. Where the place
 -- wasn't reached there are no lines.
@@ -116,13 +126,13 @@ pub record HasRecord {A : Type 0} (IsRunOf : A → List (List ℕ) → Played (L
 
 -- ---- a command that is recorded
 
-module _ (old new : WireState) (folder : List ℕ) (store store_now : StoreState) (status : Status) where
-  -- one of the folder's files is there already: this is told, and nothing else is done
+module _ (old new : WireState) (IsMine : List ℕ → Type 0) (store store_now : StoreState) (status : Status) where
+  -- one of the files is there already: this is told, and nothing else is done
   abbrev pub IsTaken : Type 0
   IsTaken =
-      (name : List ℕ) × (status ≡ Unwritten name) × IsOfFolder folder name × IsThere store name × (new ≡ old) × (store_now ≡ store)
+      (name : List ℕ) × (status ≡ Unwritten name) × IsMine name × IsThere store name × (new ≡ old) × (store_now ≡ store)
 
-  -- by an end, what the command does without a folder, and what the folder has then
+  -- by an end, what the command does without a folder, and what is recorded then
   module _ (Does Has : Status → Type 0) where
     -- Over the wire it goes on as without a folder, to an end of its own. What is told is that end, unless
     -- something is missing of the recording. Where nothing is, and the wire was tried, it is all there.
@@ -131,7 +141,8 @@ module _ (old new : WireState) (folder : List ℕ) (store store_now : StoreState
       pub missed : Missing
       pub does : Does end
       pub told_so : status ≡ told_as end missed
-      pub why_missed : IsMissing folder store store_now old new end missed
+      pub why_missed : IsMissing IsMine store store_now old new end missed
+      pub fresh : TakesNoneOver IsMine store store_now old new
       -- a refusal leaves the store
       pub early : phase_of end ≡ before_reach → store_now ≡ store
       -- the place is reached and the wire touched as that end says, whatever is told

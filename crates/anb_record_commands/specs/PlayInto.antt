@@ -7,7 +7,7 @@ use Rattle.anb_status.specs.declared.status.Status.{Status}
 use Rattle.anb_command.specs.Fetches.{Files, IfTold}
 use Rattle.anb_role_commands.specs.Jobs.{Job, JobIs}
 use Rattle.anb_role_commands.specs.PlayCommand.{CompletesPlay, DoesPlay, PlayOf}
-use Rattle.anb_record_commands.specs.Outcomes.{CompletesInFolder, DoesInFolder, HasRecord, Valued}
+use Rattle.anb_record_commands.specs.Outcomes.{CompletesInFolder, DoesInFolder, HasRecord, IsOfFolder, Valued}
 
 -- the values of a job, and the seed of its draws
 abbrev pub job_values : Job → Valued
@@ -21,9 +21,9 @@ module _ (narration name values : List ℕ) (told : Option Files) (host_seed : O
       IfTold told (λ files. HasRecord PlayOf job_values (JobIs files narration name values host_seed) folder store store_now old.left end)
 
   abbrev pub DoesPlayInto : Status → Type 0
-  DoesPlayInto status = DoesInFolder old new folder store store_now status (DoesPlay narration name values told host_seed old new) RecordsPlay
+  DoesPlayInto status = DoesInFolder old new (IsOfFolder folder) store store_now status (DoesPlay narration name values told host_seed old new) RecordsPlay
 
   abbrev pub CompletesPlayInto : Status → Type 0
   CompletesPlayInto status =
-      CompletesInFolder old new folder store store_now status (DoesPlay narration name values told host_seed old new) RecordsPlay
+      CompletesInFolder old new (IsOfFolder folder) store store_now status (DoesPlay narration name values told host_seed old new) RecordsPlay
       (CompletesPlay narration name values told host_seed old new)

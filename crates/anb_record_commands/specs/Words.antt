@@ -1,30 +1,37 @@
--- The words of `play`, `enact` and `branch` where the play is recorded in a folder.
+-- The words of `play`, `enact`, `branch` and `host` where what is played is recorded in a folder.
 use Rattle.std.specs.Prelude.{ℕ, ◌-◌, ◌&&◌, List, [], ◌∷◌, codes, bytes_eq, length, take, drop, Option, Some, None, option_and_then, if◌then◌else◌}
 use Rattle.anb_base.specs.declared.place.Place.{Place}
 use Rattle.anb_words.specs.Words as words
 use Rattle.anb_words.specs.Words.{Asked, asked_of, is_operand}
+use Rattle.anb_record_commands.specs.HostInto.{IsOfHost}
+use Rattle.anb_record_commands.specs.Outcomes.{IsOfFolder}
 
 -- what is asked of the command, and the name of the folder
 pub data Recording : Type 0 where
   play : (narration role values : List ℕ) → Place → (folder : List ℕ) → Recording
   enact : (code values : List ℕ) → Place → (folder : List ℕ) → Recording
   branch : (narration role values : List ℕ) → (arm : Option ℕ) → Place → (folder : List ℕ) → Recording
+  host : (narration role values : List ℕ) → Place → (folder : List ℕ) → Recording
 
 -- the same without a folder
 abbrev pub without_folder : Recording → Asked
 without_folder (play narration role values place folder) = words.play narration role values place
 without_folder (enact code values place folder) = words.enact code values place
 without_folder (branch narration role values arm place folder) = words.branch narration role values arm place
+without_folder (host narration role values place folder) = words.host narration role values place
 
-abbrev pub folder_of : Recording → List ℕ
-folder_of (play narration role values place folder) = folder
-folder_of (enact code values place folder) = folder
-folder_of (branch narration role values arm place folder) = folder
+-- a file of the recording
+abbrev pub IsFileOf : Recording → List ℕ → Type 0
+IsFileOf (play narration role values place folder) name = IsOfFolder folder name
+IsFileOf (enact code values place folder) name = IsOfFolder folder name
+IsFileOf (branch narration role values arm place folder) name = IsOfFolder folder name
+IsFileOf (host narration role values place folder) name = IsOfHost folder name
 
 abbrev pub recording_in : Option Asked → (folder : List ℕ) → Option Recording
 recording_in (Some (words.play narration role values place)) folder = Some (play narration role values place folder)
 recording_in (Some (words.enact code values place)) folder = Some (enact code values place folder)
 recording_in (Some (words.branch narration role values arm place)) folder = Some (branch narration role values arm place folder)
+recording_in (Some (words.host narration role values place)) folder = Some (host narration role values place folder)
 recording_in asked folder = None
 
 -- the last two words are `--record` and a name
@@ -32,7 +39,7 @@ abbrev pub folder_in : (end : List (List ℕ)) → Option (List ℕ)
 folder_in (flag ∷ folder ∷ []) = if bytes_eq flag (codes "--record") && is_operand folder then Some folder else None
 folder_in end = None
 
--- before them stand the words of `play`, `enact` or `branch`
+-- before them stand the words of `play`, `enact`, `branch` or `host`
 abbrev pub recording_of : List (List ℕ) → Option Recording
 recording_of all =
     let before = length all - 2 in

@@ -19,7 +19,7 @@ ghost use Rattle.anb_branch_commands.specs.Arming.{IsArmed};
 ghost use Rattle.anb_branch_commands.specs.BranchCommand.{CompletesBranch, DoesBranch};
 ghost use Rattle.anb_branch_commands.specs.BranchJobs.{known_in};
 ghost use Rattle.anb_record_commands.specs.BranchInto.{CompletesBranchInto, DoesBranchInto, HasArmTranscript, RecordsBranch};
-ghost use Rattle.anb_record_commands.specs.Outcomes.{HasRecordCause, IsMissing, recorded_phase};
+ghost use Rattle.anb_record_commands.specs.Outcomes.{HasRecordCause, IsMissing, IsOfFolder, TakesNoneOver, recorded_phase};
 ghost use Rattle.anb_record_commands.specs.Running.{MissesLines, RecordsArm};
 ghost use Rattle.anb_record_commands.specs.declared.ended.Missing.TheVariants as missing;
 
@@ -58,7 +58,7 @@ pub fn branch_into<F: Shelf, W: Wire, J: Journal>(
         words.entry.play.values.now words.entry.told (F.files shelf.old) host_seed
         (W.state wire.old) (W.state wire.new)
         folder.now (J.state journal.old) (J.state journal.new) result }
-    ensures faults { HasRecordCause folder.now (J.state journal.old) (J.state journal.new)
+    ensures faults { HasRecordCause (IsOfFolder folder.now) (J.state journal.old) (J.state journal.new)
         (words.entry.play.narration.now ∷ words.entry.play.values.now ∷ [])
         (Some (place_by words.entry.play.endpoint)) (F.faults shelf.old) (F.faults shelf.new)
         (W.state wire.old) (W.state wire.new) result }
@@ -91,8 +91,10 @@ fn branch_recorded<F: Shelf, W: Wire, J: Journal>(
         → CompletesBranch words.entry.play.narration.now words.entry.play.name.now
         words.entry.play.values.now words.entry.told (F.files shelf.old) host_seed
         (W.state wire.old) (W.state wire.new) result.status }
-    ensures why_missed { IsMissing folder.now (J.state journal.old) (J.state journal.new)
+    ensures why_missed { IsMissing (IsOfFolder folder.now) (J.state journal.old) (J.state journal.new)
         (W.state wire.old) (W.state wire.new) result.status result.missing }
+    ensures fresh { TakesNoneOver (IsOfFolder folder.now) (J.state journal.old)
+        (J.state journal.new) (W.state wire.old) (W.state wire.new) }
     ensures early { phase_of result.status ≡ before_reach
         → J.state journal.new ≡ J.state journal.old }
     ensures recorded { (phase_of result.status ≡ before_reach → ⊥)
@@ -154,8 +156,10 @@ fn record_arms<W: Wire, J: Journal>(
     ensures late { phase_of result.status ≡ before_reach → ⊥ }
     ensures wire { OverWire (place_by words.entry.play.endpoint) true result.status
         (W.state wire.old) (W.state wire.new) }
-    ensures why_missed { IsMissing folder.now (J.state journal.old) (J.state journal.new)
+    ensures why_missed { IsMissing (IsOfFolder folder.now) (J.state journal.old) (J.state journal.new)
         (W.state wire.old) (W.state wire.new) result.status result.missing }
+    ensures fresh { TakesNoneOver (IsOfFolder folder.now) (J.state journal.old)
+        (J.state journal.new) (W.state wire.old) (W.state wire.new) }
     ensures recorded { phase_of result.status ≡ after_reach → result.missing ≡ missing.Nothing
         → HasArmTranscript (branched_of prepared.now.branched) words.entry.play.name.now
         words.entry.told prepared.now.means.initial prepared.now.means.seed

@@ -9,7 +9,7 @@ ghost use Rattle.anb_command.specs.Touches.{Touches};
 ghost use Rattle.anb_status.specs.Statuses.{before_reach, phase_of};
 ghost use Rattle.anb_status.specs.declared.status.Status.TheVariants as status;
 ghost use Rattle.anb_role_commands.specs.EnactCommand.{CompletesEnact, DoesEnact};
-ghost use Rattle.anb_record_commands.specs.Outcomes.{HasRecordCause, IsMissing, recorded_phase};
+ghost use Rattle.anb_record_commands.specs.Outcomes.{HasRecordCause, IsMissing, IsOfFolder, TakesNoneOver, recorded_phase};
 ghost use Rattle.anb_record_commands.specs.EnactInto.{CompletesEnactInto, DoesEnactInto, RecordsEnact};
 ghost use Rattle.anb_record_commands.specs.declared.ended.Missing.TheVariants as missing;
 
@@ -42,7 +42,7 @@ pub fn enact_into<F: Shelf, W: Wire, J: Journal>(
         → CompletesEnactInto words.entry.code.now words.entry.values.now
         (F.files shelf.old) host_seed (W.state wire.old) (W.state wire.new)
         folder.now (J.state journal.old) (J.state journal.new) result }
-    ensures faults { HasRecordCause folder.now (J.state journal.old) (J.state journal.new)
+    ensures faults { HasRecordCause (IsOfFolder folder.now) (J.state journal.old) (J.state journal.new)
         (words.entry.code.now ∷ words.entry.values.now ∷ [])
         (Some (place_by words.entry.endpoint)) (F.faults shelf.old) (F.faults shelf.new)
         (W.state wire.old) (W.state wire.new) result }
@@ -73,8 +73,10 @@ fn enact_recorded<F: Shelf, W: Wire, J: Journal>(
         (F.faults shelf.old) (F.faults shelf.new) (W.state wire.old) (W.state wire.new)
         → CompletesEnact words.entry.code.now words.entry.values.now
         (F.files shelf.old) host_seed (W.state wire.old) (W.state wire.new) result.status }
-    ensures why_missed { IsMissing folder.now (J.state journal.old) (J.state journal.new)
+    ensures why_missed { IsMissing (IsOfFolder folder.now) (J.state journal.old) (J.state journal.new)
         (W.state wire.old) (W.state wire.new) result.status result.missing }
+    ensures fresh { TakesNoneOver (IsOfFolder folder.now) (J.state journal.old)
+        (J.state journal.new) (W.state wire.old) (W.state wire.new) }
     ensures early { phase_of result.status ≡ before_reach
         → J.state journal.new ≡ J.state journal.old }
     ensures recorded { (phase_of result.status ≡ before_reach → ⊥)

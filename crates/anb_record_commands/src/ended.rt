@@ -19,14 +19,14 @@ pub enum Missing {
 
 /// How the play ended by itself, and what is missing of its recording.
 #[derive(Drop)]
-pub(crate) struct Ended {
-    pub(crate) status: Status,
-    pub(crate) missing: Missing,
+pub struct Ended {
+    pub status: Status,
+    pub missing: Missing,
 }
 
 impl Ended {
     /// The status that is told.
-    pub(crate) fn told(self) -> Status
+    pub fn told(self) -> Status
         ensures { result ≡ told_as self.status self.missing }
     {
         let Ended { status, missing } = self;

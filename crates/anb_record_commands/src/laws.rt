@@ -1,5 +1,5 @@
-//! A law of recorded plays.
-ghost use Rattle.anb_record_commands.specs.Laws.{RecordedArmsReplay, RecordedPlaysReplay};
+//! Laws of recorded plays.
+ghost use Rattle.anb_record_commands.specs.Laws.{RecordedArmsReplay, RecordedPlaysReplay, RecordedSessionsReplay};
 
 use anb_branch::arms_know_alike;
 use anb_branch_commands::arms_are_narrations;
@@ -20,4 +20,11 @@ pub fn recorded_arms_replay()
     written_lines_are_read();
     arms_are_narrations();
     arms_know_alike();
+}
+
+/// Law: a session of a host that was recorded is replayed to its end.
+pub fn recorded_sessions_replay()
+    ensures { RecordedSessionsReplay }
+{
+    written_lines_are_read();
 }

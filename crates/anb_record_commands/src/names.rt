@@ -17,9 +17,16 @@ pub(crate) fn names_in(alloc: Global, folder: &Text) -> Result<Names, NoMemory>
     ensures values { IfOk result (λ names. names.values ≡ values_in folder.now) }
     ensures transcript { IfOk result (λ names. names.transcript ≡ transcript_in folder.now) }
 {
-    let values = name_in(alloc, folder, "/values")?;
+    let values = values_name(alloc, folder)?;
     let transcript = name_in(alloc, folder, "/transcript")?;
     Ok(Names { values, transcript })
+}
+
+/// The name of the values in this folder.
+pub(crate) fn values_name(alloc: Global, folder: &Text) -> Result<Text, NoMemory>
+    ensures { IfOk result (λ name. name ≡ values_in folder.now) }
+{
+    name_in(alloc, folder, "/values")
 }
 
 /// The folder's name with this behind it.

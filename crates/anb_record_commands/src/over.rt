@@ -16,7 +16,7 @@ ghost use Rattle.anb_status.specs.declared.status.Status.TheVariants as status;
 ghost use Rattle.anb_values_text.specs.Texts.{IsTextOf};
 ghost use Rattle.anb_values.specs.Lines.{IsLabel};
 ghost use Rattle.std.specs.List.{AllByRecursion};
-ghost use Rattle.anb_record_commands.specs.Outcomes.{HasTranscript, IsMissing};
+ghost use Rattle.anb_record_commands.specs.Outcomes.{HasTranscript, IsMissing, IsOfFolder, TakesNoneOver};
 ghost use Rattle.anb_record_commands.specs.Running.{MissesLines, RecordsRun, missing_of};
 ghost use Rattle.anb_record_commands.specs.declared.ended.Missing.TheVariants as missing;
 
@@ -49,8 +49,10 @@ pub(crate) fn record_over<W: Wire, J: Journal>(
     ensures late { phase_of result.status ≡ before_reach → ⊥ }
     ensures wire { OverWire (place_by endpoint.entry) true result.status
         (W.state wire.old) (W.state wire.new) }
-    ensures why_missed { IsMissing folder.now (J.state journal.old) (J.state journal.new)
+    ensures why_missed { IsMissing (IsOfFolder folder.now) (J.state journal.old) (J.state journal.new)
         (W.state wire.old) (W.state wire.new) result.status result.missing }
+    ensures fresh { TakesNoneOver (IsOfFolder folder.now) (J.state journal.old)
+        (J.state journal.new) (W.state wire.old) (W.state wire.new) }
     ensures recorded { result.status ≢ status.NoMemory → result.missing ≡ missing.Nothing
         → HasTranscript (run_bytes prepared.now.code prepared.now.initial prepared.now.seed 0)
         folder.now (J.state journal.old) (J.state journal.new)
@@ -88,7 +90,7 @@ pub(crate) fn record_over<W: Wire, J: Journal>(
 
 /// The values file of what is run. No values file has a label that is none, so a code that takes a value
 /// under such a one was never prepared.
-fn text_of(alloc: Global, prepared: &Prepared) -> Result<Bytes, NoMemory>
+pub(crate) fn text_of(alloc: Global, prepared: &Prepared) -> Result<Bytes, NoMemory>
     requires count { length prepared.now.initial ≡ length (take_texts prepared.now.code.instrs) }
     requires short { All (λ value. length value ≤ ARRIVAL) prepared.now.initial }
     ensures { IfOk result (IsTextOf (take_texts prepared.now.code.instrs)

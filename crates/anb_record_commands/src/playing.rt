@@ -15,7 +15,7 @@ ghost use Rattle.anb_status.specs.Statuses.{before_reach, phase_of};
 ghost use Rattle.anb_status.specs.declared.status.Status.TheVariants as status;
 ghost use Rattle.anb_role_commands.specs.PlayCommand.{CompletesPlay, DoesPlay};
 ghost use Rattle.anb_role_commands.specs.Playing.{play_by};
-ghost use Rattle.anb_record_commands.specs.Outcomes.{HasRecordCause, HasTranscript, IsMissing, recorded_phase};
+ghost use Rattle.anb_record_commands.specs.Outcomes.{HasRecordCause, HasTranscript, IsMissing, IsOfFolder, TakesNoneOver, recorded_phase};
 ghost use Rattle.anb_record_commands.specs.PlayInto.{CompletesPlayInto, DoesPlayInto, RecordsPlay};
 ghost use Rattle.anb_record_commands.specs.declared.ended.Missing.TheVariants as missing;
 
@@ -49,7 +49,7 @@ pub fn play_into<F: Shelf, W: Wire, J: Journal>(
         → CompletesPlayInto words.entry.narration.now words.entry.name.now
         words.entry.values.now (F.files shelf.old) host_seed (W.state wire.old) (W.state wire.new)
         folder.now (J.state journal.old) (J.state journal.new) result }
-    ensures faults { HasRecordCause folder.now (J.state journal.old) (J.state journal.new)
+    ensures faults { HasRecordCause (IsOfFolder folder.now) (J.state journal.old) (J.state journal.new)
         (words.entry.narration.now ∷ words.entry.values.now ∷ [])
         (Some (place_by words.entry.endpoint)) (F.faults shelf.old) (F.faults shelf.new)
         (W.state wire.old) (W.state wire.new) result }
@@ -80,8 +80,10 @@ fn play_recorded<F: Shelf, W: Wire, J: Journal>(
         (F.faults shelf.old) (F.faults shelf.new) (W.state wire.old) (W.state wire.new)
         → CompletesPlay words.entry.narration.now words.entry.name.now words.entry.values.now
         (F.files shelf.old) host_seed (W.state wire.old) (W.state wire.new) result.status }
-    ensures why_missed { IsMissing folder.now (J.state journal.old) (J.state journal.new)
+    ensures why_missed { IsMissing (IsOfFolder folder.now) (J.state journal.old) (J.state journal.new)
         (W.state wire.old) (W.state wire.new) result.status result.missing }
+    ensures fresh { TakesNoneOver (IsOfFolder folder.now) (J.state journal.old)
+        (J.state journal.new) (W.state wire.old) (W.state wire.new) }
     ensures early { phase_of result.status ≡ before_reach
         → J.state journal.new ≡ J.state journal.old }
     ensures recorded { (phase_of result.status ≡ before_reach → ⊥)
@@ -133,8 +135,10 @@ fn play_over<W: Wire, J: Journal>(
     ensures late { phase_of result.status ≡ before_reach → ⊥ }
     ensures wire { OverWire (place_by endpoint.entry) true result.status
         (W.state wire.old) (W.state wire.new) }
-    ensures why_missed { IsMissing folder.now (J.state journal.old) (J.state journal.new)
+    ensures why_missed { IsMissing (IsOfFolder folder.now) (J.state journal.old) (J.state journal.new)
         (W.state wire.old) (W.state wire.new) result.status result.missing }
+    ensures fresh { TakesNoneOver (IsOfFolder folder.now) (J.state journal.old)
+        (J.state journal.new) (W.state wire.old) (W.state wire.new) }
     ensures recorded { result.status ≢ status.NoMemory → result.missing ≡ missing.Nothing
         → HasTranscript (play_by prepared.now.code prepared.now.initial prepared.now.seed)
         folder.now (J.state journal.old) (J.state journal.new)

@@ -1,14 +1,15 @@
-//! The words of `play`, `enact` and `branch` where the play is recorded in a folder.
+//! The words of `play`, `enact`, `branch` and `host` where what is played is recorded in a folder.
 
 use anb_base::Text;
 use anb_command::{BranchWords, Command, EnactWords, PlayWords, is_operand};
 
-/// What is asked of `play`, `enact` or `branch`, and the name of the folder.
+/// What is asked of `play`, `enact`, `branch` or `host`, and the name of the folder.
 #[derive(Clone, Copy)]
 pub enum RecordingWords<'w> {
     Play(PlayWords<'w>, &'w Text),
     Enact(EnactWords<'w>, &'w Text),
     Branch(BranchWords<'w>, &'w Text),
+    Host(PlayWords<'w>, &'w Text),
 }
 
 impl<'w> RecordingWords<'w> {
@@ -40,10 +41,10 @@ impl<'w> RecordingWords<'w> {
             Some(Command::Play(words)) => Some(RecordingWords::Play(words, folder)),
             Some(Command::Enact(words)) => Some(RecordingWords::Enact(words, folder)),
             Some(Command::Branch(words)) => Some(RecordingWords::Branch(words, folder)),
+            Some(Command::Host(words)) => Some(RecordingWords::Host(words, folder)),
             Some(Command::Park(_other)) => None,
             Some(Command::Resume(_other)) => None,
             Some(Command::Replay(_other)) => None,
-            Some(Command::Host(_other)) => None,
             Some(Command::Rehearse(_other)) => None,
             Some(Command::Drill(_other)) => None,
             Some(Command::Certify(_other)) => None,

@@ -68,8 +68,8 @@ pub trait Journal: Store {
         ensures others { OthersStay (λ other. other ≡ name.now)
             (Self.state self.old) (Self.state self.new) };
 
-    /// Appends these bytes to the file, which is made where it isn't there. Where this fails some of
-    /// them may stand there.
+    /// Appends these bytes to the file. One that isn't there is made, or that fails, as on the machine.
+    /// Where this fails some of them may stand there.
     fn append(&mut self, alloc: Global, name: &str, bytes: &[u8]) -> Result<(), StoreNo>
         ensures appended { OnOk result
             (Self.state self.new ≡ appended (Self.state self.old) name.now bytes.now) }

@@ -2,3 +2,4 @@ mod Usage
 mod Idle
 mod Testing
 mod Following
+mod Staged

@@ -13,7 +13,7 @@ use Rattle.anb_park_commands.specs.Parking.{HasParkCause}
 use Rattle.anb_park_commands.specs.Words.{Recorded, park, resume, without_file}
 use Rattle.anb_record_commands.specs.Outcomes.{HasRecordCause}
 use Rattle.anb_record_commands.specs.Words as recording
-use Rattle.anb_record_commands.specs.Words.{Recording, folder_of, without_folder}
+use Rattle.anb_record_commands.specs.Words.{IsFileOf, Recording, without_folder}
 use Rattle.anb_run.specs.Recordings.{IsAskedRecording}
 use Rattle.anb_run.specs.Stages.{IsAsked}
 use Rattle.anb_run.specs.Stores.{IsAskedStoring, file_of}
@@ -42,14 +42,16 @@ usage_recorded r staged asked faults faults_now old new store store_now status c
 
 -- a recorded play has one too
 pub usage_recording : (r : Recording) (kept : Option Recorded) (staged : Option Staged) (asked : Option Asked) (faults faults_now : List ℕ → ℕ) (old new : WireState) (store store_now : StoreState) (status : Status)
-    → HasRecordCause (folder_of r) store store_now (files_of (Some (without_folder r))) (place_of (Some (without_folder r))) faults faults_now old new status
+    → HasRecordCause (IsFileOf r) store store_now (files_of (Some (without_folder r))) (place_of (Some (without_folder r))) faults faults_now old new status
     → (status ≡ Usage) ↔ (IsAskedRecording (Some r) kept staged asked → ⊥)
 usage_recording r kept staged asked faults faults_now old new store store_now status cause = (λ is. absurd (has_place r is cause), λ none. absurd (none tt)) where
   has_place : (q : Recording) → status ≡ Usage
-      → HasRecordCause (folder_of q) store store_now (files_of (Some (without_folder q))) (place_of (Some (without_folder q))) faults faults_now old new status → ⊥
+      → HasRecordCause (IsFileOf q) store store_now (files_of (Some (without_folder q))) (place_of (Some (without_folder q))) faults faults_now old new status → ⊥
   has_place (recording.play narration role values place folder) is at =
-      let never = subst (HasRecordCause folder store store_now (narration ∷ values ∷ []) (Some place) faults faults_now old new) is at in cc
+      let never = subst (HasRecordCause (IsFileOf (recording.play narration role values place folder)) store store_now (narration ∷ values ∷ []) (Some place) faults faults_now old new) is at in cc
   has_place (recording.enact code values place folder) is at =
-      let never = subst (HasRecordCause folder store store_now (code ∷ values ∷ []) (Some place) faults faults_now old new) is at in cc
+      let never = subst (HasRecordCause (IsFileOf (recording.enact code values place folder)) store store_now (code ∷ values ∷ []) (Some place) faults faults_now old new) is at in cc
   has_place (recording.branch narration role values arm place folder) is at =
-      let never = subst (HasRecordCause folder store store_now (narration ∷ values ∷ []) (Some place) faults faults_now old new) is at in cc
+      let never = subst (HasRecordCause (IsFileOf (recording.branch narration role values arm place folder)) store store_now (narration ∷ values ∷ []) (Some place) faults faults_now old new) is at in cc
+  has_place (recording.host narration role values place folder) is at =
+      let never = subst (HasRecordCause (IsFileOf (recording.host narration role values place folder)) store store_now (narration ∷ values ∷ []) (Some place) faults faults_now old new) is at in cc

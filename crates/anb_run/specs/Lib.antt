@@ -4,3 +4,4 @@ pub mod Stores
 pub mod Recordings
 pub mod Programs
 pub mod Sessions
+pub mod Stagings

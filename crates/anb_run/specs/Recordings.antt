@@ -1,5 +1,5 @@
--- What is done where a play may be recorded: `play`, `enact` and `branch` with a folder, and all that is done
--- without one.
+-- What is done where a play may be recorded: `play`, `enact`, `branch` and `host` with a folder, and all that is
+-- done without one.
 use Rattle.std.specs.Prelude.{ℕ, Bool, true, List, Option, Some, None}
 use Rattle.anb_base.specs.Wires.{WireState}
 use Rattle.anb_base.specs.declared.place.Place.{Place}
@@ -13,9 +13,10 @@ use Rattle.anb_words.specs.Words.{Asked, files_of, place_of}
 use Rattle.anb_park_commands.specs.Words.{Recorded}
 use Rattle.anb_record_commands.specs.BranchInto.{CompletesBranchInto, DoesBranchInto}
 use Rattle.anb_record_commands.specs.EnactInto.{CompletesEnactInto, DoesEnactInto}
+use Rattle.anb_record_commands.specs.HostInto.{CompletesHostInto, DoesHostInto}
 use Rattle.anb_record_commands.specs.Outcomes.{HasRecordCause, recorded_phase}
 use Rattle.anb_record_commands.specs.PlayInto.{CompletesPlayInto, DoesPlayInto}
-use Rattle.anb_record_commands.specs.Words.{Recording, branch, enact, folder_of, play, without_folder}
+use Rattle.anb_record_commands.specs.Words.{IsFileOf, Recording, branch, enact, host, play, without_folder}
 use Rattle.anb_stage_commands.specs.Words.{Staged}
 use Rattle.anb_run.specs.Stores.{CompletesStoring, DoesStoring, HasStoringCause, IsAskedStoring, storing_files, storing_phase, storing_places, storing_reading}
 
@@ -50,6 +51,8 @@ DoesInto told seed old new store store_now status (enact code values place folde
     DoesEnactInto code values told seed old new folder store store_now status
 DoesInto told seed old new store store_now status (branch narration role values arm place folder) =
     DoesBranchInto narration role values arm told seed old new folder store store_now status
+DoesInto told seed old new store store_now status (host narration role values place folder) =
+    DoesHostInto narration role values told seed old new folder store store_now status
 
 -- where nothing failed
 abbrev pub CompletesInto : Option Files → Option (List ℕ) → (old new : WireState) → (store store_now : StoreState) → Status → Recording → Type 0
@@ -59,6 +62,8 @@ CompletesInto told seed old new store store_now status (enact code values place 
     CompletesEnactInto code values told seed old new folder store store_now status
 CompletesInto told seed old new store store_now status (branch narration role values arm place folder) =
     CompletesBranchInto narration role values arm told seed old new folder store store_now status
+CompletesInto told seed old new store store_now status (host narration role values place folder) =
+    CompletesHostInto narration role values told seed old new folder store store_now status
 
 module _ (kept : Option Recorded) (staged : Option Staged) (asked : Option Asked) (told : Option Files) (seed : Option (List ℕ)) (children children_now : ℕ → Child)
     (old new : WireState) (store store_now : StoreState) (status : Status) where
@@ -75,5 +80,5 @@ module _ (kept : Option Recorded) (staged : Option Staged) (asked : Option Asked
     (old new : WireState) (store store_now : StoreState) (status : Status) where
   abbrev pub HasRecordingCause : Option Recording → Type 0
   HasRecordingCause (Some r) =
-      HasRecordCause (folder_of r) store store_now (files_of (Some (without_folder r))) (place_of (Some (without_folder r))) faults faults_now old new status
+      HasRecordCause (IsFileOf r) store store_now (files_of (Some (without_folder r))) (place_of (Some (without_folder r))) faults faults_now old new status
   HasRecordingCause None = HasStoringCause staged asked faults faults_now children children_now old new store store_now status kept

@@ -5,7 +5,8 @@
 //! with a case for each command; the other clauses hold of every command. [`run_all`] does the same
 //! where child programs may be started, for the one command that does so, [`run_with_store`] where
 //! records may go to files, [`run_recording`] where plays may be recorded, [`run_with_program`] where a
-//! program may be tested, and [`run_in_session`] where the session of a transcript may be said too.
+//! program may be tested, [`run_in_session`] where the session of a transcript may be said too, and
+//! [`run_staging`] where a stage may be recorded.
 #![tactic(auto)]
 
 ghost use Rattle.std.specs.Prelude.{◌≡◌, ◌↔◌, None};
@@ -30,6 +31,7 @@ mod all;
 mod programs;
 mod recording;
 mod sessions;
+mod staging;
 mod storing;
 
 pub use all::run_all;
@@ -52,6 +54,7 @@ use anb_values_commands::{role_values, values};
 pub use programs::run_with_program;
 pub use recording::run_recording;
 pub use sessions::run_in_session;
+pub use staging::run_staging;
 use std::alloc::Global;
 pub use storing::run_with_store;
 

@@ -12,9 +12,9 @@ ghost use Rattle.anb_words.specs.Words.{asked_of, files_of, place_of};
 ghost use Rattle.anb_status.specs.declared.status.Status.TheVariants.{Usage};
 ghost use Rattle.anb_park_commands.specs.Words.{recorded_of};
 ghost use Rattle.anb_record_commands.specs.Asking.{recording};
-ghost use Rattle.anb_record_commands.specs.Laws.{RecordedArmsReplay, RecordedPlaysReplay};
+ghost use Rattle.anb_record_commands.specs.Laws.{RecordedArmsReplay, RecordedPlaysReplay, RecordedSessionsReplay};
 ghost use Rattle.anb_record_commands.specs.Outcomes.{HasRecordCause, recorded_phase};
-ghost use Rattle.anb_record_commands.specs.Words.{folder_of, recording_of, without_folder};
+ghost use Rattle.anb_record_commands.specs.Words.{IsFileOf, recording_of, without_folder};
 ghost use Rattle.anb_stage_commands.specs.Words.{staged_of};
 ghost use Rattle.anb_run.specs.Recordings.{CompletesInto, CompletesRecording, DoesInto, DoesRecording, HasRecordingCause, IsAskedRecording, recording_files, recording_phase, recording_places, recording_reading};
 
@@ -22,14 +22,16 @@ use crate::run_with_store;
 use anb_base::{Shelf, Sink, Text, Wire};
 use anb_command::{Status, tell};
 use anb_record_commands::{
-    RecordingWords, branch_into, enact_into, play_into, recorded_arms_replay, recorded_plays_replay,
+    RecordingWords, branch_into, enact_into, host_into, play_into, recorded_arms_replay,
+    recorded_plays_replay, recorded_sessions_replay,
 };
 use anb_recording::Journal;
 use anb_stage::Spawner;
 use std::alloc::Global;
 
 /// Does what the words ask for, as [`run_with_store`] does, where a play may be recorded too: that of
-/// `play`, of `enact` and of `branch`, where their words end with `--record` and the name of a folder.
+/// `play`, of `enact`, of `branch` and of the sessions of `host`, where their words end with `--record`
+/// and the name of a folder.
 pub fn run_recording<F: Shelf, P: Spawner, S: Journal, W: Wire, E: Sink>(
     alloc: Global,
     words: &[Text],
@@ -54,6 +56,7 @@ pub fn run_recording<F: Shelf, P: Spawner, S: Journal, W: Wire, E: Sink>(
         (recording_of words.now) }
     ensures replayed { RecordedPlaysReplay }
     ensures replayed_arms { RecordedArmsReplay }
+    ensures replayed_sessions { RecordedSessionsReplay }
     ensures usage { (result ≡ Usage) ↔ (IsAskedRecording (recording_of words.now)
         (recorded_of words.now) (staged_of words.now) (asked_of words.now) → ⊥) }
     ensures faults { HasRecordingCause (recorded_of words.now) (staged_of words.now)
@@ -86,6 +89,7 @@ pub fn run_recording<F: Shelf, P: Spawner, S: Journal, W: Wire, E: Sink>(
 {
     recorded_plays_replay();
     recorded_arms_replay();
+    recorded_sessions_replay();
     match RecordingWords::read(words) {
         None => run_with_store(alloc, words, shelf, spawner, store, wire, err, seed),
         Some(words) => {
@@ -112,7 +116,7 @@ fn record<F: Shelf, S: Journal, W: Wire>(
         → DidNotRise (S.state store.old).faults (S.state store.new).faults
         → CompletesInto (F.files shelf.old) seed (W.state wire.old) (W.state wire.new)
         (S.state store.old) (S.state store.new) result (recording words.entry) }
-    ensures faults { HasRecordCause (folder_of (recording words.entry))
+    ensures faults { HasRecordCause (IsFileOf (recording words.entry))
         (S.state store.old) (S.state store.new)
         (files_of (Some (without_folder (recording words.entry))))
         (place_of (Some (without_folder (recording words.entry))))
@@ -134,6 +138,9 @@ fn record<F: Shelf, S: Journal, W: Wire>(
         }
         RecordingWords::Branch(words, folder) => {
             branch_into(alloc, shelf, wire, store, words, folder, seed)
+        }
+        RecordingWords::Host(words, folder) => {
+            host_into(alloc, shelf, wire, store, words, folder, seed)
         }
     }
 }

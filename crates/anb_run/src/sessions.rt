@@ -11,18 +11,19 @@ ghost use Rattle.anb_command.specs.Touches.{Touches};
 ghost use Rattle.anb_words.specs.Words.{asked_of};
 ghost use Rattle.anb_status.specs.declared.status.Status.TheVariants.{Usage};
 ghost use Rattle.anb_park_commands.specs.Words.{recorded_of};
-ghost use Rattle.anb_record_commands.specs.Laws.{RecordedArmsReplay, RecordedPlaysReplay};
+ghost use Rattle.anb_record_commands.specs.Laws.{RecordedArmsReplay, RecordedPlaysReplay, RecordedSessionsReplay};
 ghost use Rattle.anb_record_commands.specs.Words.{recording_of};
 ghost use Rattle.anb_stage_commands.specs.Words.{staged_of};
 ghost use Rattle.anb_probe_commands.specs.Words.{probed_of};
 ghost use Rattle.anb_session_commands.specs.Words.{following_of};
+ghost use Rattle.anb_run.specs.Programs.{folder_in};
 ghost use Rattle.anb_run.specs.Sessions.{CompletesFollowing, DoesFollowing, HasFollowingCause, IsAskedFollowing, following_files, following_phase, following_places, following_reading};
 
 use crate::run_with_program;
 use anb_base::{Shelf, Sink, Text, Wire};
 use anb_command::{Status, tell};
 use anb_partner::Trials;
-use anb_record_commands::{recorded_arms_replay, recorded_plays_replay};
+use anb_record_commands::{recorded_arms_replay, recorded_plays_replay, recorded_sessions_replay};
 use anb_recording::Journal;
 use anb_session_commands::{SessionWords, follow};
 use anb_stage::Spawner;
@@ -59,6 +60,7 @@ pub fn run_in_session<F: Shelf, P: Spawner, S: Journal, T: Trials, W: Wire, E: S
         (S.state store.old) (S.state store.new) result (following_of words.now) }
     ensures replayed { RecordedPlaysReplay }
     ensures replayed_arms { RecordedArmsReplay }
+    ensures replayed_sessions { RecordedSessionsReplay }
     ensures usage { (result ≡ Usage) ↔ (IsAskedFollowing (probed_of words.now)
         (recording_of words.now) (recorded_of words.now) (staged_of words.now)
         (asked_of words.now) (following_of words.now) → ⊥) }
@@ -70,8 +72,8 @@ pub fn run_in_session<F: Shelf, P: Spawner, S: Journal, T: Trials, W: Wire, E: S
     ensures reported { TellsFaults (F.faults shelf.old) (F.faults shelf.new)
         (W.state wire.old) (W.state wire.new) result }
     ensures no_children { staged_of words.now ≡ None → spawner.new ≡ spawner.old }
-    ensures unstored { recording_of words.now ≡ None → recorded_of words.now ≡ None
-        → store.new ≡ store.old }
+    ensures unstored { folder_in (probed_of words.now) ≡ None → recording_of words.now ≡ None
+        → recorded_of words.now ≡ None → store.new ≡ store.old }
     ensures untested { probed_of words.now ≡ None → trials.new ≡ trials.old }
     ensures none_left { (case : ℕ) → (T.trial trials.new case).phase ≢ 1 }
 
@@ -100,6 +102,7 @@ pub fn run_in_session<F: Shelf, P: Spawner, S: Journal, T: Trials, W: Wire, E: S
 {
     recorded_plays_replay();
     recorded_arms_replay();
+    recorded_sessions_replay();
     match SessionWords::read(words) {
         None => run_with_program(alloc, words, shelf, spawner, store, trials, wire, err, seed),
         Some(words) => {

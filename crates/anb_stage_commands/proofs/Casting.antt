@@ -1,6 +1,6 @@
 -- A narration's file has one answer, with the programs of its roles, and its refusals come before the wire
 -- is reached.
-use Rattle.std.proofs.Common.{◌≡◌, ℕ, Bool, true, false, List, Option, Some, None, refl, sym, ap, ◌∙◌, subst, inl, inr}
+use Rattle.std.proofs.Common.{◌≡◌, ℕ, Bool, true, false, List, Some, None, refl, sym, ap, ◌∙◌, subst, inl, inr}
 use Rattle.std.specs.Prelude.{◌⊎◌}
 use Rattle.anb_read.specs.Laws.{NarrationsAreUnique, RefusalsAreUnique, NoneIsBoth}
 use Rattle.anb_protocol.specs.Protocols.{ProtocolValue}
@@ -11,9 +11,8 @@ use Rattle.anb_values.specs.declared.refusal.ValuesNo.TheVariants.{Long}
 use Rattle.anb_status.specs.declared.status.Status.{Status}
 use Rattle.anb_status.specs.declared.status.Status.TheVariants.{BadValues, NoMemory, NoRole}
 use Rattle.anb_command.specs.Fetches.{Files}
-use Rattle.anb_command.specs.Files.{ProtocolInFile}
-use Rattle.anb_command.specs.Roles.{AllSend, SendableOf}
-use Rattle.anb_command.specs.Steps.{Answer, HasOneAnswer, IsFailure, given, refused}
+use Rattle.anb_command.specs.Roles.{SendableOf}
+use Rattle.anb_command.specs.Steps.{HasOneAnswer, IsFailure, given, refused}
 use Rattle.anb_command.proofs.Ones.{RefusesQuietly, is_one, is_quiet, narration_in_file_quiet, protocol_in_file_one, protocol_quiet, quiet_as, send_one, send_quiet, then_one, then_quiet, values_in_file_one, values_in_file_quiet}
 use Rattle.anb_stage_commands.specs.CastRoles.{CastInFile, HasRoles, first_absent}
 use Rattle.anb_stage_commands.specs.Scenes.{AreShort, SceneBy, SceneInFiles}

@@ -1,5 +1,5 @@
 -- What is asked of all children, role by role.
-use Rattle.std.proofs.Common.{◌≡◌, ◌<◌, ◌+◌, ℕ, zero, suc, Bool, true, false, List, [], ◌∷◌, ◌++◌, length, drop, get_or, Option, Some, None, ◌⊎◌, refl, sym, ap, ◌∙◌, subst, inl, inr, arith, append_assoc}
+use Rattle.std.proofs.Common.{◌≡◌, ◌<◌, ◌+◌, ℕ, zero, suc, Bool, true, false, List, [], ◌∷◌, ◌++◌, length, drop, get_or, Option, Some, None, refl, sym, ap, ◌∙◌, inl, arith, append_assoc}
 use Rattle.std.specs.Prelude.{if◌then◌else◌}
 use Rattle.anb_base.specs.Moves.{Rose}
 use Rattle.anb_command.proofs.Chains.{told_map}
@@ -11,11 +11,10 @@ use Rattle.anb_protocol.specs.Texts.{known_names, known_texts}
 use Rattle.anb_stage.specs.Words.{asked_by, asked_lists}
 use Rattle.anb_stage.specs.declared.words.ChildWords.{ChildWords}
 use Rattle.anb_status.specs.declared.status.Status.{Status}
-use Rattle.anb_status.specs.declared.status.Status.TheVariants.{FileFault, NoMemory}
 use Rattle.anb_values.specs.declared.fitted.Fitted.{Fitted}
 use Rattle.anb_command.specs.Fetches.{Files, IfTold, IsOneOf}
 use Rattle.anb_command.specs.Files.{ValuesInFile}
-use Rattle.anb_command.specs.Steps.{IsFailure, given, refused}
+use Rattle.anb_command.specs.Steps.{IsFailure, refused}
 use Rattle.anb_command.proofs.Failing.{IsFailure-map}
 use Rattle.anb_values_commands.specs.RoleValuesCommand.{OwnIs, first_long, own, own_text}
 use Rattle.anb_stage_commands.specs.Scenes.{AreShort, SceneBy, long_from, words_from}

@@ -2,11 +2,12 @@
 use Rattle.std.specs.Borrow.{Bor}
 use Rattle.std.specs.Prelude.{ℕ, List, [], ◌∷◌, Option, Some, None}
 use Rattle.anb_stage_commands.specs.declared.words.Behind.{Behind}
+use Rattle.anb_stage_commands.specs.declared.words.StageRecordWords.{StageRecordWords}
 use Rattle.anb_stage_commands.specs.declared.words.StageWords.{StageWords}
 use Rattle.anb_stage.specs.Words.{asked_lists}
 use Rattle.anb_stage_commands.specs.Scenes.{Scene}
 use Rattle.anb_stage_commands.specs.declared.scene.Scene as declared
-use Rattle.anb_stage_commands.specs.Words.{Cast, Options, Staged, cast}
+use Rattle.anb_stage_commands.specs.Words.{Cast, Options, Staged, StagedInto, cast}
 
 -- each three words are a flag, a role and a program
 abbrev pub casts_of : List (List ℕ) → List Cast
@@ -30,6 +31,10 @@ staged words = record { narration = words.narration.now; values = words.values.n
 abbrev pub staged_by : Option StageWords → Option Staged
 staged_by None = None
 staged_by (Some words) = Some (staged words)
+
+abbrev pub staged_into_by : Option StageRecordWords → Option StagedInto
+staged_into_by None = None
+staged_into_by (Some words) = Some (record { staged = staged words.stage; folder = words.folder.now })
 
 abbrev pub scene_of : Option ℕ → declared.Scene → Scene
 scene_of limit scene = record { protocol = scene.protocol; asked = asked_lists limit scene.words.items }

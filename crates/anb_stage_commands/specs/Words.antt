@@ -1,9 +1,10 @@
 -- The words of `stage`, and those of the children that it starts.
-use Rattle.std.specs.Prelude.{ℕ, nat_eq, Bool, true, false, not, ◌==◌, ◌&&◌, List, [], ◌∷◌, ◌++◌, codes, bytes_eq, filter, map, Option, Some, None, is_some, option_and_then, if◌then◌else◌}
+use Rattle.std.specs.Prelude.{ℕ, ◌-◌, nat_eq, length, take, drop, Bool, true, false, not, ◌==◌, ◌&&◌, List, [], ◌∷◌, ◌++◌, codes, bytes_eq, filter, map, Option, Some, None, is_some, option_and_then, if◌then◌else◌}
 use Rattle.std.specs.List.{ends_with, list_any, slice_split}
 use Rattle.std.specs.Option.{option_map, option_map_or}
 use Rattle.anb_stage.specs.Children.{asked_words}
 use Rattle.anb_stage.specs.Words.{file_word}
+use Rattle.anb_record_commands.specs.Words.{folder_in}
 use Rattle.anb_words.specs.Words.{is_operand, seconds_in}
 
 -- a role, and the program that plays it, as it is said
@@ -95,6 +96,22 @@ stage_in words = None
 abbrev pub staged_of : List (List ℕ) → Option Staged
 staged_of [] = None
 staged_of (command ∷ words) = if bytes_eq command (codes "stage") then stage_in words else None
+
+-- ---- records
+
+-- what is asked of a stage that is recorded, and the name of the folder
+pub record StagedInto : Type 0 where
+  pub staged : Staged
+  pub folder : List ℕ
+
+abbrev pub into : (folder : List ℕ) → Option Staged → Option StagedInto
+into folder staged = option_map (λ s. record { staged = s; folder = folder }) staged
+
+-- the last two words are `--record` and a name, and before them stand the words of a stage
+abbrev pub staged_into_of : List (List ℕ) → Option StagedInto
+staged_into_of all =
+    let before = length all - 2 in
+    option_and_then (λ folder. into folder (staged_of (take before all))) (folder_in (drop before all))
 
 -- ---- values
 

@@ -1,5 +1,5 @@
 //! The relay of a narration's file among child programs.
-ghost use Rattle.std.specs.Prelude.{◌≡◌, ◌⊎◌, ◌<◌, ◌≤◌, ℕ, [], ◌∷◌, length, get_or, Some, IfOk, IfErr, false};
+ghost use Rattle.std.specs.Prelude.{◌≡◌, ◌≢◌, ◌⊎◌, ◌<◌, ◌≤◌, ℕ, List, [], ◌∷◌, length, get_or, Some, IfOk, IfErr, false};
 ghost use Rattle.anb_base.specs.Moves.{Rose};
 ghost use Rattle.anb_base.specs.declared.place.Place.TheVariants as place;
 ghost use Rattle.anb_protocol.specs.Protocols.{ProtocolValue};
@@ -10,7 +10,12 @@ ghost use Rattle.anb_command.specs.Reaches.{Reaches};
 ghost use Rattle.anb_command.specs.Reported.{TellsFaults, TellsFileFaults};
 ghost use Rattle.anb_status.specs.Statuses.{phase_of};
 ghost use Rattle.anb_command.specs.Touches.{Touches};
+ghost use Rattle.anb_base.specs.declared.content.Sent.{Sent};
+ghost use Rattle.anb_stage.specs.Notes.{Note, notes_of};
+ghost use Rattle.anb_stage.specs.Relays.{ends_in};
 ghost use Rattle.anb_stage_commands.specs.Asking.{scene_of, staged};
+ghost use Rattle.anb_stage_commands.specs.Records.{AreAll, AreSoFar};
+ghost use Rattle.anb_stage_commands.specs.Reports.{report_text};
 ghost use Rattle.anb_stage_commands.specs.Words.{staged_files};
 ghost use Rattle.anb_stage_commands.specs.StageCommand.{CompletesStage, DoesStage, HasStageCause, NoChildRose};
 ghost use Rattle.anb_stage_commands.specs.StageCommand.{fault_status, status_after};
@@ -24,7 +29,7 @@ use anb_base::{NoMemory, Shelf, Text, Wire};
 use anb_command::{Status, write_text};
 use anb_protocol::{Protocol, protocols_hold};
 use anb_read::{narrations_are_unique, none_is_both, refusals_are_unique};
-use anb_stage::{RelayNo, Spawner, relay, relays_are_due};
+use anb_stage::{Log, NoLog, RelayNo, Spawner, relay_telling, relays_are_due};
 use anb_values::one_fit;
 use std::alloc::Global;
 
@@ -86,16 +91,17 @@ fn relayed_in_file<F: Shelf, P: Spawner>(
     ensures told { TellsFileFaults result (F.faults shelf.old) (F.faults shelf.new) }
 {
     match scene_in_files(alloc, shelf, words) {
-        Ok(scene) => relayed(alloc, spawner, &scene, words),
+        Ok(scene) => relayed(alloc, spawner, &mut NoLog, &scene, words),
         Err(status) => Err(status),
     }
 }
 
-/// Relays among the children of all roles of a scene, and gives the report. The names of roles are copied
-/// before the first child is started, so a fault is told whatever memory there is.
-fn relayed<P: Spawner>(
+/// Relays among the children of all roles of a scene, tells a log of each message, and gives the report. The
+/// names of roles are copied before the first child is started, so a fault is told whatever memory there is.
+pub(crate) fn relayed<P: Spawner, L: Log>(
     alloc: Global,
     spawner: &mut P,
+    log: &mut L,
     scene: &Scene,
     words: StageWords,
 ) -> Result<Vec<u8>, Status>
@@ -109,13 +115,22 @@ fn relayed<P: Spawner>(
     ensures before { IfErr result IsBefore }
     ensures cause { IfErr result
         (HasChildCause words.entry.limit (P.child spawner.old) (P.child spawner.new)) }
+    ensures told { IfOk result (λ text. (sent : List Sent)
+        × (text.items ≡ report_text sent)
+        × AreAll (scene_of words.entry.limit scene.now) (P.child spawner.old) sent
+        × L.After log.old (notes_of (ends_in scene.now.protocol) sent) log.new) }
+    ensures told_so_far { IfErr result (λ end. (told : List Note)
+        × L.After log.old told log.new
+        × (end ≢ status.NoMemory → AreSoFar words.entry.limit
+        (scene_of words.entry.limit scene.now) (P.child spawner.old) (P.child spawner.new)
+        told end)) }
 {
     let protocol = &scene.protocol;
     has_few_roles(protocol);
     let Ok(names) = copied(alloc, protocol.roles()) else {
         return Err(Status::NoMemory);
     };
-    let sent = match relay(alloc, protocol, &scene.words, words.limit, spawner) {
+    let sent = match relay_telling(alloc, protocol, &scene.words, words.limit, spawner, log) {
         Ok(sent) => sent,
         Err(no) => return Err(refusal(names, words.limit, spawner, no)),
     };

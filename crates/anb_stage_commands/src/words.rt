@@ -61,6 +61,34 @@ impl<'w> StageWords<'w> {
     }
 }
 
+/// What is asked of `stage` where it is recorded, and the name of the folder.
+#[derive(Clone, Copy)]
+pub struct StageRecordWords<'w> {
+    pub stage: StageWords<'w>,
+    pub folder: &'w Text,
+}
+
+impl<'w> StageRecordWords<'w> {
+    ghost use Rattle.std.specs.Prelude.{◌≡◌};
+    ghost use Rattle.anb_stage_commands.specs.Asking.{staged_into_by};
+    ghost use Rattle.anb_stage_commands.specs.Words.{staged_into_of};
+
+    /// Reads a whole word list.
+    pub fn read(words: &'w [Text]) -> Option<Self>
+        ensures { staged_into_by result ≡ staged_into_of words.now }
+    {
+        let (stage, end) = words.split_at(words.len().saturating_sub(2));
+        let [flag, folder] = end else {
+            return None;
+        };
+        if !(flag.as_str() == "--record" && is_operand(folder)) {
+            return None;
+        }
+        let stage = StageWords::read(stage)?;
+        Some(StageRecordWords { stage, folder })
+    }
+}
+
 /// What stands behind the names.
 #[derive(Clone, Copy)]
 struct Behind<'w> {

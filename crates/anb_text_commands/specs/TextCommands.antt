@@ -94,7 +94,7 @@ help_text =
     ++ codes "anb explain <narration> <role>\n" ++ codes "anb play <narration> <role> <values> [place] [--record <folder>]\n"
     ++ codes "anb enact <rolefile> <values> [place] [--record <folder>]\n"
     ++ codes "anb replay <narration> <role> <values> <transcript> [--session <n>]\n"
-    ++ codes "anb host <narration> <role> <values> [place]\n"
+    ++ codes "anb host <narration> <role> <values> [place] [--record <folder>]\n"
     ++ codes "anb rehearse <narration> <values> <schedule>\n" ++ codes "anb drill <n>\n"
     ++ codes "anb help\n"
     ++ codes "anb branch <narration> <role> <values> [--arm <n>] [place] [--record <folder>]\n"
@@ -102,13 +102,13 @@ help_text =
     ++ codes "anb why <narration>\n"
     ++ codes "anb park <narration> <role> <values> <key> [place] [--record <file>]\n"
     ++ codes "anb resume <narration> <role> <record> <key> [place] [--record <file>]\n"
-    ++ codes "anb stage <narration> <folder or values> [--as <role> <program>].. [--timeout <seconds>]\n"
+    ++ codes "anb stage <narration> <folder or values> [--as <role> <program>].. [--timeout <seconds>] [--record <folder>]\n"
     ++ codes "anb chart <narration> [--role <name>]\n"
     ++ codes "anb check <narration> [<role> <values>]\n"
     ++ codes "anb trace <narration> <role> <values> <transcript> [--session <n>]\n"
     ++ codes "anb values <narration> [<role> <values>]\n"
     ++ codes "anb judge <narration> <role> <values> <transcript>\n"
-    ++ codes "anb probe <narration> <role> <values> [--all] [--case <n>] [--timeout <seconds>] -- <program> <word>..\n"
+    ++ codes "anb probe <narration> <role> <values> [--all] [--case <n>] [--timeout <seconds>] [--record <folder>] --dial <where> or -- <program> <word>..\n"
 
 abbrev pub HelpText : Answer (List ℕ) → Type 0
 HelpText answer = answer ≡ given help_text

@@ -48,7 +48,7 @@ const HELP: &str = concat!(
     "anb play <narration> <role> <values> [place] [--record <folder>]\n",
     "anb enact <rolefile> <values> [place] [--record <folder>]\n",
     "anb replay <narration> <role> <values> <transcript> [--session <n>]\n",
-    "anb host <narration> <role> <values> [place]\n",
+    "anb host <narration> <role> <values> [place] [--record <folder>]\n",
     "anb rehearse <narration> <values> <schedule>\n",
     "anb drill <n>\n",
     "anb help\n",
@@ -57,13 +57,13 @@ const HELP: &str = concat!(
     "anb why <narration>\n",
     "anb park <narration> <role> <values> <key> [place] [--record <file>]\n",
     "anb resume <narration> <role> <record> <key> [place] [--record <file>]\n",
-    "anb stage <narration> <folder or values> [--as <role> <program>].. [--timeout <seconds>]\n",
+    "anb stage <narration> <folder or values> [--as <role> <program>].. [--timeout <seconds>] [--record <folder>]\n",
     "anb chart <narration> [--role <name>]\n",
     "anb check <narration> [<role> <values>]\n",
     "anb trace <narration> <role> <values> <transcript> [--session <n>]\n",
     "anb values <narration> [<role> <values>]\n",
     "anb judge <narration> <role> <values> <transcript>\n",
-    "anb probe <narration> <role> <values> [--all] [--case <n>] [--timeout <seconds>] -- <program> <word>..\n",
+    "anb probe <narration> <role> <values> [--all] [--case <n>] [--timeout <seconds>] [--record <folder>] --dial <where> or -- <program> <word>..\n",
 );
 
 /// The canonical text of the narration in the file.

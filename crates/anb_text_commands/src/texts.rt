@@ -102,13 +102,15 @@ pub const PLAY: &str = concat!(
 
 /// The page on `probe`.
 pub const PROBE: &str = concat!(
-    "anb probe <narration> <role> <values> [--all] [--case <n>] [--timeout <seconds>] -- <program> <word>..\n",
+    "anb probe <narration> <role> <values> [--all] [--case <n>] [--timeout <seconds>] [--record <folder>] --dial <where> or -- <program> <word>..\n",
     "Tests an implementation of the role: starts the program once a case and plays all other\n",
     "roles against it, over its standard streams, each time with one thing that the role must\n",
     "refuse or take. Writes TAP, and which checks are missing. The values are as for rehearse.\n",
-    "Statuses: 0; 36 cases aren't ok; 31 the program can't be started; 4 the narration is\n",
-    "refused; 5 no such role; 6 a role can't send; 7 the values; 8 no seed; 2, 3 a file; 9, 15\n",
-    "the output; 99.\n",
+    "With --dial <host>:<port> a peer that listens there is dialled once a case. The folder\n",
+    "gets the role's values, and each case's transcript and standard error.\n",
+    "Statuses: 0; 36 cases aren't ok; 31 the program can't be started, or dialled; 4 the\n",
+    "narration is refused; 5 no such role; 6 a role can't send; 7 the values; 8 no seed; 2, 3\n",
+    "a file; 9, 15 the output; 38 the folder; 99.\n",
     "Example: anb probe examples/mutual/mutual.anb B examples/mutual/all.values -- python3 examples/peer/responder.py -\n",
 );
 
@@ -160,12 +162,12 @@ pub const RESUME: &str = concat!(
 
 /// The page on `host`.
 pub const HOST: &str = concat!(
-    "anb host <narration> <role> <values> [place]\n",
+    "anb host <narration> <role> <values> [place] [--record <folder>]\n",
     "Serves up to 1,024 sessions of the role on one wire, in frames that name the session: a\n",
     "frame starts a session or brings its arrival, and a notice tells what comes of it. For\n",
-    "places see play.\n",
+    "places see play. The folder gets the values and a transcript of each session.\n",
     "Statuses: 0; 4 to 8 as play has them; 12 a frame is cut; 20 a frame has no kind; 21 too many\n",
-    "frames; 2, 3 a file; 9, 14, 15 the place; 99.\n",
+    "frames; 2, 3 a file; 9, 14, 15 the place; 38 the folder; 99.\n",
     "Example: python3 examples/host/two.py | anb host examples/ping/ping.anb B examples/ping/B.values\n",
 );
 
@@ -201,15 +203,15 @@ pub const TRACE: &str = concat!(
 
 /// The page on `stage`.
 pub const STAGE: &str = concat!(
-    "anb stage <narration> <folder or values> [--as <role> <program>].. [--timeout <seconds>]\n",
+    "anb stage <narration> <folder or values> [--as <role> <program>].. [--timeout <seconds>] [--record <folder>]\n",
     "Starts a child for each role with the folder's file <role>.values, or with what anb values\n",
     "writes for the role from a file <name>.values, carries each message from its sender to its\n",
     "receiver, and writes a line for each. The children are anb play, or the program that --as\n",
     "says for the role, split at spaces, or that ANB_CHILD names for all. With a limit no child\n",
-    "may be silent for longer.\n",
+    "may be silent for longer. The folder gets each role's transcript and errors, and the lines.\n",
     "Statuses: 0; 4 the narration is refused; 5 no such role; 6 a role can't send; 7 the values;\n",
     "31 a child failed; 32, 33, 34 its message is missing, cut or too long; 35 it ended badly;\n",
-    "37 it was silent; 2, 3 a file; 9, 15 the output; 99.\n",
+    "37 it was silent; 38 a file can't be written; 2, 3 a file; 9, 15 the output; 99.\n",
     "Example: anb stage examples/nssk/nssk.anb examples/nssk --as B ./peer\n",
 );
 

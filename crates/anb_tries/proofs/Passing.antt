@@ -27,8 +27,7 @@ use Rattle.anb_partner.specs.declared.conversation.Conversation.{Conversation}
 use Rattle.anb_partner.specs.declared.conversation.TalkEnd.{TalkEnd}
 use Rattle.anb_partner.specs.declared.conversation.TalkEnd.TheVariants.{Done, Refused, Missing, Cut as WasCut, Long, ReadFault, WriteFault, TooLong, Unchanged}
 use Rattle.anb_partner.specs.declared.trials.ChildEnd.{ChildEnd}
-use Rattle.anb_partner.specs.declared.trials.ChildEnd.TheVariants as child
-use Rattle.anb_verdict.specs.declared.seen.Ended.TheVariants.{Status, Silent, Lost}
+use Rattle.anb_verdict.specs.declared.seen.Ended.TheVariants.{Silent, Lost}
 use Rattle.anb_verdict.specs.Laws.{LinesAreExact}
 use Rattle.anb_verdict.specs.Verdicts.{IsKnown, IsRoles, IsVerdict, MayEnd, is_good}
 use Rattle.anb_tries.specs.Seen.{ended_by, ended_of, is_no_message, is_refused, is_unread}
@@ -109,11 +108,11 @@ same_end None told e f is had was = absurd (cc)
 same_end (Some x) None e f is had was = absurd (cc)
 same_end (Some x) (Some y) e f is had was = cc
 
-ended_is : (silent unread : Bool) (o : Option ChildEnd) (n : ℕ) → silent ≡ false → unread ≡ false → o ≡ Some (child.Status n)
-    → (if silent then Silent else if unread then Lost else ended_by o) ≡ Status n
-ended_is true unread o n loud read is = absurd (never_both true refl loud)
-ended_is false true o n loud read is = absurd (never_both true refl read)
-ended_is false false o n loud read is = ap ended_by is
+ended_is : (silent unread : Bool) (o : Option ChildEnd) (end : ChildEnd) → silent ≡ false → unread ≡ false → o ≡ Some end
+    → (if silent then Silent else if unread then Lost else ended_by o) ≡ ended_by (Some end)
+ended_is true unread o end loud read is = absurd (never_both true refl loud)
+ended_is false true o end loud read is = absurd (never_both true refl read)
+ended_is false false o end loud read is = ap ended_by is
 
 first_none : (xs ys : Text) → [] ≡ xs ++ ys → [] ≡ xs
 first_none [] ys is = refl
@@ -250,10 +249,10 @@ module _ (a : Attempt) (is : IsAttempt a) (law : PartnersPlay a.script.protocol)
 
   -- ---- so it is what the role does
 
-  ended : ended_of c ≡ Status plays.status
+  ended : ended_of c ≡ ended_by (Some plays.end)
   ended =
-      let same = same_end c.child a.old.ends read.end (child.Status plays.status) is.converses.child read.ended plays.ends in
-      ended_is c.silent (is_unread c.end) c.child plays.status read.loud (read_all c.end read.read) (read.ended ∙ ap Some same)
+      let same = same_end c.child a.old.ends read.end plays.end is.converses.child read.ended plays.ends in
+      ended_is c.silent (is_unread c.end) c.child plays.end read.loud (read_all c.end read.read) (read.ended ∙ ap Some same)
 
   abbrev roles : IsRoles (judged a) (seen a)
   roles = record {

@@ -21,13 +21,11 @@ use Rattle.anb_partner.specs.Trials.{Trial}
 use Rattle.anb_partner.specs.declared.conversation.Conversation.{Conversation}
 use Rattle.anb_partner.specs.declared.conversation.TalkEnd.TheVariants.{Long, ReadFault, Refused, TooLong, Unchanged}
 use Rattle.anb_partner.specs.declared.trials.ChildEnd.{ChildEnd}
-use Rattle.anb_partner.specs.declared.trials.ChildEnd.TheVariants as child
-use Rattle.anb_verdict.specs.declared.seen.Ended.TheVariants as ended
 use Rattle.anb_verdict.specs.declared.seen.Seen.{Seen}
 use Rattle.anb_verdict.specs.declared.verdict.Verdict.{Verdict}
 use Rattle.anb_verdict.specs.Laws.{NamesAreTold}
 use Rattle.anb_verdict.specs.Verdicts.{IsRoles, MayEnd, is_good}
-use Rattle.anb_tries.specs.Seen.{seen_of}
+use Rattle.anb_tries.specs.Seen.{ended_by, seen_of}
 use Rattle.anb_tries.specs.Tries.{IsTriedVerdict}
 
 -- ---- an attempt
@@ -101,7 +99,7 @@ module _ (a : Attempt) where
     pub sent : a.conversation.end ≢ TooLong
 
   -- The child plays the role: for some draws, its output is what the role says over what came to it, and nothing else;
-  -- and it ends as a program does that plays it.
+  -- and it ends as a program does that plays it, as far as its end is seen.
   pub record PlaysRole : Type 0 where
     pub draw : ℕ → List ℕ
     pub drawn : (i : ℕ) → IsBytes (draw i)
@@ -109,9 +107,9 @@ module _ (a : Attempt) where
     pub play : Play (meaning_of a.script.protocol) draw (own_plan judged) a.initial (arrivals_of a.conversation.lines) played
     pub short : AllByRecursion (λ message. length message ≤ ARRIVAL) played.sent
     pub output : a.old.pipes.left ≡ Some (frames played.sent)
-    pub status : ℕ
-    pub ends : a.old.ends ≡ Some (child.Status status)
-    pub may : MayEnd (sides (own_plan judged)) played.end (ended.Status status)
+    pub end : ChildEnd
+    pub ends : a.old.ends ≡ Some end
+    pub may : MayEnd (sides (own_plan judged)) played.end (ended_by (Some end))
 
   -- where it stops, this was known beforehand
   abbrev pub KnowsStops : PlaysRole → Type 0

@@ -6,7 +6,7 @@ use Rattle.anb_partner.specs.declared.conversation.TalkEnd.TheVariants.{Done, Re
 use Rattle.anb_partner.specs.declared.trials.ChildEnd.{ChildEnd}
 use Rattle.anb_partner.specs.declared.trials.ChildEnd.TheVariants as child
 use Rattle.anb_verdict.specs.declared.seen.Ended.{Ended}
-use Rattle.anb_verdict.specs.declared.seen.Ended.TheVariants.{Status, Signal, Silent, Lost}
+use Rattle.anb_verdict.specs.declared.seen.Ended.TheVariants.{Status, Signal, Unseen, Silent, Lost}
 use Rattle.anb_verdict.specs.declared.seen.Seen.{Seen}
 
 -- the partner refused the last message
@@ -49,6 +49,7 @@ is_unread Unchanged = false
 abbrev pub ended_by : Option ChildEnd → Ended
 ended_by (Some (child.Status n)) = Status n
 ended_by (Some (child.Signal n)) = Signal n
+ended_by (Some child.Closed) = Unseen
 ended_by None = Lost
 
 abbrev pub ended_of : Conversation → Ended

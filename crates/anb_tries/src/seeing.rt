@@ -41,6 +41,7 @@ fn ended_by(child: Option<ChildEnd>) -> Ended
     match child {
         Some(ChildEnd::Status(status)) => Ended::Status(status),
         Some(ChildEnd::Signal(signal)) => Ended::Signal(u32::from(signal)),
+        Some(ChildEnd::Closed) => Ended::Unseen,
         None => Ended::Lost,
     }
 }

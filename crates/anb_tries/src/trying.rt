@@ -18,8 +18,8 @@ ghost use Rattle.anb_tries.specs.Tries.{IsTriedVerdict};
 
 use crate::bytes::lines_are_bytes;
 use crate::seeing::seen_of;
-use anb_base::{Bytes, NoMemory, Text};
-use anb_partner::{Conversation, ConverseNo, Partner, TalkEnd, Trials, Values, converse};
+use anb_base::{Bytes, NoMemory};
+use anb_partner::{Conversation, ConverseNo, Partner, TalkEnd, Target, Trials, Values, converse};
 use anb_protocol::Protocol;
 use anb_spoil::Wrong;
 use anb_transcript::Transcript;
@@ -35,17 +35,17 @@ pub struct Tried {
     pub reached: usize,
 }
 
-/// One attempt on a program: the partner converses with the child of this case, which is started with
-/// this limit and these words, and the verdict says whether what came is what the role does, for some
-/// draws. `due` is the event at which the role stops whatever it drew, where that is known, and `reached`
-/// how far the honest case got; in the honest case itself it's 0. Beside the conversation it takes as
-/// long as compiling the role and running it.
+/// One attempt on a program: the partner converses with the child of this case, which is this one with
+/// this limit, and the verdict says whether what came is what the role does, for some draws. `due` is
+/// the event at which the role stops whatever it drew, where that is known, and `reached` how far the
+/// honest case got; in the honest case itself it's 0. Beside the conversation it takes as long as
+/// compiling the role and running it.
 pub fn try_case<T: Trials>(
     alloc: Global,
     trials: &mut T,
     case: u32,
     limit: Option<u32>,
-    words: &[Text],
+    target: Target,
     p: &Protocol,
     role: u32,
     partner: &Partner,
@@ -64,7 +64,7 @@ pub fn try_case<T: Trials>(
     ensures converses { IfOk result (λ tried. Converses
         (run_bytes partner.now.code values.now.initial.items (replicate 32 0) 0)
         values.now.handed.items partner.now.hook (wrong_by partner.now.code.formats wrong)
-        (asked_words limit words.now) (T.trial trials.old case) (T.trial trials.new case)
+        (asked_words limit target.entry) (T.trial trials.old case) (T.trial trials.new case)
         tried.conversation) }
     ensures verdict { IfOk result (λ tried. IsTriedVerdict (record {
       protocol = p.now;
@@ -84,7 +84,7 @@ pub fn try_case<T: Trials>(
     ensures none_left { (T.trial trials.new case).phase ≢ 1 }
     ensures others { OthersStay case (T.trial trials.old) (T.trial trials.new) }
 {
-    match converse(alloc, trials, case, limit, words, partner, values, wrong) {
+    match converse(alloc, trials, case, limit, target, partner, values, wrong) {
         Ok(conversation) => {
             lines_are_bytes(conversation.lines.lines());
             lengths_are_small(conversation.end);

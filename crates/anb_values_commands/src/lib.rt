@@ -5,4 +5,4 @@ mod drawing;
 mod owning;
 
 pub use drawing::values;
-pub use owning::{first_long, long_value, own_text, role_values, values_for};
+pub use owning::{first_long, long_value, own_text, own_text_of, role_values, values_for};

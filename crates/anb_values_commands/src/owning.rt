@@ -136,21 +136,39 @@ pub fn own_text(
         (OwnIs protocol.now role fitted.now (refused status))) }
     ensures early { IfErr result IsEarly }
 {
+    own_text_of(alloc, protocol, role, fitted.values.as_slice(), fitted.seed)
+}
+
+/// The same from these values of all names, and this seed.
+pub fn own_text_of(
+    alloc: Global,
+    protocol: &Protocol,
+    role: u32,
+    values: &[Bytes],
+    seed: Option<[u8; 32]>,
+) -> Result<Bytes, Status>
+    requires { role < length protocol.now.roles }
+    ensures given { IfOk result (λ text.
+        OwnIs protocol.now role (record { values = values.now; seed = seed }) (given text)) }
+    ensures refused { IfErr result (λ status. IsFailure status (λ file. ⊥)
+        (OwnIs protocol.now role (record { values = values.now; seed = seed }) (refused status))) }
+    ensures early { IfErr result IsEarly }
+{
     known_texts_differ();
     let _ = protocol.name();
     let labels = match protocol.known(alloc, role) {
         Ok(labels) => labels,
         Err(NoMemory) => return Err(Status::NoMemory),
     };
-    let values = match known_values(alloc, protocol, role, fitted.values.as_slice()) {
-        Ok(values) => values,
+    let own = match known_values(alloc, protocol, role, values) {
+        Ok(own) => own,
         Err(NoMemory) => return Err(Status::NoMemory),
     };
-    if let Some(label) = first_long(&labels, &values) {
+    if let Some(label) = first_long(&labels, &own) {
         return Err(long_value(alloc, label));
     }
-    let seed = role_seed(fitted.seed, &protocol.roles()[role as usize]);
-    match values_text(alloc, &labels, &values, seed) {
+    let seed = role_seed(seed, &protocol.roles()[role as usize]);
+    match values_text(alloc, &labels, &own, seed) {
         Ok(text) => Ok(text),
         Err(NoMemory) => Err(Status::NoMemory),
     }

@@ -38,6 +38,7 @@ last_line good cases skipped = counted_text good cases ++ skipped_text skipped +
 -- behind a title
 abbrev pub skip_text : Verdict → List ℕ
 skip_text says.Skipped = codes " # SKIP the right message isn't taken either"
+skip_text says.NotSeen = codes " # SKIP not seen over TCP"
 skip_text says.Unchanged = codes " # SKIP the change gives the right bytes"
 skip_text says.TooLong = codes " # SKIP a message is longer than a frame may be"
 skip_text verdict = []
@@ -98,12 +99,14 @@ module _ (p : ProtocolValue) (role : ℕ) where
   abbrev pub note_text : Verdict → List ℕ
   note_text says.Good = []
   note_text says.Skipped = []
+  note_text says.NotSeen = []
   note_text says.Unchanged = []
   note_text says.TooLong = []
   note_text (says.LaxMessage event stop) = lax_text event stop
   note_text (says.LaxUnnarrated stop) = codes "# too lax: it sent a message that isn't narrated, where it must stop at event " ++ decimal stop ++ 10 ∷ []
   note_text (says.LaxEnd stop) = codes "# too lax: it ended with 0, where it must stop at event " ++ decimal stop ++ 10 ∷ []
   note_text (says.StrictMessage event status) = strict_text event status
+  note_text (says.StrictUnseen event) = codes "# too strict: no message of event " ++ decimal event ++ codes " came\n"
   note_text (says.StrictEnd status) = codes "# too strict: it ended with " ++ decimal status ++ 10 ∷ []
   note_text (says.Wrong event) = wrong_text event
   note_text says.Unnarrated = codes "# wrong: it sent a message that isn't narrated\n"

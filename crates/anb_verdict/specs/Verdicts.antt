@@ -13,7 +13,7 @@ use Rattle.anb_transcript.specs.declared.following.ReplayEnd.{ReplayEnd}
 use Rattle.anb_transcript.specs.declared.following.ReplayEnd.TheVariants.{Follows, Differs, Short, Stopped, NoMemory}
 use Rattle.anb_judge.specs.Verdicts.{Judged, Judges, IsBegun, in_place, is_said, line_bytes, own_plan, refused_at, sides}
 use Rattle.anb_verdict.specs.declared.seen.Ended.{Ended}
-use Rattle.anb_verdict.specs.declared.seen.Ended.TheVariants.{Status, Signal, Silent, Lost}
+use Rattle.anb_verdict.specs.declared.seen.Ended.TheVariants.{Status, Signal, Unseen, Silent, Lost}
 use Rattle.anb_verdict.specs.declared.seen.Seen.{Seen}
 use Rattle.anb_verdict.specs.declared.verdict.Verdict.{Verdict}
 use Rattle.anb_verdict.specs.declared.verdict.Verdict.TheVariants as says
@@ -29,10 +29,13 @@ is_there (Some n) = true
 is_there None = false
 
 -- How a program that plays the role may end: with the status 0 where the play is over. At a stop it is another one, or any
--- where the role would say something behind the event: that this doesn't come shows the stop.
+-- where the role would say something behind the event: that this doesn't come shows the stop. Where its end isn't seen,
+-- nothing is asked of it.
 abbrev pub MayEnd : List Bool → End → Ended → Type 0
 MayEnd sides done (Status n) = n ≡ 0
 MayEnd sides (stopped event at) (Status n) = n ≡ 0 → is_there (next_said sides event) ≡ true
+MayEnd sides done Unseen = Unit {0}
+MayEnd sides (stopped event at) Unseen = Unit {0}
 MayEnd sides _ _ = ⊥
 
 -- For some draws the role says these messages and no others over what came to it, stops at an event or comes to its end,
@@ -62,12 +65,13 @@ stops_when_due (Some due) lines end =
 abbrev pub came_behind : ℕ → List TranscriptLine → (more : ℕ) → ℕ
 came_behind event lines more = length (messages_of (drop event lines)) + more
 
--- by its status, or that it ended otherwise
-abbrev pub by_end : (ℕ → Verdict) → Ended → Verdict
-by_end f (Status n) = f n
-by_end f (Signal n) = says.Signal n
-by_end f Silent = says.Silent
-by_end f Lost = says.Lost
+-- by its status, or this where its end isn't seen, or that it ended otherwise
+abbrev pub by_end : (ℕ → Verdict) → (unseen : Verdict) → Ended → Verdict
+by_end f unseen (Status n) = f n
+by_end f unseen (Signal n) = says.Signal n
+by_end f unseen Unseen = unseen
+by_end f unseen Silent = says.Silent
+by_end f unseen Lost = says.Lost
 
 -- a message came where it must stop: the next one that it says, or one that isn't narrated
 abbrev pub lax_message : Option ℕ → (stop : ℕ) → Verdict
@@ -82,23 +86,30 @@ stop_by_status next stop reached status =
     else if nat_le reached stop then says.Skipped
     else says.Good
 
+-- And where its end isn't seen: that it stopped is seen only by the next message, which doesn't come.
+abbrev pub stop_unseen : Option ℕ → (stop reached : ℕ) → Verdict
+stop_unseen next stop reached =
+    if not (is_there next) then says.NotSeen
+    else if nat_le reached stop then says.Skipped
+    else says.Good
+
 abbrev pub at_stop : List Bool → List TranscriptLine → Seen → ℕ → Verdict
 at_stop sides lines seen stop =
     if nat_lt 0 (came_behind stop lines seen.more) then lax_message (next_said sides stop) stop
-    else by_end (stop_by_status (next_said sides stop) stop seen.reached) seen.ended
+    else by_end (stop_by_status (next_said sides stop) stop seen.reached) (stop_unseen (next_said sides stop) stop seen.reached) seen.ended
 
 -- the lines are its play, as far as they go: it ended before this event
 abbrev pub at_short : List Bool → Seen → ℕ → Verdict
 at_short sides seen event =
-    if is_said sides event then by_end (λ n. says.StrictMessage event n) seen.ended
-    else by_end (λ n. says.StrictEnd n) seen.ended
+    if is_said sides event then by_end (λ n. says.StrictMessage event n) (says.StrictUnseen event) seen.ended
+    else by_end (λ n. says.StrictEnd n) says.Lost seen.ended
 
 -- and they go to its end
 abbrev pub at_over : Seen → Verdict
 at_over seen =
     if nat_lt 0 seen.more then says.Unnarrated
     else if seen.loose then says.Loose
-    else by_end (λ n. if n == 0 then says.Good else says.StrictEnd n) seen.ended
+    else by_end (λ n. if n == 0 then says.Good else says.StrictEnd n) says.Good seen.ended
 
 -- what the partner refused is the last line
 abbrev pub unless_refused : Seen → (lines : ℕ) → Verdict → Verdict
@@ -126,6 +137,7 @@ pub record IsVerdict (judged : Judged) (seen : Seen) (verdict : Verdict) : Type 
 abbrev pub is_good : Verdict → Bool
 is_good says.Good = true
 is_good says.Skipped = true
+is_good says.NotSeen = true
 is_good says.Unchanged = true
 is_good says.TooLong = true
 is_good _ = false

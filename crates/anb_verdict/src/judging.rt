@@ -8,7 +8,7 @@ ghost use Rattle.anb_judge.specs.Verdicts.{is_said, line_bytes, refused_at};
 ghost use Rattle.anb_protocol.specs.Texts.{known_by};
 ghost use Rattle.anb_transcript.specs.Replays.{messages_of};
 ghost use Rattle.anb_transcript.specs.declared.following.ReplayEnd.TheVariants as replayed;
-ghost use Rattle.anb_verdict.specs.Verdicts.{IsVerdict, at_over, at_short, at_stop, last_said, lax_message, next_said, is_there, reached_by, stop_by_status, stops_when_due, verdict_of};
+ghost use Rattle.anb_verdict.specs.Verdicts.{IsVerdict, at_over, at_short, at_stop, last_said, lax_message, next_said, is_there, reached_by, stop_by_status, stop_unseen, stops_when_due, verdict_of};
 
 use crate::seen::{Ended, Seen};
 use crate::verdict::Verdict;
@@ -123,6 +123,7 @@ fn at_stop(sides: &[bool], lines: &[TranscriptLine], seen: Seen, stop: u32) -> V
     match seen.ended {
         Ended::Status(status) => stop_by_status(next, stop, seen.reached, status),
         Ended::Signal(signal) => Verdict::Signal(signal),
+        Ended::Unseen => stop_unseen(next, stop, seen.reached),
         Ended::Silent => Verdict::Silent,
         Ended::Lost => Verdict::Lost,
     }
@@ -175,6 +176,19 @@ fn stop_by_status(next: Option<usize>, stop: u32, reached: usize, status: u8) ->
     }
 }
 
+/// It stopped, and how it ended isn't seen.
+fn stop_unseen(next: Option<usize>, stop: u32, reached: usize) -> Verdict
+    ensures { result ≡ stop_unseen next stop reached }
+{
+    if next.is_none() {
+        Verdict::NotSeen
+    } else if reached <= stop as usize {
+        Verdict::Skipped
+    } else {
+        Verdict::Good
+    }
+}
+
 /// Its lines are the role's, and it ended before this event.
 fn at_short(sides: &[bool], seen: Seen, event: u32) -> Verdict
     ensures { result ≡ at_short sides.now seen event }
@@ -188,6 +202,13 @@ fn at_short(sides: &[bool], seen: Seen, event: u32) -> Verdict
             }
         }
         Ended::Signal(signal) => Verdict::Signal(signal),
+        Ended::Unseen => {
+            if is_said(sides, event) {
+                Verdict::StrictUnseen { event }
+            } else {
+                Verdict::Lost
+            }
+        }
         Ended::Silent => Verdict::Silent,
         Ended::Lost => Verdict::Lost,
     }
@@ -204,7 +225,7 @@ fn at_over(seen: Seen) -> Verdict
         return Verdict::Loose;
     }
     match seen.ended {
-        Ended::Status(0) => Verdict::Good,
+        Ended::Status(0) | Ended::Unseen => Verdict::Good,
         Ended::Status(status) => Verdict::StrictEnd { status },
         Ended::Signal(signal) => Verdict::Signal(signal),
         Ended::Silent => Verdict::Silent,

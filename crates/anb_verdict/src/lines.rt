@@ -93,6 +93,7 @@ fn skip_text(verdict: Verdict) -> &'static str
 {
     match verdict {
         Verdict::Skipped => " # SKIP the right message isn't taken either",
+        Verdict::NotSeen => " # SKIP not seen over TCP",
         Verdict::Unchanged => " # SKIP the change gives the right bytes",
         Verdict::TooLong => " # SKIP a message is longer than a frame may be",
         _ => "",

@@ -24,6 +24,7 @@ pub(crate) fn note_text(
     match verdict {
         Verdict::Good => text(alloc, ""),
         Verdict::Skipped => text(alloc, ""),
+        Verdict::NotSeen => text(alloc, ""),
         Verdict::Unchanged => text(alloc, ""),
         Verdict::TooLong => text(alloc, ""),
         Verdict::LaxMessage { event, stop } => lax_text(alloc, event, stop),
@@ -36,6 +37,10 @@ pub(crate) fn note_text(
             stop
         )?)),
         Verdict::StrictMessage { event, status } => strict_text(alloc, event, status),
+        Verdict::StrictUnseen { event } => Ok(Text::new(format!(in alloc;
+            "# too strict: no message of event {} came\n",
+            event
+        )?)),
         Verdict::StrictEnd { status } => Ok(Text::new(format!(in alloc;
             "# too strict: it ended with {}\n",
             status

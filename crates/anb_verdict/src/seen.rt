@@ -6,6 +6,8 @@ pub enum Ended {
     Status(u8),
     /// A signal ended it.
     Signal(u32),
+    /// Its connection ended, which tells no status.
+    Unseen,
     /// It neither said nor took anything, nor ended, for longer than was waited, and was ended.
     Silent,
     /// Its end can't be told.

@@ -7,6 +7,8 @@ pub enum Verdict {
     Good,
     /// The same; but in the honest case it got no further than where it stopped here.
     Skipped,
+    /// The same; but it must stop where only its end would tell, which isn't seen.
+    NotSeen,
     /// Nothing was tried: the change gives the right bytes.
     Unchanged,
     /// Nothing was tried: a message is longer than a frame may be.
@@ -19,6 +21,8 @@ pub enum Verdict {
     LaxEnd { stop: u32 },
     /// The message of an event didn't come.
     StrictMessage { event: u32, status: u8 },
+    /// The same, of a program whose end isn't seen.
+    StrictUnseen { event: u32 },
     /// It heard and said all, and ended with another status than 0; or ended before it heard all.
     StrictEnd { status: u8 },
     /// Its message of an event is another one for all draws.
@@ -44,11 +48,16 @@ impl Verdict {
         ensures { result ≡ is_good self }
     {
         match self {
-            Verdict::Good | Verdict::Skipped | Verdict::Unchanged | Verdict::TooLong => true,
+            Verdict::Good
+            | Verdict::Skipped
+            | Verdict::NotSeen
+            | Verdict::Unchanged
+            | Verdict::TooLong => true,
             Verdict::LaxMessage { .. }
             | Verdict::LaxUnnarrated { .. }
             | Verdict::LaxEnd { .. }
             | Verdict::StrictMessage { .. }
+            | Verdict::StrictUnseen { .. }
             | Verdict::StrictEnd { .. }
             | Verdict::Wrong { .. }
             | Verdict::Unnarrated

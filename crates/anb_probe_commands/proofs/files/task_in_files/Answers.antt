@@ -4,7 +4,8 @@ use Rattle.anb_lemmas.proofs.Results.{if_ok_map}
 use Rattle.anb_command.specs.Steps.{given, refused}
 use Rattle.anb_command.proofs.Failing.{IsFailure-map}
 use Rattle.anb_command.proofs.Preparing.{if_err_map}
-use Rattle.anb_probe_commands.specs.Tasks.{part_by, probing_by}
+use Rattle.anb_probe_commands.specs.Tasks.{fitted_by, part_by, probing_by}
+use Rattle.anb_probe_commands.proofs.Own.{if_ok_both, own_answers}
 use Rattle.anb_probe_commands.proofs.Reading.{narration_read, part_answers, part_refused, values_read}
 use Rattle.anb_probe_commands.proofs.files.task_in_files.Goals as goal
 
@@ -45,3 +46,11 @@ returns-in-Ok-clause-told g c = λ other. c.task_of.ensures.told other ∙ c.in-
 
 pub returns-in-Err-clause-told : goal.returns-in-Err-clause-told
 returns-in-Err-clause-told g c = c.in-Err.ensures.told
+
+pub returns-in-Ok-clause-own : goal.returns-in-Ok-clause-own
+returns-in-Ok-clause-own g c =
+    let words = c.args.words in
+    let playable = c.in-Ok.playable in
+    if_ok_both c.task_of.result _ _ _ (λ t same fits.
+    own_answers words.narration.now words.name.now words.values.now (g.F.Shelf.files c.args.shelf.now) (part_by playable.protocol playable.role) (part_by t.protocol t.role) (fitted_by t.values t.file_seed)
+    c.in-Ok.ensures.given same fits) c.task_of.ensures.same (rw c.playable_in_file.ensures.fetches.same_files at c.task_of.ensures.fitted)

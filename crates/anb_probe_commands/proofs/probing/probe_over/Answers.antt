@@ -1,3 +1,9 @@
+use Rattle.std.proofs.Common.{List, sym, subst}
+use Rattle.anb_base.specs.declared.place.Place.TheVariants.{Stdio}
+use Rattle.anb_status.specs.declared.status.Status.TheVariants.{Unreached}
+use Rattle.anb_probe_commands.specs.Keeping.{KeepsBy, Told}
+use Rattle.anb_probe_commands.specs.Words.{order_of}
+use Rattle.anb_probe_commands.proofs.Kept.{keeps_as, keeps_none}
 use Rattle.anb_probe_commands.proofs.Ending.{over_trials, reached_comes, unreached_comes, unreached_over}
 use Rattle.anb_probe_commands.proofs.Played.{none_left_at_first}
 use Rattle.anb_probe_commands.specs.Asking.{trying_by}
@@ -27,3 +33,17 @@ returns-in-Err-clause-over g c =
 
 pub returns-in-Err-clause-none_left : goal.returns-in-Err-clause-none_left
 returns-in-Err-clause-none_left g c = none_left_at_first (g.T.Trials.trial c.args.trials.now) c.requires.untried
+
+pub returns-in-Ok-clause-kept : goal.returns-in-Ok-clause-kept
+returns-in-Ok-clause-kept g c = c.probe_reached.ensures.kept
+
+pub returns-in-Err-clause-kept : goal.returns-in-Err-clause-kept
+returns-in-Err-clause-kept g c =
+    let t = c.args.task.now in
+    let q = probing_by t.protocol t.role t.values t.seed in
+    let x = c.args.prepared.now in
+    let old = g.T.Trials.trial c.args.trials.now in
+    let After = λ (some : List Told). g.K.Keeper.After c.args.keeper.now some c.args.keeper.now in
+    subst (KeepsBy q x.scenes.items (order_of (trying_by c.args.trying)) x.cases.items After old old) (sym c.in-Err.ensures.failed.0)
+    (keeps_as q x (order_of (trying_by c.args.trying)) After old old (Unreached Stdio) (λ e. cc) (λ a b same. same)
+    (keeps_none q x (order_of (trying_by c.args.trying)) After old c.requires.untried (g.met.K.Keeper.stays c.args.keeper.now)))

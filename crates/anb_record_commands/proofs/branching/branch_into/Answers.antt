@@ -3,6 +3,7 @@ use Rattle.anb_words.specs.Commands.{place_by}
 use Rattle.anb_command.proofs.Causes.{only_memory}
 use Rattle.anb_branch_commands.specs.BranchCommand.{CompletesBranch, DoesBranch}
 use Rattle.anb_record_commands.specs.BranchInto.{RecordsBranch}
+use Rattle.anb_record_commands.specs.Outcomes.{IsOfFolder}
 use Rattle.anb_record_commands.proofs.Completing.{completes_in_folder, branch_wants}
 use Rattle.anb_record_commands.proofs.Telling.{told_cause, told_faults, told_reaches, told_touches}
 use Rattle.anb_record_commands.proofs.branching.branch_into.Goals as goal
@@ -16,6 +17,7 @@ returns-clause-does g c =
       does = e.does;
       told_so = c.told.ensures;
       why_missed = e.why_missed;
+      fresh = e.fresh;
       early = e.early;
       place = place_by c.args.words.play.endpoint;
       reached = e.reached;
@@ -28,7 +30,7 @@ returns-clause-faults g c =
     let e = c.branch_recorded.ensures in
     let r = c.branch_recorded.result in
     rw c.told.ensures
-    (told_cause c.args.folder.now (g.J.Store.state c.args.journal.now) (g.J.Store.state c.branch_recorded.new.journal) (g.W.Wire.state c.args.wire.now) (g.W.Wire.state c.branch_recorded.new.wire) r.status r.missing e.why_missed
+    (told_cause (IsOfFolder c.args.folder.now) (g.J.Store.state c.args.journal.now) (g.J.Store.state c.branch_recorded.new.journal) (g.W.Wire.state c.args.wire.now) (g.W.Wire.state c.branch_recorded.new.wire) r.status r.missing e.why_missed
     (c.args.words.play.narration.now ∷ c.args.words.play.values.now ∷ []) (place_by c.args.words.play.endpoint) (g.F.Shelf.faults c.args.shelf.now) (g.F.Shelf.faults c.branch_recorded.new.shelf) e.faults)
 
 pub returns-clause-reported : goal.returns-clause-reported
@@ -36,7 +38,7 @@ returns-clause-reported g c =
     let e = c.branch_recorded.ensures in
     let r = c.branch_recorded.result in
     rw c.told.ensures
-    (told_faults c.args.folder.now (g.J.Store.state c.args.journal.now) (g.J.Store.state c.branch_recorded.new.journal) (g.W.Wire.state c.args.wire.now) (g.W.Wire.state c.branch_recorded.new.wire) r.status r.missing e.why_missed
+    (told_faults (IsOfFolder c.args.folder.now) (g.J.Store.state c.args.journal.now) (g.J.Store.state c.branch_recorded.new.journal) (g.W.Wire.state c.args.wire.now) (g.W.Wire.state c.branch_recorded.new.wire) r.status r.missing e.why_missed
     (c.args.words.play.narration.now ∷ c.args.words.play.values.now ∷ []) (place_by c.args.words.play.endpoint) (g.F.Shelf.faults c.args.shelf.now) (g.F.Shelf.faults c.branch_recorded.new.shelf) e.reported)
 
 pub returns-clause-reached : goal.returns-clause-reached
@@ -44,7 +46,7 @@ returns-clause-reached g c =
     let e = c.branch_recorded.ensures in
     let r = c.branch_recorded.result in
     rw c.told.ensures
-    (told_reaches c.args.folder.now (g.J.Store.state c.args.journal.now) (g.J.Store.state c.branch_recorded.new.journal) (g.W.Wire.state c.args.wire.now) (g.W.Wire.state c.branch_recorded.new.wire) r.status r.missing e.why_missed
+    (told_reaches (IsOfFolder c.args.folder.now) (g.J.Store.state c.args.journal.now) (g.J.Store.state c.branch_recorded.new.journal) (g.W.Wire.state c.args.wire.now) (g.W.Wire.state c.branch_recorded.new.wire) r.status r.missing e.why_missed
     (c.args.words.play.narration.now ∷ c.args.words.play.values.now ∷ []) (place_by c.args.words.play.endpoint) (g.F.Shelf.faults c.args.shelf.now) (g.F.Shelf.faults c.branch_recorded.new.shelf) e.reached)
 
 pub returns-clause-touches : goal.returns-clause-touches
@@ -52,7 +54,7 @@ returns-clause-touches g c =
     let e = c.branch_recorded.ensures in
     let r = c.branch_recorded.result in
     rw c.told.ensures
-    (told_touches c.args.folder.now (g.J.Store.state c.args.journal.now) (g.J.Store.state c.branch_recorded.new.journal) (g.W.Wire.state c.args.wire.now) (g.W.Wire.state c.branch_recorded.new.wire) r.status r.missing e.why_missed
+    (told_touches (IsOfFolder c.args.folder.now) (g.J.Store.state c.args.journal.now) (g.J.Store.state c.branch_recorded.new.journal) (g.W.Wire.state c.args.wire.now) (g.W.Wire.state c.branch_recorded.new.wire) r.status r.missing e.why_missed
     (c.args.words.play.narration.now ∷ c.args.words.play.values.now ∷ []) (place_by c.args.words.play.endpoint) (g.F.Shelf.faults c.args.shelf.now) (g.F.Shelf.faults c.branch_recorded.new.shelf) e.touches)
 
 pub returns-clause-completes : goal.returns-clause-completes
@@ -66,7 +68,7 @@ returns-clause-completes g c = λ none calm.
     let store = g.J.Store.state c.args.journal.now in
     let store_now = g.J.Store.state c.branch_recorded.new.journal in
     rw c.told.ensures
-    (completes_in_folder S T c.args.folder.now store store_now r.status r.missing e.why_missed calm
+    (completes_in_folder S T (IsOfFolder c.args.folder.now) store store_now r.status r.missing e.why_missed calm
     (only_memory (words.play.narration.now ∷ words.play.values.now ∷ []) (place_by words.play.endpoint) (g.F.Shelf.faults c.args.shelf.now) (g.F.Shelf.faults c.branch_recorded.new.shelf) S T none r.status e.faults)
     (DoesBranch words.play.narration.now words.play.name.now words.play.values.now words.told told c.args.host_seed S T) (RecordsBranch words.play.narration.now words.play.name.now words.play.values.now words.told told c.args.host_seed S T c.args.folder.now store store_now) (CompletesBranch words.play.narration.now words.play.name.now words.play.values.now words.told told c.args.host_seed S T)
     e.does e.recorded (e.completes none) (branch_wants words.play.narration.now words.play.name.now words.play.values.now words.told told c.args.host_seed S T))

@@ -1,4 +1,4 @@
-use Rattle.std.proofs.Common.{[], ◌∷◌, refl}
+use Rattle.std.proofs.Common.{[], ◌∷◌, refl, inl}
 use Rattle.anb_choice.specs.Views.{branched_of}
 use Rattle.anb_branch.specs.Taken.{run_taken}
 use Rattle.anb_words.specs.Commands.{place_by}
@@ -13,6 +13,8 @@ use Rattle.anb_branch_commands.proofs.Preparing.{job_ready}
 use Rattle.anb_branch_commands.proofs.Tasks.{branch_job_one, branch_job_quiet}
 use Rattle.anb_command.proofs.Reported.{told_before, told_behind}
 use Rattle.anb_record_commands.proofs.Arms.{arm_recorded}
+use Rattle.anb_recording.specs.Joining.{others_still}
+use Rattle.anb_record_commands.specs.Outcomes.{IsOfFolder}
 use Rattle.anb_record_commands.proofs.Asked.{not_early}
 use Rattle.anb_record_commands.proofs.branching.branch_recorded.Goals as goal
 
@@ -89,6 +91,12 @@ returns-in-Err-clause-reported g c = told_before _ _ _ _ c.in-Err.ensures.told
 pub returns-in-Ok-clause-early : goal.returns-in-Ok-clause-early
 returns-in-Ok-clause-early g c = λ early. absurd (c.record_arms.ensures.late early)
 
+pub returns-in-Ok-clause-fresh : goal.returns-in-Ok-clause-fresh
+returns-in-Ok-clause-fresh g c = c.record_arms.ensures.fresh
+
+pub returns-in-Err-clause-fresh : goal.returns-in-Err-clause-fresh
+returns-in-Err-clause-fresh g c = inl refl
+
 pub returns-in-Ok-clause-recorded : goal.returns-in-Ok-clause-recorded
 returns-in-Ok-clause-recorded g c = λ late some whole after.
     let p = c.in-Ok.prepared in
@@ -97,6 +105,9 @@ returns-in-Ok-clause-recorded g c = λ late some whole after.
     arm_recorded (λ files. BranchJobIs files play.narration.now play.name.now play.values.now words.told c.args.host_seed) (g.F.Shelf.files c.args.shelf.now) (branched_of p.branched) play.name.now words.told p.means.initial p.means.seed
     c.args.folder.now (g.J.Store.state c.args.journal.now) (g.J.Store.state c.record_arms.new.journal) (g.W.Wire.state c.args.wire.now).left c.record_arms.result.status
     c.in-Ok.ensures.given (c.record_arms.ensures.recorded after whole)
+
+pub returns-in-Err-clause-why_missed : goal.returns-in-Err-clause-why_missed
+returns-in-Err-clause-why_missed g c = λ some. (refl, others_still (IsOfFolder c.args.folder.now) (g.J.Store.state c.args.journal.now))
 
 pub returns-in-Err-clause-recorded : goal.returns-in-Err-clause-recorded
 returns-in-Err-clause-recorded g c = λ late some whole after. absurd (not_early c.in-Err.status c.in-Err.ensures.early late some)

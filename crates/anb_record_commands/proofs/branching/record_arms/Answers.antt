@@ -1,10 +1,11 @@
-use Rattle.std.proofs.Common.{true, sym, ap, refl}
+use Rattle.std.proofs.Common.{true, sym, ap, refl, inl, inr}
 use Rattle.anb_choice.specs.Views.{branched_of}
 use Rattle.anb_branch.specs.Taken.{run_taken}
 use Rattle.anb_store.specs.Stores.{StoreState}
 use Rattle.anb_command.proofs.OverWire.{no_memory, runs_nowhere}
 use Rattle.anb_command.proofs.Prompt.{prompt_nowhere}
 use Rattle.anb_record_commands.proofs.Arms.{arm_in_folder}
+use Rattle.anb_record_commands.proofs.Holding.{begun_alone}
 use Rattle.anb_record_commands.proofs.Recorded.{missing_in_folder}
 use Rattle.anb_record_commands.proofs.branching.record_arms.Goals as goal
 
@@ -70,7 +71,7 @@ returns-clause-recorded g c = λ after whole. absurd (cc)
 -- ---- a play without a recording
 
 pub returns-in-Failed-clause-why_missed : goal.returns-in-Failed-clause-why_missed
-returns-in-Failed-clause-why_missed g c = (c.in-Failed.ensures.0, λ some. c.in-Failed.ensures.1)
+returns-in-Failed-clause-why_missed g c = λ some. (c.in-Failed.ensures.0, c.in-Failed.ensures.1, c.in-Failed.ensures.2)
 
 pub returns-in-Failed-clause-recorded : goal.returns-in-Failed-clause-recorded
 returns-in-Failed-clause-recorded g c = λ after whole. absurd (cc)
@@ -81,7 +82,7 @@ pub returns-in-Ready-clause-why_missed : goal.returns-in-Ready-clause-why_missed
 returns-in-Ready-clause-why_missed g c =
     let now = g.J.Store.state c.record_on.new.journal in
     missing_in_folder c.args.folder.now (g.J.Store.state c.args.journal.now) (g.J.Store.state c.open.new.journal) now (g.W.Wire.state c.args.wire.now) (g.W.Wire.state c.record_on.new.wire) c.record_on.result.status c.record_on.result.missing
-    (ap (λ (s : StoreState). s.faults) c.in-Ready.ensures.1)
+    (ap (λ (s : StoreState). s.faults) c.in-Ready.ensures.1) (begun_alone c.args.folder.now c.in-Ok.text (g.J.Store.state c.args.journal.now) (g.J.Store.state c.open.new.journal) c.in-Ready.ensures.1)
     (rw (sym c.in-Ready.ensures.0) c.record_on.ensures.why_missed)
 
 pub returns-in-Ready-clause-recorded : goal.returns-in-Ready-clause-recorded
@@ -102,3 +103,20 @@ returns-in-There-clause-plays g c = rw (c.as_slice-initial.ensures, c.deref.ensu
 
 pub returns-clause-plays : goal.returns-clause-plays
 returns-clause-plays g c = rw (c.as_slice-initial.ensures, c.deref.ensures.value) at c.fitting_arms_play.ensures
+
+-- ---- no recording is taken over
+
+pub returns-in-Err-clause-fresh : goal.returns-in-Err-clause-fresh
+returns-in-Err-clause-fresh g c = inl refl
+
+pub returns-in-There-clause-fresh : goal.returns-in-There-clause-fresh
+returns-in-There-clause-fresh g c = inl refl
+
+pub returns-clause-fresh : goal.returns-clause-fresh
+returns-clause-fresh g c = inl refl
+
+pub returns-in-Failed-clause-fresh : goal.returns-in-Failed-clause-fresh
+returns-in-Failed-clause-fresh g c = inr (inr c.in-Failed.ensures.1)
+
+pub returns-in-Ready-clause-fresh : goal.returns-in-Ready-clause-fresh
+returns-in-Ready-clause-fresh g c = inr (inl c.in-Ready.ensures.2)

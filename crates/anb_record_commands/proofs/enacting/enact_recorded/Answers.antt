@@ -1,4 +1,4 @@
-use Rattle.std.proofs.Common.{[], ◌∷◌, refl}
+use Rattle.std.proofs.Common.{[], ◌∷◌, refl, inl}
 use Rattle.anb_machine.specs.ByteRuns.{run_bytes}
 use Rattle.anb_words.specs.Commands.{place_by}
 use Rattle.anb_command.proofs.Answering.{refuses_over, runs_over}
@@ -9,6 +9,8 @@ use Rattle.anb_role_commands.specs.EnactCommand.{ErrandIs, IsReadFor, RunOf}
 use Rattle.anb_role_commands.proofs.Enacting.{completes_enact, errand_ready}
 use Rattle.anb_role_commands.proofs.Tasks.{errand_one, errand_quiet}
 use Rattle.anb_command.proofs.Reported.{told_before, told_behind}
+use Rattle.anb_recording.specs.Joining.{others_still}
+use Rattle.anb_record_commands.specs.Outcomes.{IsOfFolder}
 use Rattle.anb_record_commands.proofs.Asked.{errand_recorded, not_early}
 use Rattle.anb_record_commands.proofs.enacting.enact_recorded.Goals as goal
 
@@ -61,6 +63,12 @@ returns-in-Err-clause-reported g c = told_before _ _ _ _ c.in-Err.ensures.told
 pub returns-in-Ok-clause-early : goal.returns-in-Ok-clause-early
 returns-in-Ok-clause-early g c = λ early. absurd (c.record_over.ensures.late early)
 
+pub returns-in-Ok-clause-fresh : goal.returns-in-Ok-clause-fresh
+returns-in-Ok-clause-fresh g c = c.record_over.ensures.fresh
+
+pub returns-in-Err-clause-fresh : goal.returns-in-Err-clause-fresh
+returns-in-Err-clause-fresh g c = inl refl
+
 pub returns-in-Ok-clause-recorded : goal.returns-in-Ok-clause-recorded
 returns-in-Ok-clause-recorded g c = λ late some whole.
     let p = c.in-Ok.prepared in
@@ -68,6 +76,9 @@ returns-in-Ok-clause-recorded g c = λ late some whole.
     errand_recorded (λ files. ErrandIs files words.code.now words.values.now c.args.host_seed) (g.F.Shelf.files c.args.shelf.now) p.code p.initial p.seed
     c.args.folder.now (g.J.Store.state c.args.journal.now) (g.J.Store.state c.record_over.new.journal) (g.W.Wire.state c.args.wire.now).left c.record_over.result.status
     c.in-Ok.ensures.given (c.record_over.ensures.recorded some whole)
+
+pub returns-in-Err-clause-why_missed : goal.returns-in-Err-clause-why_missed
+returns-in-Err-clause-why_missed g c = λ some. (refl, others_still (IsOfFolder c.args.folder.now) (g.J.Store.state c.args.journal.now))
 
 pub returns-in-Err-clause-recorded : goal.returns-in-Err-clause-recorded
 returns-in-Err-clause-recorded g c = λ late some whole. absurd (not_early c.in-Err.status c.in-Err.ensures.early late some)

@@ -1,9 +1,10 @@
-use Rattle.std.proofs.Common.{Some, true, sym, ap, ◌∙◌, refl}
+use Rattle.std.proofs.Common.{Some, true, sym, ap, ◌∙◌, refl, inl, inr}
 use Rattle.anb_code.specs.Taking.{take_texts}
 use Rattle.anb_machine.specs.ByteRuns.{run_bytes}
 use Rattle.anb_store.specs.Stores.{StoreState}
 use Rattle.anb_command.proofs.OverWire.{no_memory, runs_nowhere}
 use Rattle.anb_command.proofs.Prompt.{prompt_nowhere}
+use Rattle.anb_record_commands.proofs.Holding.{begun_alone}
 use Rattle.anb_record_commands.proofs.Recorded.{in_folder, missing_in_folder}
 use Rattle.anb_record_commands.proofs.over.record_over.Goals as goal
 
@@ -51,7 +52,7 @@ returns-clause-recorded g c = λ some whole. absurd (some refl)
 -- ---- a run without a recording
 
 pub returns-in-Failed-clause-why_missed : goal.returns-in-Failed-clause-why_missed
-returns-in-Failed-clause-why_missed g c = (c.in-Failed.ensures.0, λ some. c.in-Failed.ensures.1)
+returns-in-Failed-clause-why_missed g c = λ some. (c.in-Failed.ensures.0, c.in-Failed.ensures.1, c.in-Failed.ensures.2)
 
 pub returns-in-Failed-clause-recorded : goal.returns-in-Failed-clause-recorded
 returns-in-Failed-clause-recorded g c = λ some whole. absurd (cc)
@@ -62,7 +63,7 @@ pub returns-in-Ready-clause-why_missed : goal.returns-in-Ready-clause-why_missed
 returns-in-Ready-clause-why_missed g c =
     let now = g.J.Store.state c.record_on.new.journal in
     missing_in_folder c.args.folder.now (g.J.Store.state c.args.journal.now) (g.J.Store.state c.open.new.journal) now (g.W.Wire.state c.args.wire.now) (g.W.Wire.state c.record_on.new.wire) c.record_on.result.status c.record_on.result.missing
-    (ap (λ (s : StoreState). s.faults) c.in-Ready.ensures.1)
+    (ap (λ (s : StoreState). s.faults) c.in-Ready.ensures.1) (begun_alone c.args.folder.now c.in-Ok.text (g.J.Store.state c.args.journal.now) (g.J.Store.state c.open.new.journal) c.in-Ready.ensures.1)
     (rw (sym c.in-Ready.ensures.0) c.record_on.ensures.why_missed)
 
 pub returns-in-Ready-clause-recorded : goal.returns-in-Ready-clause-recorded
@@ -73,3 +74,20 @@ returns-in-Ready-clause-recorded g c = λ some whole.
     (g.J.Store.state c.args.journal.now) (g.J.Store.state c.open.new.journal) now (g.W.Wire.state c.args.wire.now).left c.record_on.result.status
     c.in-Ready.ensures.1 c.in-Ok.ensures.is c.in-Ok.ensures.reads
     (rw (sym c.in-Ready.ensures.0) (c.record_on.ensures.recorded some whole))
+
+-- ---- no recording is taken over
+
+pub returns-in-Err-clause-fresh : goal.returns-in-Err-clause-fresh
+returns-in-Err-clause-fresh g c = inl refl
+
+pub returns-in-There-clause-fresh : goal.returns-in-There-clause-fresh
+returns-in-There-clause-fresh g c = inl refl
+
+pub returns-clause-fresh : goal.returns-clause-fresh
+returns-clause-fresh g c = inl refl
+
+pub returns-in-Failed-clause-fresh : goal.returns-in-Failed-clause-fresh
+returns-in-Failed-clause-fresh g c = inr (inr c.in-Failed.ensures.1)
+
+pub returns-in-Ready-clause-fresh : goal.returns-in-Ready-clause-fresh
+returns-in-Ready-clause-fresh g c = inr (inl c.in-Ready.ensures.2)

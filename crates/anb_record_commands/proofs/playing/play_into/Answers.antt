@@ -3,6 +3,7 @@ use Rattle.anb_words.specs.Commands.{place_by}
 use Rattle.anb_command.proofs.Causes.{only_memory}
 use Rattle.anb_role_commands.specs.PlayCommand.{CompletesPlay, DoesPlay}
 use Rattle.anb_record_commands.specs.PlayInto.{RecordsPlay}
+use Rattle.anb_record_commands.specs.Outcomes.{IsOfFolder}
 use Rattle.anb_record_commands.proofs.Completing.{completes_in_folder, play_wants}
 use Rattle.anb_record_commands.proofs.Telling.{told_cause, told_faults, told_reaches, told_touches}
 use Rattle.anb_record_commands.proofs.playing.play_into.Goals as goal
@@ -16,6 +17,7 @@ returns-clause-does g c =
       does = e.does;
       told_so = c.told.ensures;
       why_missed = e.why_missed;
+      fresh = e.fresh;
       early = e.early;
       place = place_by c.args.words.endpoint;
       reached = e.reached;
@@ -28,7 +30,7 @@ returns-clause-faults g c =
     let e = c.play_recorded.ensures in
     let r = c.play_recorded.result in
     rw c.told.ensures
-    (told_cause c.args.folder.now (g.J.Store.state c.args.journal.now) (g.J.Store.state c.play_recorded.new.journal) (g.W.Wire.state c.args.wire.now) (g.W.Wire.state c.play_recorded.new.wire) r.status r.missing e.why_missed
+    (told_cause (IsOfFolder c.args.folder.now) (g.J.Store.state c.args.journal.now) (g.J.Store.state c.play_recorded.new.journal) (g.W.Wire.state c.args.wire.now) (g.W.Wire.state c.play_recorded.new.wire) r.status r.missing e.why_missed
     (c.args.words.narration.now ∷ c.args.words.values.now ∷ []) (place_by c.args.words.endpoint) (g.F.Shelf.faults c.args.shelf.now) (g.F.Shelf.faults c.play_recorded.new.shelf) e.faults)
 
 pub returns-clause-reported : goal.returns-clause-reported
@@ -36,7 +38,7 @@ returns-clause-reported g c =
     let e = c.play_recorded.ensures in
     let r = c.play_recorded.result in
     rw c.told.ensures
-    (told_faults c.args.folder.now (g.J.Store.state c.args.journal.now) (g.J.Store.state c.play_recorded.new.journal) (g.W.Wire.state c.args.wire.now) (g.W.Wire.state c.play_recorded.new.wire) r.status r.missing e.why_missed
+    (told_faults (IsOfFolder c.args.folder.now) (g.J.Store.state c.args.journal.now) (g.J.Store.state c.play_recorded.new.journal) (g.W.Wire.state c.args.wire.now) (g.W.Wire.state c.play_recorded.new.wire) r.status r.missing e.why_missed
     (c.args.words.narration.now ∷ c.args.words.values.now ∷ []) (place_by c.args.words.endpoint) (g.F.Shelf.faults c.args.shelf.now) (g.F.Shelf.faults c.play_recorded.new.shelf) e.reported)
 
 pub returns-clause-reached : goal.returns-clause-reached
@@ -44,7 +46,7 @@ returns-clause-reached g c =
     let e = c.play_recorded.ensures in
     let r = c.play_recorded.result in
     rw c.told.ensures
-    (told_reaches c.args.folder.now (g.J.Store.state c.args.journal.now) (g.J.Store.state c.play_recorded.new.journal) (g.W.Wire.state c.args.wire.now) (g.W.Wire.state c.play_recorded.new.wire) r.status r.missing e.why_missed
+    (told_reaches (IsOfFolder c.args.folder.now) (g.J.Store.state c.args.journal.now) (g.J.Store.state c.play_recorded.new.journal) (g.W.Wire.state c.args.wire.now) (g.W.Wire.state c.play_recorded.new.wire) r.status r.missing e.why_missed
     (c.args.words.narration.now ∷ c.args.words.values.now ∷ []) (place_by c.args.words.endpoint) (g.F.Shelf.faults c.args.shelf.now) (g.F.Shelf.faults c.play_recorded.new.shelf) e.reached)
 
 pub returns-clause-touches : goal.returns-clause-touches
@@ -52,7 +54,7 @@ returns-clause-touches g c =
     let e = c.play_recorded.ensures in
     let r = c.play_recorded.result in
     rw c.told.ensures
-    (told_touches c.args.folder.now (g.J.Store.state c.args.journal.now) (g.J.Store.state c.play_recorded.new.journal) (g.W.Wire.state c.args.wire.now) (g.W.Wire.state c.play_recorded.new.wire) r.status r.missing e.why_missed
+    (told_touches (IsOfFolder c.args.folder.now) (g.J.Store.state c.args.journal.now) (g.J.Store.state c.play_recorded.new.journal) (g.W.Wire.state c.args.wire.now) (g.W.Wire.state c.play_recorded.new.wire) r.status r.missing e.why_missed
     (c.args.words.narration.now ∷ c.args.words.values.now ∷ []) (place_by c.args.words.endpoint) (g.F.Shelf.faults c.args.shelf.now) (g.F.Shelf.faults c.play_recorded.new.shelf) e.touches)
 
 pub returns-clause-completes : goal.returns-clause-completes
@@ -66,7 +68,7 @@ returns-clause-completes g c = λ none calm.
     let store = g.J.Store.state c.args.journal.now in
     let store_now = g.J.Store.state c.play_recorded.new.journal in
     rw c.told.ensures
-    (completes_in_folder S T c.args.folder.now store store_now r.status r.missing e.why_missed calm
+    (completes_in_folder S T (IsOfFolder c.args.folder.now) store store_now r.status r.missing e.why_missed calm
     (only_memory (words.narration.now ∷ words.values.now ∷ []) (place_by words.endpoint) (g.F.Shelf.faults c.args.shelf.now) (g.F.Shelf.faults c.play_recorded.new.shelf) S T none r.status e.faults)
     (DoesPlay words.narration.now words.name.now words.values.now told c.args.host_seed S T) (RecordsPlay words.narration.now words.name.now words.values.now told c.args.host_seed S T c.args.folder.now store store_now) (CompletesPlay words.narration.now words.name.now words.values.now told c.args.host_seed S T)
     e.does e.recorded (e.completes none) (play_wants words.narration.now words.name.now words.values.now told c.args.host_seed S T))

@@ -1,5 +1,6 @@
 use Rattle.std.proofs.Common.{refl}
 use Rattle.anb_machine.specs.ByteRuns.{run_bytes}
+use Rattle.anb_record_commands.specs.Outcomes.{IsOfFolder}
 use Rattle.anb_record_commands.proofs.Recorded.{missing_stopped, transcript_stopped, transcript_untold}
 use Rattle.anb_session.proofs.Prompt.{prompt_placeless}
 use Rattle.anb_command.proofs.Reported.{calm_told}
@@ -24,7 +25,7 @@ returns-in-Stopped-clause-wire g c =
 
 pub returns-in-Stopped-clause-why_missed : goal.returns-in-Stopped-clause-why_missed
 returns-in-Stopped-clause-why_missed g c =
-    missing_stopped c.args.folder.now (g.J.Store.state c.args.journal.now) (g.J.Store.state c.record_over-status.new.journal) (g.W.Wire.state c.args.wire.now) (g.W.Wire.state c.record_over-status.new.wire) c.in-Stopped.halt c.record_over-status.result.missing
+    missing_stopped (IsOfFolder c.args.folder.now) (g.J.Store.state c.args.journal.now) (g.J.Store.state c.record_over-status.new.journal) (g.W.Wire.state c.args.wire.now) (g.W.Wire.state c.record_over-status.new.wire) c.in-Stopped.halt c.record_over-status.result.missing
     (rw c.in-Stopped.is at c.record_over-status.ensures.why_missed)
 
 pub returns-in_default-clause-runs : goal.returns-in_default-clause-runs
@@ -40,6 +41,12 @@ returns-in_default-clause-prompt g c =
 
 pub returns-in_default-clause-wire : goal.returns-in_default-clause-wire
 returns-in_default-clause-wire g c = c.record_over-status.ensures.wire
+
+pub returns-in-Stopped-clause-fresh : goal.returns-in-Stopped-clause-fresh
+returns-in-Stopped-clause-fresh g c = c.record_over-status.ensures.fresh
+
+pub returns-in_default-clause-fresh : goal.returns-in_default-clause-fresh
+returns-in_default-clause-fresh g c = c.record_over-status.ensures.fresh
 
 pub returns-in_default-clause-late : goal.returns-in_default-clause-late
 returns-in_default-clause-late g c = c.record_over-status.ensures.late

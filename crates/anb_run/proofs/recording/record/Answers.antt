@@ -8,3 +8,12 @@ returns-in-Enact-clause-completes g c = rw c.in-Enact.is c.enact_into.ensures.co
 
 pub returns-in-Branch-clause-completes : goal.returns-in-Branch-clause-completes
 returns-in-Branch-clause-completes g c = rw c.in-Branch.is c.branch_into.ensures.completes
+
+pub returns-in-Host-clause-completes : goal.returns-in-Host-clause-completes
+returns-in-Host-clause-completes g c = rw c.in-Host.is c.host_into.ensures.completes
+
+pub returns-in-Host-clause-does : goal.returns-in-Host-clause-does
+returns-in-Host-clause-does g c = rw c.in-Host.is c.host_into.ensures.does
+
+pub returns-in-Host-clause-faults : goal.returns-in-Host-clause-faults
+returns-in-Host-clause-faults g c = rw c.in-Host.is c.host_into.ensures.faults

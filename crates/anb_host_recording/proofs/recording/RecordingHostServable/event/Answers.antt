@@ -17,7 +17,7 @@ returns-clause-followed g c = (
     ap plays_of c.note.ensures.same_host ∙ same_plays c.args.self.now.host.now c.event.new.self c.event.ensures.code c.event.ensures.init c.event.ensures.seed,
     λ past stands. (
       returns-clause-stands g c past stands,
-      c.note.ensures.notes c.args.event (sym c.session-session.ensures) c.arrival_line-line.ensures.is (c.arrival_line-line.ensures.plain c.requires) (plays_of c.args.self.now.host.now) past
+      c.note.ensures.notes c.args.event (sym c.session-session.ensures) (sym c.is_start-starts.ensures) c.arrival_line-line.ensures.is (c.arrival_line-line.ensures.plain c.requires) (plays_of c.args.self.now.host.now) past
           (c.deref.ensures.value ∙ c.in_ok-told.ensures.own past stands),
     ),
   ),
