@@ -15,5 +15,5 @@ returns g c =
       c.report.ensures.same_reference ∙ c.note.ensures.same_reference,
       c.report.ensures.same_files ∙ c.note.ensures.same_files,
       goes_as files old new first third _ _ (heard_same (all_names files) c.args.action c.args.role c.args.bytes.now)
-      (goes_further files old mid new first second third _ _ c.note.ensures.goes (rw c.note.ensures.same_files at c.report.ensures.goes)),
+          (goes_further files old mid new first second third _ _ c.note.ensures.goes (rw c.note.ensures.same_files at c.report.ensures.goes)),
     )
