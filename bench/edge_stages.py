@@ -393,6 +393,8 @@ def own_values(program):
     for kind in kinds:
         run = start(f"{SAYS}; {WAITS}", WAITS)
         wait_until("two children", lambda: len(pids(program)) == 2)
+        # A child is watched over just after it was started.
+        time.sleep(0.1)
         want("folders", len(os.listdir(scratch)), 1)
         os.kill(run.child.pid, kind)
         wait_until(f"no folder is left after {kind.name}", lambda: not os.listdir(scratch), SHORT)
