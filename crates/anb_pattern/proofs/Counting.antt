@@ -1,14 +1,14 @@
 -- Variables that are counted.
-use Rattle.std.proofs.Common.{◌≡◌, ℕ, zero, suc, ◌+◌, ◌-◌, ◌<◌, ◌≤◌, List, [], ◌∷◌, ◌++◌, length, map, take, drop, get_or, set, replicate, Bool, true, false, cond, not, Some, refl, sym, ap, ◌∙◌, arith, append_assoc, inl, inr, ◌⊎◌}
+use Rattle.std.proofs.Common.{◌≡◌, ℕ, zero, suc, ◌+◌, ◌<◌, List, [], ◌∷◌, ◌++◌, length, map, drop, get_or, set, replicate, Bool, true, false, cond, not, Some, refl, sym, ap, ◌∙◌, arith, append_assoc, inl, inr, ◌⊎◌}
 use Rattle.std.specs.Prelude.{◌==◌, slice_get}
 use Rattle.std.proofs.Math.Dec.{eqb-suc-zero, eqb-suc-suc}
 use Rattle.std.proofs.lemmas.Bool.{eq-eqb, eqb-true, cases_eq}
 use Rattle.anb_lemmas.proofs.Lists.{set_gets, set_apart, set_long}
 use Rattle.anb_term.specs.declared.term.Term.{Term}
-use Rattle.anb_term.specs.Tree.{Tree, leaf, node, Trees, none, more, trees_of}
+use Rattle.anb_term.specs.Tree.{Tree, trees_of}
 use Rattle.anb_term.specs.View.{tree_of}
 use Rattle.anb_term.proofs.Lists.{split_at}
-use Rattle.anb_pattern.specs.Variables.{count_in, count_in_all, count_in_each, picked_from, stands_once, stands_again}
+use Rattle.anb_pattern.specs.Variables.{count_in, count_in_all, count_in_each, picked_from, stands_once}
 use Rattle.anb_pattern.specs.Counts.{AreCounts, IsCounted, capped, one_more, stands}
 
 capped_more : (k : ℕ) → capped (suc k) ≡ one_more (capped k)

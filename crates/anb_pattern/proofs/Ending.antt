@@ -1,5 +1,5 @@
 -- The lines at a role's end, one after another.
-use Rattle.std.proofs.Common.{◌≡◌, ℕ, List, ◌++◌, length, Bool, true, false, sym, ap, ◌∙◌, subst, append_assoc}
+use Rattle.std.proofs.Common.{◌≡◌, ℕ, List, ◌++◌, length, true, false, ap, ◌∙◌, append_assoc}
 use Rattle.std.specs.Prelude.{codes}
 use Rattle.anb_term.specs.Tree.{Tree}
 use Rattle.anb_protocol.specs.Protocols.{ProtocolValue}

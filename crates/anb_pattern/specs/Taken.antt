@@ -1,7 +1,9 @@
--- What a role takes, in words: the pattern below a receive, and the lines at the role's end.
-use Rattle.std.specs.Prelude.{ℕ, zero, suc, ◌+◌, ◌-◌, ◌==◌, List, [], ◌∷◌, ◌++◌, length, drop, filter, Bool, true, false, codes, decimal, slice_get, if◌then◌else◌}
+-- What a role takes, in words: the pattern below a receive, and the lines at the role's end; and what it takes unchecked.
+use Rattle.std.specs.Prelude.{ℕ, zero, suc, ◌+◌, ◌-◌, ◌==◌, List, [], ◌∷◌, ◌++◌, length, drop, filter, Bool, true, false, codes, decimal, slice_get, if◌then◌else◌, refl}
+use Rattle.std.specs.Coded.{Coded, code_by, coded×, coded_ℕ, coded_list}
 use Rattle.std.specs.Option.{option_map_or}
 use Rattle.anb_term.specs.Tree.{Tree, leaf, node, Trees, none, more, tree_eqb}
+use Rattle.anb_term.specs.TreeCode.{coded_tree}
 use Rattle.anb_protocol.specs.declared.parts.Atom.{Atom}
 use Rattle.anb_protocol.specs.Plans.{messages}
 use Rattle.anb_protocol.specs.Protocols.{ActionValue, ProtocolValue}
@@ -85,24 +87,42 @@ unchecked_line p [] = codes "  takes nothing unchecked\n"
 unchecked_line p (t ∷ ts) = listed p (codes "  takes unchecked: ") false (t ∷ ts)
 
 module _ (p : ProtocolValue) (role : ℕ) (patterns : List Tree) where
+  -- the narrated terms that the role takes unchecked
+  abbrev pub taken_unchecked : List Tree
+  taken_unchecked = unchecked (length p.atoms) patterns (received p role)
+
   abbrev pub end_lines : List ℕ
   end_lines =
       let names = length p.atoms in
       listed p (codes "  ?1 stands for ") true (meanings names patterns (received p role))
-      ++ (unchecked_line p (unchecked names patterns (received p role))
+      ++ (unchecked_line p taken_unchecked
       ++ listed p (codes "  rests on arrivals alone: ") false (resting names patterns (received p role)))
 
--- what is said of a role: for each of its events from event 0 on, where there is nothing, and at its end
+-- what is said of a role: for each of its events from event 0 on, where there is nothing, and at its end; and the terms
+-- that it takes unchecked
 pub record TakenValue : Type 0 where
   pub notes : List (List (List ℕ))
   pub lines : List ℕ
+  pub unchecked : List Tree
+
+abbrev pub coded_taken : Coded TakenValue
+coded_taken =
+    code_by (List (List (List ℕ)) × (List ℕ × List Tree))
+    (coded× (coded_list (coded_list (coded_list coded_ℕ))) (coded× (coded_list coded_ℕ) (coded_list coded_tree)))
+    (λ t. (t.notes, (t.lines, t.unchecked)))
+    (λ t. record { notes = t.0; lines = t.1.0; unchecked = t.1.1 })
+    (λ _. refl)
 
 -- with further lines at the role's end
 abbrev pub with_lines : TakenValue → List ℕ → TakenValue
 with_lines taken further = record taken { lines = taken.lines ++ further }
 
 abbrev pub taken_of : ProtocolValue → ℕ → List Tree → TakenValue
-taken_of p role patterns = record { notes = [] ∷ accepted p role patterns p.actions; lines = end_lines p role patterns }
+taken_of p role patterns = record {
+  notes = [] ∷ accepted p role patterns p.actions;
+  lines = end_lines p role patterns;
+  unchecked = taken_unchecked p role patterns;
+}
 
 -- of each role in order, by the patterns of each
 abbrev pub taken_from : ProtocolValue → ℕ → List (List Tree) → List TakenValue

@@ -1,6 +1,5 @@
 -- Variables of patterns: atoms above the names, numbered in the order in which they first stand.
-use Rattle.std.specs.Prelude.{◌≡◌, ℕ, ◌+◌, ◌==◌, List, [], ◌∷◌, ◌++◌, Bool, not, if◌then◌else◌}
-use Rattle.anb_term.specs.declared.term.Op.{Op}
+use Rattle.std.specs.Prelude.{ℕ, ◌+◌, ◌==◌, List, [], ◌∷◌, ◌++◌, Bool, not, if◌then◌else◌}
 use Rattle.anb_term.specs.Tree.{Tree, leaf, node, Trees, none, more, trees_of}
 
 -- how often an atom stands in a term, in the place of a key or in another

@@ -6,7 +6,7 @@ ghost use Rattle.anb_term.specs.View.{tree_of};
 ghost use Rattle.anb_protocol.specs.Plans.{messages};
 ghost use Rattle.anb_protocol.specs.Texts.{IsTermOf};
 ghost use Rattle.anb_protocol.specs.Views.{action_value};
-ghost use Rattle.anb_pattern.specs.Taken.{accepted, accepted_at, accepts, accepts_first, end_lines, is_received, received, taken_of, unchecked_line};
+ghost use Rattle.anb_pattern.specs.Taken.{accepted, accepted_at, accepts, accepts_first, end_lines, is_received, received, taken_of, taken_unchecked, unchecked_line};
 
 use crate::counts::{counts_of, picked};
 use crate::notes::Notes;
@@ -18,23 +18,34 @@ use anb_term::Term;
 use std::alloc::Global;
 use std::marker::Model;
 
-/// What is said of a role: for each of its events from event 0 on, and at its end.
+/// What is said of a role: for each of its events from event 0 on, and at its end; and the terms that
+/// it takes unchecked.
 #[derive(Drop)]
 pub struct Taken {
     notes: Vec<Notes>,
     lines: Vec<u8>,
+    unchecked: Vec<Term>,
 }
 
 impl Model for Taken {
-    ghost use Rattle.anb_pattern.specs.Taken.{TakenValue};
+    ghost use Rattle.std.specs.Prelude.{map};
+    ghost use Rattle.anb_term.specs.View.{tree_of};
+    ghost use Rattle.anb_pattern.specs.Taken.{TakenValue, coded_taken};
 
     ghost Value = { TakenValue };
 
-    ghost view = { λ t. record { notes = t.notes.items; lines = t.lines.items } };
+    ghost coded = { coded_taken };
+
+    ghost view = { λ t. record {
+      notes = t.notes.items;
+      lines = t.lines.items;
+      unchecked = map tree_of t.unchecked.items;
+    } };
 }
 
 impl Taken {
-    ghost use Rattle.std.specs.Prelude.{◌≡◌, ◌++◌, IfOk};
+    ghost use Rattle.std.specs.Prelude.{◌≡◌, ◌++◌, map, IfOk};
+    ghost use Rattle.anb_term.specs.View.{tree_of};
     ghost use Rattle.anb_pattern.specs.Taken.{with_lines};
 
     /// For each event, where the role takes more than the narrated message, its pattern.
@@ -51,13 +62,28 @@ impl Taken {
         self.lines.as_slice()
     }
 
+    /// The terms that the role takes unchecked.
+    pub fn unchecked(&self) -> &[Term]
+        ensures { map tree_of result.now ≡ self.now.unchecked }
+    {
+        self.unchecked.as_slice()
+    }
+
     /// The same, with further lines at the role's end.
     pub fn with_lines(self, further: &[u8]) -> Result<Taken, NoMemory>
         ensures { IfOk result (λ taken. taken ≡ with_lines self further.now) }
     {
-        let Taken { notes, mut lines } = self;
+        let Taken {
+            notes,
+            mut lines,
+            unchecked,
+        } = self;
         lines.extend_from_slice(further)?;
-        Ok(Taken { notes, lines })
+        Ok(Taken {
+            notes,
+            lines,
+            unchecked,
+        })
     }
 }
 
@@ -76,8 +102,12 @@ pub fn taken_of(
     let actions = protocol.messages();
     put_accepted(alloc, &mut notes, protocol, role, patterns, actions)?;
     let mut lines = Vec::new(alloc);
-    put_lines(alloc, &mut lines, protocol, role, patterns)?;
-    Ok(Taken { notes, lines })
+    let unchecked = put_lines(alloc, &mut lines, protocol, role, patterns)?;
+    Ok(Taken {
+        notes,
+        lines,
+        unchecked,
+    })
 }
 
 /// Appends the notes of each message that a role sends or receives.
@@ -218,16 +248,18 @@ fn put_if_received(
     Ok(())
 }
 
-/// Appends the lines at a role's end.
+/// Appends the lines at a role's end, and gives the terms that it takes unchecked.
 fn put_lines(
     alloc: Global,
     out: &mut Vec<u8>,
     protocol: &Protocol,
     role: u32,
     patterns: &[Term],
-) -> Result<(), NoMemory>
-    ensures { OnOk result (out.new.items ≡ out.old.items
+) -> Result<Vec<Term>, NoMemory>
+    ensures lines { OnOk result (out.new.items ≡ out.old.items
         ++ end_lines protocol.now role (map tree_of patterns.now)) }
+    ensures unchecked { IfOk result (λ terms. map tree_of terms.items
+        ≡ taken_unchecked protocol.now role (map tree_of patterns.now)) }
 {
     let names = protocol.declared().len();
     let narrated = received(alloc, protocol, role)?;
@@ -244,7 +276,8 @@ fn put_lines(
         b"  rests on arrivals alone: ",
         false,
         &resting,
-    )
+    )?;
+    Ok(unchecked)
 }
 
 /// Appends the line of what is taken unchecked.

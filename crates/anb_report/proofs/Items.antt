@@ -80,21 +80,21 @@ module _ (formats : List FormatValue) (instrs : List Instr) (i : ℕ) (x : Instr
         ∙ ap (λ n. (if test x then range_with_len next n else []) ++ written_by formats test (next + count_written formats x) rest) (sym width)
         ∙ ap (λ n. (if test x then range_with_len next (end - next) else []) ++ written_by formats test n rest) (sym by)
 
-  pub notes_then : (p : ProtocolValue) (terms : List Tree) (next end : ℕ) → end ≡ next + count_written formats x
-      → notes_from formats p terms next (drop i instrs) ≡ notes_first formats p terms next (drop i instrs) ++ notes_from formats p terms end rest
-  notes_then p terms next end by =
+  pub notes_then : (p : ProtocolValue) (terms free : List Tree) (next end : ℕ) → end ≡ next + count_written formats x
+      → notes_from formats p terms free next (drop i instrs) ≡ notes_first formats p terms free next (drop i instrs) ++ notes_from formats p terms free end rest
+  notes_then p terms free next end by =
       let at = drop_at_got instrs i x here in
-      ap (notes_from formats p terms next) at
-      ∙ ap (λ (l : List Instr). notes_first formats p terms next l ++ notes_from formats p terms (next + count_written formats x) rest) (sym at)
-      ∙ ap (λ n. notes_first formats p terms next (drop i instrs) ++ notes_from formats p terms n rest) (sym by)
+      ap (notes_from formats p terms free next) at
+      ∙ ap (λ (l : List Instr). notes_first formats p terms free next l ++ notes_from formats p terms free (next + count_written formats x) rest) (sym at)
+      ∙ ap (λ n. notes_first formats p terms free next (drop i instrs) ++ notes_from formats p terms free n rest) (sym by)
 
-pub message_notes : (formats : List FormatValue) (p : ProtocolValue) (terms : List Tree) (next : ℕ) (instrs : List Instr) (x : Instr) → 0 < length instrs → x ≡ get_or instrs 0 x → is_message x ≡ true
-    → notes_first formats p terms next instrs ≡ notes_at formats p terms next (take (1 + length (up_to_message (drop 1 instrs))) instrs) ∷ []
-message_notes formats p terms next [] x h e is = absurd (omega (arith, h))
-message_notes formats p terms next (y ∷ instrs) x h e is =
+pub message_notes : (formats : List FormatValue) (p : ProtocolValue) (terms free : List Tree) (next : ℕ) (instrs : List Instr) (x : Instr) → 0 < length instrs → x ≡ get_or instrs 0 x → is_message x ≡ true
+    → notes_first formats p terms free next instrs ≡ notes_at formats p terms free next (take (1 + length (up_to_message (drop 1 instrs))) instrs) ∷ []
+message_notes formats p terms free next [] x h e is = absurd (omega (arith, h))
+message_notes formats p terms free next (y ∷ instrs) x h e is =
     let t : is_message y ≡ true = ap is_message (sym e) ∙ is in
-    ap (λ b. if b then notes_at formats p terms next (y ∷ up_to_message instrs) ∷ [] else []) t
-    ∙ ap (λ l. notes_at formats p terms next l ∷ []) (ap (λ l. y ∷ l) (sym (turn_taken instrs)) ∙ sym (take_more (length (up_to_message instrs)) y instrs))
+    ap (λ b. if b then notes_at formats p terms free next (y ∷ up_to_message instrs) ∷ [] else []) t
+    ∙ ap (λ l. notes_at formats p terms free next l ∷ []) (ap (λ l. y ∷ l) (sym (turn_taken instrs)) ∙ sym (take_more (length (up_to_message instrs)) y instrs))
 
 -- an item of a list is told so
 pub any_at : {A B : Type 0} (view : A → B) (test : B → Bool) (xs : List A) (i : ℕ) (x : A) → slice_get xs i ≡ Some x → test (view x) ≡ true → list_any test (map view xs) ≡ true

@@ -1,5 +1,6 @@
 pub mod Items
 pub mod Lines
+pub mod Checking
 pub mod Marking
 pub mod Looked
 pub mod Numbered

@@ -100,7 +100,7 @@ role_first p taken codes_of i x t before here there many =
     let rest = each_after (role_after p taken) (before ++ x ∷ []) (drop (i + 1) codes_of) in
     ap (each_after (role_after p taken) before) (drop_at_got codes_of i x here)
     ∙ ap (λ n. role_report p n x (taken_at taken n) ++ rest) many
-    ∙ ap (λ o. role_report p i x (unwrap_or o (record { notes = []; lines = [] })) ++ rest) there
+    ∙ ap (λ o. role_report p i x (unwrap_or o (record { notes = []; lines = []; unchecked = [] })) ++ rest) there
 
 pub code_longer : (before : List CodeValue) (x : CodeValue) (i : ℕ) → length before ≡ i → length (before ++ x ∷ []) ≡ i + 1
 code_longer before x i many = omega (arith, length-append before (x ∷ []), many)

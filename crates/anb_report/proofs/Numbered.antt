@@ -10,7 +10,9 @@ use Rattle.anb_term.specs.declared.term.Term.{Term}
 use Rattle.anb_term.specs.View.{tree_of}
 use Rattle.anb_term.specs.TreeSame.{tree_same, tree_itself}
 use Rattle.anb_intern.specs.Nodes.{AreDistinct}
-use Rattle.anb_report.specs.News.{AreNew, IsNumbering, Numbered, news}
+use Rattle.anb_report.specs.News.{AreMarked, AreNew, Numbered, news}
+use Rattle.anb_report.specs.Noting.{is_none_of}
+use Rattle.anb_report.proofs.Marking.{mark_tells}
 
 -- ---- a pool that grows
 
@@ -109,15 +111,49 @@ module _ (pool : List Tree) (distinct : AreDistinct pool) where
   as_many (u ∷ us) [] all = absurd all
   as_many (u ∷ us) (m ∷ ms) all = ap suc (as_many us ms all.1)
 
+  -- a number is among those of some terms where the term is one of these
+  among_all : (terms : List Tree) (numbers : List ℕ) (n : ℕ) (t : Tree) → Numbered pool terms numbers → slice_get pool n ≡ Some t
+      → list_any (λ m. m == n) numbers ≡ list_any (tree_eqb t) terms
+  among_all [] [] n t all e = refl
+  among_all [] (m ∷ ms) n t all e = absurd all
+  among_all (u ∷ us) [] n t all e = absurd all
+  among_all (u ∷ us) (m ∷ ms) n t all e =
+      ap (λ v. v || list_any (λ k. k == n) ms) (same m n t u all.0 e)
+      ∙ ap (λ v. tree_eqb t u || v) (among_all us ms n t all.1 e)
+
 -- what the marks tell is what is asked of the terms
-pub told : (terms : List Tree) (numbers : List ℕ) (count : ℕ) → IsNumbering terms numbers count → AreNew terms (news (replicate count false) numbers)
-told terms numbers count is = record {
-  many = news_many (replicate count false) numbers ∙ as_many is.pool is.distinct terms numbers is.numbered;
+pub told : (pool terms : List Tree) (numbers : List ℕ) → AreDistinct pool → Numbered pool terms numbers → AreNew terms (news (replicate (length pool) false) numbers)
+told pool terms numbers distinct numbered = record {
+  many = news_many (replicate (length pool) false) numbers ∙ as_many pool distinct terms numbers numbered;
   each = λ i t e.
-      let at = number_of is.pool is.distinct terms numbers i t is.numbered e in
+      let at = number_of pool distinct terms numbers i t numbered e in
       let n = at.0 in
-      let inside : n < count = omega (arith, below is.pool n t at.2, is.many) in
-      news_at (replicate count false) numbers i n at.1
-      ∙ ap (λ v. Some (not (list_any (λ m. m == n) (take i numbers) || v))) (unflagged count n inside)
-      ∙ ap (λ v. Some (not v)) (or_false (list_any (λ m. m == n) (take i numbers)) ∙ among is.pool is.distinct terms numbers i n t is.numbered at.2);
+      let inside : n < length pool = below pool n t at.2 in
+      news_at (replicate (length pool) false) numbers i n at.1
+      ∙ ap (λ v. Some (not (list_any (λ m. m == n) (take i numbers) || v))) (unflagged (length pool) n inside)
+      ∙ ap (λ v. Some (not v)) (or_false (list_any (λ m. m == n) (take i numbers)) ∙ among pool distinct terms numbers i n t numbered at.2);
 }
+
+-- ---- others
+
+-- a term with this number is one of those whose numbers are marked, or none
+pub other_there : (pool some : List Tree) (marks : List Bool) (n : ℕ) (t : Tree) → AreMarked pool some marks → slice_get pool n ≡ Some t
+    → not (get_or marks n true) ≡ is_none_of some t
+other_there pool some marks n t m e =
+    ap (λ l. not (get_or l n true)) m.are
+    ∙ ap not (mark_tells (length pool) n m.numbers (below pool n t e) ∙ among_all pool m.distinct some m.numbers n t m.numbered e)
+
+-- one that isn't in the pool is none of them
+absent : (pool some : List Tree) (numbers : List ℕ) (t : Tree) → Numbered pool some numbers → ((i : ℕ) → slice_get pool i ≡ Some t → ⊥)
+    → list_any (tree_eqb t) some ≡ false
+absent pool [] numbers t all never = refl
+absent pool (u ∷ us) [] t all never = absurd all
+absent pool (u ∷ us) (m ∷ ms) t all never = by (tree_eqb t u) refl (absent pool us ms t all.1 never)
+  where
+    by : (b : Bool) → tree_eqb t u ≡ b → list_any (tree_eqb t) us ≡ false → (b || list_any (tree_eqb t) us) ≡ false
+    by true e later = let is : t ≡ u = tree_same t u e in absurd (never m (all.0 ∙ ap Some (sym is)))
+    by false e later = later
+
+pub other_absent : (pool some : List Tree) (marks : List Bool) (t : Tree) → AreMarked pool some marks → ((i : ℕ) → slice_get pool i ≡ Some t → ⊥)
+    → true ≡ is_none_of some t
+other_absent pool some marks t m never = ap not (sym (absent pool some m.numbers t m.numbered never))

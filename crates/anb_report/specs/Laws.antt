@@ -1,7 +1,8 @@
--- What is taken unchecked may have any bytes.
-use Rattle.std.specs.Prelude.{◌≡◌, ℕ, ◌+◌, ◌<◌, List, [], ◌∷◌, ◌++◌, length, map, take, drop, true, false, IsTrue, slice_get, slice_set}
+-- What is taken unchecked stands behind no `checks`, and may have any bytes.
+use Rattle.std.specs.Prelude.{◌≡◌, ℕ, ◌+◌, ◌<◌, List, [], ◌∷◌, ◌++◌, length, map, take, drop, true, false, IsTrue, Some, Contains, slice_get, slice_set}
 use Rattle.std.specs.Prelude.{option_map}
 use Rattle.anb_format.specs.Formats.{FormatValue}
+use Rattle.anb_term.specs.Tree.{Tree}
 use Rattle.anb_term.specs.Value.{Meaning}
 use Rattle.anb_term.specs.Lawful.{AreValues, picked}
 use Rattle.anb_plays.specs.Codes.{Act, takes, draws, receives, sends, works, Work, make, undo, equal}
@@ -12,6 +13,17 @@ use Rattle.anb_plays.specs.Exec.{exec, on_written, worked, count_written, HasTak
 use Rattle.anb_code.specs.declared.instr.Instr.{Instr}
 use Rattle.anb_code.specs.Meaning.{act_of}
 use Rattle.anb_report.specs.Looking.{is_among, unchecked}
+use Rattle.anb_report.specs.Noting.{checked}
+
+-- ---- terms
+
+-- No term that a role takes unchecked stands behind `checks`, whatever its code compares: where these are the terms of
+-- the registers, none that is noted there has such a one.
+abbrev pub ChecksNothingUnchecked : Type 0
+ChecksNothingUnchecked = (terms free : List Tree) (instrs : List Instr) (r : ℕ) (t : Tree)
+    → Contains (checked terms free instrs) r → slice_get terms r ≡ Some t → Contains free t → ⊥
+
+-- ---- bytes
 
 -- two runs end alike, with as many messages and the same arrivals left
 pub record SameCourse {A : Type 0} (p q : Played A) : Type 0 where

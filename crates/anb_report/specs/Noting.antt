@@ -56,6 +56,22 @@ once_after terms named (r ∷ rs) = once_after terms (once_more terms named r) r
 abbrev pub once : List Tree → List ℕ → List ℕ
 once terms rs = once_after terms [] rs
 
+-- ---- what is checked
+
+-- it is none of these terms
+abbrev pub is_none_of : List Tree → Tree → Bool
+is_none_of some t = not (list_any (tree_eqb t) some)
+
+-- a register has a term, which is none of these
+abbrev pub has_other : List Tree → List Tree → ℕ → Bool
+has_other terms some r = option_map_or (is_none_of some) (slice_get terms r) false
+
+-- what is compared, each term once, but for terms that the role takes unchecked
+abbrev pub checked : (terms unchecked : List Tree) → List Instr → List ℕ
+checked terms unchecked instrs = once terms (filter (has_other terms unchecked) (flat_map checked_by instrs))
+
+-- ---- each message
+
 -- the instructions up to the next message
 abbrev pub up_to_message : List Instr → List Instr
 up_to_message [] = []
@@ -67,12 +83,12 @@ module _ (formats : List FormatValue) where
   learned terms next instrs =
       filter (is_new terms (written_by formats builds next instrs)) (without (flat_map opened_by instrs) (written_by formats brings next instrs))
 
-  module _ (p : ProtocolValue) (terms : List Tree) where
+  module _ (p : ProtocolValue) (terms unchecked : List Tree) where
     -- what these instructions do with what the role has and with what came
     abbrev pub notes_at : ℕ → List Instr → List (List ℕ)
     notes_at next instrs =
         said p terms (codes "opens with ") (once terms (flat_map keys_of instrs))
-        ++ (said p terms (codes "checks ") (once terms (flat_map checked_by instrs)) ++ said p terms (codes "learns ") (learned terms next instrs))
+        ++ (said p terms (codes "checks ") (checked terms unchecked instrs) ++ said p terms (codes "learns ") (learned terms next instrs))
 
     -- the same for each message, with what stands up to the next one
     abbrev pub notes_first : ℕ → List Instr → List (List (List ℕ))
@@ -83,6 +99,7 @@ module _ (formats : List FormatValue) where
     notes_from next [] = []
     notes_from next (x ∷ xs) = notes_first next (x ∷ xs) ++ notes_from (next + count_written formats x) xs
 
--- for each event, from event 0 on
-abbrev pub notes_of : ProtocolValue → CodeValue → List Tree → List (List (List ℕ))
-notes_of p code terms = notes_at code.formats p terms 0 (up_to_message code.instrs) ∷ notes_from code.formats p terms 0 code.instrs
+-- for each event, from event 0 on, by the terms of the registers and those that the role takes unchecked
+abbrev pub notes_of : ProtocolValue → CodeValue → (terms unchecked : List Tree) → List (List (List ℕ))
+notes_of p code terms unchecked =
+    notes_at code.formats p terms unchecked 0 (up_to_message code.instrs) ∷ notes_from code.formats p terms unchecked 0 code.instrs

@@ -79,7 +79,7 @@ module _ (p : ProtocolValue) (role : ℕ) (notes : List (List (List ℕ))) where
 -- where the registers have these terms, and this is what the role takes
 abbrev pub role_text : ProtocolValue → ℕ → CodeValue → List Tree → TakenValue → List ℕ
 role_text p role code terms taken =
-    let notes = joined 0 (notes_of p code terms) taken.notes in
+    let notes = joined 0 (notes_of p code terms taken.unchecked) taken.notes in
     head_line p role ++ (start_lines (notes_at_event notes 0) ++ (events_text p role notes ++ taken.lines))
 
 -- ---- all roles
@@ -92,7 +92,7 @@ abbrev pub role_report : ProtocolValue → ℕ → CodeValue → TakenValue → 
 role_report p role code taken = role_text p role code (terms_in p role code) taken
 
 abbrev pub taken_at : List TakenValue → ℕ → TakenValue
-taken_at taken role = unwrap_or (slice_get taken role) (record { notes = []; lines = [] })
+taken_at taken role = unwrap_or (slice_get taken role) (record { notes = []; lines = []; unchecked = [] })
 
 -- the codes are those of the roles in order, and so is what they take; below stands what is noted of the protocol
 abbrev pub role_after : ProtocolValue → List TakenValue → List CodeValue → CodeValue → List ℕ

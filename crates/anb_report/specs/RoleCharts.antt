@@ -31,4 +31,4 @@ module _ (p : ProtocolValue) (role : ℕ) (notes : List (List (List ℕ))) where
 
 -- by a code of the role, and by what it takes
 abbrev pub role_chart : ProtocolValue → ℕ → CodeValue → TakenValue → List ℕ
-role_chart p role code taken = noted_chart p role (joined 0 (notes_of p code (terms_in p role code)) taken.notes)
+role_chart p role code taken = noted_chart p role (joined 0 (notes_of p code (terms_in p role code) taken.unchecked) taken.notes)

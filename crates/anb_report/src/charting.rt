@@ -35,7 +35,8 @@ pub fn role_chart(
 {
     protocols_hold();
     let explanation = explanation_of(alloc, protocol, role, code)?;
-    let own = notes_of(alloc, protocol, code, explanation.terms())?;
+    let terms = explanation.terms();
+    let own = notes_of(alloc, protocol, code, terms, taken.unchecked())?;
     let notes = joined(alloc, &own, taken.notes())?;
     let mut out = Vec::from_slice(alloc, b"sequenceDiagram\n")?;
     put_participants(alloc, &mut out, protocol.roles())?;

@@ -12,13 +12,14 @@ mod marks;
 mod names;
 mod news;
 mod notes;
+mod others;
 mod registers;
 mod remarks;
 mod reporting;
 mod seen;
 
 pub use charting::role_chart;
-pub use laws::{plays_stay_free, unchecked_is_free};
+pub use laws::{checks_nothing_unchecked, plays_stay_free, unchecked_is_free};
 pub use notes::notes_of;
 pub use reporting::report;
 pub use seen::unchecked;

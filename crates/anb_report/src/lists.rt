@@ -1,11 +1,11 @@
 //! Lists of registers, and the texts of their terms.
-ghost use Rattle.std.specs.Prelude.{◌≡◌, ◌<◌, ◌++◌, map, length, slice_get, unwrap_or, Some, None, false, IfOk, IfSome, IfNone, OnOk};
+ghost use Rattle.std.specs.Prelude.{◌≡◌, ◌<◌, ◌++◌, map, filter, length, slice_get, unwrap_or, Some, None, false, IfOk, IfSome, IfNone, OnOk};
 ghost use Rattle.std.specs.List.{AllByRecursion};
 ghost use Rattle.anb_term.specs.Tree.{tree_eqb};
 ghost use Rattle.anb_term.specs.View.{tree_of};
 ghost use Rattle.anb_protocol.specs.Texts.{IsTermOf};
 ghost use Rattle.anb_report.specs.Looking.{is_other, without};
-ghost use Rattle.anb_report.specs.News.{AreNew};
+ghost use Rattle.anb_report.specs.News.{AreNew, is_told};
 ghost use Rattle.anb_report.specs.Noting.{is_named, is_new, is_new_term, is_term_of, is_term_of_one, once, once_more, register_text, register_texts};
 
 use anb_base::NoMemory;
@@ -49,14 +49,14 @@ fn is_new_term(terms: &[Term], told: &[bool], built: &[u32], r: usize, term: &Te
     requires there { slice_get (map tree_of terms.now) r ≡ Some (tree_of term.now) }
     ensures { result ≡ is_new_term (map tree_of terms.now) built.now r (tree_of term.now) }
 {
-    is_first(told, r) && !has_at(terms, built, term)
+    is_told(told, r) && !has_at(terms, built, term)
 }
 
-fn is_first(told: &[bool], r: usize) -> bool
-    ensures { result ≡ unwrap_or (slice_get told.now r) false }
+fn is_told(told: &[bool], r: usize) -> bool
+    ensures { result ≡ is_told told.now r }
 {
     match told.get(r) {
-        Some(new) => *new,
+        Some(so) => *so,
         None => false,
     }
 }
@@ -90,6 +90,23 @@ fn is_named(terms: &[Term], named: &[u32], r: u32) -> bool
         Some(term) => has_at(terms, named, term),
         None => false,
     }
+}
+
+/// Those of these registers of which it is told.
+pub(crate) fn told_among(
+    alloc: Global,
+    told: &[bool],
+    registers: &[u32],
+) -> Result<Vec<u32>, NoMemory>
+    ensures { IfOk result (λ rs. rs.items ≡ filter (is_told told.now) registers.now) }
+{
+    let mut out = Vec::new(alloc);
+    for r in registers {
+        if is_told(told, *r as usize) {
+            out.push(*r)?;
+        }
+    }
+    Ok(out)
 }
 
 /// The term of a register.

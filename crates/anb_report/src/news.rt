@@ -1,7 +1,7 @@
 //! Which terms of a list stand there for the first time.
 ghost use Rattle.std.specs.Prelude.{◌≡◌, map, replicate, false, IfOk};
 ghost use Rattle.anb_term.specs.View.{tree_of};
-ghost use Rattle.anb_report.specs.News.{AreNew, IsNumbering, news};
+ghost use Rattle.anb_report.specs.News.{AreNew, Numbered, news};
 
 use crate::marks::mark;
 use anb_base::NoMemory;
@@ -9,11 +9,11 @@ use anb_intern::Pool;
 use anb_term::Term;
 use std::alloc::Global;
 
-/// Numbers of terms, equal ones for equal terms, below a count.
+/// Numbers of terms in a pool of them, equal ones for equal terms.
 #[derive(Drop)]
 pub(crate) struct Numbers {
     pub(crate) items: Vec<u32>,
-    pub(crate) count: u32,
+    pub(crate) pool: Pool,
 }
 
 /// For each term, whether no term before it is the same. Time and memory are linear in the terms'
@@ -22,14 +22,14 @@ pub(crate) fn new_ones(alloc: Global, terms: &[Term]) -> Result<Vec<bool>, NoMem
     ensures { IfOk result (λ told. AreNew (map tree_of terms.now) told.items) }
 {
     let numbers = numbers_of(alloc, terms)?;
-    let count = numbers.count as usize;
+    let count = numbers.pool.len() as usize;
     Ok(news_of(alloc, &numbers.items, count)?)
 }
 
 /// Numbers for terms.
-fn numbers_of(alloc: Global, terms: &[Term]) -> Result<Numbers, NoMemory>
+pub(crate) fn numbers_of(alloc: Global, terms: &[Term]) -> Result<Numbers, NoMemory>
     ensures { IfOk result (λ numbers.
-        IsNumbering (map tree_of terms.now) numbers.items.items numbers.count) }
+        Numbered numbers.pool (map tree_of terms.now) numbers.items.items) }
 {
     let mut pool = Pool::new(alloc);
     let mut items = Vec::new(alloc);
@@ -40,8 +40,7 @@ fn numbers_of(alloc: Global, terms: &[Term]) -> Result<Numbers, NoMemory>
         };
         items.push(id.0)?;
     }
-    let count = pool.len();
-    Ok(Numbers { items, count })
+    Ok(Numbers { items, pool })
 }
 
 /// For each number, whether it isn't among those before it.

@@ -1,16 +1,18 @@
 //! What a role does with each message, in words.
-ghost use Rattle.std.specs.Prelude.{◌≡◌, ◌+◌, ◌≤◌, ◌<◌, ◌^◌, ◌++◌, ◌∷◌, map, length, drop, take, filter, IfOk, OnOk};
+ghost use Rattle.std.specs.Prelude.{◌≡◌, ◌+◌, ◌≤◌, ◌<◌, ◌^◌, ◌++◌, ◌∷◌, List, map, length, drop, take, filter, IfOk, OnOk};
 ghost use Rattle.std.specs.List.{AllByRecursion};
 ghost use Rattle.anb_format.specs.Formats.{field_count};
+ghost use Rattle.anb_term.specs.Tree.{Tree};
 ghost use Rattle.anb_term.specs.View.{tree_of};
 ghost use Rattle.anb_code.specs.Verified.{count_registers};
 ghost use Rattle.anb_protocol.specs.Texts.{IsTermOf};
 ghost use Rattle.anb_report.specs.Looking.{is_message};
-ghost use Rattle.anb_report.specs.News.{AreNew};
-ghost use Rattle.anb_report.specs.Noting.{is_new, learned, notes_at, notes_first, notes_from, notes_of, said, up_to_message};
+ghost use Rattle.anb_report.specs.News.{AreNew, AreOthers};
+ghost use Rattle.anb_report.specs.Noting.{checked, is_new, learned, notes_at, notes_first, notes_from, notes_of, said, up_to_message};
 
-use crate::lists::{is_new, once, put_terms, without};
+use crate::lists::{is_new, once, put_terms, told_among, without};
 use crate::news::new_ones;
+use crate::others::others;
 use crate::registers::{Use, used, written};
 use anb_base::{Bytes, NoMemory};
 use anb_code::{Instr, RoleCode};
@@ -21,19 +23,30 @@ use anb_protocol::Protocol;
 use anb_term::Term;
 use std::alloc::Global;
 
-/// The notes of each event of a code, from event 0 on.
+/// The notes of each event of a code, from event 0 on. No term that is taken unchecked is told to be
+/// checked.
 pub fn notes_of(
     alloc: Global,
     protocol: &Protocol,
     code: &RoleCode,
     terms: &[Term],
+    unchecked: &[Term],
 ) -> Result<Vec<Notes>, NoMemory>
     requires { AllByRecursion (IsTermOf protocol.now) (map tree_of terms.now) }
     ensures { IfOk result (λ notes. notes.items
-        ≡ notes_of protocol.now code.now (map tree_of terms.now)) }
+        ≡ notes_of protocol.now code.now (map tree_of terms.now) (map tree_of unchecked.now)) }
 {
     let told = new_ones(alloc, terms)?;
-    notes_in(alloc, protocol, code.formats(), terms, &told, code.instrs())
+    let other = others(alloc, terms, unchecked)?;
+    notes_in(
+        alloc,
+        protocol,
+        code.formats(),
+        terms,
+        &other,
+        &told,
+        code.instrs(),
+    )
 }
 
 fn notes_in(
@@ -41,6 +54,7 @@ fn notes_in(
     protocol: &Protocol,
     formats: &[Format],
     terms: &[Term],
+    other: &[bool],
     told: &[bool],
     instrs: &[Instr],
 ) -> Result<Vec<Notes>, NoMemory>
@@ -48,14 +62,26 @@ fn notes_in(
     requires few { count_registers formats.now instrs.now < 2 ^ 32 }
     requires terms { AllByRecursion (IsTermOf protocol.now) (map tree_of terms.now) }
     requires told { AreNew (map tree_of terms.now) told.now }
-    ensures { IfOk result (λ notes. notes.items
-        ≡ notes_at formats.now protocol.now (map tree_of terms.now) 0 (up_to_message instrs.now)
-        ∷ notes_from formats.now protocol.now (map tree_of terms.now) 0 instrs.now) }
+    ensures { IfOk result (λ notes. (free : List Tree)
+        → AreOthers (map tree_of terms.now) free other.now → notes.items
+        ≡ notes_at formats.now protocol.now (map tree_of terms.now) free 0 (up_to_message instrs.now)
+        ∷ notes_from formats.now protocol.now (map tree_of terms.now) free 0 instrs.now) }
 {
     let mut out = Vec::new(alloc);
-    let notes = notes_at(alloc, protocol, formats, terms, told, 0, turn(instrs))?;
+    let notes = notes_at(
+        alloc,
+        protocol,
+        formats,
+        terms,
+        other,
+        told,
+        0,
+        turn(instrs),
+    )?;
     out.push(notes)?;
-    put_notes(alloc, &mut out, protocol, formats, terms, told, instrs)?;
+    put_notes(
+        alloc, &mut out, protocol, formats, terms, other, told, instrs,
+    )?;
     Ok(out)
 }
 
@@ -66,6 +92,7 @@ fn put_notes(
     protocol: &Protocol,
     formats: &[Format],
     terms: &[Term],
+    other: &[bool],
     told: &[bool],
     instrs: &[Instr],
 ) -> Result<(), NoMemory>
@@ -73,13 +100,16 @@ fn put_notes(
     requires few { count_registers formats.now instrs.now < 2 ^ 32 }
     requires terms { AllByRecursion (IsTermOf protocol.now) (map tree_of terms.now) }
     requires told { AreNew (map tree_of terms.now) told.now }
-    ensures { OnOk result (out.new.items ≡ out.old.items
-        ++ notes_from formats.now protocol.now (map tree_of terms.now) 0 instrs.now) }
+    ensures { OnOk result ((free : List Tree)
+        → AreOthers (map tree_of terms.now) free other.now → out.new.items ≡ out.old.items
+        ++ notes_from formats.now protocol.now (map tree_of terms.now) free 0 instrs.now) }
 {
     let mut next = 0;
     for (i, instr) in instrs.iter().enumerate() {
         let rest = rest_of(instrs, i);
-        put_first(alloc, out, protocol, formats, terms, told, next, rest)?;
+        put_first(
+            alloc, out, protocol, formats, terms, other, told, next, rest,
+        )?;
         next += count_written(formats, instr) as u32;
     }
     Ok(())
@@ -92,6 +122,7 @@ fn put_first(
     protocol: &Protocol,
     formats: &[Format],
     terms: &[Term],
+    other: &[bool],
     told: &[bool],
     next: u32,
     instrs: &[Instr],
@@ -101,8 +132,9 @@ fn put_first(
     requires terms { AllByRecursion (IsTermOf protocol.now) (map tree_of terms.now) }
     requires told { AreNew (map tree_of terms.now) told.now }
     requires some { 0 < length instrs.now }
-    ensures { OnOk result (out.new.items ≡ out.old.items
-        ++ notes_first formats.now protocol.now (map tree_of terms.now) next instrs.now) }
+    ensures { OnOk result ((free : List Tree)
+        → AreOthers (map tree_of terms.now) free other.now → out.new.items ≡ out.old.items
+        ++ notes_first formats.now protocol.now (map tree_of terms.now) free next instrs.now) }
 {
     if !is_message(&instrs[0]) {
         return Ok(());
@@ -112,6 +144,7 @@ fn put_first(
         protocol,
         formats,
         terms,
+        other,
         told,
         next,
         message_turn(instrs),
@@ -172,6 +205,7 @@ fn notes_at(
     protocol: &Protocol,
     formats: &[Format],
     terms: &[Term],
+    other: &[bool],
     told: &[bool],
     next: u32,
     instrs: &[Instr],
@@ -180,13 +214,14 @@ fn notes_at(
     requires few { next + count_registers formats.now instrs.now < 2 ^ 32 }
     requires terms { AllByRecursion (IsTermOf protocol.now) (map tree_of terms.now) }
     requires told { AreNew (map tree_of terms.now) told.now }
-    ensures { IfOk result (λ notes. notes
-        ≡ notes_at formats.now protocol.now (map tree_of terms.now) next instrs.now) }
+    ensures { IfOk result (λ notes. (free : List Tree)
+        → AreOthers (map tree_of terms.now) free other.now → notes
+        ≡ notes_at formats.now protocol.now (map tree_of terms.now) free next instrs.now) }
 {
     let mut items = Vec::new(alloc);
     let keys = once(alloc, terms, &used(alloc, Use::Key, instrs)?)?;
     put_said(alloc, &mut items, protocol, terms, b"opens with ", &keys)?;
-    let checked = once(alloc, terms, &used(alloc, Use::Checked, instrs)?)?;
+    let checked = checked(alloc, terms, other, instrs)?;
     put_said(alloc, &mut items, protocol, terms, b"checks ", &checked)?;
     let learned = learned(alloc, formats, terms, told, next, instrs)?;
     put_said(alloc, &mut items, protocol, terms, b"learns ", &learned)?;
@@ -213,6 +248,22 @@ fn put_said(
     put_terms(alloc, &mut text, protocol, terms, registers)?;
     out.push(Bytes::new(text))?;
     Ok(())
+}
+
+/// The registers that are compared, each term once, but for those of terms that are taken unchecked.
+fn checked(
+    alloc: Global,
+    terms: &[Term],
+    other: &[bool],
+    instrs: &[Instr],
+) -> Result<Vec<u32>, NoMemory>
+    ensures { IfOk result (λ rs. (free : List Tree)
+        → AreOthers (map tree_of terms.now) free other.now
+        → rs.items ≡ checked (map tree_of terms.now) free instrs.now) }
+{
+    let compared = used(alloc, Use::Checked, instrs)?;
+    let others = told_among(alloc, other, &compared)?;
+    Ok(once(alloc, terms, &others)?)
 }
 
 /// The registers of new terms.

@@ -77,7 +77,8 @@ fn put_role(
 {
     protocols_hold();
     let explanation = explanation_of(alloc, protocol, role, code)?;
-    let own = notes_of(alloc, protocol, code, explanation.terms())?;
+    let terms = explanation.terms();
+    let own = notes_of(alloc, protocol, code, terms, taken.unchecked())?;
     let notes = joined(alloc, &own, taken.notes())?;
     put_head(out, protocol, role)?;
     put_start(out, notes_at(&notes, 0))?;

@@ -1,5 +1,5 @@
 -- One term more is counted.
-use Rattle.std.proofs.Common.{◌≡◌, ◌+◌, ◌<◌, ℕ, [], ◌∷◌, length, map, take, refl, sym, ap, ◌∙◌, arith}
+use Rattle.std.proofs.Common.{◌<◌, [], ◌∷◌, length, map, take, sym, ap, ◌∙◌, arith}
 use Rattle.anb_lemmas.proofs.Lists.{item_at, take_got}
 use Rattle.anb_term.specs.Tree.{trees_of}
 use Rattle.anb_term.specs.View.{tree_of}

@@ -1,10 +1,10 @@
 -- What stands at the first places, one pattern more.
-use Rattle.std.proofs.Common.{◌≡◌, ◌+◌, ◌++◌, length, map, drop, sym, ap, ◌∙◌, arith}
+use Rattle.std.proofs.Common.{◌+◌, ◌++◌, length, map, drop, sym, ap, ◌∙◌, arith}
 use Rattle.anb_term.specs.Tree.{trees_of}
 use Rattle.anb_term.specs.View.{tree_of}
 use Rattle.anb_term.proofs.Lists.{one_size}
 use Rattle.anb_pattern.specs.Variables.{places, places_all, stand_for}
-use Rattle.anb_pattern.proofs.Standing.{place_next, places_first, places_over, places_done, placed_whole}
+use Rattle.anb_pattern.proofs.Standing.{place_next, places_first}
 use Rattle.anb_pattern.proofs.places.+first.Goals as goal
 
 pub put_all_first-put_first-requires : goal.put_all_first-put_first-requires

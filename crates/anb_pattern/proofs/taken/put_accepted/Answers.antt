@@ -1,10 +1,10 @@
 -- One message more.
-use Rattle.std.proofs.Common.{◌≡◌, ℕ, zero, suc, ◌+◌, ◌<◌, ◌≤◌, ◌++◌, ◌∷◌, List, [], Bool, true, false, cond, length, map, drop, refl, sym, ap, ◌∙◌, arith, append_assoc}
+use Rattle.std.proofs.Common.{◌≡◌, ℕ, zero, suc, ◌+◌, ◌≤◌, ◌++◌, ◌∷◌, List, [], Bool, true, false, cond, map, drop, sym, ap, ◌∙◌, arith, append_assoc}
 use Rattle.anb_lemmas.proofs.Lists.{map_drop_next}
 use Rattle.anb_term.specs.Tree.{Tree}
 use Rattle.anb_term.specs.View.{tree_of}
 use Rattle.anb_protocol.specs.Views.{action_value}
-use Rattle.anb_pattern.specs.Taken.{accepted, accepted_at, is_received, still_due}
+use Rattle.anb_pattern.specs.Taken.{accepted, accepted_at, is_received}
 use Rattle.anb_pattern.proofs.taken.put_accepted.Goals as goal
 use Rattle.anb_pattern.proofs.taken.put_accepted.Goals.{then-is_received, else-is_received}
 

@@ -1,13 +1,12 @@
 -- The lines at a role's end.
-use Rattle.std.proofs.Common.{◌≡◌, ◌++◌, ℕ, List, length, map, Bool, true, false, sym, ap, ◌∙◌, subst}
+use Rattle.std.proofs.Common.{ℕ, List, length, map, true, false, sym, ap, ◌∙◌, subst}
 use Rattle.std.specs.List.{AllByRecursion}
-use Rattle.anb_lemmas.proofs.Results.{on_ok_map}
 use Rattle.anb_term.specs.declared.term.Term.{Term}
 use Rattle.anb_term.specs.Tree.{Tree}
 use Rattle.anb_term.specs.View.{tree_of}
 use Rattle.anb_protocol.specs.declared.parts.Atom.{Atom}
 use Rattle.anb_protocol.specs.Texts.{IsTermOf}
-use Rattle.anb_pattern.specs.Variables.{count_in_each, places_each, stand_for, meanings, picked_from}
+use Rattle.anb_pattern.specs.Variables.{count_in_each, places_each, stand_for, picked_from}
 use Rattle.anb_pattern.specs.Counts.{AreCounts, stands}
 use Rattle.anb_pattern.specs.Taken.{received}
 use Rattle.anb_pattern.proofs.Standing.{meanings_ours, picked_ours}
@@ -48,8 +47,8 @@ put_listed-requires-2 c =
     let are = subst (λ (l : List ℕ). AreCounts n (λ v. count_in_each v pats) l) (sym c.deref-4.ensures.value) c.in_ok-counts.ensures.counts in
     subst Q (sym c.deref-8.ensures.value) (subst P (sym (c.in_ok-resting.ensures n pats are)) (picked_ours p (stands pats false) n (map tree_of c.deref-5.result.now) ours))
 
-pub returns : goal.returns
-returns c =
+pub returns-clause-lines : goal.returns-clause-lines
+returns-clause-lines c =
     let p = c.args.protocol.now in
     let role = c.args.role in
     let pats = map tree_of c.args.patterns.now in
@@ -65,5 +64,19 @@ returns c =
     ∙ ap (λ (xs : List Atom). picked_from (stands pats true) (length xs) ms) e in
     let rs = ap (map tree_of) c.deref-8.ensures.value ∙ c.in_ok-resting.ensures n pats again ∙ ap (λ (l : List Term). picked_from (stands pats false) n (map tree_of l)) (c.deref-5.ensures.value ∙ sym c.deref-6.ensures.value)
     ∙ ap (λ (xs : List Atom). picked_from (stands pats false) (length xs) ms) e in
-    on_ok_map c.put_listed-2.result (λ h. lines_put p role pats ms (map tree_of c.deref-7.result.now) (map tree_of c.deref-8.result.now) c.args.out.now.items c.put_listed.new.out.items c.put_unchecked.new.out.items c.put_listed-2.new.out.items
-    is us rs c.in_ok-put_listed.ensures c.in_ok-put_unchecked.ensures h) c.put_listed-2.ensures
+    lines_put p role pats ms (map tree_of c.deref-7.result.now) (map tree_of c.deref-8.result.now) c.args.out.now.items c.put_listed.new.out.items c.put_unchecked.new.out.items c.put_listed-2.new.out.items
+    is us rs c.in_ok-put_listed.ensures c.in_ok-put_unchecked.ensures c.in_ok-put_listed-2.ensures
+
+pub returns-clause-unchecked : goal.returns-clause-unchecked
+returns-clause-unchecked c =
+    let p = c.args.protocol.now in
+    let role = c.args.role in
+    let pats = map tree_of c.args.patterns.now in
+    let atoms : List Atom = c.declared-names.result.now in
+    let n = length atoms in
+    let e = c.declared-names.ensures in
+    let once = subst (λ (l : List ℕ). AreCounts n (λ v. count_in_each v pats) l) (sym c.deref-2.ensures.value) c.in_ok-counts.ensures.counts in
+    let is = ap (map tree_of) c.deref-3.ensures.value ∙ c.in_ok-terms.ensures ∙ ap (λ (l : List Term). stand_for n (places_each pats (map tree_of l))) c.deref.ensures.value
+    ∙ ap (λ l. stand_for n (places_each pats l)) c.in_ok-narrated.ensures.is in
+    c.in_ok-unchecked.ensures n pats once ∙ ap (picked_from (stands pats true) n) is
+    ∙ ap (λ (xs : List Atom). picked_from (stands pats true) (length xs) (stand_for (length xs) (places_each pats (received p role)))) e

@@ -1,5 +1,5 @@
 -- Messages are terms of the protocol.
-use Rattle.std.proofs.Common.{◌≡◌, ◌++◌, [], map, sym, ap, ◌∙◌, subst}
+use Rattle.std.proofs.Common.{◌++◌, map, sym, ap, ◌∙◌, subst}
 use Rattle.std.specs.Prelude.{filter}
 use Rattle.std.specs.List.{AllByRecursion}
 use Rattle.anb_lemmas.proofs.Each.{each_in_parts}

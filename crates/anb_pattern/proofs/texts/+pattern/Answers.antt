@@ -1,5 +1,5 @@
 -- One operand more.
-use Rattle.std.proofs.Common.{◌≡◌, ◌+◌, ◌++◌, List, ℕ, map, drop, sym, ap, ◌∙◌, arith, append_assoc}
+use Rattle.std.proofs.Common.{◌+◌, ◌++◌, map, drop, sym, ap, ◌∙◌, arith, append_assoc}
 use Rattle.anb_term.specs.Tree.{trees_of}
 use Rattle.anb_term.specs.View.{tree_of}
 use Rattle.anb_term.proofs.Lists.{one_size, split_at}

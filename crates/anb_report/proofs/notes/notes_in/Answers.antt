@@ -12,11 +12,11 @@ notes_at-requires-clause-few c =
     omega (arith, same, turn_fewer formats c.args.instrs.now, c.requires.few)
 
 pub returns : goal.returns
-returns c =
+returns c free are =
     let formats = c.args.formats.now in
     let p = c.args.protocol.now in
     let trees = map tree_of c.args.terms.now in
     let instrs = c.args.instrs.now in
-    let later = notes_from formats p trees 0 instrs in
-    c.in_ok-put_notes.ensures ∙ ap (λ l. l ++ later) (c.in_ok-push.ensures.items ∙ ap (λ l. l ++ c.in_ok-notes.notes ∷ []) c.new-out.ensures.items)
-    ∙ ap (λ n. n ∷ later) (c.in_ok-notes.ensures ∙ ap (notes_at formats p trees 0) c.turn.ensures)
+    let later = notes_from formats p trees free 0 instrs in
+    c.in_ok-put_notes.ensures free are ∙ ap (λ l. l ++ later) (c.in_ok-push.ensures.items ∙ ap (λ l. l ++ c.in_ok-notes.notes ∷ []) c.new-out.ensures.items)
+    ∙ ap (λ n. n ∷ later) (c.in_ok-notes.ensures free are ∙ ap (notes_at formats p trees free 0) c.turn.ensures)

@@ -17,10 +17,11 @@ loop-i-preserved c =
     let end = next + c.count_written.result in
     let here = slice_get-at instrs i x (omega arith) c.index-instrs-i.is in
     let out = c.loop-i.out.items in
-    let later = notes_from formats p trees end (drop (i + 1) instrs) in
-    let put = rw c.rest_of-rest.ensures at c.in_ok-put_first.ensures in
     record {
-      due = ap (λ l. l ++ later) put ∙ append_assoc out (notes_first formats p trees next (drop i instrs)) later
-          ∙ ap (λ l. out ++ l) (sym (notes_then formats instrs i x here p trees next end (ap (λ n. next + n) c.count_written.ensures))) ∙ c.loop-i.invariant.due;
+      due = λ free are.
+          let later = notes_from formats p trees free end (drop (i + 1) instrs) in
+          let put = rw c.rest_of-rest.ensures at (c.in_ok-put_first.ensures free are) in
+          ap (λ l. l ++ later) put ∙ append_assoc out (notes_first formats p trees free next (drop i instrs)) later
+          ∙ ap (λ l. out ++ l) (sym (notes_then formats instrs i x here p trees free next end (ap (λ n. next + n) c.count_written.ensures))) ∙ c.loop-i.invariant.due free are;
       few = omega (arith, c.loop-i.invariant.few, count_first formats instrs i x here, c.count_written.ensures);
     }
