@@ -1,12 +1,14 @@
 -- What a report comes to, and what goes over the wire.
-use Rattle.std.proofs.Common.{◌≡◌, ◌≢◌, ◌≤◌, ◌⊎◌, ℕ, cond, List, [], ◌++◌, length, Bool, true, false, Option, Result, Ok, Err, IfOk, refl, ap, sym, ◌∙◌, subst, inl, inr, arith}
+use Rattle.std.proofs.Common.{◌≡◌, ◌≢◌, ◌≤◌, ◌⊎◌, ℕ, cond, List, [], ◌++◌, length, map, Bool, true, false, Option, Result, Ok, Err, IfOk, refl, ap, sym, ◌∙◌, subst, inl, inr, arith}
 use Rattle.std.specs.Prelude.{◌==◌, count_by}
+use Rattle.std.proofs.lemmas.List.{append-nil}
 use Rattle.anb_attempts.specs.declared.attempts.TheConstants.{MOST}
-use Rattle.anb_base.specs.Moves.{PutPrefix, Rose}
+use Rattle.anb_base.specs.Moves.{Put, PutPrefix, Rose}
 use Rattle.anb_base.specs.Wires.{WireState}
 use Rattle.anb_base.specs.declared.place.Place.TheVariants.{Stdio}
 use Rattle.anb_base.proofs.Joined.{Put-joined}
-use Rattle.anb_base.proofs.Moving.{put_further, put_within}
+use Rattle.anb_base.proofs.Moving.{put_further, put_nothing, put_within}
+use Rattle.anb_draws.specs.declared.draws.Drawn.{Drawn}
 use Rattle.anb_partner.specs.Trials.{Trial}
 use Rattle.anb_protocol.specs.Protocols.{ProtocolValue}
 use Rattle.anb_partner.specs.declared.planning.PartnerNo.{PartnerNo}
@@ -22,8 +24,8 @@ use Rattle.anb_verdict.specs.declared.verdict.Verdict.{Verdict}
 use Rattle.anb_command.specs.OverWire.{DidNotReach, HasReached, OnlyWrites, OverWire}
 use Rattle.anb_command.proofs.OverWire.{no_memory, not_reached, text_done, text_failed, text_wanting, untouched}
 use Rattle.anb_command.proofs.Reported.{calm_told, nothing_failed}
-use Rattle.anb_probe_commands.specs.Plays.{verdicts_of}
-use Rattle.anb_probe_commands.specs.Playing.{Broke, BrokeIn, EndsLate, IsCut, IsPlayedOut, IsPrepared, LateCause, OverTrials, PlaysAll, PlaysLess, PlaysPart, TaskComesTo, Wrote, no_of, part_in, report_in, status_of, texts_of}
+use Rattle.anb_probe_commands.specs.Plays.{AreTold, verdicts_of}
+use Rattle.anb_probe_commands.specs.Playing.{Broke, BrokeIn, EndsLate, IsCut, IsPlayedOut, IsPrepared, LateCause, OverTrials, PlaysAll, PlaysLess, PlaysPart, TaskComesTo, Wrote, end_in, no_of, part_in, report_in, status_of, texts_of}
 use Rattle.anb_probe_commands.specs.ProbeCommand.{Agenda, ComesTo, IsCutShort, IsHonestNo, IsReported, RefusesHonest}
 use Rattle.anb_probe_commands.specs.Cases.{is_beyond}
 use Rattle.anb_probe_commands.specs.Probings.{Probing}
@@ -31,11 +33,16 @@ use Rattle.anb_probe_commands.specs.Reports.{is_failed, notes, status_for}
 use Rattle.anb_probe_commands.specs.Tasks.{agenda_by}
 use Rattle.anb_probe_commands.specs.Words.{Trying, order_of}
 use Rattle.anb_probe_commands.specs.declared.cases.Prepared.{Prepared}
+use Rattle.anb_probe_commands.specs.declared.playing.Outcome.{Outcome}
 use Rattle.anb_probe_commands.specs.declared.writing.PlayNo.{PlayNo}
 use Rattle.anb_probe_commands.specs.declared.writing.PlayNo.TheVariants.{Failed, NotStarted, NoMemory}
 use Rattle.anb_probe_commands.proofs.Played.{none_played}
 
 -- ---- writing
+
+pub whole_prefix : (a b : Option (List ℕ)) (x : List ℕ) → Put a b x → PutPrefix a b x
+whole_prefix a b x put =
+    subst (PutPrefix a b) (append-nil x) (put_further a b b x [] put (0, omega arith, put_nothing b))
 
 pub only_both : (S T U : WireState) → OnlyWrites S T → OnlyWrites T U → OnlyWrites S U
 only_both S T U first second = record {
@@ -117,44 +124,61 @@ module _ (q : Probing) (x : Prepared) (program : List (List ℕ)) where
   cut_cases old new S T U NoMemory first (ends, part, put) =
       (ends, record { reached = part.reached; played = part.played }, inl (put_further S.written T.written U.written _ _ first.put put))
 
-  module _ (old new : ℕ → Trial) (S T U V : WireState) (vs : List Verdict) (first : Wrote S T (first_lines (length x.cases.items))) (cases : IsPlayedOut q x program old new T U vs) where
+  module _ (old new : ℕ → Trial) (S T U : WireState) (outcomes : List Outcome) (first : Wrote S T (first_lines (length x.cases.items))) (cases : IsPlayedOut q x program old new T U outcomes) where
     both : Wrote S U (part_in q g cases.ends)
     both = wrote_both S T U _ _ first cases.wrote
 
-    -- the notes are on these ends
-    notes_are : (P : List ℕ → Type 0) → P (notes q.protocol q.role x.cases.items x.untried.items vs) → P (notes q.protocol q.role x.cases.items x.untried.items (verdicts_of cases.ends))
-    notes_are P here = subst (λ (l : List Verdict). P (notes q.protocol q.role x.cases.items x.untried.items l)) (sym cases.verdicts_are) here
-
-    -- writing the notes went wrong
-    pub cut_notes : (why : PlayNo) → BrokeIn (notes q.protocol q.role x.cases.items x.untried.items vs) U V why → PlaysLess q g program old new S.written V.written why
-    cut_notes why broke = by why broke.started where
-      part : PlaysPart q g program old new S.written V.written cases.ends
-      part = record {
-        reached = cases.reached;
-        played = record { each = cases.played.each; others = λ i after. cases.played.others i (omega (arith, after)); none_left = cases.played.none_left };
-      }
-
-      written : PutPrefix S.written V.written (report_in q g cases.ends)
-      written = put_further S.written U.written V.written _ _ both.put (notes_are (PutPrefix U.written V.written) broke.part)
-
-      by : (w : PlayNo) → w ≢ NotStarted → PlaysLess q g program old new S.written V.written w
-      by NotStarted never = absurd (never refl)
-      by Failed other = (cases.ends, part, inr (cases.all, written))
-      by NoMemory other = (cases.ends, part, inr (cases.all, written))
-
-    pub broke_notes : (why : PlayNo) → BrokeIn (notes q.protocol q.role x.cases.items x.untried.items vs) U V why → Broke S V why
-    broke_notes why broke = broke_behind S U V _ why both broke.broke
-
-    -- all was written
-    pub all_played : Wrote U V (notes q.protocol q.role x.cases.items x.untried.items vs) → PlaysAll q g program old new S V vs
-    all_played last = record {
+    part_by : (now : Option (List ℕ)) → PlaysPart q g program old new S.written now cases.ends
+    part_by now = record {
       reached = cases.reached;
-      ends = cases.ends;
-      verdicts_are = cases.verdicts_are;
-      all = cases.all;
-      played = cases.played;
-      wrote = wrote_both S U V _ _ both (notes_are (Wrote U V) last);
+      played = record { each = cases.played.each; others = λ i after. cases.played.others i (omega (arith, after)); none_left = cases.played.none_left };
     }
+
+    -- there is no memory for what is told of them
+    pub cut_found : PlaysLess q g program old new S.written U.written NoMemory
+    cut_found = (cases.ends, part_by U.written, inl (whole_prefix S.written U.written _ both.put))
+
+    pub broke_found : Broke S U NoMemory
+    broke_found = record { only = both.only; cause = λ never. absurd (cc); quiet = λ _. both.quiet }
+
+    module _ (V : WireState) (told : List (List Drawn)) (vs : List Verdict) (are_told : AreTold q (map end_in outcomes) told) (are : vs ≡ verdicts_of (map end_in outcomes)) where
+      verdicts_are : verdicts_of cases.ends ≡ vs
+      verdicts_are = ap verdicts_of cases.ends_are ∙ sym are
+
+      -- what is told is told of these ends
+      told_are : AreTold q cases.ends told
+      told_are = subst (λ es. AreTold q es told) (sym cases.ends_are) are_told
+
+      -- the notes are on these ends
+      notes_are : (P : List ℕ → Type 0) → P (notes q.protocol q.role x.cases.items x.untried.items told vs) → P (notes q.protocol q.role x.cases.items x.untried.items told (verdicts_of cases.ends))
+      notes_are P here = subst (λ (l : List Verdict). P (notes q.protocol q.role x.cases.items x.untried.items told l)) (sym verdicts_are) here
+
+      -- writing the notes went wrong
+      pub cut_notes : (why : PlayNo) → BrokeIn (notes q.protocol q.role x.cases.items x.untried.items told vs) U V why → PlaysLess q g program old new S.written V.written why
+      cut_notes why broke = by why broke.started where
+        written : PutPrefix S.written V.written (report_in q g told cases.ends)
+        written = put_further S.written U.written V.written _ _ both.put (notes_are (PutPrefix U.written V.written) broke.part)
+
+        by : (w : PlayNo) → w ≢ NotStarted → PlaysLess q g program old new S.written V.written w
+        by NotStarted never = absurd (never refl)
+        by Failed other = (cases.ends, part_by V.written, inr (cases.all, (told, told_are, written)))
+        by NoMemory other = (cases.ends, part_by V.written, inr (cases.all, (told, told_are, written)))
+
+      pub broke_notes : (why : PlayNo) → BrokeIn (notes q.protocol q.role x.cases.items x.untried.items told vs) U V why → Broke S V why
+      broke_notes why broke = broke_behind S U V _ why both broke.broke
+
+      -- all was written
+      pub all_played : Wrote U V (notes q.protocol q.role x.cases.items x.untried.items told vs) → PlaysAll q g program old new S V vs
+      all_played last = record {
+        reached = cases.reached;
+        ends = cases.ends;
+        verdicts_are = verdicts_are;
+        all = cases.all;
+        played = cases.played;
+        told = told;
+        are_told = told_are;
+        wrote = wrote_both S U V _ _ both (notes_are (Wrote U V) last);
+      }
 
 -- ---- what it comes to
 
@@ -168,6 +192,8 @@ module _ (q : Probing) (trying : Trying) (g : Agenda) (name : List ℕ) (old new
       ends = all.ends;
       all = all.all;
       played = all.played;
+      told = all.told;
+      are_told = all.are_told;
       put = all.wrote.put;
       is = is ∙ ap status_for (sym all.verdicts_are);
     }

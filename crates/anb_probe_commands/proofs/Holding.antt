@@ -7,12 +7,13 @@ use Rattle.std.proofs.lemmas.List.{append_cancel_left, append_cancel_right}
 use Rattle.anb_attempts.specs.declared.attempts.TheConstants.{MOST}
 use Rattle.anb_recording.specs.Journals.{Files, IsAbsent}
 use Rattle.anb_recording.specs.Lines.{lines_text}
-use Rattle.anb_record_commands.specs.Names.{values_in}
-use Rattle.anb_record_commands.proofs.Holding.{with_other, with_same}
+use Rattle.anb_recorded.specs.Names.{values_in}
+use Rattle.anb_recorded.specs.Outcomes.{AreAbsent}
+use Rattle.anb_recorded.proofs.Holding.{with_other, with_same}
 use Rattle.anb_store.specs.Stores.{StoreState, replaced, with_file}
 use Rattle.anb_probe_commands.specs.Keeping.{Told, all_told, put_told, told, told_from}
 use Rattle.anb_probe_commands.specs.Plays.{CaseEnd}
-use Rattle.anb_probe_commands.specs.Records.{HoldsCases, IsFresh, IsOfRecord, IsTranscriptOf, errors_of, transcript_of}
+use Rattle.anb_probe_commands.specs.Records.{HoldsCases, IsOfRecord, IsTranscriptOf, errors_of, transcript_of}
 
 -- ---- names
 
@@ -46,7 +47,7 @@ values_apart folder n is =
 
 pub fresh_by : (folder : List ℕ) (store : StoreState) → IsAbsent store (values_in folder)
     → ((case : ℕ) → case < MOST → IsAbsent store (transcript_of folder (case + 1)))
-    → ((case : ℕ) → case < MOST → IsAbsent store (errors_of folder (case + 1))) → IsFresh folder store
+    → ((case : ℕ) → case < MOST → IsAbsent store (errors_of folder (case + 1))) → AreAbsent (IsOfRecord folder) store
 fresh_by folder store values transcripts errors name mine = by mine where
   by : IsOfRecord folder name → IsAbsent store name
   by (inl is) = subst (IsAbsent store) (sym is) values

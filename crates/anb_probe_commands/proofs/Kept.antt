@@ -1,15 +1,14 @@
 -- What is told of the cases that were played.
-use Rattle.std.proofs.Common.{◌≡◌, ◌≢◌, ◌⊎◌, ◌<◌, ◌≤◌, ◌+◌, ℕ, zero, suc, List, [], ◌∷◌, ◌++◌, length, Bool, true, false, cond, Option, Some, refl, ap, sym, ◌∙◌, subst, inl, inr, arith, length-append, append-nil}
+use Rattle.std.proofs.Common.{◌≡◌, ◌≢◌, ◌<◌, ◌≤◌, ◌+◌, ℕ, zero, suc, List, [], ◌∷◌, ◌++◌, length, Bool, true, false, cond, Some, refl, ap, sym, ◌∙◌, subst, arith, length-append, append-nil}
 use Rattle.std.specs.Prelude.{◌==◌, count_by, slice_get}
 use Rattle.anb_attempts.specs.declared.attempts.Attempt.{Attempt}
 use Rattle.anb_base.specs.Wires.{WireState}
 use Rattle.anb_partner.specs.Trials.{OthersStay, Trial}
 use Rattle.anb_status.specs.declared.status.Status.{Status}
 use Rattle.anb_status.specs.declared.status.Status.TheVariants as status
-use Rattle.anb_transcript.specs.declared.transcript.TranscriptLine.{TranscriptLine}
 use Rattle.anb_verdict.specs.declared.verdict.Verdict.{Verdict}
 use Rattle.anb_probe_commands.specs.Keeping.{IsSame, Keeps, KeepsBy, KeepsCase, KeepsLess, Told, told, told_from}
-use Rattle.anb_probe_commands.specs.Playing.{Wrote, end_in, status_of, text_of, texts_of}
+use Rattle.anb_probe_commands.specs.Playing.{status_of}
 use Rattle.anb_probe_commands.specs.Plays.{ArePlayed, CaseEnd, IsNotStarted, IsTried}
 use Rattle.anb_probe_commands.specs.ProbeInto.{IsNext}
 use Rattle.anb_probe_commands.specs.Probings.{Probing}
@@ -125,7 +124,7 @@ case_kept q x order After case reached old new a end got NoMemory at tried after
 
 -- ---- in the loop over the cases: what was told before, what then, and what by then
 
-module _ (q : Probing) (x : Prepared) (order : List (List ℕ)) (old mid new : ℕ → Trial) (S T U : WireState) (verdicts : List Verdict) (i reached : ℕ) (so : PlayedSoFar q x order old mid S T verdicts i reached)
+module _ (q : Probing) (x : Prepared) (order : List (List ℕ)) (old mid new : ℕ → Trial) (S T U : WireState) (outcomes : List Outcome) (i reached : ℕ) (so : PlayedSoFar q x order old mid S T outcomes i reached)
     (within : i < length x.cases.items) (Before Then By : List Told → Type 0) (joined : (some more : List Told) → Before some → Then more → By (some ++ more)) (kept : Before (told_from 0 so.ends)) where
   -- the next case came to this end
   pub kept_next : (end : CaseEnd) → Then (told i end.lines ∷ []) → By (told_from 0 (so.ends ++ end ∷ []))

@@ -10,3 +10,4 @@ mod Holding
 mod Own
 mod Kept
 mod Told
+mod Found

@@ -1,5 +1,5 @@
 -- What is asked of `probe` is one, its refusals come before the wire is reached, and what the files give.
-use Rattle.std.proofs.Common.{◌≡◌, ◌<◌, ◌+◌, ℕ, List, ◌⊎◌, length, Option, Some, None, refl, ap, sym, ◌∙◌, subst, inl, inr, arith, IsTrue, Bool, true, false}
+use Rattle.std.proofs.Common.{◌≡◌, ◌<◌, ◌+◌, ℕ, List, ◌⊎◌, length, Option, Some, None, refl, ap, sym, ◌∙◌, subst, inl, inr, arith, IsTrue, Bool}
 use Rattle.std.specs.Prelude.{◌↔◌}
 use Rattle.std.proofs.lemmas.Bool.{cases_order}
 use Rattle.anb_protocol.specs.Plans.{MakesNames}
@@ -18,9 +18,10 @@ use Rattle.anb_command.specs.Roles.{Part, PartInFile}
 use Rattle.anb_command.specs.Seeds.{SeedIs}
 use Rattle.anb_command.specs.Steps.{Answer, refused, given, HasOneAnswer, IsFailure}
 use Rattle.anb_command.proofs.Chains.{told_map}
-use Rattle.anb_command.proofs.Ones.{RefusesQuietly, is_one, is_quiet, part_one, part_quiet, quiet_as, seed_one, seed_quiet, then_one, then_quiet, values_in_file_one, values_in_file_quiet}
+use Rattle.anb_command.proofs.Ones.{RefusesQuietly, is_one, is_quiet, part_one, part_quiet, quiet_as, then_one, then_quiet, values_in_file_one, values_in_file_quiet}
 use Rattle.anb_command.proofs.Preparing.{told_both}
 use Rattle.anb_rehearse_commands.specs.Rehearsals.{SeedFor}
+use Rattle.anb_rehearse_commands.proofs.Asking.{seed_for_one, seed_for_quiet}
 use Rattle.anb_probe_commands.specs.Probings.{BeginningsAre, IsFirstLong, IsReadToProbe, Probing, ProbingIs, ProbingOf, Settles, long_label, probing_of}
 use Rattle.anb_probe_commands.specs.Tasks.{IsLongOf}
 
@@ -50,19 +51,6 @@ module _ (p : ProtocolValue) (values : List (List ℕ)) where
   beginnings_quiet = record { each = λ s why. quiet_as s _ why.1 (refl, refl) }
 
 -- ---- the seed
-
-same_test : (a b : Bool) (P : Type 0) → (IsTrue a ↔ P) → (IsTrue b ↔ P) → a ≡ b
-same_test true true P x y = refl
-same_test true false P x y = let never : false ≡ true = y.1 (x.0 refl) in absurd (cc)
-same_test false true P x y = let never : false ≡ true = x.1 (y.0 refl) in absurd (cc)
-same_test false false P x y = refl
-
-seed_for_one : (p : ProtocolValue) (told host_seed : Option (List ℕ)) → HasOneAnswer (SeedFor p told host_seed)
-seed_for_one p told host_seed one other (a, x, s) (b, y, t) =
-    seed_one a told host_seed one other s (subst (λ (makes : Bool). SeedIs makes told host_seed other) (same_test b a (MakesNames p) y x) t)
-
-seed_for_quiet : (p : ProtocolValue) (told host_seed : Option (List ℕ)) → RefusesQuietly (SeedFor p told host_seed)
-seed_for_quiet p told host_seed = record { each = λ s why. (seed_quiet why.0 told host_seed).each s why.2 }
 
 settles_one : (part : Part) (fitted : Fitted) (host_seed : Option (List ℕ)) → HasOneAnswer (Settles part fitted host_seed)
 settles_one part fitted host_seed =

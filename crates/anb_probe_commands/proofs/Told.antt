@@ -19,15 +19,15 @@ use Rattle.anb_partner.specs.Trials.{Trial}
 use Rattle.anb_partner.specs.declared.planning.PartnerNo.{PartnerNo}
 use Rattle.anb_partner.specs.declared.planning.PartnerNo.TheVariants as no
 use Rattle.anb_protocol.specs.Protocols.{ProtocolValue}
-use Rattle.anb_record_commands.specs.Names.{values_in}
-use Rattle.anb_record_commands.specs.Outcomes.{IsMissing, IsTaken, told_as}
-use Rattle.anb_record_commands.specs.declared.ended.Missing.{Missing}
-use Rattle.anb_record_commands.specs.declared.ended.Missing.TheVariants as missing
-use Rattle.anb_record_commands.proofs.Completing.{by_what_is_missing}
-use Rattle.anb_record_commands.proofs.Telling.{any_time, calm_place, told_by}
+use Rattle.anb_recorded.specs.Names.{values_in}
+use Rattle.anb_recorded.specs.Outcomes.{IsMissing, IsTaken, told_as}
+use Rattle.anb_recorded.specs.declared.ended.Missing.{Missing}
+use Rattle.anb_recorded.specs.declared.ended.Missing.TheVariants as missing
+use Rattle.anb_recorded.proofs.Completing.{by_what_is_missing}
+use Rattle.anb_recorded.proofs.Telling.{any_time, calm_place, told_by, touches_any}
 use Rattle.anb_recording.specs.Joining.{others_joined, others_still}
 use Rattle.anb_recording.specs.Journals.{IsThere, OthersStay}
-use Rattle.anb_status.specs.Statuses.{IsEarly, Phase, after_reach, at_any_time, at_reach, before_reach, is_fault, phase_of}
+use Rattle.anb_status.specs.Statuses.{IsEarly, after_reach, at_any_time, at_reach, before_reach, is_fault, phase_of}
 use Rattle.anb_status.specs.declared.status.Status.{Status}
 use Rattle.anb_status.specs.declared.status.Status.TheVariants.{ChildFault, NoMemory, Unreached, Unwritten}
 use Rattle.anb_status.specs.declared.status.Status.TheVariants as status
@@ -39,7 +39,7 @@ use Rattle.anb_probe_commands.specs.Playing.{IsPrepared, TaskComesTo}
 use Rattle.anb_probe_commands.specs.ProbeCommand.{Agenda, Asks, ComesTo, CompletesProbe, HasProbeCause, IsHonestNo, RefusesHonest, agenda_of, probe_phase}
 use Rattle.anb_probe_commands.specs.ProbeInto.{CompletesProbeInto, HasProbeIntoCause, HasRecord, IsNext, IsRecorded, into_phase}
 use Rattle.anb_probe_commands.specs.Probings.{Probing, ProbingIs}
-use Rattle.anb_probe_commands.specs.Records.{IsFresh, IsOfRecord}
+use Rattle.anb_probe_commands.specs.Records.{IsOfRecord}
 use Rattle.anb_probe_commands.specs.Tasks.{agenda_by}
 use Rattle.anb_probe_commands.specs.Words.{Probed, Trying, order_of}
 use Rattle.anb_probe_commands.specs.declared.cases.Prepared.{Prepared}
@@ -226,19 +226,6 @@ early_before s early = by early where
   by (inr none) = inr none
 
 -- ---- the status
-
-touches_any : (S T : WireState) (phase : Phase) → (phase ≡ at_reach → ⊥) → Touches false phase S T → Touches false at_any_time S T
-touches_any S T phase not_at t = record {
-  before = λ is. absurd (cc);
-  unreached = λ is. absurd (cc);
-  missed = λ rose. absurd (not_at (t.missed rose));
-  unread = t.unread;
-  untaken = t.untaken;
-  unread_faults = t.unread_faults;
-  reads = t.reads;
-  writes = t.writes;
-  reaches = t.reaches;
-}
 
 calm_probe : (s : Status) → is_fault s ≡ false → probe_phase s ≡ at_reach → ⊥
 calm_probe (ChildFault name) calm at = cc

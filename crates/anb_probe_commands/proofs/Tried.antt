@@ -1,8 +1,8 @@
 -- One case, and those before it.
 use Rattle.std.proofs.Math.Dec.{eqb-suc-zero}
-use Rattle.std.proofs.Common.{Bool, cond, ◌≡◌, ◌≢◌, ◌<◌, ℕ, zero, suc, ◌+◌, List, [], ◌∷◌, ◌++◌, length, replicate, Option, Some, Ok, refl, ap, sym, ◌∙◌, subst, inl, inr, arith, length-append}
+use Rattle.std.proofs.Common.{Bool, cond, ◌≡◌, ◌≢◌, ◌<◌, ℕ, zero, suc, ◌+◌, List, [], ◌∷◌, ◌++◌, length, map, replicate, Option, Some, Ok, refl, ap, sym, ◌∙◌, subst, inl, inr, arith, length-append}
 use Rattle.std.specs.Prelude.{slice_get}
-use Rattle.std.proofs.lemmas.List.{append-nil, length-map, map-append}
+use Rattle.std.proofs.lemmas.List.{length-map, map-append}
 use Rattle.anb_base.specs.Moves.{Put, PutPrefix}
 use Rattle.anb_base.specs.Wires.{WireState}
 use Rattle.anb_base.proofs.Moving.{put_further, put_nothing}
@@ -15,7 +15,6 @@ use Rattle.anb_partner.specs.Talks.{Converses}
 use Rattle.anb_partner.specs.Trials.{OthersStay, Trial}
 use Rattle.anb_partner.specs.declared.conversation.Conversation.{Conversation}
 use Rattle.anb_partner.specs.declared.planning.Partner.{Partner}
-use Rattle.anb_protocol.specs.Protocols.{ProtocolValue}
 use Rattle.anb_protocol.specs.Texts.{known_by, known_texts}
 use Rattle.anb_spoil.specs.Wrongs.{wrong_by}
 use Rattle.anb_tries.specs.Seen.{seen_of}
@@ -23,7 +22,7 @@ use Rattle.anb_tries.specs.Tries.{IsTriedVerdict}
 use Rattle.anb_verdict.specs.Verdicts.{reached_by}
 use Rattle.anb_verdict.specs.declared.verdict.Verdict.{Verdict}
 use Rattle.anb_probe_commands.specs.Keeping.{Told, told_from}
-use Rattle.anb_probe_commands.specs.Plays.{ArePlayed, CaseEnd, IsNotStarted, IsTried, reached_in, verdict_in, verdicts_of}
+use Rattle.anb_probe_commands.specs.Plays.{ArePlayed, CaseEnd, IsNotStarted, IsTried, reached_in}
 use Rattle.anb_probe_commands.specs.Playing.{BrokeIn, CanPlay, IsCaseCut, IsCut, IsPlayedOut, IsPlayedPart, Wrote, end_in, text_of, texts_of}
 use Rattle.anb_probe_commands.specs.Probings.{Probing}
 use Rattle.anb_probe_commands.specs.Reports.{played_lines}
@@ -32,7 +31,7 @@ use Rattle.anb_probe_commands.specs.declared.playing.Outcome.{Outcome}
 use Rattle.anb_probe_commands.specs.declared.writing.PlayNo.{PlayNo}
 use Rattle.anb_probe_commands.specs.declared.writing.PlayNo.TheVariants.{Failed, NotStarted, NoMemory}
 use Rattle.anb_probe_commands.proofs.Listing.{played_next}
-use Rattle.anb_probe_commands.proofs.Ending.{wrote_both}
+use Rattle.anb_probe_commands.proofs.Ending.{whole_prefix, wrote_both}
 use Rattle.anb_probe_commands.proofs.Played.{begun, one_more}
 
 -- ---- one attempt
@@ -77,10 +76,6 @@ module _ (q : Probing) (x : Prepared) (program : List (List ℕ)) (number reache
       subst (λ (z : Attempt). IsTried q x.scenes.items program z reached old new end got × Wrote S T (text_of q x (number + 1) z end)) (same_case one other) (tried, wrote)
 
 -- ---- the lines of a case
-
-pub whole_prefix : (a b : Option (List ℕ)) (x : List ℕ) → Put a b x → PutPrefix a b x
-whole_prefix a b x put =
-    subst (PutPrefix a b) (append-nil x) (put_further a b b x [] put (0, omega arith, put_nothing b))
 
 module _ (q : Probing) (x : Prepared) (program : List (List ℕ)) (number reached : ℕ) (old new : Trial) where
   -- the case came to a verdict, and its lines weren't written
@@ -184,9 +179,9 @@ module _ (q : Probing) (x : Prepared) (program : List (List ℕ)) (old mid new :
 
 -- ---- so many cases were played
 
-pub record PlayedSoFar (q : Probing) (x : Prepared) (program : List (List ℕ)) (old new : ℕ → Trial) (S T : WireState) (verdicts : List Verdict) (i reached : ℕ) : Type 0 where
+pub record PlayedSoFar (q : Probing) (x : Prepared) (program : List (List ℕ)) (old new : ℕ → Trial) (S T : WireState) (outcomes : List Outcome) (i reached : ℕ) : Type 0 where
   pub ends : List CaseEnd
-  pub verdicts_are : verdicts_of ends ≡ verdicts
+  pub ends_are : ends ≡ map end_in outcomes
   pub count : length ends ≡ i
   pub begun : i ≡ 0 → reached ≡ 0
   pub played : ArePlayed q x.scenes.items program x.cases.items reached ends i old new
@@ -228,10 +223,10 @@ module _ (q : Probing) (x : Prepared) (program : List (List ℕ)) (old mid new :
       (wrote_both S T U (texts_of q x ends) (text_of q x (length ends + 1) a end) wrote
       (subst (λ (k : ℕ). Wrote T U (text_of q x (k + 1) a end)) (sym count) line))
 
-module _ (q : Probing) (x : Prepared) (program : List (List ℕ)) (old mid new : ℕ → Trial) (S T U : WireState) (verdicts : List Verdict) (i reached : ℕ)
-    (so : PlayedSoFar q x program old mid S T verdicts i reached) where
-  verdicts_next : (o : Outcome) → verdicts_of (so.ends ++ end_in o ∷ []) ≡ verdicts ++ o.verdict ∷ []
-  verdicts_next o = map-append verdict_in so.ends (end_in o ∷ []) ∙ ap (λ (l : List Verdict). l ++ o.verdict ∷ []) so.verdicts_are
+module _ (q : Probing) (x : Prepared) (program : List (List ℕ)) (old mid new : ℕ → Trial) (S T U : WireState) (outcomes : List Outcome) (i reached : ℕ)
+    (so : PlayedSoFar q x program old mid S T outcomes i reached) where
+  ends_next : (o : Outcome) → so.ends ++ end_in o ∷ [] ≡ map end_in (outcomes ++ o ∷ [])
+  ends_next o = ap (λ (l : List CaseEnd). l ++ end_in o ∷ []) so.ends_are ∙ sym (map-append end_in outcomes (o ∷ []))
 
   -- and one case more
   module _ (o : Outcome) (a : Attempt) (r : ℕ) (stay : OthersStay i mid new) (gone : (new i).phase ≢ 1) (within : i < length x.cases.items) (at : slice_get x.cases.items i ≡ Some a)
@@ -248,10 +243,10 @@ module _ (q : Probing) (x : Prepared) (program : List (List ℕ)) (old mid new :
     pub cut_pushing : IsCut q x program old new S.written U.written NoMemory
     cut_pushing = (so.ends ++ end_in o ∷ [], next.1, whole_prefix S.written U.written _ wrote_next.put)
 
-    pub so_further : (now : List Verdict) → now ≡ verdicts ++ o.verdict ∷ [] → PlayedSoFar q x program old new S U now (i + 1) r
+    pub so_further : (now : List Outcome) → now ≡ outcomes ++ o ∷ [] → PlayedSoFar q x program old new S U now (i + 1) r
     so_further now pushed = record {
       ends = so.ends ++ end_in o ∷ [];
-      verdicts_are = verdicts_next o ∙ sym pushed;
+      ends_are = ends_next o ∙ ap (map end_in) (sym pushed);
       count = length-append so.ends (end_in o ∷ []) ∙ ap (λ (n : ℕ). n + 1) so.count;
       begun = λ e. absurd (omega (arith, e));
       played = next.0;
@@ -259,21 +254,21 @@ module _ (q : Probing) (x : Prepared) (program : List (List ℕ)) (old mid new :
     }
 
     -- and what was told of them all
-    pub so_kept : (By : List Told → Type 0) (now : List Verdict) → now ≡ verdicts ++ o.verdict ∷ [] → By (told_from 0 (so.ends ++ end_in o ∷ []))
+    pub so_kept : (By : List Told → Type 0) (now : List Outcome) → now ≡ outcomes ++ o ∷ [] → By (told_from 0 (so.ends ++ end_in o ∷ []))
         → (further : PlayedSoFar q x program old new S U now (i + 1) r) × By (told_from 0 further.ends)
     unfolding so_further
     so_kept By now pushed kept = (so_further now pushed, kept)
 
   -- all were
-  pub played_out : i ≡ length x.cases.items → IsPlayedOut q x program old mid S T verdicts
+  pub played_out : i ≡ length x.cases.items → IsPlayedOut q x program old mid S T outcomes
   played_out all = record {
     reached = reached;
     ends = so.ends;
-    verdicts_are = so.verdicts_are;
+    ends_are = so.ends_are;
     all = so.count ∙ all;
     played = subst (λ (k : ℕ). ArePlayed q x.scenes.items program x.cases.items reached so.ends k old mid) (sym so.count) so.played;
     wrote = so.wrote;
   }
 
-  pub count_out : i ≡ length x.cases.items → length verdicts ≡ length x.cases.items
-  count_out all = ap length (sym so.verdicts_are) ∙ length-map so.ends verdict_in ∙ so.count ∙ all
+  pub count_out : i ≡ length x.cases.items → length outcomes ≡ length x.cases.items
+  count_out all = sym (length-map outcomes end_in) ∙ ap length (sym so.ends_are) ∙ so.count ∙ all

@@ -7,9 +7,10 @@ use Rattle.anb_base.specs.Moves.{Rose}
 use Rattle.anb_base.proofs.Moving.{Rose-later}
 use Rattle.anb_command.specs.Steps.{given}
 use Rattle.anb_partner.specs.Trials.{Trial}
-use Rattle.anb_record_commands.specs.Names.{values_in}
-use Rattle.anb_record_commands.specs.declared.ended.Missing.{Missing}
-use Rattle.anb_record_commands.specs.declared.ended.Missing.TheVariants as missing
+use Rattle.anb_recorded.specs.Names.{values_in}
+use Rattle.anb_recorded.specs.Outcomes.{AreAbsent}
+use Rattle.anb_recorded.specs.declared.ended.Missing.{Missing}
+use Rattle.anb_recorded.specs.declared.ended.Missing.TheVariants as missing
 use Rattle.anb_recording.specs.Joining.{others_joined, others_still}
 use Rattle.anb_recording.specs.Journals.{IsThere, OthersStay}
 use Rattle.anb_recording.specs.Lines.{lines_text}
@@ -23,7 +24,7 @@ use Rattle.anb_probe_commands.specs.Plays.{ArePlayed, CaseEnd, IsNotStarted, IsT
 use Rattle.anb_probe_commands.specs.Probings.{Probing}
 use Rattle.anb_probe_commands.specs.ProbeCommand.{Agenda, Suit, agenda_of}
 use Rattle.anb_probe_commands.specs.ProbeInto.{IsNext}
-use Rattle.anb_probe_commands.specs.Records.{HoldsCases, IsFresh, IsOfRecord, transcript_of}
+use Rattle.anb_probe_commands.specs.Records.{HoldsCases, IsOfRecord, transcript_of}
 use Rattle.anb_probe_commands.specs.Words.{Trying, order_of}
 use Rattle.anb_probe_commands.specs.declared.writing.PlayNo.{PlayNo}
 use Rattle.anb_probe_commands.specs.declared.writing.PlayNo.TheVariants.{Failed, NotStarted, NoMemory}
@@ -184,8 +185,8 @@ module _ (q : Probing) (folder : List ℕ) (fitted : Fitted) (store store_now : 
 module _ (folder values : List ℕ) (old new : StoreState) where
   abbrev pub IsOpened : Missing → Type 0
   IsOpened missing.Nothing =
-      IsFresh folder old × (new ≡ replaced old (values_in folder) values) × OthersStay (IsOfRecord folder) old new
+      AreAbsent (IsOfRecord folder) old × (new ≡ replaced old (values_in folder) values) × OthersStay (IsOfRecord folder) old new
   IsOpened (missing.There name) = IsOfRecord folder name × IsThere old name × (new ≡ old)
   IsOpened (missing.Unwritten name) =
-      IsFresh folder old × IsOfRecord folder name × Rose old.faults new.faults × OthersStay (IsOfRecord folder) old new
+      AreAbsent (IsOfRecord folder) old × IsOfRecord folder name × Rose old.faults new.faults × OthersStay (IsOfRecord folder) old new
   IsOpened missing.NoMemory = Unit {0}

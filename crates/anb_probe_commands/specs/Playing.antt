@@ -1,5 +1,5 @@
 -- For proofs alone: what a part of the cases comes to, and what goes over the wire.
-use Rattle.std.specs.Prelude.{◌≡◌, ◌≢◌, ◌⊎◌, ◌≤◌, ◌<◌, ℕ, ◌+◌, List, length, slice_get, Some, All, Option, false, map, None, Result}
+use Rattle.std.specs.Prelude.{◌≡◌, ◌≢◌, ◌⊎◌, ◌≤◌, ◌<◌, ◌^◌, ℕ, ◌+◌, List, length, slice_get, Some, All, Option, false, map, None, Result}
 use Rattle.std.specs.List.{AllByRecursion}
 use Rattle.anb_base.specs.Bytes.{IsBytes}
 use Rattle.anb_base.specs.Moves.{Put, PutPrefix, Rose}
@@ -9,6 +9,8 @@ use Rattle.anb_base.specs.declared.place.Place.TheVariants.{Stdio}
 use Rattle.anb_attempts.specs.declared.attempts.TheConstants.{MOST}
 use Rattle.anb_attempts.specs.declared.attempts.Attempt.{Attempt}
 use Rattle.anb_command.specs.Causes.{HasWireCause}
+use Rattle.anb_draws.specs.declared.draws.Drawn.{Drawn}
+use Rattle.anb_partner.specs.Talks.{IsShort}
 use Rattle.anb_command.specs.OverWire.{OnlyWrites}
 use Rattle.anb_command.specs.Reaches.{Reaches}
 use Rattle.anb_command.specs.Reported.{TellsWireFaults}
@@ -24,7 +26,7 @@ use Rattle.anb_partner.specs.declared.planning.Partner.{Partner}
 use Rattle.anb_attempts.specs.declared.attempts.Scene.{Scene}
 use Rattle.anb_probe_commands.specs.declared.partners.Lack.{Lack}
 use Rattle.anb_probe_commands.specs.Cases.{AreMade, lack_in, lack_of}
-use Rattle.anb_probe_commands.specs.Plays.{ArePlayed, CaseEnd, IsNotStarted, IsTried, handed, initial, verdicts_of}
+use Rattle.anb_probe_commands.specs.Plays.{ArePlayed, AreTold, CaseEnd, IsNotStarted, IsTried, handed, initial, verdicts_of}
 use Rattle.anb_probe_commands.specs.Probings.{Probing}
 use Rattle.anb_probe_commands.specs.ProbeCommand.{Agenda, ComesTo, RefusesHonest, StartFailed, Suit, agenda_of, probe_phase}
 use Rattle.anb_probe_commands.specs.Reports.{case_text, played_lines, report, report_so_far}
@@ -92,6 +94,11 @@ pub record IsPrepared (q : Probing) (trying : Trying) (x : Prepared) : Type 0 wh
 abbrev pub end_in : Outcome → CaseEnd
 end_in o = record { verdict = o.verdict; lines = o.lines }
 
+-- its lines can be judged
+pub record CanJudge (end : CaseEnd) : Type 0 where
+  pub few : length end.lines + 1 < 2 ^ 32
+  pub short : AllByRecursion IsShort end.lines
+
 module _ (q : Probing) (x : Prepared) where
   -- the text of a case with a number, from 1, and of the first cases
   abbrev pub text_of : (number : ℕ) → Attempt → CaseEnd → List ℕ
@@ -110,11 +117,11 @@ module _ (q : Probing) (x : Prepared) (order : List (List ℕ)) where
       × IsTried q x.scenes.items order a reached old new end got
       × PutPrefix w now (text_of q x (number + 1) a end))
 
-  -- all cases were played, and came to these verdicts
-  pub record IsPlayedOut (old new : ℕ → Trial) (S T : WireState) (verdicts : List Verdict) : Type 0 where
+  -- all cases were played, and this came of them
+  pub record IsPlayedOut (old new : ℕ → Trial) (S T : WireState) (outcomes : List Outcome) : Type 0 where
     pub reached : ℕ
     pub ends : List CaseEnd
-    pub verdicts_are : verdicts_of ends ≡ verdicts
+    pub ends_are : ends ≡ map end_in outcomes
     pub all : length ends ≡ length x.cases.items
     pub played : ArePlayed q x.scenes.items order x.cases.items reached ends (length ends) old new
     pub wrote : Wrote S T (texts_of q x ends)
@@ -136,8 +143,8 @@ module _ (q : Probing) (x : Prepared) (order : List (List ℕ)) where
 -- ---- all of them, and the report
 
 -- the report on these, and up to the last of them
-abbrev pub report_in : Probing → Agenda → List CaseEnd → List ℕ
-report_in q g ends = report q.protocol q.role g.scenes g.is_shown g.cases g.untried ends
+abbrev pub report_in : Probing → Agenda → List (List Drawn) → List CaseEnd → List ℕ
+report_in q g told ends = report q.protocol q.role g.scenes g.is_shown g.cases g.untried told ends
 
 abbrev pub part_in : Probing → Agenda → List CaseEnd → List ℕ
 part_in q g ends = report_so_far q.protocol q.role g.scenes g.is_shown g.cases ends
@@ -149,7 +156,9 @@ module _ (q : Probing) (g : Agenda) (order : List (List ℕ)) (old new : ℕ →
     pub verdicts_are : verdicts_of ends ≡ verdicts
     pub all : length ends ≡ length g.cases
     pub played : ArePlayed q g.scenes order g.cases reached ends (length ends) old new
-    pub wrote : Wrote S T (report_in q g ends)
+    pub told : List (List Drawn)
+    pub are_told : AreTold q ends told
+    pub wrote : Wrote S T (report_in q g told ends)
 
   module _ (w now : Option (List ℕ)) where
     pub record PlaysPart (ends : List CaseEnd) : Type 0 where
@@ -162,7 +171,8 @@ module _ (q : Probing) (g : Agenda) (order : List (List ℕ)) (old new : ℕ →
         × Put w now (part_in q g ends)
     PlaysLess why = (ends : List CaseEnd) × PlaysPart ends
         × (PutPrefix w now (part_in q g ends)
-        ⊎ ((length ends ≡ length g.cases) × PutPrefix w now (report_in q g ends)))
+        ⊎ ((length ends ≡ length g.cases)
+        × ((told : List (List Drawn)) × AreTold q ends told × PutPrefix w now (report_in q g told ends))))
 
 -- ---- behind the reach
 

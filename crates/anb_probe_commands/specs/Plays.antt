@@ -1,7 +1,9 @@
 -- What comes of a program in the cases.
-use Rattle.std.specs.Prelude.{◌≡◌, ◌≢◌, ◌≤◌, ℕ, ◌==◌, List, map, replicate, slice_get, Some, if◌then◌else◌}
+use Rattle.std.specs.Prelude.{◌≡◌, ◌≢◌, ◌≤◌, ℕ, ◌==◌, List, [], ◌∷◌, map, replicate, slice_get, Some, if◌then◌else◌}
 use Rattle.anb_base.specs.Moves.{Rose}
 use Rattle.anb_code.specs.CodeValue.{CodeValue}
+use Rattle.anb_draws.specs.Draws.{IsDrawn}
+use Rattle.anb_draws.specs.declared.draws.Drawn.{Drawn}
 use Rattle.anb_judge.specs.Verdicts.{Judged}
 use Rattle.anb_machine.specs.ByteRuns.{run_bytes}
 use Rattle.anb_partner.specs.Plans.{IsPartner, hook_at}
@@ -41,6 +43,13 @@ verdict_in end = end.verdict
 
 abbrev pub verdicts_of : List CaseEnd → List Verdict
 verdicts_of ends = map verdict_in ends
+
+-- of each case, in order, this is told of what its child drew
+abbrev pub AreTold : Probing → List CaseEnd → List (List Drawn) → Type 0
+AreTold q [] [] = Unit {0}
+AreTold q [] (draws ∷ told) = ⊥
+AreTold q (end ∷ ends) [] = ⊥
+AreTold q (end ∷ ends) (draws ∷ told) = IsDrawn (judged_over q end.lines) draws × AreTold q ends told
 
 -- starting a child failed
 pub record IsNotStarted (old new : Trial) : Type 0 where

@@ -5,6 +5,7 @@ use Rattle.anb_base.specs.Wires.{WireState}
 use Rattle.anb_base.specs.declared.place.Place.TheVariants.{Stdio}
 use Rattle.anb_code.specs.CodeValue.{CodeValue}
 use Rattle.anb_compile.specs.Fitting.{FitsRole}
+use Rattle.anb_draws.specs.declared.draws.Drawn.{Drawn}
 use Rattle.anb_partner.specs.Plans.{RefusesPartner}
 use Rattle.anb_partner.specs.Trials.{Trial}
 use Rattle.anb_partner.specs.declared.planning.Partner.{Partner}
@@ -29,7 +30,7 @@ use Rattle.anb_command.specs.Fetches.{Files, IfTold}
 use Rattle.anb_command.specs.Refusing.{IsRefusing}
 use Rattle.anb_command.specs.Steps.{given}
 use Rattle.anb_probe_commands.specs.Cases.{AreMade, all_untried, case_count, cases_from, is_beyond, lack_of, script_in}
-use Rattle.anb_probe_commands.specs.Plays.{ArePlayed, CaseEnd, IsNotStarted, verdicts_of}
+use Rattle.anb_probe_commands.specs.Plays.{ArePlayed, AreTold, CaseEnd, IsNotStarted, verdicts_of}
 use Rattle.anb_probe_commands.specs.Probings.{IsReadToProbe, Probing, ProbingIs}
 use Rattle.anb_probe_commands.specs.Reports.{report, report_so_far, status_for}
 use Rattle.anb_probe_commands.specs.Words.{Probed, Trying, order_of}
@@ -108,8 +109,8 @@ module _ (q : Probing) (trying : Trying) (g : Agenda) (name : List ℕ) (old new
   abbrev pub so_far : List CaseEnd → List ℕ
   so_far ends = report_so_far q.protocol q.role g.scenes g.is_shown g.cases ends
 
-  abbrev pub whole : List CaseEnd → List ℕ
-  whole ends = report q.protocol q.role g.scenes g.is_shown g.cases g.untried ends
+  abbrev pub whole : List (List Drawn) → List CaseEnd → List ℕ
+  whole told ends = report q.protocol q.role g.scenes g.is_shown g.cases g.untried told ends
 
   -- all cases are over, and the report is written
   pub record IsReported (status : Status) : Type 0 where
@@ -118,7 +119,9 @@ module _ (q : Probing) (trying : Trying) (g : Agenda) (name : List ℕ) (old new
     pub ends : List CaseEnd
     pub all : length ends ≡ length g.cases
     pub played : Plays (length ends) reached ends
-    pub put : Put written written_now (whole ends)
+    pub told : List (List Drawn)
+    pub are_told : AreTold q ends told
+    pub put : Put written written_now (whole told ends)
     pub is : status ≡ status_for (verdicts_of ends)
 
   -- there is no such case: nothing is started
@@ -133,7 +136,8 @@ module _ (q : Probing) (trying : Trying) (g : Agenda) (name : List ℕ) (old new
   abbrev pub WritesPart : List CaseEnd → Type 0
   WritesPart ends =
       PutPrefix written written_now (so_far ends)
-      ⊎ ((length ends ≡ length g.cases) × PutPrefix written written_now (whole ends))
+      ⊎ ((length ends ≡ length g.cases)
+      × ((told : List (List Drawn)) × AreTold q ends told × PutPrefix written written_now (whole told ends)))
       ⊎ PutPrefix written written_now (no_such_case g.count)
 
   -- writing failed, or memory was wanting; nothing was started where there is no such case

@@ -5,9 +5,9 @@ use Rattle.anb_base.specs.Wires.{WireState}
 use Rattle.anb_command.specs.Fetches.{Files, IfTold}
 use Rattle.anb_command.specs.Steps.{given}
 use Rattle.anb_partner.specs.Trials.{Trial}
-use Rattle.anb_record_commands.specs.Outcomes.{IsMissing, IsTaken, told_as}
-use Rattle.anb_record_commands.specs.declared.ended.Missing.{Missing}
-use Rattle.anb_record_commands.specs.declared.ended.Missing.TheVariants as missing
+use Rattle.anb_recorded.specs.Outcomes.{AreAbsent, IsMissing, IsTaken, told_as}
+use Rattle.anb_recorded.specs.declared.ended.Missing.{Missing}
+use Rattle.anb_recorded.specs.declared.ended.Missing.TheVariants as missing
 use Rattle.anb_recording.specs.Journals.{IsThere}
 use Rattle.anb_status.specs.Statuses.{Phase, at_any_time, before_reach}
 use Rattle.anb_status.specs.declared.status.Status.{Status}
@@ -17,7 +17,7 @@ use Rattle.anb_values_commands.specs.RoleValuesCommand.{RoleValuesText}
 use Rattle.anb_probe_commands.specs.Plays.{ArePlayed, CaseEnd, IsNotStarted}
 use Rattle.anb_probe_commands.specs.Probings.{Probing}
 use Rattle.anb_probe_commands.specs.ProbeCommand.{Asks, CompletesProbe, DoesProbe, HasProbeCause, Suit, agenda_of, probe_phase}
-use Rattle.anb_probe_commands.specs.Records.{HoldsCases, IsFresh, IsOfRecord}
+use Rattle.anb_probe_commands.specs.Records.{HoldsCases, IsOfRecord}
 use Rattle.anb_probe_commands.specs.Words.{Probed, order_of}
 
 -- the child behind the cases that were played: starting it failed where that is told, and else it is as it was
@@ -60,7 +60,7 @@ module _ (asked : Probed) (folder : List ℕ) (told : Option Files) (host_seed :
       pub told_so : status ≡ told_as end missed
       pub why_missed : IsMissing (IsOfRecord folder) store store_now S T end missed
       -- a child is started, and something written, only where none of the files was there
-      pub fresh : ((new ≡ old) × (T ≡ S)) ⊎ IsFresh folder store
+      pub fresh : ((new ≡ old) × (T ≡ S)) ⊎ AreAbsent (IsOfRecord folder) store
       -- what is refused leaves the store
       pub leaves : probe_phase end ≡ before_reach → store_now ≡ store
       pub recorded : (probe_phase end ≡ before_reach → ⊥) → end ≢ NoMemory → missed ≡ missing.Nothing → IsRecorded end

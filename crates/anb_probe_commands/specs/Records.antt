@@ -1,9 +1,9 @@
 -- The record of a test, in its folder.
 use Rattle.std.specs.Prelude.{◌≡◌, ◌≢◌, ◌⊎◌, ◌<◌, ℕ, ◌+◌, List, [], ◌∷◌, ◌++◌, length, slice_get, codes, decimal, Some}
 use Rattle.anb_attempts.specs.declared.attempts.TheConstants.{MOST}
-use Rattle.anb_recording.specs.Journals.{Files, IsAbsent}
+use Rattle.anb_recording.specs.Journals.{Files}
 use Rattle.anb_recording.specs.Lines.{lines_text}
-use Rattle.anb_record_commands.specs.Names.{values_in}
+use Rattle.anb_recorded.specs.Names.{values_in}
 use Rattle.anb_store.specs.Stores.{StoreState}
 use Rattle.anb_probe_commands.specs.Plays.{CaseEnd}
 
@@ -22,10 +22,6 @@ abbrev pub IsOfRecord : (folder : List ℕ) → List ℕ → Type 0
 IsOfRecord folder name =
     (name ≡ values_in folder)
     ⊎ ((case : ℕ) × (case < MOST) × ((name ≡ transcript_of folder (case + 1)) ⊎ (name ≡ errors_of folder (case + 1))))
-
--- none of them is there
-abbrev pub IsFresh : (folder : List ℕ) → StoreState → Type 0
-IsFresh folder store = (name : List ℕ) → IsOfRecord folder name → IsAbsent store name
 
 -- ---- what they hold
 

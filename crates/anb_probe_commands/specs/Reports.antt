@@ -1,11 +1,15 @@
 -- The report on a program, by the verdicts on the cases that were tried.
-use Rattle.std.specs.Prelude.{ℕ, ◌+◌, ◌==◌, not, List, [], ◌∷◌, ◌++◌, length, count_by, Bool, true, false, if◌then◌else◌}
-use Rattle.std.specs.List.{concat}
+use Rattle.std.specs.Prelude.{ℕ, ◌+◌, ◌==◌, not, List, [], ◌∷◌, ◌++◌, length, count_by, Bool, true, false, Option, Some, None, if◌then◌else◌}
+use Rattle.std.specs.List.{concat, flat_map}
 use Rattle.std.specs.Option.{option_map_or}
+use Rattle.std.specs.Str.{bytes_eq}
+use Rattle.anb_protocol.specs.Plays.{events_of}
 use Rattle.anb_protocol.specs.Protocols.{ProtocolValue}
+use Rattle.anb_draws.specs.Draws.{names_made, value_in}
+use Rattle.anb_draws.specs.declared.draws.Drawn.{Drawn}
 use Rattle.anb_verdict.specs.declared.verdict.Verdict.{Verdict}
 use Rattle.anb_verdict.specs.declared.verdict.Verdict.TheVariants as says
-use Rattle.anb_verdict.specs.Texts.{case_lines, first_lines, last_line, missing_line}
+use Rattle.anb_verdict.specs.Texts.{case_lines, first_lines, last_line, missing_line, same_line}
 use Rattle.anb_verdict.specs.Verdicts.{is_good}
 use Rattle.anb_attempts.specs.declared.attempts.Attempt.{Attempt}
 use Rattle.anb_attempts.specs.declared.attempts.Scene.{Scene}
@@ -45,7 +49,32 @@ abbrev pub status_for : List Verdict → Status
 status_for verdicts =
     if count_by is_failed verdicts == 0 then Done else CasesNotOk (count_by is_failed verdicts) (length verdicts)
 
+-- ---- names that come out equal
+
+-- a value is also told as this one
+abbrev pub is_value : List ℕ → Option (List ℕ) → Bool
+is_value value None = false
+is_value value (Some other) = bytes_eq value other
+
+-- the number of the first of these cases, from here, in which a name is told as this value, where there is one
+abbrev pub case_with : (name : ℕ) → Option (List ℕ) → (number : ℕ) → List (List Drawn) → Option ℕ
+case_with name None number told = None
+case_with name (Some value) number [] = None
+case_with name (Some value) number (draws ∷ told) =
+    if is_value value (value_in draws name) then Some number else case_with name (Some value) (number + 1) told
+
+-- Behind these cases, the first in which a name is told as a value that it had before, and the first of those before.
+abbrev pub same_from : (name : ℕ) → (before : List (List Drawn)) → List (List Drawn) → Option (ℕ × ℕ)
+same_from name before [] = None
+same_from name before (draws ∷ told) =
+    option_map_or (λ one. Some (one, length before + 1)) (case_with name (value_in draws name) 1 before)
+    (same_from name (before ++ draws ∷ []) told)
+
 -- ---- lines
+
+-- that a name is told as the same value in two of the cases, where it is
+abbrev pub same_in : ProtocolValue → List (List Drawn) → (name : ℕ) → List (List ℕ)
+same_in p told name = option_map_or (λ (cases : ℕ × ℕ). same_line p name cases.0 cases.1 ∷ []) (same_from name [] told) []
 
 module _ (p : ProtocolValue) (role : ℕ) where
   -- what the program lacks that went on in a case
@@ -57,11 +86,15 @@ module _ (p : ProtocolValue) (role : ℕ) where
   all_lacking (a ∷ rest) [] = []
   all_lacking (a ∷ rest) (v ∷ vs) = lacking_lines a v ++ all_lacking rest vs
 
-  -- behind the cases: what it lacks, each once, in the order of the first case that shows it; what wasn't tried; and the
-  -- counts
-  abbrev pub notes : List Attempt → (untried : List (List ℕ)) → List Verdict → List ℕ
-  notes cases untried verdicts =
-      concat (joined_once [] (all_lacking cases verdicts)) ++ concat untried
+  -- of each name that the role makes, in order
+  abbrev pub same_lines : List (List Drawn) → List (List ℕ)
+  same_lines told = flat_map (same_in p told) (names_made (events_of p role))
+
+  -- behind the cases: which names come out equal; what the program lacks, each once, in the order of the first case that
+  -- shows it; what wasn't tried; and the counts
+  abbrev pub notes : List Attempt → (untried : List (List ℕ)) → List (List Drawn) → List Verdict → List ℕ
+  notes cases untried told verdicts =
+      concat (same_lines told) ++ concat (joined_once [] (all_lacking cases verdicts)) ++ concat untried
       ++ last_line (count_by is_passed verdicts) (length verdicts) (count_by is_skipped verdicts)
 
   module _ (scenes : List Scene) (is_shown : Bool) where
@@ -82,5 +115,6 @@ module _ (p : ProtocolValue) (role : ℕ) where
     abbrev pub report_so_far : List Attempt → List CaseEnd → List ℕ
     report_so_far cases ends = first_lines (length cases) ++ played_lines 1 cases ends
 
-    abbrev pub report : List Attempt → (untried : List (List ℕ)) → List CaseEnd → List ℕ
-    report cases untried ends = report_so_far cases ends ++ notes cases untried (verdicts_of ends)
+    -- and the whole, where this is told of what the program drew in each
+    abbrev pub report : List Attempt → (untried : List (List ℕ)) → List (List Drawn) → List CaseEnd → List ℕ
+    report cases untried told ends = report_so_far cases ends ++ notes cases untried told (verdicts_of ends)

@@ -6,8 +6,8 @@ ghost use Rattle.anb_command.specs.Fetches.{Fetches};
 ghost use Rattle.anb_command.specs.Reaches.{Reaches};
 ghost use Rattle.anb_command.specs.Reported.{TellsFaults};
 ghost use Rattle.anb_command.specs.Touches.{Touches};
-ghost use Rattle.anb_record_commands.specs.Outcomes.{IsMissing};
-ghost use Rattle.anb_record_commands.specs.declared.ended.Missing.TheVariants as missing;
+ghost use Rattle.anb_recorded.specs.Outcomes.{AreAbsent, IsMissing};
+ghost use Rattle.anb_recorded.specs.declared.ended.Missing.TheVariants as missing;
 ghost use Rattle.anb_status.specs.Statuses.{before_reach};
 ghost use Rattle.anb_status.specs.declared.status.Status.TheVariants as status;
 ghost use Rattle.anb_probe_commands.specs.Asking.{probing, trying_by};
@@ -15,7 +15,7 @@ ghost use Rattle.anb_probe_commands.specs.Keeping.{Goes, KeepsBy, RecordsCases, 
 ghost use Rattle.anb_probe_commands.specs.Playing.{CanPlay, OverTrials, TaskComesTo};
 ghost use Rattle.anb_probe_commands.specs.ProbeCommand.{ComesTo, CompletesProbe, DoesProbe, HasProbeCause, StartFailed, probe_files, probe_phase};
 ghost use Rattle.anb_probe_commands.specs.ProbeInto.{CompletesProbeInto, DoesProbeInto, HasProbeIntoCause, IsRecorded, into_phase};
-ghost use Rattle.anb_probe_commands.specs.Records.{IsFresh, IsOfRecord};
+ghost use Rattle.anb_probe_commands.specs.Records.{IsOfRecord};
 ghost use Rattle.anb_probe_commands.specs.Tasks.{CanProbe, agenda_by, fitted_by, probing_by};
 ghost use Rattle.anb_probe_commands.specs.Words.{order_of};
 
@@ -28,7 +28,7 @@ use anb_base::{Shelf, Text, Wire};
 use anb_command::Status;
 use anb_partner::Trials;
 use anb_read::{narrations_are_unique, none_is_both, refusals_are_unique};
-use anb_record_commands::{Ended, Missing};
+use anb_recorded::{Ended, Missing};
 use anb_recording::Journal;
 use anb_values::one_fit;
 use std::alloc::Global;
@@ -110,7 +110,8 @@ fn probe_recorded<F: Shelf, T: Trials, J: Journal, W: Wire>(
     ensures why_missed { IsMissing (IsOfRecord folder.now) (J.state journal.old)
         (J.state journal.new) (W.state wire.old) (W.state wire.new) result.status result.missing }
     ensures fresh { ((T.trial trials.new ≡ T.trial trials.old)
-        × (W.state wire.new ≡ W.state wire.old)) ⊎ IsFresh folder.now (J.state journal.old) }
+        × (W.state wire.new ≡ W.state wire.old))
+        ⊎ AreAbsent (IsOfRecord folder.now) (J.state journal.old) }
     ensures leaves { probe_phase result.status ≡ before_reach
         → J.state journal.new ≡ J.state journal.old }
     ensures recorded { (probe_phase result.status ≡ before_reach → ⊥)
@@ -156,7 +157,8 @@ fn record_task<T: Trials, J: Journal, W: Wire>(
     ensures why_missed { IsMissing (IsOfRecord folder.now) (J.state journal.old)
         (J.state journal.new) (W.state wire.old) (W.state wire.new) result.status result.missing }
     ensures fresh { ((T.trial trials.new ≡ T.trial trials.old)
-        × (W.state wire.new ≡ W.state wire.old)) ⊎ IsFresh folder.now (J.state journal.old) }
+        × (W.state wire.new ≡ W.state wire.old))
+        ⊎ AreAbsent (IsOfRecord folder.now) (J.state journal.old) }
     ensures leaves { probe_phase result.status ≡ before_reach
         → J.state journal.new ≡ J.state journal.old }
     ensures recorded { (probe_phase result.status ≡ before_reach → ⊥)
@@ -216,7 +218,8 @@ fn record_cases<T: Trials, J: Journal, W: Wire>(
     ensures why_missed { IsMissing (IsOfRecord folder.now) (J.state journal.old)
         (J.state journal.new) (W.state wire.old) (W.state wire.new) result.status result.missing }
     ensures fresh { ((T.trial trials.new ≡ T.trial trials.old)
-        × (W.state wire.new ≡ W.state wire.old)) ⊎ IsFresh folder.now (J.state journal.old) }
+        × (W.state wire.new ≡ W.state wire.old))
+        ⊎ AreAbsent (IsOfRecord folder.now) (J.state journal.old) }
     ensures recorded { result.status ≢ status.NoMemory → result.missing ≡ missing.Nothing
         → RecordsCases (probing_by task.now.protocol task.now.role task.now.values task.now.seed)
         folder.now (fitted_by task.now.values task.now.file_seed)

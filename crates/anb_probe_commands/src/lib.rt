@@ -5,6 +5,7 @@
 mod cases;
 mod counting;
 mod files;
+mod finding;
 mod frames;
 mod into;
 mod keeping;
@@ -14,6 +15,7 @@ mod probing;
 mod record;
 mod report;
 mod reporting;
+mod same;
 mod untried;
 mod words;
 mod writing;

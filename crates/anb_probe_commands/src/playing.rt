@@ -1,5 +1,5 @@
 //! The cases, each on a child of its own, and their lines.
-ghost use Rattle.std.specs.Prelude.{◌≡◌, ◌≢◌, ◌<◌, ◌+◌, ◌++◌, [], ◌∷◌, ℕ, length, slice_get, Some, IfOk, IfErr, OnOk};
+ghost use Rattle.std.specs.Prelude.{◌≡◌, ◌≢◌, ◌<◌, ◌+◌, ◌++◌, [], ◌∷◌, ℕ, length, map, slice_get, Some, IfOk, IfErr, OnOk};
 ghost use Rattle.anb_attempts.specs.declared.attempts.TheConstants.{MOST};
 ghost use Rattle.anb_partner.specs.Trials.{OthersStay};
 ghost use Rattle.anb_probe_commands.specs.Keeping.{IsSame, Keeps, KeepsCase, KeepsLess, told};
@@ -34,7 +34,7 @@ pub(crate) struct Outcome {
 }
 
 /// Tries the program in all cases, one after the other; tells of each when it is over, and writes its
-/// lines.
+/// lines. What came of each is kept, so it takes as much memory as the children said.
 pub(crate) fn play_cases<T: Trials, W: Wire, K: Keeper>(
     alloc: Global,
     trials: &mut T,
@@ -43,16 +43,16 @@ pub(crate) fn play_cases<T: Trials, W: Wire, K: Keeper>(
     task: &Task,
     prepared: &Prepared,
     trying: TryWords,
-) -> Result<Vec<Verdict>, PlayNo>
+) -> Result<Vec<Outcome>, PlayNo>
     requires can { CanPlay (probing_by task.now.protocol task.now.role task.now.values task.now.seed)
         prepared.now }
     requires untried { (case : ℕ) → (T.trial trials.old case).phase ≡ 0 }
-    ensures played { IfOk result (λ verdicts. IsPlayedOut
+    ensures played { IfOk result (λ outcomes. IsPlayedOut
         (probing_by task.now.protocol task.now.role task.now.values task.now.seed)
         prepared.now (order_of (trying_by trying.entry)) (T.trial trials.old) (T.trial trials.new)
-        (W.state wire.old) (W.state wire.new) verdicts.items) }
-    ensures all { IfOk result (λ verdicts.
-        length verdicts.items ≡ length prepared.now.cases.items) }
+        (W.state wire.old) (W.state wire.new) outcomes.items) }
+    ensures all { IfOk result (λ outcomes.
+        length outcomes.items ≡ length prepared.now.cases.items) }
     ensures cut { IfErr result (IsCut
         (probing_by task.now.protocol task.now.role task.now.values task.now.seed)
         prepared.now (order_of (trying_by trying.entry)) (T.trial trials.old) (T.trial trials.new)
@@ -70,7 +70,7 @@ pub(crate) fn play_cases<T: Trials, W: Wire, K: Keeper>(
     ensures broke { IfErr result (Broke (W.state wire.old) (W.state wire.new)) }
     ensures none_left { (case : ℕ) → (T.trial trials.new case).phase ≢ 1 }
 {
-    let mut verdicts = Vec::new(alloc);
+    let mut outcomes = Vec::new(alloc);
     let mut reached = 0;
     for i in 0..prepared.cases.len() as u32 {
         match play_case(
@@ -78,7 +78,7 @@ pub(crate) fn play_cases<T: Trials, W: Wire, K: Keeper>(
         ) {
             Ok(outcome) => {
                 reached = next_reached(i, reached, outcome.reached);
-                match verdicts.push(outcome.verdict) {
+                match outcomes.push(outcome) {
                     Ok(()) => {}
                     Err(_) => return Err(PlayNo::NoMemory),
                 }
@@ -86,7 +86,7 @@ pub(crate) fn play_cases<T: Trials, W: Wire, K: Keeper>(
             Err(no) => return Err(no),
         }
     }
-    Ok(verdicts)
+    Ok(outcomes)
 }
 
 /// How far the first case got, behind the case with this number, from 0, which got so far.

@@ -4,16 +4,16 @@ ghost use Rattle.std.specs.Prelude.{◌≡◌, ◌≢◌, ◌≤◌, ◌<◌, �
 ghost use Rattle.anb_attempts.specs.declared.attempts.TheConstants.{MOST};
 ghost use Rattle.anb_recording.specs.Journals.{IsAbsent, IsThere};
 ghost use Rattle.anb_recording.specs.Lines.{lines_text};
-ghost use Rattle.anb_record_commands.specs.Names.{values_in};
-ghost use Rattle.anb_record_commands.specs.declared.ended.Missing.TheVariants.{Nothing};
+ghost use Rattle.anb_recorded.specs.Outcomes.{AreAbsent};
+ghost use Rattle.anb_recorded.specs.declared.ended.Missing.TheVariants.{Nothing};
 ghost use Rattle.anb_probe_commands.specs.Keeping.{Goes, IsOpened, told};
-ghost use Rattle.anb_probe_commands.specs.Records.{IsFresh, IsOfRecord, errors_of, transcript_of};
+ghost use Rattle.anb_probe_commands.specs.Records.{IsOfRecord, errors_of, transcript_of};
 
 use crate::frames::put_line;
 use crate::keeping::Keeper;
 use anb_attempts::MOST;
 use anb_base::{Bytes, NoMemory, Text};
-use anb_record_commands::Missing;
+use anb_recorded::{Missing, values_name};
 use anb_recording::Journal;
 use anb_store::StoreNo;
 use anb_transcript::TranscriptLine;
@@ -37,10 +37,10 @@ pub(crate) fn open<J: Journal>(
 
 /// Makes the file of the values.
 fn make_values<J: Journal>(alloc: Global, journal: &mut J, folder: &Text, values: &Bytes) -> Missing
-    requires { IsFresh folder.now (J.state journal.old) }
+    requires { AreAbsent (IsOfRecord folder.now) (J.state journal.old) }
     ensures { IsOpened folder.now values.now (J.state journal.old) (J.state journal.new) result }
 {
-    let Ok(name) = values_in(alloc, folder) else {
+    let Ok(name) = values_name(alloc, folder) else {
         return Missing::NoMemory;
     };
     match journal.make(alloc, name.as_str(), values.as_slice()) {
@@ -59,9 +59,9 @@ fn one_there<J: Journal>(
     ensures there { IfOk result (λ found. IfSome found (λ name.
         IsOfRecord folder.now name × IsThere (J.state journal.now) name)) }
     ensures fresh { IfOk result (λ found. IfNone found
-        (IsFresh folder.now (J.state journal.now))) }
+        (AreAbsent (IsOfRecord folder.now) (J.state journal.now))) }
 {
-    let values = values_in(alloc, folder)?;
+    let values = values_name(alloc, folder)?;
     if journal.has(values.as_str()) {
         return Ok(Some(values));
     }
@@ -92,14 +92,6 @@ fn case_there<J: Journal>(
         }
     }
     Ok(None)
-}
-
-/// The name of the file of the values.
-fn values_in(alloc: Global, folder: &Text) -> Result<Text, NoMemory>
-    ensures { IfOk result (λ name. name ≡ values_in folder.now) }
-{
-    let folder = folder.as_str();
-    Ok(Text::new(format!(in alloc; "{folder}/values")?))
 }
 
 /// The name of the transcript of the case with this number, from 1.

@@ -1,5 +1,5 @@
 //! What a report says behind the cases.
-ghost use Rattle.std.specs.Prelude.{◌≡◌, ◌≤◌, ◌++◌, [], length, count_by, IfOk, OnOk};
+ghost use Rattle.std.specs.Prelude.{◌≡◌, ◌<◌, ◌≤◌, ◌++◌, [], length, count_by, IfOk, OnOk};
 ghost use Rattle.std.specs.List.{concat};
 ghost use Rattle.anb_attempts.specs.declared.attempts.TheConstants.{MOST};
 ghost use Rattle.anb_verdict.specs.Texts.{last_line};
@@ -7,28 +7,35 @@ ghost use Rattle.anb_probe_commands.specs.Cases.{joined_once};
 ghost use Rattle.anb_probe_commands.specs.Reports.{all_lacking, is_passed, is_skipped, lacking_lines, notes};
 
 use crate::counting::{is_lax, passed, skipped};
+use crate::same::same_lines;
 use crate::untried::put_once;
 use anb_attempts::Attempt;
 use anb_base::{Bytes, NoMemory};
+use anb_draws::Draws;
 use anb_protocol::Protocol;
 use anb_verdict::{Verdict, last_line, missing_line};
 use std::alloc::Global;
 
-/// What the program lacks, what isn't tried, and the counts.
+/// Which names come out equal, what the program lacks, what isn't tried, and the counts.
 pub(crate) fn notes(
     alloc: Global,
     p: &Protocol,
     role: u32,
     cases: &[Attempt],
     untried: &[Bytes],
+    told: &[Draws],
     verdicts: &[Verdict],
 ) -> Result<Vec<u8>, NoMemory>
-    requires { length verdicts.now ≤ MOST }
+    requires role { role < length p.now.roles }
+    requires told { length told.now ≤ MOST }
+    requires verdicts { length verdicts.now ≤ MOST }
     ensures { IfOk result (λ text.
-        text.items ≡ notes p.now role cases.now untried.now verdicts.now) }
+        text.items ≡ notes p.now role cases.now untried.now told.now verdicts.now) }
 {
+    let same = same_lines(alloc, p, role, told)?;
     let lacking = lacking(alloc, p, role, cases, verdicts)?;
     let mut text = Vec::new(alloc);
+    put_lines(&mut text, &same)?;
     put_lines(&mut text, &lacking)?;
     put_lines(&mut text, untried)?;
     put_counts(alloc, &mut text, verdicts)?;

@@ -1,5 +1,5 @@
 //! The report on a program over a wire that was reached, as the cases go on.
-ghost use Rattle.std.specs.Prelude.{◌≡◌, ◌≢◌, ◌≤◌, ℕ, length, IfOk, IfErr, OnOk};
+ghost use Rattle.std.specs.Prelude.{◌≡◌, ◌≢◌, ◌<◌, ◌≤◌, ℕ, length, IfOk, IfErr, OnOk};
 ghost use Rattle.anb_attempts.specs.declared.attempts.TheConstants.{MOST};
 ghost use Rattle.anb_verdict.specs.Texts.{first_lines, no_such_case};
 ghost use Rattle.anb_probe_commands.specs.Asking.{trying_by};
@@ -14,13 +14,15 @@ ghost use Rattle.anb_probe_commands.specs.Words.{order_of};
 use crate::cases::Prepared;
 use crate::counting::status_for;
 use crate::files::Task;
+use crate::finding::{Found, found_in};
 use crate::keeping::Keeper;
 use crate::playing::play_cases;
 use crate::report::notes;
 use crate::words::TryWords;
 use crate::writing::{PlayNo, write_lines};
-use anb_base::{Text, Wire};
+use anb_base::{NoMemory, Text, Wire};
 use anb_command::Status;
+use anb_draws::Draws;
 use anb_partner::Trials;
 use anb_verdict::{Verdict, first_lines, no_such_case};
 use std::alloc::Global;
@@ -124,11 +126,16 @@ fn play_all<T: Trials, W: Wire, K: Keeper>(
         Ok(()) => {}
         Err(no) => return Err(no),
     }
-    let verdicts = match play_cases(alloc, trials, wire, keeper, task, prepared, trying) {
-        Ok(verdicts) => verdicts,
+    let outcomes = match play_cases(alloc, trials, wire, keeper, task, prepared, trying) {
+        Ok(outcomes) => outcomes,
         Err(no) => return Err(no),
     };
-    match write_notes(alloc, wire, task, prepared, &verdicts) {
+    let found = match found_in(alloc, task, prepared, &outcomes) {
+        Ok(found) => found,
+        Err(NoMemory) => return Err(PlayNo::NoMemory),
+    };
+    let Found { verdicts, draws } = found;
+    match write_notes(alloc, wire, task, prepared, &draws, &verdicts) {
         Ok(()) => Ok(verdicts),
         Err(no) => Err(no),
     }
@@ -152,14 +159,17 @@ fn write_notes<W: Wire>(
     wire: &mut W,
     task: &Task,
     prepared: &Prepared,
+    told: &[Draws],
     verdicts: &[Verdict],
 ) -> Result<(), PlayNo>
-    requires { length verdicts.now ≤ MOST }
+    requires role { task.now.role < length task.now.protocol.roles }
+    requires told { length told.now ≤ MOST }
+    requires verdicts { length verdicts.now ≤ MOST }
     ensures wrote { OnOk result (Wrote (W.state wire.old) (W.state wire.new)
         (notes task.now.protocol task.now.role prepared.now.cases.items
-        prepared.now.untried.items verdicts.now)) }
+        prepared.now.untried.items told.now verdicts.now)) }
     ensures broke { IfErr result (BrokeIn (notes task.now.protocol task.now.role
-        prepared.now.cases.items prepared.now.untried.items verdicts.now)
+        prepared.now.cases.items prepared.now.untried.items told.now verdicts.now)
         (W.state wire.old) (W.state wire.new)) }
 {
     let lines = notes(
@@ -168,6 +178,7 @@ fn write_notes<W: Wire>(
         task.role,
         &prepared.cases,
         &prepared.untried,
+        told,
         verdicts,
     );
     write_lines(wire, lines)

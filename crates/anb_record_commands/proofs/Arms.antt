@@ -29,10 +29,11 @@ use Rattle.anb_branch.specs.Stems.{no_halt}
 use Rattle.anb_branch.specs.Taken.{place_taken}
 use Rattle.anb_branch_commands.specs.BranchJobs.{BranchJob, known_in}
 use Rattle.anb_record_commands.specs.BranchInto.{HasArmRecord, HasArmTranscript}
-use Rattle.anb_record_commands.specs.Names.{transcript_in, values_in}
+use Rattle.anb_recorded.specs.Names.{values_in}
+use Rattle.anb_record_commands.specs.Names.{transcript_in}
 use Rattle.anb_record_commands.specs.Outcomes.{text_of}
 use Rattle.anb_record_commands.specs.Running.{MissesLines, RecordsArm, RecordsRun, missing_of}
-use Rattle.anb_record_commands.specs.declared.ended.Missing.TheVariants as missing
+use Rattle.anb_recorded.specs.declared.ended.Missing.TheVariants as missing
 use Rattle.anb_record_commands.proofs.Recorded.{in_folder, placeless}
 
 module _ (b : BranchedValue) (role : List ℕ) (told : Option ℕ) (initial : List (List ℕ)) (seed : List ℕ) (codes : List CodeValue)

@@ -1,15 +1,17 @@
 -- What a folder holds once lines were appended to its transcript.
 use Rattle.std.proofs.Common.{◌≡◌, ◌≢◌, ℕ, false, List, [], ◌∷◌, ◌++◌, length, Option, Some, None, refl, ap, sym, ◌∙◌, subst, inl, inr, arith, append_assoc, length-append}
-use Rattle.std.specs.Prelude.{bytes_eq, codes}
+use Rattle.std.specs.Prelude.{codes}
 use Rattle.std.proofs.lemmas.List.{append-nil}
-use Rattle.anb_lemmas.proofs.Items.{bytes_differ, bytes_eq-same}
 use Rattle.anb_store.specs.Stores.{StoreState, with_file}
 use Rattle.anb_transcript.specs.declared.transcript.TranscriptLine.{TranscriptLine}
 use Rattle.anb_recording.specs.Journals.{Files, IsAbsent, IsEither, OthersStay, appended, begun}
 use Rattle.anb_recording.specs.Lines.{line_text, lines_text}
 use Rattle.anb_recording.specs.Recordings.{all_appended}
-use Rattle.anb_record_commands.specs.Names.{transcript_in, values_in}
-use Rattle.anb_record_commands.specs.Outcomes.{AreAbsent, HoldsIn, IsOfFolder}
+use Rattle.anb_recorded.specs.Names.{values_in}
+use Rattle.anb_record_commands.specs.Names.{transcript_in}
+use Rattle.anb_recorded.specs.Outcomes.{AreAbsent}
+use Rattle.anb_record_commands.specs.Outcomes.{HoldsIn, IsOfFolder}
+use Rattle.anb_recorded.proofs.Holding.{with_other, with_same}
 
 pub names_differ : (folder : List ℕ) → values_in folder ≢ transcript_in folder
 names_differ folder is =
@@ -25,12 +27,6 @@ both_absent folder values transcript store v t first second name mine = elim min
   | inl is ↦ subst (IsAbsent store) (v ∙ sym is) first
   | inr is ↦ subst (IsAbsent store) (t ∙ sym is) second
 ]
-
-pub with_same : (files : Files) (name content : List ℕ) → with_file files name content name ≡ Some content
-with_same files name content = rw (bytes_eq-same name) refl
-
-pub with_other : (files : Files) (name content other : List ℕ) → other ≢ name → with_file files name content other ≡ files other
-with_other files name content other differ = rw (bytes_differ other name differ) refl
 
 -- a store with these files, in which one holds a text and the others are as they were at first
 record HoldsText (file text : List ℕ) (at_first : Files) (store : StoreState) : Type 0 where

@@ -47,13 +47,15 @@ use Rattle.anb_command.proofs.Ones.{same_given}
 use Rattle.anb_role_commands.specs.Jobs.{Job, JobIs}
 use Rattle.anb_role_commands.specs.Playing.{IsPlayableInEach, IsPreparedFor, PlayIn, play_in}
 use Rattle.anb_record_commands.specs.HostInto.{HasSessions, HoldsSessions, IsFresh, IsOfHost, IsStarted, RecordsHost, lines_in}
-use Rattle.anb_record_commands.specs.Names.{values_in}
-use Rattle.anb_record_commands.specs.Outcomes.{IsReadAgain, IsMissing, TakesNoneOver, Valued, text_of}
+use Rattle.anb_recorded.specs.Names.{values_in}
+use Rattle.anb_recorded.specs.Outcomes.{IsMissing, TakesNoneOver}
+use Rattle.anb_record_commands.specs.Outcomes.{IsReadAgain, Valued, text_of}
 use Rattle.anb_record_commands.specs.PlayInto.{job_values}
 use Rattle.anb_record_commands.specs.Running.{IsHostOpened, MissesSessions, RecordsServed, RecordsSessions, missing_of_host}
-use Rattle.anb_record_commands.specs.declared.ended.Missing.{Missing}
-use Rattle.anb_record_commands.specs.declared.ended.Missing.TheVariants as missing
-use Rattle.anb_record_commands.proofs.Holding.{others_within, with_other, with_same}
+use Rattle.anb_recorded.specs.declared.ended.Missing.{Missing}
+use Rattle.anb_recorded.specs.declared.ended.Missing.TheVariants as missing
+use Rattle.anb_recorded.proofs.Holding.{with_other, with_same}
+use Rattle.anb_record_commands.proofs.Holding.{others_within}
 
 -- ---- behind serving
 

@@ -1,4 +1,3 @@
-pub mod Telling
 pub mod Completing
 pub mod Holding
 pub mod Placeless

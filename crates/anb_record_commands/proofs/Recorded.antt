@@ -22,11 +22,13 @@ use Rattle.anb_recording.specs.Lines.{lines_text}
 use Rattle.anb_recording.specs.Recordings.{IsRecorded, ReplaysAs, all_appended}
 use Rattle.anb_recording.specs.declared.recording.Kept.{Kept}
 use Rattle.anb_recording.specs.declared.recording.Kept.TheVariants as kept
-use Rattle.anb_record_commands.specs.Names.{transcript_in, values_in}
-use Rattle.anb_record_commands.specs.Outcomes.{Valued, HasTranscript, HoldsIn, IsMissing, IsOfFolder, IsReadAgain, ReplaysTo, text_of}
+use Rattle.anb_recorded.specs.Names.{values_in}
+use Rattle.anb_record_commands.specs.Names.{transcript_in}
+use Rattle.anb_recorded.specs.Outcomes.{IsMissing}
+use Rattle.anb_record_commands.specs.Outcomes.{Valued, HasTranscript, HoldsIn, IsOfFolder, IsReadAgain, ReplaysTo, text_of}
 use Rattle.anb_record_commands.specs.Running.{MissesLines, RecordsRun, missing_of}
-use Rattle.anb_record_commands.specs.declared.ended.Missing.{Missing}
-use Rattle.anb_record_commands.specs.declared.ended.Missing.TheVariants as missing
+use Rattle.anb_recorded.specs.declared.ended.Missing.{Missing}
+use Rattle.anb_recorded.specs.declared.ended.Missing.TheVariants as missing
 use Rattle.anb_record_commands.proofs.Holding.{folder_holds, others_within}
 use Rattle.anb_record_commands.proofs.Placeless.{are_due, falls_short, follows, stops}
 

@@ -35,7 +35,8 @@ use Rattle.anb_branch_commands.proofs.Preparing.{job_seated}
 use Rattle.anb_branch_commands.proofs.Seats.{known_at}
 use Rattle.anb_record_commands.specs.BranchInto.{arm_values}
 use Rattle.anb_record_commands.specs.Laws.{RecordedArmsReplay, RecordedPlaysReplay, RecordedSessionsReplay, replayed_as, replayed_session}
-use Rattle.anb_record_commands.specs.Names.{transcript_in, values_in}
+use Rattle.anb_recorded.specs.Names.{values_in}
+use Rattle.anb_record_commands.specs.Names.{transcript_in}
 use Rattle.anb_record_commands.specs.Outcomes.{IsReadAgain, ReplaysTo, Valued, text_of}
 use Rattle.anb_record_commands.specs.PlayInto.{job_values}
 

@@ -16,7 +16,8 @@ use Rattle.anb_command.specs.Fetches.{Files, IfTold}
 use Rattle.anb_command.specs.Steps.{Answer, given}
 use Rattle.anb_branch_commands.specs.BranchCommand.{CompletesBranch, DoesBranch}
 use Rattle.anb_branch_commands.specs.BranchJobs.{BranchJob, BranchJobIs, known_in}
-use Rattle.anb_record_commands.specs.Outcomes.{CompletesInFolder, DoesInFolder, HasTranscript, IsOfFolder, Valued}
+use Rattle.anb_recorded.specs.Outcomes.{CompletesInFolder, DoesInFolder}
+use Rattle.anb_record_commands.specs.Outcomes.{HasTranscript, IsOfFolder, Valued}
 
 -- What is recorded of a role is a transcript of its play in the arm that is taken over what was heard.
 pub record HasArmTranscript (b : BranchedValue) (role : List ℕ) (arm_told : Option ℕ) (initial : List (List ℕ)) (seed : List ℕ)

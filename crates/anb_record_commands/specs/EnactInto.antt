@@ -7,7 +7,8 @@ use Rattle.anb_status.specs.declared.status.Status.{Status}
 use Rattle.anb_command.specs.Errands.{Errand}
 use Rattle.anb_command.specs.Fetches.{Files, IfTold}
 use Rattle.anb_role_commands.specs.EnactCommand.{CompletesEnact, DoesEnact, ErrandIs, RunOf}
-use Rattle.anb_record_commands.specs.Outcomes.{CompletesInFolder, DoesInFolder, HasRecord, IsOfFolder, Valued}
+use Rattle.anb_recorded.specs.Outcomes.{CompletesInFolder, DoesInFolder}
+use Rattle.anb_record_commands.specs.Outcomes.{HasRecord, IsOfFolder, Valued}
 
 -- the values of an errand, and the seed of its draws
 abbrev pub errand_values : Errand → Valued

@@ -18,8 +18,9 @@ use Rattle.anb_command.specs.Fetches.{Files, IfTold}
 use Rattle.anb_command.specs.Steps.{given}
 use Rattle.anb_host_commands.specs.HostCommand.{CompletesHost, DoesHost, Takes}
 use Rattle.anb_role_commands.specs.Jobs.{Job, JobIs}
-use Rattle.anb_record_commands.specs.Names.{values_in}
-use Rattle.anb_record_commands.specs.Outcomes.{AreAbsent, CompletesInFolder, DoesInFolder, IsReadAgain, text_of}
+use Rattle.anb_recorded.specs.Names.{values_in}
+use Rattle.anb_recorded.specs.Outcomes.{AreAbsent, CompletesInFolder, DoesInFolder}
+use Rattle.anb_record_commands.specs.Outcomes.{IsReadAgain, text_of}
 use Rattle.anb_record_commands.specs.PlayInto.{job_values}
 
 -- one of the folder's files: the values, or the transcript of some session

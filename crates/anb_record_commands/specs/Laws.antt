@@ -24,7 +24,8 @@ use Rattle.anb_role_commands.specs.PlayCommand.{PlayOf}
 use Rattle.anb_role_commands.specs.Playing.{PlayIn}
 use Rattle.anb_role_commands.specs.ReplayCommand.{ReplayOutcome}
 use Rattle.anb_record_commands.specs.BranchInto.{arm_values}
-use Rattle.anb_record_commands.specs.Names.{transcript_in, values_in}
+use Rattle.anb_recorded.specs.Names.{values_in}
+use Rattle.anb_record_commands.specs.Names.{transcript_in}
 use Rattle.anb_record_commands.specs.Outcomes.{IsReadAgain, ReplaysTo, text_of}
 use Rattle.anb_record_commands.specs.PlayInto.{job_values}
 

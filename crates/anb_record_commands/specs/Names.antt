@@ -1,9 +1,5 @@
--- The files of a recording, in its folder.
+-- The file with the transcript of a recorded play, in its folder.
 use Rattle.std.specs.Prelude.{ℕ, List, ◌++◌, codes}
-
--- the values that were used, with the seed in force
-abbrev pub values_in : (folder : List ℕ) → List ℕ
-values_in folder = folder ++ codes "/values"
 
 -- a line for each message and each arrival
 abbrev pub transcript_in : (folder : List ℕ) → List ℕ

@@ -7,7 +7,8 @@ use Rattle.anb_status.specs.declared.status.Status.{Status}
 use Rattle.anb_command.specs.Fetches.{Files, IfTold}
 use Rattle.anb_role_commands.specs.Jobs.{Job, JobIs}
 use Rattle.anb_role_commands.specs.PlayCommand.{CompletesPlay, DoesPlay, PlayOf}
-use Rattle.anb_record_commands.specs.Outcomes.{CompletesInFolder, DoesInFolder, HasRecord, IsOfFolder, Valued}
+use Rattle.anb_recorded.specs.Outcomes.{CompletesInFolder, DoesInFolder}
+use Rattle.anb_record_commands.specs.Outcomes.{HasRecord, IsOfFolder, Valued}
 
 -- the values of a job, and the seed of its draws
 abbrev pub job_values : Job → Valued

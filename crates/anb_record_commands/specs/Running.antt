@@ -27,10 +27,12 @@ use Rattle.anb_status.specs.declared.status.Status.TheVariants.{NoMemory}
 use Rattle.anb_transcript.specs.Replays.{arrivals_of}
 use Rattle.anb_transcript.specs.declared.transcript.TranscriptLine.{TranscriptLine}
 use Rattle.anb_record_commands.specs.HostInto.{IsFresh, IsOfHost}
-use Rattle.anb_record_commands.specs.Names.{transcript_in, values_in}
-use Rattle.anb_record_commands.specs.Outcomes.{AreAbsent, IsCalm, IsOfFolder, IsReadAgain, ReplaysTo, Valued, text_of}
-use Rattle.anb_record_commands.specs.declared.ended.Missing.{Missing}
-use Rattle.anb_record_commands.specs.declared.ended.Missing.TheVariants as missing
+use Rattle.anb_recorded.specs.Names.{values_in}
+use Rattle.anb_record_commands.specs.Names.{transcript_in}
+use Rattle.anb_recorded.specs.Outcomes.{AreAbsent, IsCalm}
+use Rattle.anb_record_commands.specs.Outcomes.{IsOfFolder, IsReadAgain, ReplaysTo, Valued, text_of}
+use Rattle.anb_recorded.specs.declared.ended.Missing.{Missing}
+use Rattle.anb_recorded.specs.declared.ended.Missing.TheVariants as missing
 use Rattle.anb_record_commands.specs.declared.opening.Opened.{Opened}
 use Rattle.anb_record_commands.specs.declared.opening.Opened.TheVariants as opened
 

@@ -1,8 +1,9 @@
 -- The words of `play`, `enact`, `branch` and `host` where what is played is recorded in a folder.
-use Rattle.std.specs.Prelude.{ℕ, ◌-◌, ◌&&◌, List, [], ◌∷◌, codes, bytes_eq, length, take, drop, Option, Some, None, option_and_then, if◌then◌else◌}
+use Rattle.std.specs.Prelude.{ℕ, ◌-◌, List, length, take, drop, Option, Some, None, option_and_then}
 use Rattle.anb_base.specs.declared.place.Place.{Place}
 use Rattle.anb_words.specs.Words as words
-use Rattle.anb_words.specs.Words.{Asked, asked_of, is_operand}
+use Rattle.anb_words.specs.Words.{Asked, asked_of}
+use Rattle.anb_recorded.specs.Words.{folder_in}
 use Rattle.anb_record_commands.specs.HostInto.{IsOfHost}
 use Rattle.anb_record_commands.specs.Outcomes.{IsOfFolder}
 
@@ -34,12 +35,7 @@ recording_in (Some (words.branch narration role values arm place)) folder = Some
 recording_in (Some (words.host narration role values place)) folder = Some (host narration role values place folder)
 recording_in asked folder = None
 
--- the last two words are `--record` and a name
-abbrev pub folder_in : (end : List (List ℕ)) → Option (List ℕ)
-folder_in (flag ∷ folder ∷ []) = if bytes_eq flag (codes "--record") && is_operand folder then Some folder else None
-folder_in end = None
-
--- before them stand the words of `play`, `enact`, `branch` or `host`
+-- the last two words are `--record` and a name, and before them stand the words of `play`, `enact`, `branch` or `host`
 abbrev pub recording_of : List (List ℕ) → Option Recording
 recording_of all =
     let before = length all - 2 in

@@ -9,14 +9,15 @@ ghost use Rattle.anb_command.specs.Touches.{Touches};
 ghost use Rattle.anb_status.specs.Statuses.{before_reach, phase_of};
 ghost use Rattle.anb_status.specs.declared.status.Status.TheVariants as status;
 ghost use Rattle.anb_role_commands.specs.EnactCommand.{CompletesEnact, DoesEnact};
-ghost use Rattle.anb_record_commands.specs.Outcomes.{HasRecordCause, IsMissing, IsOfFolder, TakesNoneOver, recorded_phase};
+ghost use Rattle.anb_recorded.specs.Outcomes.{HasRecordCause, IsMissing, TakesNoneOver, recorded_phase};
+ghost use Rattle.anb_record_commands.specs.Outcomes.{IsOfFolder};
 ghost use Rattle.anb_record_commands.specs.EnactInto.{CompletesEnactInto, DoesEnactInto, RecordsEnact};
-ghost use Rattle.anb_record_commands.specs.declared.ended.Missing.TheVariants as missing;
+ghost use Rattle.anb_recorded.specs.declared.ended.Missing.TheVariants as missing;
 
-use crate::ended::{Ended, Missing};
 use crate::over::record_over;
 use anb_base::{Shelf, Text, Wire};
 use anb_command::{EnactWords, Status};
+use anb_recorded::{Ended, Missing};
 use anb_recording::Journal;
 use anb_role_commands::load_prepared;
 use anb_text::{codes_are_unique, faults_are_unique, files_are_unique, none_is_both};

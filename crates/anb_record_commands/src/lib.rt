@@ -7,7 +7,6 @@
 
 mod branching;
 mod enacting;
-mod ended;
 mod hosting;
 mod laws;
 mod names;
@@ -19,7 +18,6 @@ mod words;
 
 pub use branching::branch_into;
 pub use enacting::enact_into;
-pub use ended::{Ended, Missing};
 pub use hosting::host_into;
 pub use laws::{recorded_arms_replay, recorded_plays_replay, recorded_sessions_replay};
 pub use playing::play_into;

@@ -1,8 +1,10 @@
 //! The files of a recording.
-ghost use Rattle.std.specs.Prelude.{◌≡◌, ◌++◌, IfOk};
-ghost use Rattle.anb_record_commands.specs.Names.{transcript_in, values_in};
+ghost use Rattle.std.specs.Prelude.{◌≡◌, IfOk};
+ghost use Rattle.anb_recorded.specs.Names.{values_in};
+ghost use Rattle.anb_record_commands.specs.Names.{transcript_in};
 
 use anb_base::{NoMemory, Text};
+use anb_recorded::values_name;
 use std::alloc::Global;
 
 /// The names of a recording's files.
@@ -18,22 +20,15 @@ pub(crate) fn names_in(alloc: Global, folder: &Text) -> Result<Names, NoMemory>
     ensures transcript { IfOk result (λ names. names.transcript ≡ transcript_in folder.now) }
 {
     let values = values_name(alloc, folder)?;
-    let transcript = name_in(alloc, folder, "/transcript")?;
+    let transcript = transcript_name(alloc, folder)?;
     Ok(Names { values, transcript })
 }
 
-/// The name of the values in this folder.
-pub(crate) fn values_name(alloc: Global, folder: &Text) -> Result<Text, NoMemory>
-    ensures { IfOk result (λ name. name ≡ values_in folder.now) }
-{
-    name_in(alloc, folder, "/values")
-}
-
-/// The folder's name with this behind it.
-fn name_in(alloc: Global, folder: &Text, file: &str) -> Result<Text, NoMemory>
-    ensures { IfOk result (λ name. name ≡ folder.now ++ file.now) }
+/// The name of the transcript in this folder.
+fn transcript_name(alloc: Global, folder: &Text) -> Result<Text, NoMemory>
+    ensures { IfOk result (λ name. name ≡ transcript_in folder.now) }
 {
     let mut name = String::from_str(alloc, folder.as_str())?;
-    name.push_str(file)?;
+    name.push_str("/transcript")?;
     Ok(Text::new(name))
 }

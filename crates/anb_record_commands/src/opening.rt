@@ -6,10 +6,10 @@ ghost use Rattle.anb_recording.specs.Journals.{IsAbsent, IsEither, IsThere, Othe
 ghost use Rattle.anb_record_commands.specs.HostInto.{IsFresh, IsOfHost};
 ghost use Rattle.anb_record_commands.specs.Running.{IsHostOpened, IsOpened};
 
-use crate::ended::Missing;
-use crate::names::{Names, names_in, values_name};
+use crate::names::{Names, names_in};
 use anb_base::{Bytes, NoMemory, Text};
 use anb_host_recording::transcript_of;
+use anb_recorded::{Missing, values_name};
 use anb_recording::{BeginNo, Journal};
 use anb_store::StoreNo;
 use std::alloc::Global;

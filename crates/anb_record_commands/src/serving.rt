@@ -14,14 +14,14 @@ ghost use Rattle.anb_host_commands.specs.Serving.{EndsSo, ServesOn, runs_by};
 ghost use Rattle.anb_status.specs.Statuses.{after_reach, before_reach, phase_of};
 ghost use Rattle.anb_status.specs.declared.status.Status.TheVariants as status;
 ghost use Rattle.anb_record_commands.specs.Running.{MissesSessions, RecordsSessions, missing_of_host};
-ghost use Rattle.anb_record_commands.specs.declared.ended.Missing.TheVariants as missing;
+ghost use Rattle.anb_recorded.specs.declared.ended.Missing.TheVariants as missing;
 
-use crate::ended::{Ended, Missing};
 use anb_base::{Failed, NoMemory, Text, Wire};
 use anb_command::{Endpoint, Prepared, Status, reach};
 use anb_host::Host;
 use anb_host_commands::{FRAMES, status_of};
 use anb_host_recording::{Noted, record_sessions};
+use anb_recorded::{Ended, Missing};
 use anb_recording::Journal;
 use std::alloc::Global;
 

@@ -1,7 +1,8 @@
 -- What is asked has one answer, and its refusals come before the wire is reached.
-use Rattle.std.proofs.Common.{◌≡◌, ◌⊎◌, ℕ, ◌+◌, ◌<◌, Bool, true, false, cond, List, [], ◌∷◌, map, Option, Some, None, refl, ap, sym, ◌∙◌, subst, inl, inr, IsTrue}
+use Rattle.std.proofs.Common.{◌≡◌, ◌⊎◌, ℕ, ◌+◌, ◌<◌, Bool, cond, List, [], ◌∷◌, map, Option, Some, None, refl, ap, sym, ◌∙◌, subst, inl, inr, IsTrue}
 use Rattle.std.specs.Prelude.{◌↔◌, is_none, length}
 use Rattle.std.specs.List.{position_from}
+use Rattle.std.proofs.lemmas.Bool.Decides.{same_from_decides}
 use Rattle.anb_base.specs.Moves.{Rose}
 use Rattle.anb_read.specs.Laws.{NarrationsAreUnique, RefusalsAreUnique, NoneIsBoth}
 use Rattle.anb_values.specs.Fit.{FitIsUnique}
@@ -26,15 +27,9 @@ use Rattle.anb_rehearse_commands.specs.Telling.{asked_by, setting_by}
 
 -- ---- one answer
 
-same_test : (a b : Bool) (P : Type 0) → (IsTrue a ↔ P) → (IsTrue b ↔ P) → a ≡ b
-same_test true true P x y = refl
-same_test true false P x y = let never : false ≡ true = y.1 (x.0 refl) in absurd (cc)
-same_test false true P x y = let never : false ≡ true = x.1 (y.0 refl) in absurd (cc)
-same_test false false P x y = refl
-
-seed_for_one : (p : ProtocolValue) (told host_seed : Option (List ℕ)) → HasOneAnswer (SeedFor p told host_seed)
+pub seed_for_one : (p : ProtocolValue) (told host_seed : Option (List ℕ)) → HasOneAnswer (SeedFor p told host_seed)
 seed_for_one p told host_seed one other (a, x, s) (b, y, t) =
-    seed_one a told host_seed one other s (subst (λ (makes : Bool). SeedIs makes told host_seed other) (same_test b a (MakesNames p) y x) t)
+    seed_one a told host_seed one other s (subst (λ (makes : Bool). SeedIs makes told host_seed other) (same_from_decides {P = MakesNames p} b a y x) t)
 
 -- where each word names a role, none is the first that names none
 all_named : (p : ProtocolValue) (i : ℕ) (turns : List ℕ) (words : List (List ℕ)) → map Some turns ≡ map (role_named p) words → position_from (names_none p) i words ≡ None
@@ -84,7 +79,7 @@ module _ (narrations : NarrationsAreUnique) (refusals : RefusalsAreUnique) (none
 
 -- ---- refusals
 
-seed_for_quiet : (p : ProtocolValue) (told host_seed : Option (List ℕ)) → RefusesQuietly (SeedFor p told host_seed)
+pub seed_for_quiet : (p : ProtocolValue) (told host_seed : Option (List ℕ)) → RefusesQuietly (SeedFor p told host_seed)
 seed_for_quiet p told host_seed = record { each = λ s why. (seed_quiet why.0 told host_seed).each s why.2 }
 
 schedule_quiet : (p : ProtocolValue) (text : List ℕ) → RefusesQuietly (ScheduleIs p text)

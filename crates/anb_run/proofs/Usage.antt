@@ -11,7 +11,7 @@ use Rattle.anb_stage_commands.specs.Words.{Staged}
 use Rattle.anb_store.specs.Stores.{StoreState}
 use Rattle.anb_park_commands.specs.Parking.{HasParkCause}
 use Rattle.anb_park_commands.specs.Words.{Recorded, park, resume, without_file}
-use Rattle.anb_record_commands.specs.Outcomes.{HasRecordCause}
+use Rattle.anb_recorded.specs.Outcomes.{HasRecordCause}
 use Rattle.anb_record_commands.specs.Words as recording
 use Rattle.anb_record_commands.specs.Words.{IsFileOf, Recording, without_folder}
 use Rattle.anb_run.specs.Recordings.{IsAskedRecording}

@@ -14,7 +14,7 @@ use Rattle.anb_park_commands.specs.Words.{Recorded}
 use Rattle.anb_record_commands.specs.BranchInto.{CompletesBranchInto, DoesBranchInto}
 use Rattle.anb_record_commands.specs.EnactInto.{CompletesEnactInto, DoesEnactInto}
 use Rattle.anb_record_commands.specs.HostInto.{CompletesHostInto, DoesHostInto}
-use Rattle.anb_record_commands.specs.Outcomes.{HasRecordCause, recorded_phase}
+use Rattle.anb_recorded.specs.Outcomes.{HasRecordCause, recorded_phase}
 use Rattle.anb_record_commands.specs.PlayInto.{CompletesPlayInto, DoesPlayInto}
 use Rattle.anb_record_commands.specs.Words.{IsFileOf, Recording, branch, enact, host, play, without_folder}
 use Rattle.anb_stage_commands.specs.Words.{Staged}

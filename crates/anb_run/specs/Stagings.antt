@@ -12,7 +12,7 @@ use Rattle.anb_command.specs.Causes.{DidNotRise}
 use Rattle.anb_command.specs.Fetches.{Files}
 use Rattle.anb_words.specs.Words.{Asked}
 use Rattle.anb_park_commands.specs.Words.{Recorded}
-use Rattle.anb_record_commands.specs.Outcomes.{recorded_phase}
+use Rattle.anb_recorded.specs.Outcomes.{recorded_phase}
 use Rattle.anb_record_commands.specs.Words.{Recording}
 use Rattle.anb_stage_commands.specs.StageCommand.{NoChildRose}
 use Rattle.anb_stage_commands.specs.StageInto.{CompletesStageInto, DoesStageInto, HasStageIntoCause}

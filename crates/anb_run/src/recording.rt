@@ -13,7 +13,7 @@ ghost use Rattle.anb_status.specs.declared.status.Status.TheVariants.{Usage};
 ghost use Rattle.anb_park_commands.specs.Words.{recorded_of};
 ghost use Rattle.anb_record_commands.specs.Asking.{recording};
 ghost use Rattle.anb_record_commands.specs.Laws.{RecordedArmsReplay, RecordedPlaysReplay, RecordedSessionsReplay};
-ghost use Rattle.anb_record_commands.specs.Outcomes.{HasRecordCause, recorded_phase};
+ghost use Rattle.anb_recorded.specs.Outcomes.{HasRecordCause, recorded_phase};
 ghost use Rattle.anb_record_commands.specs.Words.{IsFileOf, recording_of, without_folder};
 ghost use Rattle.anb_stage_commands.specs.Words.{staged_of};
 ghost use Rattle.anb_run.specs.Recordings.{CompletesInto, CompletesRecording, DoesInto, DoesRecording, HasRecordingCause, IsAskedRecording, recording_files, recording_phase, recording_places, recording_reading};

@@ -5,8 +5,8 @@ use Rattle.std.specs.List.{slice_get}
 use Rattle.std.proofs.lemmas.Option.{slice_get-map}
 use Rattle.anb_recording.specs.Joining.{others_still}
 use Rattle.anb_recording.specs.Journals.{IsThere, OthersStay}
-use Rattle.anb_record_commands.specs.declared.ended.Missing.{Missing}
-use Rattle.anb_record_commands.specs.declared.ended.Missing.TheVariants as missing
+use Rattle.anb_recorded.specs.declared.ended.Missing.{Missing}
+use Rattle.anb_recorded.specs.declared.ended.Missing.TheVariants as missing
 use Rattle.anb_read.specs.Laws.{NarrationsAreUnique, RefusalsAreUnique, NoneIsBoth}
 use Rattle.anb_values.specs.Fit.{FitIsUnique}
 use Rattle.anb_stage.specs.Children.{Child}

@@ -1,11 +1,10 @@
 -- The status that is told of a stage, from how it ended and from what is missing of its record.
-use Rattle.std.proofs.Common.{◌≡◌, ◌≢◌, ◌⊎◌, ℕ, Bool, true, false, List, Option, Some, None, Ok, Err, refl, ap, sym, ◌∙◌, subst, inl, inr}
-use Rattle.anb_base.specs.Moves.{Put, Rose}
-use Rattle.anb_base.specs.Places.{line_of}
+use Rattle.std.proofs.Common.{◌≡◌, ◌⊎◌, ℕ, Bool, true, false, List, Option, Some, None, Ok, Err, refl, ap, sym, ◌∙◌, subst, inl, inr}
+use Rattle.anb_base.specs.Moves.{Rose}
 use Rattle.anb_base.specs.Wires.{WireState}
 use Rattle.anb_base.specs.declared.place.Place.TheVariants.{Stdio}
 use Rattle.anb_store.specs.Stores.{StoreState}
-use Rattle.anb_status.specs.Statuses.{Phase, after_reach, at_any_time, at_reach, before_reach, is_fault, phase_of}
+use Rattle.anb_status.specs.Statuses.{after_reach, at_any_time, at_reach, is_fault, phase_of}
 use Rattle.anb_status.specs.declared.status.Status.{Status}
 use Rattle.anb_status.specs.declared.status.Status.TheVariants.{Done, FileFault, Unreached, ReadFault, WriteFault, Unwritten, NoMemory}
 use Rattle.anb_command.specs.Causes.{DidNotRise, HasWireCause}
@@ -17,9 +16,10 @@ use Rattle.anb_command.specs.Touches.{Touches}
 use Rattle.anb_command.specs.Writing.{IsWritten}
 use Rattle.anb_command.proofs.Chains.{told_map}
 use Rattle.anb_command.proofs.Reported.{calm_told}
-use Rattle.anb_record_commands.specs.Outcomes.{recorded_phase, told_as}
-use Rattle.anb_record_commands.specs.declared.ended.Missing.{Missing}
-use Rattle.anb_record_commands.specs.declared.ended.Missing.TheVariants as missing
+use Rattle.anb_recorded.specs.Outcomes.{recorded_phase, told_as}
+use Rattle.anb_recorded.specs.declared.ended.Missing.{Missing}
+use Rattle.anb_recorded.specs.declared.ended.Missing.TheVariants as missing
+use Rattle.anb_recorded.proofs.Telling.{any_time, calm_file, calm_place, touches_any}
 use Rattle.anb_stage.specs.Children.{Child}
 use Rattle.anb_stage_commands.specs.Keeping.{EndsInto, IsKept}
 use Rattle.anb_stage_commands.specs.Scenes.{Scene, SceneInFiles}
@@ -67,36 +67,6 @@ of_writing text (Unreached place) w now is = tt
 of_writing text _ w now never = absurd never
 
 -- ---- what is told
-
-calm_memory : (s : Status) → is_fault s ≡ false → s ≢ NoMemory
-calm_memory s calm is = let never : true ≡ false = ap is_fault (sym is) ∙ calm in cc
-
-calm_file : (s : Status) → is_fault s ≡ false → is_file_fault s ≡ false
-calm_file (FileFault file) calm = absurd (cc)
-calm_file _ calm = refl
-
-calm_place : (s : Status) → is_fault s ≡ false → phase_of s ≡ at_reach → ⊥
-calm_place (Unreached place) calm at = cc
-calm_place _ calm at = cc
-
-any_time : (phase : Phase) (before now : Option (List ℕ)) → Reaches (Some Stdio) phase before now → (now ≡ before) ⊎ Put before now (line_of Stdio)
-any_time before_reach before now is = inl is
-any_time at_reach before now is = inl is
-any_time after_reach before now is = inr is
-any_time at_any_time before now is = is
-
-touches_any : (S T : WireState) (phase : Phase) → (phase ≡ at_reach → ⊥) → Touches false phase S T → Touches false at_any_time S T
-touches_any S T phase not_at t = record {
-  before = λ is. absurd (cc);
-  unreached = λ is. absurd (cc);
-  missed = λ rose. absurd (not_at (t.missed rose));
-  unread = t.unread;
-  untaken = t.untaken;
-  unread_faults = t.unread_faults;
-  reads = t.reads;
-  writes = t.writes;
-  reaches = t.reaches;
-}
 
 memory_place : (s : Status) → s ≡ NoMemory → phase_of s ≡ at_reach → ⊥
 memory_place s is at = let never : at_any_time ≡ at_reach = ap phase_of (sym is) ∙ at in cc
@@ -155,7 +125,7 @@ module _ (folder : List ℕ) (roles : List (List ℕ)) (old new : ℕ → Child)
 
     pub told_reaches : Reaches (Some Stdio) (phase_of end) S.reached T.reached → Reaches (Some Stdio) (recorded_phase (told_as end missed)) S.reached T.reached
     told_reaches reaches =
-        let any = any_time (phase_of end) S.reached T.reached reaches in
+        let any = any_time Stdio (phase_of end) S.reached T.reached reaches in
         told_by (λ t. Reaches (Some Stdio) (recorded_phase t) S.reached T.reached) (own_reach end reaches) (λ name calm rose. any) (λ calm. any) (λ name same taken is. any)
 
     own_touches : (t : Status) → Touches false (phase_of t) S T → Touches false (recorded_phase t) S T

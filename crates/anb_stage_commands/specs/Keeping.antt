@@ -1,8 +1,8 @@
 -- What is kept of a relay, before the report is written. For proofs alone.
 use Rattle.std.specs.Prelude.{◌≡◌, ◌≢◌, ◌⊎◌, ℕ, true, false, List, length, Option, Result, Ok, Err}
 use Rattle.anb_base.specs.declared.content.Sent.{Sent}
-use Rattle.anb_record_commands.specs.declared.ended.Missing.{Missing}
-use Rattle.anb_record_commands.specs.declared.ended.Missing.TheVariants as missing
+use Rattle.anb_recorded.specs.declared.ended.Missing.{Missing}
+use Rattle.anb_recorded.specs.declared.ended.Missing.TheVariants as missing
 use Rattle.anb_recording.specs.Journals.{OthersStay}
 use Rattle.anb_stage.specs.Children.{Child}
 use Rattle.anb_stage.specs.Notes.{Note, notes_of}

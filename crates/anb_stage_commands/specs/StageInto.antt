@@ -4,9 +4,9 @@ use Rattle.anb_base.specs.Moves.{Rose}
 use Rattle.anb_base.specs.Wires.{WireState}
 use Rattle.anb_base.specs.declared.content.Sent.{Sent}
 use Rattle.anb_recording.specs.Journals.{IsThere, OthersStay}
-use Rattle.anb_record_commands.specs.Outcomes.{told_as}
-use Rattle.anb_record_commands.specs.declared.ended.Missing.{Missing}
-use Rattle.anb_record_commands.specs.declared.ended.Missing.TheVariants as missing
+use Rattle.anb_recorded.specs.Outcomes.{told_as}
+use Rattle.anb_recorded.specs.declared.ended.Missing.{Missing}
+use Rattle.anb_recorded.specs.declared.ended.Missing.TheVariants as missing
 use Rattle.anb_stage.specs.Children.{Child}
 use Rattle.anb_stage.specs.Notes.{Note}
 use Rattle.anb_store.specs.Stores.{StoreState}

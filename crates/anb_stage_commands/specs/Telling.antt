@@ -6,8 +6,8 @@ use Rattle.anb_base.specs.Moves.{Rose}
 use Rattle.anb_base.proofs.Moving.{Rose-later}
 use Rattle.anb_recording.specs.Joining.{others_joined, others_still}
 use Rattle.anb_recording.specs.Journals.{IsThere, OthersStay}
-use Rattle.anb_record_commands.specs.declared.ended.Missing.{Missing}
-use Rattle.anb_record_commands.specs.declared.ended.Missing.TheVariants as missing
+use Rattle.anb_recorded.specs.declared.ended.Missing.{Missing}
+use Rattle.anb_recorded.specs.declared.ended.Missing.TheVariants as missing
 use Rattle.anb_stage.specs.Notes.{Note}
 use Rattle.anb_store.specs.Stores.{StoreState}
 use Rattle.anb_stage_commands.specs.Records.{AreNew, all_made, last_line, own_line, put_to, reported_line}

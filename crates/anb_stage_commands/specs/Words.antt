@@ -4,7 +4,7 @@ use Rattle.std.specs.List.{ends_with, list_any, slice_split}
 use Rattle.std.specs.Option.{option_map, option_map_or}
 use Rattle.anb_stage.specs.Children.{asked_words}
 use Rattle.anb_stage.specs.Words.{file_word}
-use Rattle.anb_record_commands.specs.Words.{folder_in}
+use Rattle.anb_recorded.specs.Words.{folder_in}
 use Rattle.anb_words.specs.Words.{is_operand, seconds_in}
 
 -- a role, and the program that plays it, as it is said

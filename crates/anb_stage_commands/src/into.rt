@@ -1,14 +1,14 @@
 //! The relay of a narration's file among child programs, with a record of it in a folder.
-ghost use Rattle.std.specs.Prelude.{◌≡◌, ◌<◌, ℕ, length, slice_get, Err, IfErr, IfOk, Some, false, if◌then◌else◌};
+ghost use Rattle.std.specs.Prelude.{◌≡◌, ◌<◌, ℕ, length, slice_get, Err, IfErr, IfOk, Some, false};
 ghost use Rattle.anb_base.specs.declared.place.Place.TheVariants as place;
 ghost use Rattle.anb_stage.specs.declared.TheConstants.{ROLES};
-ghost use Rattle.anb_status.specs.Statuses.{is_fault, phase_of};
+ghost use Rattle.anb_status.specs.Statuses.{phase_of};
 ghost use Rattle.anb_command.specs.Causes.{DidNotRise, NoneRose};
 ghost use Rattle.anb_command.specs.Fetches.{Fetches};
 ghost use Rattle.anb_command.specs.Reaches.{Reaches};
 ghost use Rattle.anb_command.specs.Reported.{TellsFaults, TellsFileFaults};
 ghost use Rattle.anb_command.specs.Touches.{Touches};
-ghost use Rattle.anb_record_commands.specs.Outcomes.{recorded_phase, told_as};
+ghost use Rattle.anb_recorded.specs.Outcomes.{recorded_phase};
 ghost use Rattle.anb_status.specs.declared.status.Status.TheVariants.{NoMemory};
 ghost use Rattle.anb_stage_commands.specs.Asking.{scene_of, staged};
 ghost use Rattle.anb_stage_commands.specs.Keeping.{EndsInto, IsKept, IsKeptOf, WentOn};
@@ -27,7 +27,7 @@ use crate::staging::{has_few_roles, relayed};
 use anb_base::{Shelf, Text, Wire};
 use anb_command::{Status, write_text};
 use anb_read::{narrations_are_unique, none_is_both, refusals_are_unique};
-use anb_record_commands::Missing;
+use anb_recorded::{Ended, Missing};
 use anb_recording::Journal;
 use anb_stage::{Spawner, relays_are_due};
 use anb_values::one_fit;
@@ -70,17 +70,7 @@ pub fn stage_into<F: Shelf, P: Spawner, J: Journal, W: Wire>(
         (W.state wire.old).reached (W.state wire.new).reached }
     ensures touches { Touches false (recorded_phase result) (W.state wire.old) (W.state wire.new) }
 {
-    let Ended { status, missing } = staged_into(
-        alloc, shelf, spawner, journal, wire, words, folder,
-    );
-    told(status, missing)
-}
-
-/// How a stage ended by itself, and what is missing of its record.
-#[derive(Drop)]
-struct Ended {
-    status: Status,
-    missing: Missing,
+    staged_into(alloc, shelf, spawner, journal, wire, words, folder).told()
 }
 
 /// Relays, records that, and writes the report to the standard streams.
@@ -311,41 +301,5 @@ fn unstarted(missing: Missing) -> Kept
     Kept {
         outcome: Err(Status::NoMemory),
         missing,
-    }
-}
-
-/// The status that is told of a stage that ended so by itself, where this is missing of its record.
-fn told(end: Status, missing: Missing) -> Status
-    ensures { result ≡ told_as end missing }
-{
-    match missing {
-        Missing::Nothing => end,
-        Missing::There(name) => Status::Unwritten(name),
-        Missing::Unwritten(name) => in_place_of(end, Status::Unwritten(name)),
-        Missing::NoMemory => in_place_of(end, Status::NoMemory),
-    }
-}
-
-/// The end, where it is a fault of its own, and else the other status.
-fn in_place_of(end: Status, other: Status) -> Status
-    ensures { result ≡ (if is_fault end then end else other) }
-{
-    if is_fault(&end) { end } else { other }
-}
-
-/// Whether a status is a fault of the outside, or want of memory.
-fn is_fault(status: &Status) -> bool
-    ensures { result ≡ is_fault status.now }
-{
-    match status {
-        Status::FileFault(_)
-        | Status::Unreached(_)
-        | Status::ReadFault
-        | Status::WriteFault
-        | Status::ChildFault(_)
-        | Status::ChildSilent { .. }
-        | Status::Unwritten(_)
-        | Status::NoMemory => true,
-        _ => false,
     }
 }

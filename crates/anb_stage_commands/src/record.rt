@@ -10,7 +10,7 @@ ghost use Rattle.anb_stage_commands.specs.declared.record.Lack.TheVariants.{Noth
 use crate::files::Both;
 use crate::report::sent_text;
 use anb_base::{NoMemory, Text};
-use anb_record_commands::Missing;
+use anb_recorded::Missing;
 use anb_recording::{BeginNo, Journal};
 use anb_stage::Log;
 use anb_store::StoreNo;

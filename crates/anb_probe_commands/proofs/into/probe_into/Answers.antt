@@ -1,5 +1,5 @@
 use Rattle.anb_base.specs.declared.place.Place.TheVariants.{Stdio}
-use Rattle.anb_record_commands.proofs.Telling.{told_faults}
+use Rattle.anb_recorded.proofs.Telling.{told_faults}
 use Rattle.anb_probe_commands.specs.Asking.{probing}
 use Rattle.anb_probe_commands.specs.ProbeCommand.{probe_files}
 use Rattle.anb_probe_commands.specs.Records.{IsOfRecord}

@@ -4,7 +4,7 @@ use Rattle.anb_probe_commands.specs.Asking.{trying_by}
 use Rattle.anb_probe_commands.specs.Keeping.{Goes, Told}
 use Rattle.anb_probe_commands.specs.Tasks.{fitted_by, probing_by}
 use Rattle.anb_probe_commands.specs.Words.{order_of}
-use Rattle.anb_record_commands.specs.declared.ended.Missing.TheVariants as missing
+use Rattle.anb_recorded.specs.declared.ended.Missing.TheVariants as missing
 use Rattle.anb_probe_commands.proofs.Ending.{over_wanting}
 use Rattle.anb_probe_commands.proofs.Kept.{keeps_some}
 use Rattle.anb_probe_commands.proofs.Played.{none_left_at_first}

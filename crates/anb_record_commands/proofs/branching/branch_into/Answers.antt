@@ -4,8 +4,9 @@ use Rattle.anb_command.proofs.Causes.{only_memory}
 use Rattle.anb_branch_commands.specs.BranchCommand.{CompletesBranch, DoesBranch}
 use Rattle.anb_record_commands.specs.BranchInto.{RecordsBranch}
 use Rattle.anb_record_commands.specs.Outcomes.{IsOfFolder}
-use Rattle.anb_record_commands.proofs.Completing.{completes_in_folder, branch_wants}
-use Rattle.anb_record_commands.proofs.Telling.{told_cause, told_faults, told_reaches, told_touches}
+use Rattle.anb_recorded.proofs.Completing.{completes_in_folder}
+use Rattle.anb_record_commands.proofs.Completing.{branch_wants}
+use Rattle.anb_recorded.proofs.Telling.{told_cause, told_faults, told_reaches, told_touches}
 use Rattle.anb_record_commands.proofs.branching.branch_into.Goals as goal
 
 pub returns-clause-does : goal.returns-clause-does

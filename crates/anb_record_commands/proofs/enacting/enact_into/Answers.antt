@@ -4,8 +4,9 @@ use Rattle.anb_command.proofs.Causes.{only_memory}
 use Rattle.anb_role_commands.specs.EnactCommand.{CompletesEnact, DoesEnact}
 use Rattle.anb_record_commands.specs.EnactInto.{RecordsEnact}
 use Rattle.anb_record_commands.specs.Outcomes.{IsOfFolder}
-use Rattle.anb_record_commands.proofs.Completing.{completes_in_folder, enact_wants}
-use Rattle.anb_record_commands.proofs.Telling.{told_cause, told_faults, told_reaches, told_touches}
+use Rattle.anb_recorded.proofs.Completing.{completes_in_folder}
+use Rattle.anb_record_commands.proofs.Completing.{enact_wants}
+use Rattle.anb_recorded.proofs.Telling.{told_cause, told_faults, told_reaches, told_touches}
 use Rattle.anb_record_commands.proofs.enacting.enact_into.Goals as goal
 
 pub returns-clause-does : goal.returns-clause-does

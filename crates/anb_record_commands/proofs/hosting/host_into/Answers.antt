@@ -3,9 +3,10 @@ use Rattle.anb_words.specs.Commands.{place_by}
 use Rattle.anb_command.proofs.Causes.{only_memory}
 use Rattle.anb_host_commands.specs.HostCommand.{CompletesHost, DoesHost}
 use Rattle.anb_record_commands.specs.HostInto.{IsOfHost, RecordsHost}
-use Rattle.anb_record_commands.proofs.Completing.{completes_in_folder, host_wants}
+use Rattle.anb_recorded.proofs.Completing.{completes_in_folder}
+use Rattle.anb_record_commands.proofs.Completing.{host_wants}
 use Rattle.anb_record_commands.proofs.Hosted.{none_over}
-use Rattle.anb_record_commands.proofs.Telling.{told_cause, told_faults, told_reaches, told_touches}
+use Rattle.anb_recorded.proofs.Telling.{told_cause, told_faults, told_reaches, told_touches}
 use Rattle.anb_record_commands.proofs.hosting.host_into.Goals as goal
 
 pub returns-clause-does : goal.returns-clause-does

@@ -1,10 +1,10 @@
-//! How a play that is recorded ended, and the status that is told.
+//! How a command that makes a recording ended, and the status that is told.
 ghost use Rattle.std.specs.Prelude.{◌≡◌, if◌then◌else◌};
 ghost use Rattle.anb_status.specs.Statuses.{is_fault};
-ghost use Rattle.anb_record_commands.specs.Outcomes.{told_as};
+ghost use Rattle.anb_recorded.specs.Outcomes.{told_as};
 
 use anb_base::Text;
-use anb_command::{Halt, Status};
+use anb_command::Status;
 
 /// What is missing of a recording.
 #[derive(Drop)]
@@ -17,7 +17,7 @@ pub enum Missing {
     There(Text),
 }
 
-/// How the play ended by itself, and what is missing of its recording.
+/// How the command ended by itself, and what is missing of its recording.
 #[derive(Drop)]
 pub struct Ended {
     pub status: Status,

@@ -1,5 +1,5 @@
--- The status that is told, from how the play ended and from what is missing.
-use Rattle.std.proofs.Common.{◌≡◌, ◌≢◌, ◌⊎◌, ◌<◌, ℕ, Bool, true, false, List, Option, Some, refl, ap, sym, ◌∙◌, subst, inl, inr}
+-- The status that is told, from how the command ended and from what is missing.
+use Rattle.std.proofs.Common.{◌≡◌, ◌≢◌, ◌⊎◌, ℕ, Bool, true, false, List, Option, Some, refl, ap, sym, ◌∙◌, subst, inl, inr}
 use Rattle.anb_base.specs.Moves.{Put, Rose}
 use Rattle.anb_base.specs.Places.{line_of}
 use Rattle.anb_base.specs.Wires.{WireState}
@@ -15,14 +15,14 @@ use Rattle.anb_command.specs.Reported.{TellsFaults, TellsWireFaults, is_file_fau
 use Rattle.anb_command.specs.Touches.{Touches}
 use Rattle.anb_command.proofs.OverWire.{untouched}
 use Rattle.anb_command.proofs.Reported.{calm_told, nothing_failed}
-use Rattle.anb_record_commands.specs.Outcomes.{HasRecordCause, IsMissing, recorded_phase, told_as}
-use Rattle.anb_record_commands.specs.declared.ended.Missing.{Missing}
-use Rattle.anb_record_commands.specs.declared.ended.Missing.TheVariants as missing
+use Rattle.anb_recorded.specs.Outcomes.{HasRecordCause, IsMissing, recorded_phase, told_as}
+use Rattle.anb_recorded.specs.declared.ended.Missing.{Missing}
+use Rattle.anb_recorded.specs.declared.ended.Missing.TheVariants as missing
 
 pub calm_memory : (s : Status) → is_fault s ≡ false → s ≢ NoMemory
 calm_memory s calm is = let never : true ≡ false = ap is_fault (sym is) ∙ calm in cc
 
-calm_file : (s : Status) → is_fault s ≡ false → is_file_fault s ≡ false
+pub calm_file : (s : Status) → is_fault s ≡ false → is_file_fault s ≡ false
 calm_file (FileFault file) calm = absurd (cc)
 calm_file _ calm = refl
 
@@ -37,14 +37,14 @@ any_time place at_reach old new is = inl is
 any_time place after_reach old new is = inr is
 any_time place at_any_time old new is = is
 
-touches_any : (S T : WireState) (phase : Phase) → (phase ≡ at_reach → ⊥) → Touches true phase S T → Touches true at_any_time S T
+pub touches_any : {reading : Bool} (S T : WireState) (phase : Phase) → (phase ≡ at_reach → ⊥) → Touches reading phase S T → Touches reading at_any_time S T
 touches_any S T phase not_at t = record {
   before = λ is. absurd (cc);
   unreached = λ is. absurd (cc);
   missed = λ rose. absurd (not_at (t.missed rose));
-  unread = λ is. absurd (cc);
-  untaken = λ is. absurd (cc);
-  unread_faults = λ is. absurd (cc);
+  unread = t.unread;
+  untaken = t.untaken;
+  unread_faults = t.unread_faults;
   reads = t.reads;
   writes = t.writes;
   reaches = t.reaches;

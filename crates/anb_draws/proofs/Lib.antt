@@ -1,0 +1,5 @@
+mod Taking
+mod Plans
+mod Left
+mod Walking
+mod Told

@@ -1,0 +1,4 @@
+pub mod Draws
+pub mod Laws
+-- for proofs alone
+pub mod Telling
