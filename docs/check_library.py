@@ -4,7 +4,7 @@
     python3 docs/check_library.py crates/anb/out/anb           of this checkout
     python3 docs/check_library.py crates/anb/out/anb --fresh   of a fresh clone of what is committed
 
-- The line of README builds and installs it, but into a folder of its own. Its names outside are those of anb.h, it needs
+- The line of LIBRARY builds and installs it, but into a folder of its own. Its names outside are those of anb.h, it needs
   nothing but the C library, anb.h is taken by a C and a C++ compiler with all warnings, and pkg-config finds it.
 - Each narration of examples/ through the library, by capi/anb.py: each role file is that of `anb compile`, each message
   has the bytes that `anb stage` relays, all roles end, and they end so too where each session is parked and resumed
@@ -29,8 +29,8 @@ import tempfile
 ROOT = pathlib.Path(__file__).resolve().parent.parent
 EXAMPLES = ROOT / "examples"
 CAPI = ROOT / "capi"
-# The line of README that builds the library.
-BUILD = re.compile(r"`capi/build\.sh --prefix \S+`")
+# The line of LIBRARY that builds the library.
+BUILD = re.compile(r"^capi/build\.sh --prefix \S+$", re.M)
 WARNS = ["-Wall", "-Wextra", "-Wpedantic", "-Werror"]
 VALGRIND = ["valgrind", "-q", "--error-exitcode=77", "--leak-check=full", "--show-leak-kinds=all"]
 # What the archive may need of the C library.
@@ -48,15 +48,15 @@ def run(*words, status=0):
 
 
 def installed(fresh, folder):
-    """The folder under which the line of README installs the library, from this checkout or a fresh clone."""
+    """The folder under which the line of LIBRARY installs the library, from this checkout or a fresh clone."""
     prefix, source = folder / "prefix", ROOT
     if fresh:
         source = folder / "clone"
         run("git", "clone", "-q", ROOT, source)
-    line = BUILD.search((source / "README.md").read_text())
+    line = BUILD.search((source / "docs/LIBRARY.md").read_text())
     if not line:
-        raise ValueError("README has no line that builds the library")
-    words = line[0].strip("`").split()[:-1]
+        raise ValueError("LIBRARY has no line that builds the library")
+    words = line[0].split()[:-1]
     subprocess.run([source / words[0], *words[1:], prefix], stdin=subprocess.DEVNULL, check=True)
     return prefix
 
