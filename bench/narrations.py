@@ -172,6 +172,16 @@ def same_trees(n):
     return w
 
 
+def hidden_names(n):
+    """n hashes of a new name each, each sent back."""
+    w = Narration()
+    for _ in range(n):
+        message = apply("h", w.fresh("x", 1))
+        w.send("A", message)
+        w.send("B", message)
+    return w
+
+
 # each row's narration, the role to compile, and the sizes to measure, which double up to the largest
 ROWS = {
     "declared_names": (declared_names, "A", [18750, 37500, 75000, 150000]),
@@ -185,6 +195,7 @@ ROWS = {
     "kept_hashes": (kept_hashes, "A", [4000, 8000, 16000, 32000]),
     "seals_and_openings": (seals_and_openings, "A", [1100, 2200, 4400, 8800]),
     "same_trees": (same_trees, "B", [4, 8, 16, 32]),
+    "hidden_names": (hidden_names, "A", [16, 32, 64, 128]),
 }
 
 
