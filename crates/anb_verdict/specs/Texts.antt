@@ -153,3 +153,13 @@ cases_text one other = cases_front one ++ number_end other
 
 abbrev pub same_line : ProtocolValue → (name one other : ℕ) → List ℕ
 same_line p name one other = codes "# " ++ atom_name p name ++ cases_text one other
+
+-- and that of another name in one
+abbrev pub twin_front : ProtocolValue → (other : ℕ) → List ℕ
+twin_front p other = codes " is the same as " ++ atom_name p other ++ codes " in case "
+
+abbrev pub twin_text : ProtocolValue → (other case : ℕ) → List ℕ
+twin_text p other case = twin_front p other ++ number_end case
+
+abbrev pub twin_line : ProtocolValue → (name other case : ℕ) → List ℕ
+twin_line p name other case = codes "# " ++ atom_name p name ++ twin_text p other case

@@ -25,7 +25,7 @@ pub use finding::place_of;
 pub use judging::{judge_case, reached_by, verdict_of};
 pub use laws::lines_are_exact;
 pub use lines::{case_lines, first_lines, last_line, no_such_case};
-pub use missing::{Missing, Other, missing_line, not_tried_line, same_line};
+pub use missing::{Missing, Other, missing_line, not_tried_line, same_line, twin_line};
 pub use others::other_of;
 pub use place::Place;
 pub use places::{operand_text, part_text};

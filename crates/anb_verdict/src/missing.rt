@@ -1,7 +1,7 @@
 //! What cases show, and what can't be tried.
 ghost use Rattle.std.specs.Prelude.{◌≡◌, ◌++◌, IfOk};
 ghost use Rattle.anb_protocol.specs.Texts.{atom_name};
-ghost use Rattle.anb_verdict.specs.Texts.{at_event, cases_front, cases_text, missing_line, missing_text, not_tried_line, other_text, same_line};
+ghost use Rattle.anb_verdict.specs.Texts.{at_event, cases_front, cases_text, missing_line, missing_text, not_tried_line, other_text, same_line, twin_front, twin_line, twin_text};
 
 use crate::lines::bytes;
 use crate::notes::number_end;
@@ -153,6 +153,35 @@ fn cases_front(alloc: Global, one: u32) -> Result<Text, NoMemory>
     ensures { IfOk result (λ text. text ≡ cases_front one) }
 {
     Ok(Text::new(format!(in alloc; " is the same in cases {} and ", one)?))
+}
+
+/// That a name that the role drew has the value of another one in a case.
+pub fn twin_line(
+    alloc: Global,
+    p: &Protocol,
+    name: u32,
+    other: u32,
+    case: u32,
+) -> Result<Vec<u8>, NoMemory>
+    ensures { IfOk result (λ bytes. bytes.items ≡ twin_line p.now name other case) }
+{
+    let back = twin_text(alloc, p, other, case)?;
+    let text = joined(alloc, "# ", name_text(p, name), back.as_str())?;
+    bytes(alloc, text.as_str())
+}
+
+fn twin_text(alloc: Global, p: &Protocol, other: u32, case: u32) -> Result<Text, NoMemory>
+    ensures { IfOk result (λ text. text ≡ twin_text p.now other case) }
+{
+    let front = twin_front(alloc, p, other)?;
+    let back = number_end(alloc, case)?;
+    joined(alloc, front.as_str(), "", back.as_str())
+}
+
+fn twin_front(alloc: Global, p: &Protocol, other: u32) -> Result<Text, NoMemory>
+    ensures { IfOk result (λ text. text ≡ twin_front p.now other) }
+{
+    joined(alloc, " is the same as ", name_text(p, other), " in case ")
 }
 
 fn at_event(alloc: Global, event: usize) -> Result<Text, NoMemory>
