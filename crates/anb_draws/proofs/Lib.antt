@@ -1,5 +1,7 @@
 mod Taking
+mod Events
 mod Plans
-mod Left
+mod Among
 mod Walking
+mod Known
 mod Told

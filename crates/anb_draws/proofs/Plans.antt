@@ -1,7 +1,8 @@
 -- The plan of who sees a role's first messages and then says names is one that can be compiled.
-use Rattle.std.proofs.Common.{◌≡◌, ℕ, zero, suc, ◌+◌, ◌≤◌, List, [], ◌∷◌, ◌++◌, length, map, refl, sym, ap, ◌∙◌, subst, arith}
+use Rattle.std.proofs.Common.{◌≡◌, ℕ, zero, suc, ◌+◌, ◌≤◌, List, [], ◌∷◌, ◌++◌, length, map, Bool, refl, sym, ap, ◌∙◌, subst, arith}
 use Rattle.std.specs.List.{AllByRecursion}
-use Rattle.anb_term.specs.Tree.{Tree, leaf, tree_size, nodes, IsFormed}
+use Rattle.anb_term.specs.declared.term.Op.{Op}
+use Rattle.anb_term.specs.Tree.{Tree, leaf, tree_size, nodes, trees_of, AreFormed, IsFormed}
 use Rattle.anb_term.specs.Agree.{HasRecipe}
 use Rattle.anb_algebra.specs.ByteMeaning.{has_operator}
 use Rattle.anb_close.proofs.Growing.{nodes_append}
@@ -9,18 +10,18 @@ use Rattle.anb_plays.specs.Plans.{Event, know, send, recv, known}
 use Rattle.anb_plays.specs.Honest.{heard}
 use Rattle.anb_protocol.specs.Choices.{each_after}
 use Rattle.anb_protocol.specs.Protocols.{ActionValue, ProtocolValue}
-use Rattle.anb_protocol.specs.Texts.{known_by, known_terms}
+use Rattle.anb_protocol.specs.Texts.{IsTermOf, known_by, known_terms}
 use Rattle.anb_protocol.specs.Plans.{PlanEvent, to_know, to_make, to_send, to_receive, plan_of, messages, made, events_at, term_in}
 use Rattle.anb_protocol.specs.Plays.{event_of}
 use Rattle.anb_protocol.specs.Laws.{HoldsOf}
 use Rattle.anb_compile.specs.Unsent.{label_of, labels_of}
 use Rattle.anb_compile.specs.Emitting.{known_in, KnowsLead, IsBlocked, IsPlan, context_of}
 use Rattle.anb_compile.specs.Verifying.{IsNarrow}
-use Rattle.anb_compile.proofs.Events.{known_events, labels_append}
+use Rattle.anb_compile.proofs.Events.{known_events, labels_append, labels_have}
 use Rattle.anb_compile.proofs.Protocols.{known_of_plan, nodes_known, own_cases, plan_is}
 use Rattle.anb_judge.specs.Observed.{observed}
 use Rattle.anb_judge.specs.Verdicts.{up_to}
-use Rattle.anb_draws.specs.Telling.{IsHidden, asks, seen_by, telling}
+use Rattle.anb_draws.specs.Telling.{IsHad, asks, frame_by, seen_by, telling}
 
 -- ---- its parts
 
@@ -109,7 +110,8 @@ knows_within : (ts : List Tree) (rest : List PlanEvent) (most : ℕ) → Within 
 knows_within [] rest most later n = omega (arith, later n)
 knows_within (t ∷ ts) rest most later n = omega (arith, knows_within ts rest most later n)
 
-few_by : (p : ProtocolValue) (role : ℕ) → HoldsOf p → Within (plan_of p role) 65536
+-- what is heard by then
+pub few_by : (p : ProtocolValue) (role : ℕ) → HoldsOf p → Within (plan_of p role) 65536
 unfolding plan_of
 few_by p role holds n =
     let all = knows_within (known_by p role) (each_after (events_at p role) [] p.actions) (nodes (messages p.actions)) (each_within p role [] p.actions) n in
@@ -203,7 +205,7 @@ labels_by (suc n) (to_send i t ∷ es) lead =
 labels_by (suc n) (to_receive i t ∷ es) lead =
     ap (λ l. t ∷ l) (labels_behind n es lead) ∙ ap (λ l. l ++ t ∷ heard (observed (up_to n (map event_of es)))) (sym (known_events es ∙ lead))
 
--- ---- a name that can't be said
+-- ---- each name can be said
 
 not_empty : {A X : Type 0} (before after : List A) (x : A) → [] ≡ before ++ (x ∷ after) → X
 not_empty [] after x is = absurd (let never = is in cc)
@@ -212,46 +214,72 @@ not_empty (b ∷ before) after x is = absurd (let never = is in cc)
 same_head : {A : Type 0} (x y : A) (xs ys : List A) → x ∷ xs ≡ y ∷ ys → (x ≡ y) × (xs ≡ ys)
 same_head x y xs ys is = (cc, cc)
 
-at_say : (names : List ℕ) (before after : List PlanEvent) (action : ℕ) (t : Tree) → map asks names ≡ before ++ (to_send action t ∷ after) → (labels_of before ≡ []) × (t ≡ leaf action)
-at_say [] before after action t is = not_empty before after (to_send action t) is
-at_say (a ∷ names) [] after action t is =
+-- what is sent is a name, and one of these
+abbrev IsOne : (P : ℕ → Type 0) → (action : ℕ) → Tree → Type 0
+IsOne P action t = (t ≡ leaf action) × P action
+
+at_say : (P : ℕ → Type 0) (names : List ℕ) → AllByRecursion P names → (before after : List PlanEvent) (action : ℕ) (t : Tree) → map asks names ≡ before ++ (to_send action t ∷ after)
+    → (labels_of before ≡ []) × IsOne P action t
+at_say P [] all before after action t is = not_empty before after (to_send action t) is
+at_say P (a ∷ names) all [] after action t is =
     let here : to_send a (leaf a) ≡ to_send action t = (same_head (asks a) (to_send action t) (map asks names) after is).0 in
     let one : a ≡ action = cc in
     let other : leaf a ≡ t = cc in
-    (refl, sym other ∙ ap leaf one)
-at_say (a ∷ names) (b ∷ before) after action t is =
+    (refl, (sym other ∙ ap leaf one, subst P one all.0))
+at_say P (a ∷ names) all (b ∷ before) after action t is =
     let both = same_head (asks a) b (map asks names) (before ++ (to_send action t ∷ after)) is in
-    let later = at_say names before after action t both.1 in
+    let later = at_say P names all.1 before after action t both.1 in
     (ap (λ (x : PlanEvent). label_of x ++ labels_of before) (sym both.0) ∙ later.0, later.1)
 
 -- behind an event that isn't said
-at_later : (e : PlanEvent) (xs before after : List PlanEvent) (action : ℕ) (t : Tree) (labels : List Tree) → (e ≡ to_send action t → ⊥)
-    → ((rest : List PlanEvent) → xs ≡ rest ++ (to_send action t ∷ after) → (labels_of rest ≡ labels) × (t ≡ leaf action))
-    → e ∷ xs ≡ before ++ (to_send action t ∷ after) → (labels_of before ≡ label_of e ++ labels) × (t ≡ leaf action)
-at_later e xs [] after action t labels other later is = absurd (other (same_head e (to_send action t) xs after is).0)
-at_later e xs (b ∷ before) after action t labels other later is =
+at_later : (P : ℕ → Type 0) (e : PlanEvent) (xs before after : List PlanEvent) (action : ℕ) (t : Tree) (labels : List Tree) → (e ≡ to_send action t → ⊥)
+    → ((rest : List PlanEvent) → xs ≡ rest ++ (to_send action t ∷ after) → (labels_of rest ≡ labels) × IsOne P action t)
+    → e ∷ xs ≡ before ++ (to_send action t ∷ after) → (labels_of before ≡ label_of e ++ labels) × IsOne P action t
+at_later P e xs [] after action t labels other later is = absurd (other (same_head e (to_send action t) xs after is).0)
+at_later P e xs (b ∷ before) after action t labels other later is =
     let both = same_head e b xs (before ++ (to_send action t ∷ after)) is in
     let found = later before both.1 in
     (ap (λ (x : PlanEvent). label_of x ++ labels_of before) (sym both.0) ∙ ap (λ l. label_of e ++ l) found.0, found.1)
 
-at_name : (n : ℕ) (es : List PlanEvent) (names : List ℕ) (before after : List PlanEvent) (action : ℕ) (t : Tree) → telling n names es ≡ before ++ (to_send action t ∷ after)
-    → (labels_of before ≡ labels_of (seen_by n es)) × (t ≡ leaf action)
-at_name n [] names before after action t is = at_say names before after action t is
-at_name n (to_know u ∷ es) names before after action t is =
-    at_later (to_know u) (telling n names es) before after action t (labels_of (seen_by n es)) (λ never. cc) (λ rest at. at_name n es names rest after action t at) is
-at_name n (to_make u ∷ es) names before after action t is = at_name n es names before after action t is
-at_name zero (to_send i u ∷ es) names before after action t is = at_say names before after action t is
-at_name zero (to_receive i u ∷ es) names before after action t is = at_say names before after action t is
-at_name (suc n) (to_send i u ∷ es) names before after action t is =
-    at_later (to_receive i u) (telling n names es) before after action t (labels_of (seen_by n es)) (λ never. cc) (λ rest at. at_name n es names rest after action t at) is
-at_name (suc n) (to_receive i u ∷ es) names before after action t is =
-    at_later (to_receive i u) (telling n names es) before after action t (labels_of (seen_by n es)) (λ never. cc) (λ rest at. at_name n es names rest after action t at) is
+module _ (P : ℕ → Type 0) (names : List ℕ) (all : AllByRecursion P names) (action : ℕ) (t : Tree) where
+  at_name : (n : ℕ) (es before after : List PlanEvent) → telling n names es ≡ before ++ (to_send action t ∷ after)
+      → (labels_of before ≡ labels_of (seen_by n es)) × IsOne P action t
+  at_name n [] before after is = at_say P names all before after action t is
+  at_name n (to_know u ∷ es) before after is =
+      at_later P (to_know u) (telling n names es) before after action t (labels_of (seen_by n es)) (λ never. cc) (λ rest at. at_name n es rest after at) is
+  at_name n (to_make u ∷ es) before after is = at_name n es before after is
+  at_name zero (to_send i u ∷ es) before after is = at_say P names all before after action t is
+  at_name zero (to_receive i u ∷ es) before after is = at_say P names all before after action t is
+  at_name (suc n) (to_send i u ∷ es) before after is =
+      at_later P (to_receive i u) (telling n names es) before after action t (labels_of (seen_by n es)) (λ never. cc) (λ rest at. at_name n es rest after at) is
+  at_name (suc n) (to_receive i u ∷ es) before after is =
+      at_later P (to_receive i u) (telling n names es) before after action t (labels_of (seen_by n es)) (λ never. cc) (λ rest at. at_name n es rest after at) is
 
-pub hides : (p : ProtocolValue) (role n : ℕ) (names : List ℕ) (action : ℕ) → IsPlan (context_of p (telling n names (plan_of p role))) (telling n names (plan_of p role))
-    → ((c : _) → IsPlan c (telling n names (plan_of p role)) → IsBlocked c (telling n names (plan_of p role)) action) → IsHidden p role n action
-hides p role n names action is blocks has =
+pub none_blocked : (p : ProtocolValue) (role n : ℕ) (names : List ℕ) (action : ℕ) → AllByRecursion (IsHad p (frame_by p role n)) names
+    → IsPlan (context_of p (telling n names (plan_of p role))) (telling n names (plan_of p role))
+    → ((c : _) → IsPlan c (telling n names (plan_of p role)) → IsBlocked c (telling n names (plan_of p role)) action) → ⊥
+none_blocked p role n names action had is blocks =
     let plan = telling n names (plan_of p role) in
     let blocked : IsBlocked (context_of p plan) plan action = blocks (context_of p plan) is in
-    let at = at_name n (plan_of p role) names blocked.before blocked.after action blocked.message blocked.is in
+    let at = at_name (IsHad p (frame_by p role n)) names had action blocked.message n (plan_of p role) blocked.before blocked.after blocked.is in
     blocked.no_recipe (subst (λ F. HasRecipe (has_operator p.formats) F blocked.message) (sym at.0)
-    (subst (HasRecipe (has_operator p.formats) (labels_of (seen_by n (plan_of p role)))) (sym at.1) has))
+    (subst (HasRecipe (has_operator p.formats) (frame_by p role n)) (sym at.1.0) at.1.1))
+
+-- ---- the terms of what is heard by then
+
+pub heard_formed : (p : ProtocolValue) (role n : ℕ) → HoldsOf p → AllByRecursion (IsFormed (has_operator p.formats)) (frame_by p role n)
+heard_formed p role n holds =
+    let has = has_operator p.formats in
+    let plan = plan_of p role in
+    labels_have (IsFormed has) (seen_by n plan) [] (tells_each (IsFormed has) (λ a. tt) n [] plan (plan_is p role holds).formed)
+
+pub all_formed : (has : Op → Bool) (ts : List Tree) → AllByRecursion (IsFormed has) ts → AreFormed has (trees_of ts)
+all_formed has [] all = tt
+all_formed has (t ∷ ts) all = (all.0, all_formed has ts all.1)
+
+pub known_are_terms : (p : ProtocolValue) (es : List PlanEvent) → AllByRecursion (λ e. IsTermOf p (term_in e)) es → AllByRecursion (IsTermOf p) (known_in es)
+known_are_terms p [] all = tt
+known_are_terms p (to_know t ∷ es) all = (all.0, known_are_terms p es all.1)
+known_are_terms p (to_make t ∷ es) all = known_are_terms p es all.1
+known_are_terms p (to_send i t ∷ es) all = known_are_terms p es all.1
+known_are_terms p (to_receive i t ∷ es) all = known_are_terms p es all.1

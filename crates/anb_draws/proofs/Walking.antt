@@ -3,7 +3,7 @@ use Rattle.std.proofs.Common.{◌≡◌, ℕ, ◌+◌, List, [], ◌∷◌, ◌+
 use Rattle.std.proofs.lemmas.List.{append-nil}
 use Rattle.anb_term.specs.Tree.{Tree, leaf}
 use Rattle.anb_term.specs.Value.{Meaning}
-use Rattle.anb_term.specs.Agree.{Gives}
+use Rattle.anb_term.specs.Agree.{Agree, Gives}
 use Rattle.anb_plays.specs.Plans.{Event, know, fresh, send, recv, known, IsFreshAfter, FreshIsNew}
 use Rattle.anb_plays.specs.Plays.{End, stopped, waiting, done, Played, ends, Walk, Play}
 use Rattle.anb_plays.specs.Honest.{heard}
@@ -56,32 +56,33 @@ module _ {A : Type 0} (m : Meaning A) where
         let later = said cs F vs (e + 1) i xs q walk (sym (ap (λ (r : Played A). r.left) is) ∙ left) in
         (later.0, subst (GivesEach F vs (a ∷ cs)) (sym (ap (λ (r : Played A). r.sent) is)) (gives, later.1))
 
-    -- what is said, over all that was heard by then
-    abbrev Said : (es : List Event) (F : List Tree) (vs xs : List A) → Played A → Type 0
-    Said es F vs xs p = GivesEach (F ++ heard (observed es)) (vs ++ xs) names p.sent
+    -- what is said has the values of all recipes over what was heard by then, which agrees
+    abbrev Said : (F : List Tree) (vs : List A) → Played A → Type 0
+    Said F vs p = GivesEach F vs names p.sent × Agree m F vs
 
     next : (t : Tree) (es : List Event) (F : List Tree) (vs : List A) (e i : ℕ) (xs : List A) (p : Played A)
-        → ((G : List Tree) (ws : List A) (k : ℕ) (ys : List A) → Walk m d (observed es ++ map says names) G ws k i ys p → Said es G ws ys p)
-        → Walk m d (recv t ∷ (observed es ++ map says names)) F vs e i xs p → p.end ≡ done → GivesEach (F ++ t ∷ heard (observed es)) (vs ++ xs) names p.sent
+        → ((G : List Tree) (ws : List A) (k : ℕ) (ys : List A) → Agree m G ws → Walk m d (observed es ++ map says names) G ws k i ys p → Said (G ++ heard (observed es)) (ws ++ ys) p)
+        → Walk m d (recv t ∷ (observed es ++ map says names)) F vs e i xs p → p.end ≡ done → Said (F ++ t ∷ heard (observed es)) (vs ++ xs) p
     next t es F vs e i [] p later walk end = no_end p (waiting (e + 1)) [] (λ never. cc) end walk
     next t es F vs e i (x ∷ xs) p later (inr h) end = no_end p (stopped (e + 1) 0) xs (λ never. cc) end h.1
     next t es F vs e i (x ∷ xs) p later (inl h) end =
-        subst (λ l. GivesEach l (vs ++ x ∷ xs) names p.sent) (append_assoc F (t ∷ []) (heard (observed es)))
-        (subst (λ l. GivesEach ((F ++ t ∷ []) ++ heard (observed es)) l names p.sent) (append_assoc vs (x ∷ []) xs) (later (F ++ t ∷ []) (vs ++ x ∷ []) (e + 1) xs h.1))
+        subst (λ l. Said l (vs ++ x ∷ xs) p) (append_assoc F (t ∷ []) (heard (observed es)))
+        (subst (λ l. Said ((F ++ t ∷ []) ++ heard (observed es)) l p) (append_assoc vs (x ∷ []) xs) (later (F ++ t ∷ []) (vs ++ x ∷ []) (e + 1) xs h.0 h.1))
 
-    said_from : (es : List Event) (F : List Tree) (vs : List A) (e i : ℕ) (xs : List A) (p : Played A) → Walk m d (observed es ++ map says names) F vs e i xs p → p.end ≡ done → p.left ≡ [] → Said es F vs xs p
-    said_from [] F vs e i xs p walk end left =
+    said_from : (es : List Event) (F : List Tree) (vs : List A) (e i : ℕ) (xs : List A) (p : Played A) → Agree m F vs → Walk m d (observed es ++ map says names) F vs e i xs p → p.end ≡ done → p.left ≡ []
+        → Said (F ++ heard (observed es)) (vs ++ xs) p
+    said_from [] F vs e i xs p agree walk end left =
         let h = said names F vs e i xs p walk left in
-        subst (λ ys. GivesEach (F ++ []) (vs ++ ys) names p.sent) (sym h.0)
-        (subst (λ l. GivesEach l (vs ++ []) names p.sent) (sym (append-nil F)) (subst (λ l. GivesEach F l names p.sent) (sym (append-nil vs)) h.1))
-    said_from (know t ∷ es) F vs e i xs p walk end left = said_from es F vs e i xs p walk end left
-    said_from (fresh t ∷ es) F vs e i xs p walk end left = said_from es F vs e i xs p walk end left
-    said_from (send t ∷ es) F vs e i xs p walk end left = next t es F vs e i xs p (λ G ws k ys w. said_from es G ws k i ys p w end left) walk end
-    said_from (recv t ∷ es) F vs e i xs p walk end left = next t es F vs e i xs p (λ G ws k ys w. said_from es G ws k i ys p w end left) walk end
+        subst (λ ys. Said (F ++ []) (vs ++ ys) p) (sym h.0)
+        (subst (λ l. Said (F ++ []) l p) (sym (append-nil vs)) (subst (λ l. Said l vs p) (sym (append-nil F)) (h.1, agree)))
+    said_from (know t ∷ es) F vs e i xs p agree walk end left = said_from es F vs e i xs p agree walk end left
+    said_from (fresh t ∷ es) F vs e i xs p agree walk end left = said_from es F vs e i xs p agree walk end left
+    said_from (send t ∷ es) F vs e i xs p agree walk end left = next t es F vs e i xs p (λ G ws k ys a w. said_from es G ws k i ys p a w end left) walk end
+    said_from (recv t ∷ es) F vs e i xs p agree walk end left = next t es F vs e i xs p (λ G ws k ys a w. said_from es G ws k i ys p a w end left) walk end
 
     pub all_said : (es : List Event) (init xs : List A) (p : Played A) → Play m d (observed es ++ map says names) init xs p → p.end ≡ done → p.left ≡ []
-        → GivesEach (known es ++ heard (observed es)) (init ++ xs) names p.sent
+        → Said (known es ++ heard (observed es)) (init ++ xs) p
     all_said es init xs p (inr h) end left = no_end p (stopped 0 0) xs (λ never. cc) end h.1
     all_said es init xs p (inl h) end left =
-        let by = said_from es (known (observed es ++ map says names)) init 0 0 xs p h.1 end left in
-        subst (λ l. GivesEach (l ++ heard (observed es)) (init ++ xs) names p.sent) (known_says es names) by
+        let by = said_from es (known (observed es ++ map says names)) init 0 0 xs p h.0 h.1 end left in
+        subst (λ l. Said (l ++ heard (observed es)) (init ++ xs) p) (known_says es names) by

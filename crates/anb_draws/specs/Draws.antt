@@ -1,5 +1,5 @@
--- What a role drew, as far as who sees the role can tell it.
-use Rattle.std.specs.Prelude.{◌≡◌, ◌⊎◌, ◌-◌, ◌==◌, ℕ, zero, suc, List, [], ◌∷◌, ◌++◌, length, map, take, Option, Some, None, if◌then◌else◌}
+-- What a role drew, and what it has beside that, as far as who sees the role can tell it.
+use Rattle.std.specs.Prelude.{◌≢◌, ◌-◌, ◌<◌, ◌==◌, ℕ, zero, suc, List, [], ◌∷◌, ◌++◌, length, map, take, Option, Some, None, if◌then◌else◌}
 use Rattle.anb_term.specs.Tree.{Tree, leaf, node}
 use Rattle.anb_term.specs.Agree.{HasRecipe}
 use Rattle.anb_algebra.specs.ByteMeaning.{has_operator}
@@ -11,8 +11,6 @@ use Rattle.anb_transcript.specs.declared.following.ReplayEnd.TheVariants.{Follow
 use Rattle.anb_judge.specs.Observed.{observed}
 use Rattle.anb_judge.specs.Verdicts.{Judged, Judges, line_bytes, own_plan, up_to}
 use Rattle.anb_draws.specs.declared.draws.Drawn.{Drawn}
-
--- ---- names
 
 -- the names that a role makes, in order
 abbrev pub names_made : List Event → List ℕ
@@ -39,14 +37,7 @@ abbrev pub names_by : ℕ → List Event → List ℕ
 names_by zero es = []
 names_by (suc n) es = names_before n es
 
--- it is one of these
-abbrev pub IsAmong : ℕ → List ℕ → Type 0
-IsAmong name [] = ⊥
-IsAmong name (other ∷ names) = (other ≡ name) ⊎ IsAmong name names
-
--- ---- values
-
--- that of a name among what was drawn, where it is told
+-- the value of a name among these, where it is told
 abbrev pub value_in : List Drawn → (name : ℕ) → Option (List ℕ)
 value_in [] name = None
 value_in (d ∷ draws) name = if d.name == name then Some d.value else value_in draws name
@@ -67,16 +58,16 @@ module _ (judged : Judged) (n : ℕ) where
   abbrev pub bytes_by : List (List ℕ)
   bytes_by = judged.initial ++ map line_bytes (take n judged.lines)
 
-  abbrev pub IsMade : (name : ℕ) → Type 0
-  IsMade name = IsAmong name (names_by n (own_plan judged))
+  -- where the role made a name by then, each name of the narration is asked for
+  abbrev pub IsAsked : (name : ℕ) → Type 0
+  IsAsked name = (names_by n (own_plan judged) ≢ []) × (name < length judged.protocol.atoms)
 
-  -- A name that the role made by then is told as these bytes: it can be had of these terms, and each way gives them.
-  -- Nothing is told where it can't be had, or wasn't made.
+  -- A name is told as these bytes: it can be had of these terms, and each way gives them. Nothing is told where it can't be had.
   abbrev pub Tells : (name : ℕ) → Option (List ℕ) → Type 0
-  Tells name (Some value) = IsMade name × GivesBytes judged.protocol terms_by bytes_by (leaf name) value
-  Tells name None = IsMade name → HasRecipe (has_operator judged.protocol.formats) terms_by (leaf name) → ⊥
+  Tells name (Some value) = IsAsked name × GivesBytes judged.protocol terms_by bytes_by (leaf name) value
+  Tells name None = IsAsked name → HasRecipe (has_operator judged.protocol.formats) terms_by (leaf name) → ⊥
 
--- what a role drew, by a transcript: each name over the lines on which who sees the role goes on
+-- what names stand for in a conversation, by a transcript: each over the lines on which who sees the role goes on
 pub record IsDrawn (judged : Judged) (draws : List Drawn) : Type 0 where
   pub end : ReplayEnd
   pub judges : Judges judged end

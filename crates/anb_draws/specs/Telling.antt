@@ -1,19 +1,31 @@
--- For proofs alone: the plan of who sees a role's first messages and then says names that the role made.
-use Rattle.std.specs.Prelude.{◌≡◌, ◌⊎◌, ◌==◌, ℕ, zero, suc, List, [], ◌∷◌, ◌++◌, map, if◌then◌else◌}
+-- For proofs alone: the plan of who sees a role's first messages and then says names.
+use Rattle.std.specs.Prelude.{◌≡◌, ◌<◌, ℕ, zero, suc, List, [], ◌∷◌, ◌++◌, length, map, false, None}
 use Rattle.std.specs.List.{AllByRecursion}
-use Rattle.anb_term.specs.Tree.{leaf}
+use Rattle.anb_term.specs.Tree.{Tree, leaf, node}
 use Rattle.anb_term.specs.Agree.{HasRecipe}
 use Rattle.anb_algebra.specs.ByteMeaning.{has_operator}
 use Rattle.anb_code.specs.CodeValue.{CodeValue}
 use Rattle.anb_code.specs.Taking.{take_texts}
+use Rattle.anb_code.specs.Uses.{is_among}
 use Rattle.anb_compile.specs.Emitting.{Emits, context_of}
 use Rattle.anb_compile.specs.RoleCodes.{role_code}
 use Rattle.anb_compile.specs.Unsent.{labels_of}
 use Rattle.anb_protocol.specs.Plans.{PlanEvent, to_know, to_make, to_send, to_receive, plan_of}
 use Rattle.anb_protocol.specs.Protocols.{ProtocolValue}
 use Rattle.anb_protocol.specs.Texts.{known_texts}
-use Rattle.anb_draws.specs.Draws.{IsAmong}
+use Rattle.anb_draws.specs.Draws.{value_in}
 use Rattle.anb_draws.specs.declared.draws.Drawn.{Drawn}
+
+-- ---- what is known
+
+-- of terms with these values, the names
+abbrev pub named : List Tree → List (List ℕ) → List Drawn
+named [] values = []
+named (t ∷ ts) [] = []
+named (leaf a ∷ ts) (value ∷ values) = record { name = a; value = value } ∷ named ts values
+named (node o us ∷ ts) (value ∷ values) = named ts values
+
+-- ---- the plan
 
 -- it makes nothing, and hears the first n messages
 abbrev pub seen_by : ℕ → List PlanEvent → List PlanEvent
@@ -32,24 +44,27 @@ asks name = to_send name (leaf name)
 abbrev pub telling : ℕ → (names : List ℕ) → List PlanEvent → List PlanEvent
 telling n names plan = seen_by n plan ++ map asks names
 
--- names but this one
-abbrev pub without : ℕ → List ℕ → List ℕ
-without name [] = []
-without name (other ∷ names) = if other == name then without name names else other ∷ without name names
+-- ---- its code
+
+module _ (p : ProtocolValue) (frame : List Tree) where
+  -- some recipe over these terms has the name
+  abbrev pub IsHad : ℕ → Type 0
+  IsHad name = HasRecipe (has_operator p.formats) frame (leaf name)
+
+  -- Of the first names, those that can be had of these terms and aren't known as these.
+  pub record AreOpen (known : List Drawn) (count : ℕ) (names : List ℕ) : Type 0 where
+    pub within : AllByRecursion (λ name. name < count) names
+    pub had : AllByRecursion IsHad names
+    pub others : (name : ℕ) → name < count → value_in known name ≡ None → is_among names name ≡ false → IsHad name → ⊥
 
 module _ (p : ProtocolValue) (role n : ℕ) where
-  -- no recipe over what is had behind the first n messages has the name
-  abbrev pub IsHidden : ℕ → Type 0
-  IsHidden name = HasRecipe (has_operator p.formats) (labels_of (seen_by n (plan_of p role))) (leaf name) → ⊥
+  -- what is had behind the first n messages
+  abbrev pub frame_by : List Tree
+  frame_by = labels_of (seen_by n (plan_of p role))
 
-  -- of all these names some are left, and the others are hidden
-  pub record AreLeft (all names : List ℕ) : Type 0 where
-    pub within : AllByRecursion (λ name. IsAmong name all) names
-    pub others : AllByRecursion (λ name. IsAmong name names ⊎ IsHidden name) all
-
-  -- a code that says those that are left
-  pub record IsTeller (all names : List ℕ) (code : CodeValue) : Type 0 where
-    pub left : AreLeft all names
+  -- a code that says those
+  pub record IsTeller (known : List Drawn) (names : List ℕ) (code : CodeValue) : Type 0 where
+    pub left : AreOpen p frame_by known (length p.atoms) names
     pub names_are : code ≡ role_code p role code.instrs
     pub texts : take_texts code.instrs ≡ known_texts p role
     pub emits : Emits (context_of p (telling n names (plan_of p role))) (telling n names (plan_of p role)) code.instrs

@@ -1,14 +1,17 @@
-//! What a role drew, by a transcript.
-ghost use Rattle.std.specs.Prelude.{◌≡◌, ◌+◌, ◌<◌, ◌≤◌, ◌^◌, [], ℕ, length, map, take, All, IfOk, OnOk};
+//! What a role drew, and what it has beside that, by a transcript.
+ghost use Rattle.std.specs.Prelude.{◌≡◌, ◌+◌, ◌<◌, ◌≤◌, ◌^◌, ◌++◌, ◌∷◌, [], ℕ, length, map, take, All, IfOk, OnOk};
 ghost use Rattle.std.specs.List.{AllByRecursion};
 ghost use Rattle.anb_base.specs.Bytes.{IsBytes};
 ghost use Rattle.anb_base.specs.declared.TheConstants.{ARRIVAL};
 ghost use Rattle.anb_machine.specs.Machines.{gives};
 ghost use Rattle.anb_plays.specs.Plays.{done};
+ghost use Rattle.anb_term.specs.View.{tree_of};
 ghost use Rattle.anb_protocol.specs.Texts.{known_by};
 ghost use Rattle.anb_judge.specs.Verdicts.{line_bytes};
 ghost use Rattle.anb_draws.specs.Draws.{IsDrawn, Tells, gone_over, value_in};
-ghost use Rattle.anb_draws.specs.Telling.{name_of, value_of};
+ghost use Rattle.anb_compile.specs.Emitting.{known_in};
+ghost use Rattle.anb_protocol.specs.Views.{plan_event};
+ghost use Rattle.anb_draws.specs.Telling.{name_of, named, value_of};
 
 use crate::draws::{Drawn, Draws};
 use crate::names::names_by;
@@ -18,13 +21,14 @@ use anb_base::{ARRIVAL, Bytes, NoMemory};
 use anb_judge::judge;
 use anb_machine::{Machine, Turn};
 use anb_plays::laws::runs_as_played;
-use anb_protocol::{Protocol, plans_know_first, protocols_hold};
+use anb_protocol::{Event, Protocol, plans_know_first, protocols_hold, terms_of_plans};
+use anb_term::Term;
 use anb_transcript::{ReplayEnd, Transcript, TranscriptLine};
 use std::alloc::Global;
 
-/// What a role drew that begins with these values, as far as who sees the role can tell it of the lines
-/// on which it goes on. It takes as long as judging the transcript, and compiling the role once more, and
-/// again for each name that can't be told.
+/// The values of all names, of a role that begins with these values, as far as who sees the role can tell
+/// them of the lines on which it goes on; none, where it drew nothing by then. It takes as long as judging
+/// the transcript, compiling the role once more, and looking for each name among those that it knows.
 pub fn drawn(
     alloc: Global,
     p: &Protocol,
@@ -62,7 +66,7 @@ fn gone_over(end: &ReplayEnd, lines: usize) -> usize
     }
 }
 
-/// What the role drew, by its first n messages.
+/// The values of the names, by the role's first n messages.
 fn drawn_by(
     alloc: Global,
     p: &Protocol,
@@ -85,6 +89,7 @@ fn drawn_by(
 {
     protocols_hold();
     plans_know_first();
+    terms_of_plans();
     let algebra = ByteAlgebra::new(p.formats(), p.suite());
     runs_as_played(&algebra);
     let plan = p.plan(alloc, role)?;
@@ -92,12 +97,56 @@ fn drawn_by(
     if names.is_empty() {
         return Ok(Draws::new(Vec::new(alloc)));
     }
-    let Teller { code, names } = teller_of(alloc, p, role, n, &names)?;
+    let mut draws = known_names(alloc, plan.events(), initial)?;
+    let Teller { code, names } = teller_of(alloc, p, role, n, &draws)?;
     let arrivals = first_bytes(alloc, lines, n)?;
     let mut machine = Machine::start(alloc, &code, initial, &[0; 32], 0)?;
     hear(alloc, &mut machine, arrivals)?;
-    let items = said(alloc, &mut machine, names)?;
-    Ok(Draws::new(items))
+    let mut others = said(alloc, &mut machine, names)?;
+    draws.append(&mut others)?;
+    Ok(Draws::new(draws))
+}
+
+/// The names that are known by these events, with their values.
+fn known_names(alloc: Global, events: &[Event], values: &[Bytes]) -> Result<Vec<Drawn>, NoMemory>
+    ensures { IfOk result (λ draws.
+        draws.items ≡ named (known_in (map plan_event events.now)) values.now) }
+{
+    let mut draws = Vec::new(alloc);
+    let mut i = 0;
+    for event in events {
+        match event {
+            Event::Know(term) => {
+                let Some(value) = values.get(i) else {
+                    return Ok(draws);
+                };
+                i += 1;
+                put_named(alloc, &mut draws, term, value)?;
+            }
+            Event::Fresh(_) | Event::Send { .. } | Event::Recv { .. } => {}
+        }
+    }
+    Ok(draws)
+}
+
+/// Puts a term's value, where the term is a name.
+fn put_named(
+    alloc: Global,
+    draws: &mut Vec<Drawn>,
+    term: &Term,
+    value: &Bytes,
+) -> Result<(), NoMemory>
+    ensures { OnOk result (draws.new.items
+        ≡ draws.old.items ++ named (tree_of term.now ∷ []) (value.now ∷ [])) }
+{
+    match term {
+        Term::Atom(name) => {
+            let value = copy(alloc, value.as_slice())?;
+            draws.push(Drawn { name: *name, value })?;
+            Ok(())
+        }
+        Term::Node(_, _) => Ok(()),
+    }
 }
 
 /// The bytes of the first n lines.

@@ -1,18 +1,18 @@
-//! What was drawn: names with their values.
+//! Names with their values.
 ghost use Rattle.std.specs.Prelude.{◌≡◌, IfSome, IfNone, Some, None};
 ghost use Rattle.anb_draws.specs.Draws.{value_in};
 
 use anb_base::Bytes;
 use std::marker::Model;
 
-/// A name that a role made, by its number, and the value that it drew for it.
+/// A name, by its number, and its value: what the role drew for it, where the role makes it.
 #[derive(Debug, Drop)]
 pub struct Drawn {
     pub name: u32,
     pub value: Bytes,
 }
 
-/// What a role drew in one conversation, which contracts see as a list.
+/// The values of names in one conversation, which contracts see as a list.
 #[derive(Debug, Drop)]
 pub struct Draws {
     items: Vec<Drawn>,

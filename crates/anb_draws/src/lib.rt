@@ -1,10 +1,13 @@
-//! What a role drew in a conversation, as far as somebody who sees the role can tell it.
+//! What a role drew in a conversation, and the values of the other names, as far as somebody who sees the
+//! role can tell them.
 //!
-//! Who knows what a role knows, and sees all that it hears and says, has the value of a name that the
-//! role made where the name can be had of all that. A program whose nonces don't change draws the same
-//! in two conversations, which nothing else tells: each of them is the role's, for some draws.
+//! Who knows what a role knows, and sees all that it hears and says, has the value of a name where the
+//! name can be had of all that. A program whose nonces don't change draws the same in two conversations,
+//! and one that sends its key for a nonce draws what it has already: nothing else tells that, since each
+//! of these conversations is the role's, for some draws.
 #![tactic(auto)]
 
+mod closing;
 mod drawing;
 mod draws;
 mod laws;

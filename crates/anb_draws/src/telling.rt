@@ -1,10 +1,12 @@
-//! The code of somebody who sees a role's first messages, and then says the names that the role made.
+//! The code of somebody who sees a role's first messages, and then says the names that can be told.
 ghost use Rattle.std.specs.Prelude.{◌≡◌, ◌<◌, ◌++◌, length, map, IfOk, OnOk};
 ghost use Rattle.anb_protocol.specs.Laws.{HoldsOf};
 ghost use Rattle.anb_protocol.specs.Plans.{plan_of};
 ghost use Rattle.anb_protocol.specs.Views.{plan_event};
-ghost use Rattle.anb_draws.specs.Telling.{AreLeft, IsTeller, asks, seen_by, telling, without};
+ghost use Rattle.anb_draws.specs.Telling.{AreOpen, IsTeller, asks, frame_by, seen_by, telling};
 
+use crate::closing::{closed, open_in};
+use crate::draws::Drawn;
 use anb_base::NoMemory;
 use anb_code::RoleCode;
 use anb_compile::{CompileNo, compile_plan};
@@ -19,37 +21,53 @@ pub(crate) struct Teller {
     pub(crate) names: Vec<u32>,
 }
 
-/// The most events that a plan may have. No plan of a protocol has more: what is known and the names that
-/// are made stand among the nodes of its terms, and it has few actions.
+/// The most events that a plan may have. No plan of a protocol has more: what is known, and the names
+/// that are asked for, stand among the nodes of its terms, and it has few actions.
 const MOST: usize = 65792;
 
-/// The code that says, behind the role's first n messages, which of these names can be told. One that
-/// can't be told is found by compiling, and left out.
+/// The code that says, behind the role's first n messages, each name that can be told then, but those
+/// that the role knows.
 pub(crate) fn teller_of(
     alloc: Global,
     p: &Protocol,
     role: u32,
     n: usize,
-    all: &[u32],
+    known: &[Drawn],
 ) -> Result<Teller, NoMemory>
     requires role { role < length p.now.roles }
     requires holds { HoldsOf p.now }
     ensures { IfOk result (λ teller.
-        IsTeller p.now role n all.now teller.names.items teller.code) }
+        IsTeller p.now role n known.now teller.names.items teller.code) }
 {
-    let mut names = Vec::from_slice(alloc, all)?;
-    for _ in 0..MOST + 1 {
-        let plan = telling(alloc, p, role, n, &names)?;
-        if plan.events().len() > MOST {
-            return Err(NoMemory);
-        }
-        match compile_plan(alloc, p, role, &plan) {
-            Ok(code) => return Ok(Teller { code, names }),
-            Err(CompileNo::CannotSend { action, .. }) => names = without(alloc, action, &names)?,
-            Err(CompileNo::NoMemory) => return Err(NoMemory),
-        }
+    let names = open_names(alloc, p, role, n, known)?;
+    let plan = telling(alloc, p, role, n, &names)?;
+    if plan.events().len() > MOST {
+        return Err(NoMemory);
     }
-    Err(NoMemory)
+    match compile_plan(alloc, p, role, &plan) {
+        Ok(code) => Ok(Teller { code, names }),
+        Err(CompileNo::CannotSend { .. }) => unreachable!(),
+        Err(CompileNo::NoMemory) => Err(NoMemory),
+    }
+}
+
+/// The names that can be had of the role's first n messages, but those that it knows.
+fn open_names(
+    alloc: Global,
+    p: &Protocol,
+    role: u32,
+    n: usize,
+    known: &[Drawn],
+) -> Result<Vec<u32>, NoMemory>
+    requires role { role < length p.now.roles }
+    requires holds { HoldsOf p.now }
+    ensures { IfOk result (λ names.
+        AreOpen p.now (frame_by p.now role n) known.now (length p.now.atoms) names.items) }
+{
+    let plan = p.plan(alloc, role)?;
+    let events = seen_by(alloc, plan, n)?;
+    let closure = closed(alloc, &events)?;
+    open_in(alloc, p, &closure, known)
 }
 
 /// The plan of somebody who hears the role's first n messages, and then says these names.
@@ -110,17 +128,4 @@ fn put_asks(events: &mut Vec<Event>, names: &[u32]) -> Result<(), NoMemory>
         })?;
     }
     Ok(())
-}
-
-/// These names but one.
-fn without(alloc: Global, name: u32, names: &[u32]) -> Result<Vec<u32>, NoMemory>
-    ensures { IfOk result (λ left. left.items ≡ without name names.now) }
-{
-    let mut left = Vec::new(alloc);
-    for other in names {
-        if *other != name {
-            left.push(*other)?;
-        }
-    }
-    Ok(left)
 }

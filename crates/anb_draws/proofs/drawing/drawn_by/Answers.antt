@@ -1,5 +1,7 @@
-use Rattle.std.proofs.Common.{◌≡◌, ◌≤◌, ◌++◌, List, length, map, take, drop, sym, ap, ◌∙◌, subst}
+use Rattle.std.proofs.Common.{◌≡◌, ◌≢◌, ◌≤◌, ◌++◌, [], false, List, length, map, take, drop, sym, ap, ◌∙◌, subst, arith}
+use Rattle.std.specs.Prelude.{◌==◌}
 use Rattle.std.specs.List.{AllByRecursion}
+use Rattle.std.specs.Vec.{vec_len}
 use Rattle.std.proofs.lemmas.List.{take-append-drop}
 use Rattle.std.proofs.lemmas.List.Elements.{All-from_recursion, recursion_from_All}
 use Rattle.anb_lemmas.proofs.Each.{each_in_front, each_of_map}
@@ -9,13 +11,14 @@ use Rattle.anb_format.specs.Formats.{FormatValue}
 use Rattle.anb_algebra.specs.ByteMeaning.{byte_meaning}
 use Rattle.anb_machine.specs.ByteRuns.{run_bytes}
 use Rattle.anb_plays.specs.Statements.{RunsAsPlayed}
+use Rattle.anb_compile.specs.Emitting.{known_in}
+use Rattle.anb_protocol.specs.Plans.{plan_of}
 use Rattle.anb_protocol.specs.Plays.{event_of, events_of, meaning_of}
 use Rattle.anb_transcript.specs.declared.transcript.TranscriptLine.{TranscriptLine}
 use Rattle.anb_judge.specs.Verdicts.{line_bytes}
-use Rattle.anb_draws.specs.Draws.{Tells, bytes_by, names_by, terms_by, value_in}
-use Rattle.anb_draws.specs.Telling.{value_of}
-use Rattle.anb_draws.proofs.Told.{asked, gives_each, saying, tells}
-use Rattle.anb_draws.proofs.Walking.{GivesEach}
+use Rattle.anb_draws.specs.Draws.{Tells, names_by, value_in}
+use Rattle.anb_draws.specs.Telling.{named, value_of}
+use Rattle.anb_draws.proofs.Told.{asked, both_told, both_within, gives_each, none_has, saying, tells, tells_none}
 use Rattle.anb_draws.proofs.drawing.drawn_by.Goals as goal
 
 pub hear-requires : goal.hear-requires
@@ -39,15 +42,21 @@ returns c =
     let suite : e.result.suite ≡ p.suite = e.ensures.suite ∙ c.suite.ensures in
     let law : RunsAsPlayed (meaning_of p) = subst (λ (s : Suite). RunsAsPlayed (byte_meaning p.formats s)) suite (subst (λ (f : List FormatValue). RunsAsPlayed (byte_meaning f e.result.suite)) formats c.runs_as_played.ensures) in
     let holds = c.protocols_hold.ensures p c.in_ok-plan.ensures.protocol in
-    let all = c.deref.result.now in
+    let known = c.deref.result.now in
     let names = c.in_ok-code.field-0.names.items in
-    let draws = c.in_ok-items.items.items in
+    let others = c.in_ok-others.others.items in
     let arrivals = c.in_ok-arrivals.arrivals.items in
     let teller = c.in_ok-code.ensures in
-    let made : all ≡ names_by n (events_of p role) = c.deref.ensures.value ∙ c.in_ok-names.ensures ∙ ap (λ l. names_by n (map event_of l)) (c.events.ensures ∙ c.in_ok-plan.ensures.plan) in
-    let ran : run_bytes c.in_ok-code.field-0.code initial _ 0 arrivals ≡ saying (map value_of draws) = sym (c.in_ok-machine.ensures.run arrivals) ∙ sym c.in_ok-hear.ensures ∙ c.in_ok-items.ensures.values in
-    let each = gives_each p role n all names c.in_ok-code.field-0.code initial _ arrivals (map value_of draws) law c.plans_know_first.ensures teller c.requires.count c.requires.bytes c.in_ok-arrivals.ensures.bytes ran in
-    let gives : GivesEach (meaning_of p) (terms_by (asked p role initial lines n) n) (bytes_by (asked p role initial lines n) n) names (map value_of draws) =
-    subst (λ l. GivesEach (meaning_of p) (terms_by (asked p role initial lines n) n) (initial ++ l) names (map value_of draws)) c.in_ok-arrivals.ensures.same each in
-    λ name. subst (λ ds. Tells (asked p role initial lines n) n name (value_in ds name)) (sym c.new-2.ensures)
-    (tells p role initial lines n all names draws holds made teller.left c.in_ok-items.ensures.names gives name)
+    let ran : run_bytes c.in_ok-code.field-0.code initial _ 0 arrivals ≡ saying (map value_of others) = sym (c.in_ok-machine.ensures.run arrivals) ∙ sym c.in_ok-hear.ensures ∙ c.in_ok-others.ensures.values in
+    let each = gives_each p role n known names c.in_ok-code.field-0.code initial _ arrivals (map value_of others) law c.plans_know_first.ensures teller c.requires.count c.requires.bytes c.in_ok-arrivals.ensures.bytes ran in
+    let each_here = rw c.in_ok-arrivals.ensures.same at each in
+    let is : known ≡ named (known_in (plan_of p role)) initial = c.deref.ensures.value ∙ c.in_ok-draws.ensures ∙ ap (λ l. named (known_in l) initial) (c.events-2.ensures ∙ c.in_ok-plan.ensures.plan) in
+    let given = both_told p role initial lines n known others names is c.in_ok-others.ensures.names each_here.0 each_here.1 in
+    let within = both_within p role initial lines n known others names c.terms_of_plans.ensures c.in_ok-plan.ensures.protocol is c.in_ok-others.ensures.names teller.left.within in
+    let some : names_by n (events_of p role) ≢ [] = λ none.
+    let empty : c.in_ok-names.names.items ≡ [] = c.in_ok-names.ensures ∙ ap (λ l. names_by n (map event_of l)) (c.events.ensures ∙ c.in_ok-plan.ensures.plan) ∙ none in
+    let long : length c.in_ok-names.names.items ≡ 0 = ap length empty in
+    let some : (vec_len c.in_ok-names.names == 0) ≡ false = sym c.is_empty.ensures ∙ c.if-is_empty.false in
+    grind (arith, long, some, c.in_ok-names.names.ok.0) in
+    λ name. subst (λ ds. Tells (asked p role initial lines n) n name (value_in ds name)) (sym (c.new-2.ensures ∙ c.in_ok-append.ensures.items ∙ ap (λ l. l ++ others) (sym c.deref.ensures.value)))
+    (tells p role initial lines n (known ++ others) some within given (none_has p role n known others names holds teller.left c.in_ok-others.ensures.names) name)

@@ -4,13 +4,9 @@ use Rattle.anb_compile.specs.Emitting.{IsBlocked, IsPlan, RefusesPlan, context_o
 use Rattle.anb_compile.specs.declared.refusal.CompileNo.{CompileNo}
 use Rattle.anb_protocol.specs.Plans.{PlanEvent, plan_of}
 use Rattle.anb_protocol.specs.Views.{plan_event}
-use Rattle.anb_draws.specs.Telling.{AreLeft, telling}
-use Rattle.anb_draws.proofs.Left.{all_left, left_without}
-use Rattle.anb_draws.proofs.Plans.{hides, telling_is_plan, telling_knows}
+use Rattle.anb_draws.specs.Telling.{telling}
+use Rattle.anb_draws.proofs.Plans.{none_blocked, telling_is_plan, telling_knows}
 use Rattle.anb_draws.proofs.telling.teller_of.Goals as goal
-
-pub loop-init : goal.loop-init
-loop-init c = subst (AreLeft c.args.p.now c.args.role c.args.n c.args.all.now) (sym c.in_ok-names.ensures.items) (all_left c.args.p.now c.args.role c.args.n c.args.all.now)
 
 pub compile_plan-requires-clause-plan : goal.compile_plan-requires-clause-plan
 compile_plan-requires-clause-plan c =
@@ -24,18 +20,16 @@ compile_plan-requires-clause-plan c =
 pub compile_plan-requires-clause-known : goal.compile_plan-requires-clause-known
 compile_plan-requires-clause-known c = ap known_in c.in_ok-plan.ensures ∙ telling_knows c.args.p.now c.args.role c.args.n c.deref.result.now c.requires.holds
 
-pub loop-preserved : goal.loop-preserved
-loop-preserved c =
+pub unreachable-requires : goal.unreachable-requires
+unreachable-requires c =
     let p = c.args.p.now in
     let role = c.args.role in
     let n = c.args.n in
     let names = c.deref.result.now in
-    let action = c.in-Err-CannotSend.action in
+    let action = c.in-Err-CannotSend.field-0-0 in
     let few : length c.events.result.now ≤ 65792 = c.if-events-gt-MOST.false in
     let long : length c.events.result.now ≡ length (telling n names (plan_of p role)) = sym (length-map c.events.result.now plan_event) ∙ ap length (c.events.ensures ∙ c.in_ok-plan.ensures) in
     let is = telling_is_plan p role n names c.requires.holds (omega (arith, few, long)) in
     let refused = subst (λ (no : CompileNo). RefusesPlan c.in_ok-plan.plan role no) c.in-Err-CannotSend.field-0-is c.in-Err-CannotSend.ensures.refused in
     let blocks = subst (λ (l : List PlanEvent). (x : _) → IsPlan x l → IsBlocked x l action) c.in_ok-plan.ensures refused.1 in
-    let before : AreLeft p role n c.args.all.now names = subst (AreLeft p role n c.args.all.now) (sym c.deref.ensures.value) c.loop.invariant in
-    let left = left_without p role n c.args.all.now names action before (hides p role n names action is blocks) in
-    subst (AreLeft p role n c.args.all.now) (sym (rw c.deref-in-Err-CannotSend.ensures.value at c.in_ok-names-in-Err-CannotSend.ensures)) (rw c.deref.ensures.value at left)
+    none_blocked p role n names action (rw c.deref.ensures.value c.in_ok-names.ensures.had) is blocks
