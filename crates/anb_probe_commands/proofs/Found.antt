@@ -9,7 +9,7 @@ use Rattle.anb_lemmas.proofs.Each.{each_from_got}
 use Rattle.anb_lemmas.proofs.Lists.{drop_at_got, got_within, take_got}
 use Rattle.anb_base.specs.Wires.{WireState}
 use Rattle.anb_base.specs.declared.TheConstants.{ARRIVAL}
-use Rattle.anb_draws.specs.Draws.{IsDrawn, value_in}
+use Rattle.anb_draws.specs.Draws.{IsDrawn}
 use Rattle.anb_draws.specs.declared.draws.Drawn.{Drawn}
 use Rattle.anb_judge.specs.Verdicts.{line_bytes}
 use Rattle.anb_partner.specs.Talks.{IsShort}
@@ -63,18 +63,18 @@ told_long q (e ∷ ends) (d ∷ told) are = ap suc (told_long q ends told are.1)
 
 -- ---- names that come out equal
 
-module _ (name : ℕ) (told : List (List Drawn)) (i : ℕ) (draws : List Drawn) (at : slice_get told i ≡ Some draws) where
-  abbrev Behind : List (List Drawn) → List (List Drawn) → ℕ → Option (ℕ × ℕ)
-  Behind before rest k = option_map_or (λ one. Some (one, k + 1)) (case_with name (value_in draws name) 1 before) (same_from name (before ++ draws ∷ []) rest)
+module _ (values : List (Option (List ℕ))) (i : ℕ) (value : Option (List ℕ)) (at : slice_get values i ≡ Some value) where
+  abbrev Behind : List (Option (List ℕ)) → List (Option (List ℕ)) → ℕ → Option (ℕ × ℕ)
+  Behind before rest k = option_map_or (λ one. Some (one, k + 1)) (case_with value 1 before) (same_from (before ++ value ∷ []) rest)
 
   -- the case at a place
-  pub same_next : same_from name (take i told) (drop i told)
-      ≡ option_map_or (λ one. Some (one, i + 1)) (case_with name (value_in draws name) 1 (take i told)) (same_from name (take (i + 1) told) (drop (i + 1) told))
+  pub same_next : same_from (take i values) (drop i values)
+      ≡ option_map_or (λ one. Some (one, i + 1)) (case_with value 1 (take i values)) (same_from (take (i + 1) values) (drop (i + 1) values))
   same_next =
-      let long : length (take i told) ≡ i = length-take-le i told (omega (arith, got_within told i draws at)) in
-      ap (same_from name (take i told)) (drop_at_got told i draws at)
-      ∙ ap (λ (k : ℕ). Behind (take i told) (drop (i + 1) told) k) long
-      ∙ ap (λ (l : List (List Drawn)). option_map_or (λ one. Some (one, i + 1)) (case_with name (value_in draws name) 1 (take i told)) (same_from name l (drop (i + 1) told))) (sym (take_got told i draws at))
+      let long : length (take i values) ≡ i = length-take-le i values (omega (arith, got_within values i value at)) in
+      ap (same_from (take i values)) (drop_at_got values i value at)
+      ∙ ap (λ (k : ℕ). Behind (take i values) (drop (i + 1) values) k) long
+      ∙ ap (λ (l : List (Option (List ℕ))). option_map_or (λ one. Some (one, i + 1)) (case_with value 1 (take i values)) (same_from l (drop (i + 1) values))) (sym (take_got values i value at))
 
 -- one of them
 pub judge_at : (outcomes : List Outcome) (i : ℕ) (o : Outcome) → slice_get outcomes i ≡ Some o → AllByRecursion CanJudge (map end_in outcomes) → CanJudge (end_in o)

@@ -1,15 +1,16 @@
 -- The report on a program, by the verdicts on the cases that were tried.
-use Rattle.std.specs.Prelude.{ℕ, ◌+◌, ◌==◌, not, List, [], ◌∷◌, ◌++◌, length, count_by, Bool, true, false, Option, Some, None, if◌then◌else◌}
-use Rattle.std.specs.List.{concat, flat_map}
+use Rattle.std.specs.Prelude.{ℕ, ◌+◌, ◌==◌, ◌&&◌, not, List, [], ◌∷◌, ◌++◌, length, map, count_by, Bool, true, false, Option, Some, None, option_and_then, if◌then◌else◌}
+use Rattle.std.specs.List.{concat}
 use Rattle.std.specs.Option.{option_map_or}
 use Rattle.std.specs.Str.{bytes_eq}
+use Rattle.anb_code.specs.Uses.{is_among}
 use Rattle.anb_protocol.specs.Plays.{events_of}
 use Rattle.anb_protocol.specs.Protocols.{ProtocolValue}
 use Rattle.anb_draws.specs.Draws.{names_made, value_in}
 use Rattle.anb_draws.specs.declared.draws.Drawn.{Drawn}
 use Rattle.anb_verdict.specs.declared.verdict.Verdict.{Verdict}
 use Rattle.anb_verdict.specs.declared.verdict.Verdict.TheVariants as says
-use Rattle.anb_verdict.specs.Texts.{case_lines, first_lines, last_line, missing_line, same_line}
+use Rattle.anb_verdict.specs.Texts.{case_lines, first_lines, last_line, missing_line, same_line, twin_line}
 use Rattle.anb_verdict.specs.Verdicts.{is_good}
 use Rattle.anb_attempts.specs.declared.attempts.Attempt.{Attempt}
 use Rattle.anb_attempts.specs.declared.attempts.Scene.{Scene}
@@ -56,25 +57,55 @@ abbrev pub is_value : List ℕ → Option (List ℕ) → Bool
 is_value value None = false
 is_value value (Some other) = bytes_eq value other
 
--- the number of the first of these cases, from here, in which a name is told as this value, where there is one
-abbrev pub case_with : (name : ℕ) → Option (List ℕ) → (number : ℕ) → List (List Drawn) → Option ℕ
-case_with name None number told = None
-case_with name (Some value) number [] = None
-case_with name (Some value) number (draws ∷ told) =
-    if is_value value (value_in draws name) then Some number else case_with name (Some value) (number + 1) told
+-- what a name is told as in the cases
+abbrev pub values_of : (name : ℕ) → List (List Drawn) → List (Option (List ℕ))
+values_of name told = map (λ (draws : List Drawn). value_in draws name) told
 
--- Behind these cases, the first in which a name is told as a value that it had before, and the first of those before.
-abbrev pub same_from : (name : ℕ) → (before : List (List Drawn)) → List (List Drawn) → Option (ℕ × ℕ)
-same_from name before [] = None
-same_from name before (draws ∷ told) =
-    option_map_or (λ one. Some (one, length before + 1)) (case_with name (value_in draws name) 1 before)
-    (same_from name (before ++ draws ∷ []) told)
+-- the number of the first of these cases, from here, in which it is told as this value, where there is one
+abbrev pub case_with : Option (List ℕ) → (number : ℕ) → List (Option (List ℕ)) → Option ℕ
+case_with None number values = None
+case_with (Some value) number [] = None
+case_with (Some value) number (other ∷ values) =
+    if is_value value other then Some number else case_with (Some value) (number + 1) values
+
+-- Behind these cases, the first in which it is told as a value that it had before, and the first of those before.
+abbrev pub same_from : (before : List (Option (List ℕ))) → List (Option (List ℕ)) → Option (ℕ × ℕ)
+same_from before [] = None
+same_from before (value ∷ values) =
+    option_map_or (λ one. Some (one, length before + 1)) (case_with value 1 before) (same_from (before ++ value ∷ []) values)
+
+-- the first name, but these, that is told as a value
+abbrev pub twin_in : (apart : List ℕ) → (value : List ℕ) → List Drawn → Option ℕ
+twin_in apart value [] = None
+twin_in apart value (d ∷ draws) =
+    if bytes_eq value d.value && not (is_among apart d.name) then Some d.name else twin_in apart value draws
+
+-- that which is told as the value of a name
+abbrev pub twin_of : (apart : List ℕ) → (name : ℕ) → List Drawn → Option ℕ
+twin_of apart name draws = option_and_then (λ value. twin_in apart value draws) (value_in draws name)
+
+-- and the first of these cases, from here, in which there is one
+abbrev pub twin_from : (apart : List ℕ) → (name number : ℕ) → List (List Drawn) → Option (ℕ × ℕ)
+twin_from apart name number [] = None
+twin_from apart name number (draws ∷ told) =
+    option_map_or (λ other. Some (other, number)) (twin_of apart name draws) (twin_from apart name (number + 1) told)
 
 -- ---- lines
 
--- that a name is told as the same value in two of the cases, where it is
-abbrev pub same_in : ProtocolValue → List (List Drawn) → (name : ℕ) → List (List ℕ)
-same_in p told name = option_map_or (λ (cases : ℕ × ℕ). same_line p name cases.0 cases.1 ∷ []) (same_from name [] told) []
+module _ (p : ProtocolValue) (told : List (List Drawn)) where
+  -- that a name is told as the same value in two of the cases, where it is
+  abbrev pub same_in : (name : ℕ) → List (List ℕ)
+  same_in name = option_map_or (λ (cases : ℕ × ℕ). same_line p name cases.0 cases.1 ∷ []) (same_from [] (values_of name told)) []
+
+  -- that it is told as the value of another name, but of these, in one of them
+  abbrev pub twin_lines : (apart : List ℕ) → (name : ℕ) → List (List ℕ)
+  twin_lines apart name = option_map_or (λ (twin : ℕ × ℕ). twin_line p name twin.0 twin.1 ∷ []) (twin_from apart name 1 told) []
+
+  -- of each of these names, which the role makes in this order: whether it is one that was there before it, and whether
+  -- it is the same twice
+  abbrev pub equal_lines : (names : List ℕ) → List (List ℕ)
+  equal_lines [] = []
+  equal_lines (name ∷ names) = twin_lines (name ∷ names) name ++ same_in name ++ equal_lines names
 
 module _ (p : ProtocolValue) (role : ℕ) where
   -- what the program lacks that went on in a case
@@ -86,9 +117,9 @@ module _ (p : ProtocolValue) (role : ℕ) where
   all_lacking (a ∷ rest) [] = []
   all_lacking (a ∷ rest) (v ∷ vs) = lacking_lines a v ++ all_lacking rest vs
 
-  -- of each name that the role makes, in order
+  -- of each name that the role makes
   abbrev pub same_lines : List (List Drawn) → List (List ℕ)
-  same_lines told = flat_map (same_in p told) (names_made (events_of p role))
+  same_lines told = equal_lines p told (names_made (events_of p role))
 
   -- behind the cases: which names come out equal; what the program lacks, each once, in the order of the first case that
   -- shows it; what wasn't tried; and the counts

@@ -7,20 +7,20 @@ use Rattle.anb_probe_commands.proofs.same.same_cases.Goals as goal
 
 pub returns-in-Some-clause-some : goal.returns-in-Some-clause-some
 returns-in-Some-clause-some c =
-    let told = c.args.told.now in
+    let values = c.args.values.now in
     let i = c.loop-i.i in
-    let within : i < length told = search rules in
-    let at = got_some told i within in
-    let rest = same_from c.args.name (take (i + 1) told) (drop (i + 1) told) in
-    sym c.loop-i.invariant ∙ same_next c.args.name told i at.0 at.1
+    let within : i < length values = search rules in
+    let at = got_some values i within in
+    let rest = same_from (take (i + 1) values) (drop (i + 1) values) in
+    sym c.loop-i.invariant ∙ same_next values i at.0 at.1
     ∙ ap (λ (o : Option ℕ). option_map_or (λ one. Some (one, i + 1)) o rest) (c.in-Some.ensures.some at.0 at.1)
 
 pub loop-i-preserved : goal.loop-i-preserved
 loop-i-preserved c =
-    let told = c.args.told.now in
+    let values = c.args.values.now in
     let i = c.loop-i.i in
-    let within : i < length told = search rules in
-    let at = got_some told i within in
-    let rest = same_from c.args.name (take (i + 1) told) (drop (i + 1) told) in
+    let within : i < length values = search rules in
+    let at = got_some values i within in
+    let rest = same_from (take (i + 1) values) (drop (i + 1) values) in
     sym (ap (λ (o : Option ℕ). option_map_or (λ one. Some (one, i + 1)) o rest) (c.in_default.ensures.none at.0 at.1))
-    ∙ sym (same_next c.args.name told i at.0 at.1) ∙ c.loop-i.invariant
+    ∙ sym (same_next values i at.0 at.1) ∙ c.loop-i.invariant

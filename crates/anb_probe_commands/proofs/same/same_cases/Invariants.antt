@@ -3,4 +3,4 @@ use Rattle.anb_probe_commands.specs.Reports.{same_from}
 use Rattle.anb_probe_commands.proofs.same.same_cases.Given as goal
 
 abbrev pub invariant-loop-i : goal.invariant-loop-i
-invariant-loop-i l = same_from l.name (take l.i l.told) (drop l.i l.told) ≡ same_from l.name [] l.told
+invariant-loop-i l = same_from (take l.i l.values) (drop l.i l.values) ≡ same_from [] l.values
