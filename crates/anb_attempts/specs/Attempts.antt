@@ -22,7 +22,7 @@ use Rattle.anb_protocol.specs.Protocols.{ProtocolValue}
 use Rattle.anb_protocol.specs.Texts.{term_text}
 use Rattle.anb_protocol.specs.Plays.{events_of}
 use Rattle.anb_probe.specs.Cases.{DifferAt}
-use Rattle.anb_partner.specs.Plans.{said, MayStand}
+use Rattle.anb_partner.specs.Plans.{MayStand, Script, said, script_of}
 use Rattle.anb_suite.specs.Suites.{checks_of, HasCheck, IsFinding}
 use Rattle.anb_suite.specs.declared.reading.Reading.{Reading}
 use Rattle.anb_suite.specs.declared.reading.Reading.TheVariants.{Both, First, Second}
@@ -97,6 +97,10 @@ pub record IsSceneOfTag (case : OpeningCase) (pair : Tree) (scene : Scene) : Typ
   pub messages : scene.messages ≡ case.messages
   pub right : option_map tree_of scene.right ≡ Some pair
   pub due : scene.due ≡ Some case.event
+
+-- what the role's partner does in one
+abbrev pub script_in : ProtocolValue → (role : ℕ) → Scene → Script
+script_in p role s = script_of p role (map tree_of s.arrivals.items) (map tree_of s.messages.items) (option_map tree_of s.right)
 
 -- the honest one
 pub record IsNarrated (p : ProtocolValue) (role : ℕ) (scene : Scene) : Type 0 where

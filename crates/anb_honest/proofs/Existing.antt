@@ -104,17 +104,17 @@ distinct_in before (x ∷ xs) = by (has before x) (distinct_in (before ++ x ∷ 
 -- ---- places
 
 -- the first that passes a test passes it
-abbrev IsAt : {A : Type 0} → (A → Bool) → (k : ℕ) → List A → (j : ℕ) → Type 0
+abbrev pub IsAt : {A : Type 0} → (A → Bool) → (k : ℕ) → List A → (j : ℕ) → Type 0
 IsAt {A} test k xs j = (m : ℕ) × (x : A) × (j ≡ k + m) × (slice_get xs m ≡ Some x) × (test x ≡ true)
 
-found : {A : Type 0} (test : A → Bool) (k : ℕ) (xs : List A) (j : ℕ) → position_from test k xs ≡ Some j → IsAt test k xs j
+pub found : {A : Type 0} (test : A → Bool) (k : ℕ) (xs : List A) (j : ℕ) → position_from test k xs ≡ Some j → IsAt test k xs j
 found test k [] j e = cc
 found {A} test k (y ∷ xs) j e = by (test y) refl e (found test (k + 1) xs j) where
   by : (b : Bool) → test y ≡ b → cond b (Some k) (position_from test (k + 1) xs) ≡ Some j → (position_from test (k + 1) xs ≡ Some j → IsAt test (k + 1) xs j) → IsAt test k (y ∷ xs) j
   by true t f later = let same : k ≡ j = cc in (0, y, omega (arith, same), refl, t)
   by false t f later = let l = later f in (suc l.0, l.1, omega (arith, l.2), l.3, l.4)
 
-not_found : {A : Type 0} (test : A → Bool) (k : ℕ) (xs : List A) → position_from test k xs ≡ None → (i : ℕ) (x : A) → slice_get xs i ≡ Some x → test x ≡ true → ⊥
+pub not_found : {A : Type 0} (test : A → Bool) (k : ℕ) (xs : List A) → position_from test k xs ≡ None → (i : ℕ) (x : A) → slice_get xs i ≡ Some x → test x ≡ true → ⊥
 not_found test k [] e i x at t = cc
 not_found {A} test k (y ∷ xs) e i x at t = by (test y) refl e i at (not_found test (k + 1) xs) where
   by : (b : Bool) → test y ≡ b → cond b (Some k) (position_from test (k + 1) xs) ≡ None → (i : ℕ) → slice_get (y ∷ xs) i ≡ Some x
@@ -178,11 +178,11 @@ module _ (p : ProtocolValue) where
   all_makings role = made_known (known_by p role) (each_after (events_at p role) [] p.actions) ∙ makings_of role [] p.actions
 
   -- a name that no role knows, and that no message before these has
-  record IsNew (before : List ActionValue) (t : Tree) : Type 0 where
-    atom : ℕ
-    is : t ≡ leaf atom
-    unknown : occurs (known_terms p) atom ≡ false
-    unsent : occurs (messages before) atom ≡ false
+  pub record IsNew (before : List ActionValue) (t : Tree) : Type 0 where
+    pub atom : ℕ
+    pub is : t ≡ leaf atom
+    pub unknown : occurs (known_terms p) atom ≡ false
+    pub unsent : occurs (messages before) atom ≡ false
 
   -- and that this message has
   record IsNewIn (before : List ActionValue) (x : ActionValue) (t : Tree) : Type 0 where
@@ -281,20 +281,20 @@ module _ (p : ProtocolValue) where
           let long : length (mine r before x) ≡ length (mine s before x) = ap (λ role. length (mine role before x)) same.0 in
           (same.0, omega (arith, is, js, same.1, long))
 
-  new_at : (role i : ℕ) (t : Tree) → slice_get (made (events_of p role)) i ≡ Some t → IsNew [] t
+  pub new_at : (role i : ℕ) (t : Tree) → slice_get (made (events_of p role)) i ≡ Some t → IsNew [] t
   new_at role i t e =
       let e' : slice_get (makings role [] p.actions) i ≡ Some t = ap (λ l. slice_get l i) (sym (all_makings role)) ∙ e in
       each_got (IsNew []) (makings role [] p.actions) i t (all_new role [] p.actions) e'
 
-  one_maker : (r s i j : ℕ) (t : Tree) → slice_get (made (events_of p r)) i ≡ Some t → slice_get (made (events_of p s)) j ≡ Some t → (r ≡ s) × (i ≡ j)
+  pub one_maker : (r s i j : ℕ) (t : Tree) → slice_get (made (events_of p r)) i ≡ Some t → slice_get (made (events_of p s)) j ≡ Some t → (r ≡ s) × (i ≡ j)
   one_maker r s i j t e d =
       made_once r s [] p.actions i j t (ap (λ l. slice_get l i) (sym (all_makings r)) ∙ e) (ap (λ l. slice_get l j) (sym (all_makings s)) ∙ d)
 
-abbrev is_leaf : ℕ → Tree → Bool
+abbrev pub is_leaf : ℕ → Tree → Bool
 is_leaf a (leaf b) = b == a
 is_leaf a (node o ts) = false
 
-leaf_is : (a : ℕ) (t : Tree) → is_leaf a t ≡ true → t ≡ leaf a
+pub leaf_is : (a : ℕ) (t : Tree) → is_leaf a t ≡ true → t ≡ leaf a
 leaf_is a (leaf b) e = ap leaf (eqb-true b a e)
 leaf_is a (node o ts) e = cc
 

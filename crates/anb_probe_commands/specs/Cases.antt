@@ -1,17 +1,16 @@
 -- What is tried of a role, and what can't be.
-use Rattle.std.specs.Prelude.{◌≡◌, ℕ, ◌+◌, ◌==◌, ◌||◌, nat_lt, List, [], ◌∷◌, ◌++◌, map, get_or, slice_get, count_by, Bool, true, false, is_none, codes, decimal, Option, Some, None, Result, Ok, Err, option_map, if◌then◌else◌}
+use Rattle.std.specs.Prelude.{◌≡◌, ℕ, ◌+◌, ◌==◌, ◌||◌, nat_lt, List, [], ◌∷◌, ◌++◌, map, get_or, slice_get, count_by, Bool, true, false, is_none, codes, decimal, Option, Some, None, Result, Ok, Err, if◌then◌else◌}
 use Rattle.std.specs.List.{flat_map, list_any}
 use Rattle.std.specs.Option.{option_map_or}
 use Rattle.std.specs.Str.{bytes_eq}
-use Rattle.anb_term.specs.View.{tree_of}
 use Rattle.anb_protocol.specs.Protocols.{ProtocolValue}
-use Rattle.anb_partner.specs.Plans.{IsPartner, RefusesPartner, Script, hook_at, script_of}
+use Rattle.anb_partner.specs.Plans.{IsPartner, RefusesPartner, hook_at}
 use Rattle.anb_partner.specs.declared.planning.Partner.{Partner}
 use Rattle.anb_partner.specs.declared.planning.PartnerNo.TheVariants as no
 use Rattle.anb_verdict.specs.declared.title.Title.{Title}
 use Rattle.anb_verdict.specs.declared.title.Title.TheVariants.{Narrated, Changed, Sized, Earlier}
 use Rattle.anb_verdict.specs.Texts.{not_tried_line}
-use Rattle.anb_attempts.specs.Attempts.{why_words}
+use Rattle.anb_attempts.specs.Attempts.{script_in, why_words}
 use Rattle.anb_attempts.specs.declared.attempts.Attempt.{Attempt}
 use Rattle.anb_attempts.specs.declared.attempts.Gap.{Gap}
 use Rattle.anb_attempts.specs.declared.attempts.Scene.{Scene}
@@ -20,10 +19,6 @@ use Rattle.anb_probe_commands.specs.declared.partners.Lack.{Lack}
 use Rattle.anb_probe_commands.specs.declared.partners.Lack.TheVariants.{Blocked, Large}
 
 -- ---- partners
-
--- what the partner does in a scene
-abbrev pub script_in : ProtocolValue → ℕ → Scene → Script
-script_in p role s = script_of p role (map tree_of s.arrivals.items) (map tree_of s.messages.items) (option_map tree_of s.right)
 
 -- the partner of a scene, or why there is none
 abbrev pub IsMade : ProtocolValue → ℕ → Scene → Result Partner Lack → Type 0

@@ -15,11 +15,11 @@ use Rattle.anb_spoil.specs.Wrongs.{wrong_by}
 use Rattle.anb_transcript.specs.declared.transcript.TranscriptLine.{TranscriptLine}
 use Rattle.anb_verdict.specs.Verdicts.{reached_by}
 use Rattle.anb_verdict.specs.declared.verdict.Verdict.{Verdict}
+use Rattle.anb_attempts.specs.Attempts.{script_in}
 use Rattle.anb_attempts.specs.declared.attempts.Attempt.{Attempt}
 use Rattle.anb_attempts.specs.declared.attempts.Scene.{Scene}
 use Rattle.anb_tries.specs.Seen.{seen_of}
 use Rattle.anb_tries.specs.Tries.{IsTriedVerdict}
-use Rattle.anb_probe_commands.specs.Cases.{script_in}
 use Rattle.anb_probe_commands.specs.Probings.{Probing}
 
 -- what the role begins with

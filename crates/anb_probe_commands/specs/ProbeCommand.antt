@@ -20,7 +20,7 @@ use Rattle.anb_status.specs.declared.status.Status.TheVariants.{BadNarration, Ca
 use Rattle.anb_status.specs.Statuses.{Phase, after_reach, at_reach, before_reach, phase_of}
 use Rattle.anb_verdict.specs.Places.{is_own}
 use Rattle.anb_verdict.specs.Texts.{no_such_case}
-use Rattle.anb_attempts.specs.Attempts.{IsSuite}
+use Rattle.anb_attempts.specs.Attempts.{IsSuite, script_in}
 use Rattle.anb_attempts.specs.declared.attempts.TheConstants.{MOST}
 use Rattle.anb_attempts.specs.declared.attempts.Attempt.{Attempt}
 use Rattle.anb_attempts.specs.declared.attempts.Scene.{Scene}
@@ -29,7 +29,7 @@ use Rattle.anb_command.specs.Causes.{HasCause}
 use Rattle.anb_command.specs.Fetches.{Files, IfTold}
 use Rattle.anb_command.specs.Refusing.{IsRefusing}
 use Rattle.anb_command.specs.Steps.{given}
-use Rattle.anb_probe_commands.specs.Cases.{AreMade, all_untried, case_count, cases_from, is_beyond, lack_of, script_in}
+use Rattle.anb_probe_commands.specs.Cases.{AreMade, all_untried, case_count, cases_from, is_beyond, lack_of}
 use Rattle.anb_probe_commands.specs.Plays.{ArePlayed, AreTold, CaseEnd, IsNotStarted, verdicts_of}
 use Rattle.anb_probe_commands.specs.Probings.{IsReadToProbe, Probing, ProbingIs}
 use Rattle.anb_probe_commands.specs.Reports.{report, report_so_far, status_for}

@@ -68,11 +68,11 @@ decided : (P : Bool → Type 0) (x : Bool) → P true → P false → P x
 decided P true p q = p
 decided P false p q = q
 
-one_less : (o : Option ℕ) (n k : ℕ) → IfSome o (λ at. n + suc k ≤ at) → IfSome o (λ at. (n + 1) + k ≤ at)
+pub one_less : (o : Option ℕ) (n k : ℕ) → IfSome o (λ at. n + suc k ≤ at) → IfSome o (λ at. (n + 1) + k ≤ at)
 one_less None n k few = tt
 one_less (Some at) n k few = omega (arith, few)
 
-counted : (n k : ℕ) → n + suc k ≡ (n + 1) + k
+pub counted : (n k : ℕ) → n + suc k ≡ (n + 1) + k
 counted n k = omega arith
 
 -- ---- one line more
@@ -179,7 +179,7 @@ unhooked spare line n r (to_receive i t ∷ es) (a ∷ ins) ms ls hs ss few fits
     few fits
 
 -- the hook isn't before the lines that were counted
-before_least : (spare n : ℕ) (es : List PlanEvent) (ins : List Tree) (at : ℕ) → lines_before spare n es ins ≡ Some at → n ≤ at
+pub before_least : (spare n : ℕ) (es : List PlanEvent) (ins : List Tree) (at : ℕ) → lines_before spare n es ins ≡ Some at → n ≤ at
 before_least spare n [] ins at is = absurd (cc)
 before_least spare n (to_know t ∷ es) ins at is = before_least spare n es ins at is
 before_least spare n (to_make t ∷ es) ins at is = before_least spare n es ins at is

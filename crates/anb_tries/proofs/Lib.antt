@@ -1,9 +1,9 @@
-mod Along
+pub mod Along
 mod Next
 mod Framed
-mod Placed
+pub mod Placed
 mod Passing
 mod Telling
 mod Short
-mod Refusing
-mod Narrated
+pub mod Refusing
+pub mod Narrated

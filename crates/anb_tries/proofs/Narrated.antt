@@ -198,17 +198,17 @@ said_is_due [] (stopped e at) c is = absurd is
 
 -- ---- an attempt with all as narrated
 
-arrivals_both : (xs ys : List TranscriptLine) → arrivals_of (xs ++ ys) ≡ arrivals_of xs ++ arrivals_of ys
+pub arrivals_both : (xs ys : List TranscriptLine) → arrivals_of (xs ++ ys) ≡ arrivals_of xs ++ arrivals_of ys
 arrivals_both [] ys = refl
 arrivals_both (In b ∷ xs) ys = ap (λ l. b ∷ l) (arrivals_both xs ys)
 arrivals_both (Out b ∷ xs) ys = arrivals_both xs ys
 
-messages_both : (xs ys : List TranscriptLine) → messages_of (xs ++ ys) ≡ messages_of xs ++ messages_of ys
+pub messages_both : (xs ys : List TranscriptLine) → messages_of (xs ++ ys) ≡ messages_of xs ++ messages_of ys
 messages_both [] ys = refl
 messages_both (In b ∷ xs) ys = messages_both xs ys
 messages_both (Out b ∷ xs) ys = ap (λ l. b ∷ l) (messages_both xs ys)
 
-drop_first : (xs ys : List Text) → drop (length xs) (xs ++ ys) ≡ ys
+pub drop_first : (xs ys : List Text) → drop (length xs) (xs ++ ys) ≡ ys
 drop_first [] [] = refl
 drop_first [] (y ∷ ys) = refl
 drop_first (x ∷ xs) ys = drop_first xs ys
@@ -217,7 +217,7 @@ not_hooked : (o : Option Hooked) (corrupt : Corruption) (at : Option ℕ) (hs : 
 not_hooked None corrupt at hs ls none is = refl
 not_hooked (Some h) corrupt at hs ls none is = (let never : None ≡ Some h.at = sym none ∙ is.0 in absurd (cc))
 
-role_known : (p : ProtocolValue) (role : ℕ) → known (events_of p role) ≡ known_by p role
+pub role_known : (p : ProtocolValue) (role : ℕ) → known (events_of p role) ≡ known_by p role
 role_known p role = known_events (plan_of p role) ∙ known_of_plan p role
 
 module _ (a : Attempt) (is : IsAttempt a) (law : PartnersPlay a.script.protocol) (agrees : HonestAgree (meaning_of a.script.protocol)) (plays : PlaysRole a) (n : IsNarrated a plays) where

@@ -98,7 +98,7 @@ pub plan_apart : (s : Script) → partner_plan s
     ≡ map to_know (known_by s.protocol s.role) ++ (map (to_receive 0) (handed_terms s.protocol s.role) ++ mirrored (length s.protocol.atoms) s.right 1 (plan_of s.protocol s.role) s.arrivals s.messages)
 plan_apart s = append_assoc (map to_know (known_by s.protocol s.role)) (map (to_receive 0) (handed_terms s.protocol s.role)) (mirrored (length s.protocol.atoms) s.right 1 (plan_of s.protocol s.role) s.arrivals s.messages)
 
-from_none : (o : Option ℕ) (k : ℕ) → IfSome o (λ n. k ≤ n) → IfSome o (λ at. 0 + k ≤ at)
+pub from_none : (o : Option ℕ) (k : ℕ) → IfSome o (λ n. k ≤ n) → IfSome o (λ at. 0 + k ≤ at)
 from_none None k few = tt
 from_none (Some n) k few = omega (arith, few)
 

@@ -1,0 +1,16 @@
+mod Firsts
+mod Beginning
+mod Saying
+mod Sending
+mod Counting
+mod Speaking
+mod Naming
+mod Knowing
+mod Stopping
+mod Comparing
+mod Checks
+mod Opening
+mod Within
+mod Suites
+mod Grounding
+mod Values
