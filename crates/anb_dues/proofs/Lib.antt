@@ -7,7 +7,7 @@ mod Speaking
 mod Naming
 mod Knowing
 mod Stopping
-mod Comparing
+pub mod Comparing
 mod Checks
 mod Opening
 mod Within

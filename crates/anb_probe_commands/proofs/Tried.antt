@@ -1,8 +1,10 @@
 -- One case, and those before it.
 use Rattle.std.proofs.Math.Dec.{eqb-suc-zero}
-use Rattle.std.proofs.Common.{Bool, cond, ◌≡◌, ◌≢◌, ◌<◌, ℕ, zero, suc, ◌+◌, List, [], ◌∷◌, ◌++◌, length, map, replicate, Option, Some, Ok, refl, ap, sym, ◌∙◌, subst, inl, inr, arith, length-append}
+use Rattle.std.proofs.Common.{Bool, cond, ◌≡◌, ◌≢◌, ◌<◌, ◌^◌, ℕ, zero, suc, ◌+◌, List, [], ◌∷◌, ◌++◌, length, map, replicate, Option, Some, Ok, refl, ap, sym, ◌∙◌, subst, inl, inr, arith, length-append}
 use Rattle.std.specs.Prelude.{slice_get}
 use Rattle.std.proofs.lemmas.List.{length-map, map-append}
+use Rattle.std.specs.List.{AllByRecursion}
+use Rattle.anb_base.specs.Bytes.{IsBytes}
 use Rattle.anb_base.specs.Moves.{Put, PutPrefix}
 use Rattle.anb_base.specs.Wires.{WireState}
 use Rattle.anb_base.proofs.Moving.{put_further, put_nothing}
@@ -14,6 +16,8 @@ use Rattle.anb_machine.specs.ByteRuns.{run_bytes}
 use Rattle.anb_partner.specs.Talks.{Converses}
 use Rattle.anb_partner.specs.Trials.{OthersStay, Trial}
 use Rattle.anb_partner.specs.declared.conversation.Conversation.{Conversation}
+use Rattle.anb_judge.specs.Verdicts.{line_bytes}
+use Rattle.anb_partner.specs.declared.conversation.TalkEnd.TheVariants.{Long}
 use Rattle.anb_partner.specs.declared.planning.Partner.{Partner}
 use Rattle.anb_protocol.specs.Texts.{known_by, known_texts}
 use Rattle.anb_spoil.specs.Wrongs.{wrong_by}
@@ -47,8 +51,9 @@ module _ (q : Probing) (x : Prepared) (can : CanPlay q x) where
     pub tried_as : (program : List (List ℕ)) (reached : ℕ) (old new : Trial) (conversation : Conversation) (verdict : Verdict) (got : ℕ)
         → Converses (run_bytes partner.code x.values.initial.items (replicate 32 0) 0) x.values.handed.items partner.hook (wrong_by partner.code.formats a.wrong) program old new conversation
         → IsTriedVerdict (record { protocol = q.protocol; role = q.role; initial = x.values.initial.items; lines = conversation.lines }) (seen_of conversation scene.due reached) conversation.end verdict
-        → got ≡ reached_by verdict conversation.lines → IsTried q x.scenes.items program a reached old new (record { verdict = verdict; lines = conversation.lines }) got
-    tried_as program reached old new conversation verdict got converses judged is =
+        → got ≡ reached_by verdict conversation.lines → AllByRecursion IsBytes (map line_bytes conversation.lines) → ((len : ℕ) → conversation.end ≡ Long len → len < 2 ^ 32)
+        → IsTried q x.scenes.items program a reached old new (record { verdict = verdict; lines = conversation.lines }) got
+    tried_as program reached old new conversation verdict got converses judged is bytes long =
         let made = can.made a.scene scene (Ok partner) at there in
         record {
           scene = scene;
@@ -58,6 +63,8 @@ module _ (q : Probing) (x : Prepared) (can : CanPlay q x) where
           conversation = conversation;
           converses = rw (sym made.1, sym can.handed, sym can.initial) converses;
           lines = refl;
+          bytes = bytes;
+          long = long;
           judged = rw (sym can.initial) judged;
           got_is = is;
         }

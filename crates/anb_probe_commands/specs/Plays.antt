@@ -1,16 +1,19 @@
 -- What comes of a program in the cases.
-use Rattle.std.specs.Prelude.{◌≡◌, ◌≢◌, ◌≤◌, ℕ, ◌==◌, List, [], ◌∷◌, map, replicate, slice_get, Some, if◌then◌else◌}
+use Rattle.std.specs.Prelude.{◌≡◌, ◌≢◌, ◌≤◌, ◌<◌, ◌^◌, ℕ, ◌==◌, List, [], ◌∷◌, map, replicate, slice_get, Some, if◌then◌else◌}
+use Rattle.std.specs.List.{AllByRecursion}
+use Rattle.anb_base.specs.Bytes.{IsBytes}
 use Rattle.anb_base.specs.Moves.{Rose}
 use Rattle.anb_code.specs.CodeValue.{CodeValue}
 use Rattle.anb_draws.specs.Draws.{IsDrawn}
 use Rattle.anb_draws.specs.declared.draws.Drawn.{Drawn}
-use Rattle.anb_judge.specs.Verdicts.{Judged}
+use Rattle.anb_judge.specs.Verdicts.{Judged, line_bytes}
 use Rattle.anb_machine.specs.ByteRuns.{run_bytes}
 use Rattle.anb_partner.specs.Plans.{IsPartner, hook_at}
 use Rattle.anb_partner.specs.Talks.{Converses}
 use Rattle.anb_partner.specs.Trials.{IsUnstarted, Trial}
 use Rattle.anb_partner.specs.Values.{handed_values, initial_values}
 use Rattle.anb_partner.specs.declared.conversation.Conversation.{Conversation}
+use Rattle.anb_partner.specs.declared.conversation.TalkEnd.TheVariants.{Long}
 use Rattle.anb_spoil.specs.Wrongs.{wrong_by}
 use Rattle.anb_transcript.specs.declared.transcript.TranscriptLine.{TranscriptLine}
 use Rattle.anb_verdict.specs.Verdicts.{reached_by}
@@ -62,7 +65,8 @@ reached_in i reached = if i == 0 then 0 else reached
 
 module _ (q : Probing) (scenes : List Scene) (order : List (List ℕ)) where
   -- These words were asked of the child once, and the partner of the attempt's scene conversed with it; the
-  -- verdict is that on what was seen, where the first case got as far as `reached`; and this one got as far as `got`.
+  -- verdict is that on what was seen, where the first case got as far as `reached`; and this one got as far as `got`. All
+  -- that was heard and said are bytes, and so are the four of a length.
   pub record IsTried (a : Attempt) (reached : ℕ) (old new : Trial) (end : CaseEnd) (got : ℕ) : Type 0 where
     pub scene : Scene
     pub at : slice_get scenes a.scene ≡ Some scene
@@ -72,6 +76,8 @@ module _ (q : Probing) (scenes : List Scene) (order : List (List ℕ)) where
     pub converses : Converses (run_bytes code (initial q) (replicate 32 0) 0) (handed q) (hook_at (script_in q.protocol q.role scene))
         (wrong_by code.formats a.wrong) order old new conversation
     pub lines : end.lines ≡ conversation.lines
+    pub bytes : AllByRecursion IsBytes (map line_bytes conversation.lines)
+    pub long : (len : ℕ) → conversation.end ≡ Long len → len < 2 ^ 32
     pub judged : IsTriedVerdict (judged_over q conversation.lines) (seen_of conversation scene.due reached) conversation.end end.verdict
     pub got_is : got ≡ reached_by end.verdict conversation.lines
 

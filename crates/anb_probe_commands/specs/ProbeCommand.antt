@@ -2,8 +2,10 @@
 use Rattle.std.specs.Prelude.{◌≡◌, ◌⊎◌, ◌<◌, ℕ, ◌+◌, List, [], ◌∷◌, length, map, take, slice_get, count_by, Bool, true, false, Option, Some, is_some, Result}
 use Rattle.anb_base.specs.Moves.{Put, PutPrefix}
 use Rattle.anb_base.specs.Wires.{WireState}
+use Rattle.anb_base.specs.declared.TheConstants.{ARRIVAL, WIDE}
 use Rattle.anb_base.specs.declared.place.Place.TheVariants.{Stdio}
 use Rattle.anb_code.specs.CodeValue.{CodeValue}
+use Rattle.anb_code.specs.Verified.{IsVerifiedCode}
 use Rattle.anb_compile.specs.Fitting.{FitsRole}
 use Rattle.anb_draws.specs.declared.draws.Drawn.{Drawn}
 use Rattle.anb_partner.specs.Plans.{RefusesPartner}
@@ -38,10 +40,11 @@ use Rattle.anb_probe_commands.specs.declared.partners.Lack.{Lack}
 
 -- ---- what is tried, found before any program is started
 
--- the suite of the role, and the partners of its scenes
+-- the suite of the role's code, which is verified, and the partners of its scenes
 pub record Suit (q : Probing) (trying : Trying) : Type 0 where
   pub code : CodeValue
   pub fits : FitsRole q.protocol q.role code
+  pub verified : IsVerifiedCode ARRIVAL WIDE code
   pub suite : Suite
   pub is : IsSuite q.protocol q.role code trying.all suite
   pub partners : List (Result Partner Lack)

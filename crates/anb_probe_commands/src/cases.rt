@@ -82,6 +82,7 @@ fn prepare_suite(
     ensures { IfOk result (IsPrepared (probing_by task.now.protocol task.now.role
         task.now.values task.now.seed) (trying_by trying.entry)) }
 {
+    let _ = task.code.instrs();
     let values = task.values.as_slice();
     let values = values_for(alloc, &task.protocol, task.role, values, &task.seed)?;
     let untried = untried_for(

@@ -18,6 +18,7 @@ returns c =
       suit = record {
         code = t.code;
         fits = c.requires.can.fits;
+        verified = c.instrs.ensures.verified;
         suite = c.args.suite;
         is = c.requires.suite;
         partners = c.args.partners.items;

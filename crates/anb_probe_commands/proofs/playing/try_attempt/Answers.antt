@@ -24,4 +24,4 @@ returns-in-Ok-clause-tried g c =
     let at = slice_get_read x.scenes.items _ a.scene c.index-scene.result.now refl c.requires.placed.scene c.index-scene.ensures in
     tried_as (probing_by t.protocol t.role t.values t.seed) x c.requires.can a c.index-scene.result.now c.partner_at-partner.result.now at there (order_of (trying_by c.args.trying)) c.args.reached
     (g.T.Trials.trial c.args.trials.now c.args.number) (g.T.Trials.trial c.try_case.new.trials c.args.number) c.in-Ok.field-0.conversation c.in-Ok.field-0.verdict c.in-Ok.field-0.reached
-    c.in-Ok.ensures.converses c.in-Ok.ensures.verdict c.in-Ok.ensures.reached
+    c.in-Ok.ensures.converses c.in-Ok.ensures.verdict c.in-Ok.ensures.reached c.in-Ok.ensures.bytes c.in-Ok.ensures.long

@@ -1,0 +1,7 @@
+mod Listed
+mod Given
+mod Handed
+mod Sent
+mod Full
+mod Played
+mod Reported
