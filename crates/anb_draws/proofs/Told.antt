@@ -38,7 +38,7 @@ use Rattle.anb_judge.proofs.Begun.{cut_known}
 use Rattle.anb_judge.proofs.SeenPlays.{one_judgement, values}
 use Rattle.anb_draws.specs.Draws.{Tells, bytes_by, gone_over, names_by, terms_by, value_in}
 use Rattle.anb_draws.specs.Laws.{DrawsOne}
-use Rattle.anb_draws.specs.Telling.{AreOpen, IsTeller, frame_by, name_of, named, value_of}
+use Rattle.anb_draws.specs.Telling.{AreOpen, IsTeller, frame_by, name_of, named, value_among, value_of}
 use Rattle.anb_draws.specs.declared.draws.Drawn.{Drawn}
 use Rattle.anb_draws.proofs.Among.{untold_apart, untold_parts}
 use Rattle.anb_draws.proofs.Known.{both_given, known_given, named_within}
@@ -82,11 +82,11 @@ gives_each p role n known names code init seed arrivals bs law first teller coun
 -- ---- the value of a name
 
 module _ (m : Meaning (List ℕ)) (F : List Tree) (vs : List (List ℕ)) (P : ℕ → Type 0) where
-  told_in : (draws : List Drawn) → AllByRecursion P (map name_of draws) → GivesEach m F vs (map name_of draws) (map value_of draws) → (name : ℕ) (b : List ℕ) → value_in draws name ≡ Some b
+  told_in : (draws : List Drawn) → AllByRecursion P (map name_of draws) → GivesEach m F vs (map name_of draws) (map value_of draws) → (name : ℕ) (b : List ℕ) → value_among draws name ≡ Some b
       → P name × Gives m F vs (leaf name) b
   told_in [] all each name b is = absurd (let never = is in cc)
   told_in (d ∷ draws) all each name b is = by (d.name == name) refl (λ e. told_in draws all.1 each.1 name b e) is where
-    by : (t : Bool) → (d.name == name) ≡ t → (value_in draws name ≡ Some b → P name × Gives m F vs (leaf name) b) → cond t (Some d.value) (value_in draws name) ≡ Some b → P name × Gives m F vs (leaf name) b
+    by : (t : Bool) → (d.name == name) ≡ t → (value_among draws name ≡ Some b → P name × Gives m F vs (leaf name) b) → cond t (Some d.value) (value_among draws name) ≡ Some b → P name × Gives m F vs (leaf name) b
     by true e later is =
         let same : d.name ≡ name = grind (arith, nat_tests, e) in
         let value : d.value ≡ b = cc in
@@ -98,15 +98,15 @@ module _ (p : ProtocolValue) (role : ℕ) (initial : List (List ℕ)) (lines : L
   asked = record { protocol = p; role = role; initial = initial; lines = lines }
 
   -- nothing is asked for
-  pub tells_none : names_by n (events_of p role) ≡ [] → (name : ℕ) → Tells asked n name (value_in [] name)
+  pub tells_none : names_by n (events_of p role) ≡ [] → (name : ℕ) → Tells asked n name (value_among [] name)
   tells_none none name = λ is has. is.0 none
 
   pub tells : (draws : List Drawn) → names_by n (events_of p role) ≢ [] → AllByRecursion (λ a. a < length p.atoms) (map name_of draws)
       → GivesEach (meaning_of p) (terms_by asked n) (bytes_by asked n) (map name_of draws) (map value_of draws)
-      → ((name : ℕ) → name < length p.atoms → value_in draws name ≡ None → HasRecipe (has_operator p.formats) (terms_by asked n) (leaf name) → ⊥)
-      → (name : ℕ) → Tells asked n name (value_in draws name)
-  tells draws some within each hidden name = by (value_in draws name) refl where
-    by : (v : Option (List ℕ)) → value_in draws name ≡ v → Tells asked n name v
+      → ((name : ℕ) → name < length p.atoms → value_among draws name ≡ None → HasRecipe (has_operator p.formats) (terms_by asked n) (leaf name) → ⊥)
+      → (name : ℕ) → Tells asked n name (value_among draws name)
+  tells draws some within each hidden name = by (value_among draws name) refl where
+    by : (v : Option (List ℕ)) → value_among draws name ≡ v → Tells asked n name v
     by (Some b) e = let h = told_in (meaning_of p) (terms_by asked n) (bytes_by asked n) (λ a. a < length p.atoms) draws within each name b e in ((some, h.0), h.1)
     by None e = λ is has. hidden name is.1 e has
 
@@ -140,7 +140,7 @@ module _ (p : ProtocolValue) (role : ℕ) (initial : List (List ℕ)) (lines : L
 
 -- no recipe has a name that none of these is
 pub none_has : (p : ProtocolValue) (role n : ℕ) (known others : List Drawn) (names : List ℕ) → HoldsOf p → AreOpen p (frame_by p role n) known (length p.atoms) names → map name_of others ≡ names
-    → (name : ℕ) → name < length p.atoms → value_in (known ++ others) name ≡ None
+    → (name : ℕ) → name < length p.atoms → value_among (known ++ others) name ≡ None
     → HasRecipe (has_operator p.formats) (terms.known (events_of p role) ++ heard (observed (up_to n (events_of p role)))) (leaf name) → ⊥
 none_has p role n known others names holds left same name within none has =
     let parts = untold_parts known others name none in

@@ -1,5 +1,5 @@
 -- What a role drew, and what it has beside that, as far as who sees the role can tell it.
-use Rattle.std.specs.Prelude.{◌≢◌, ◌-◌, ◌<◌, ◌==◌, ℕ, zero, suc, List, [], ◌∷◌, ◌++◌, length, map, take, Option, Some, None, if◌then◌else◌}
+use Rattle.std.specs.Prelude.{◌≢◌, ◌-◌, ◌<◌, ℕ, zero, suc, List, [], ◌∷◌, ◌++◌, length, map, take, Option, Some, None, slice_get, unwrap_or}
 use Rattle.anb_term.specs.Tree.{Tree, leaf, node}
 use Rattle.anb_term.specs.Agree.{HasRecipe}
 use Rattle.anb_algebra.specs.ByteMeaning.{has_operator}
@@ -10,7 +10,6 @@ use Rattle.anb_transcript.specs.declared.following.ReplayEnd.{ReplayEnd}
 use Rattle.anb_transcript.specs.declared.following.ReplayEnd.TheVariants.{Follows, Differs, Short, Stopped, NoMemory}
 use Rattle.anb_judge.specs.Observed.{observed}
 use Rattle.anb_judge.specs.Verdicts.{Judged, Judges, line_bytes, own_plan, up_to}
-use Rattle.anb_draws.specs.declared.draws.Drawn.{Drawn}
 
 -- the names that a role makes, in order
 abbrev pub names_made : List Event → List ℕ
@@ -37,10 +36,12 @@ abbrev pub names_by : ℕ → List Event → List ℕ
 names_by zero es = []
 names_by (suc n) es = names_before n es
 
--- the value of a name among these, where it is told
-abbrev pub value_in : List Drawn → (name : ℕ) → Option (List ℕ)
-value_in [] name = None
-value_in (d ∷ draws) name = if d.name == name then Some d.value else value_in draws name
+-- values of names, each at the number of its name, where it is told
+abbrev pub Values : Type 0
+Values = List (Option (List ℕ))
+
+abbrev pub value_in : Values → (name : ℕ) → Option (List ℕ)
+value_in values name = unwrap_or (slice_get values name) None
 
 -- over how many of so many lines who sees the role goes on
 abbrev pub gone_over : ReplayEnd → (lines : ℕ) → ℕ
@@ -68,7 +69,7 @@ module _ (judged : Judged) (n : ℕ) where
   Tells name None = IsAsked name → HasRecipe (has_operator judged.protocol.formats) terms_by (leaf name) → ⊥
 
 -- what names stand for in a conversation, by a transcript: each over the lines on which who sees the role goes on
-pub record IsDrawn (judged : Judged) (draws : List Drawn) : Type 0 where
+pub record IsDrawn (judged : Judged) (values : Values) : Type 0 where
   pub end : ReplayEnd
   pub judges : Judges judged end
-  pub tells : (name : ℕ) → Tells judged (gone_over end (length judged.lines)) name (value_in draws name)
+  pub tells : (name : ℕ) → Tells judged (gone_over end (length judged.lines)) name (value_in values name)

@@ -1,5 +1,5 @@
--- For proofs alone: the plan of who sees a role's first messages and then says names.
-use Rattle.std.specs.Prelude.{◌≡◌, ◌<◌, ℕ, zero, suc, List, [], ◌∷◌, ◌++◌, length, map, false, None}
+-- For proofs alone: names with their values, and the plan of who sees a role's first messages and then says names.
+use Rattle.std.specs.Prelude.{◌≡◌, ◌<◌, ◌==◌, ℕ, zero, suc, List, [], ◌∷◌, ◌++◌, length, map, false, Option, Some, None, if◌then◌else◌}
 use Rattle.std.specs.List.{AllByRecursion}
 use Rattle.anb_term.specs.Tree.{Tree, leaf, node}
 use Rattle.anb_term.specs.Agree.{HasRecipe}
@@ -13,8 +13,19 @@ use Rattle.anb_compile.specs.Unsent.{labels_of}
 use Rattle.anb_protocol.specs.Plans.{PlanEvent, to_know, to_make, to_send, to_receive, plan_of}
 use Rattle.anb_protocol.specs.Protocols.{ProtocolValue}
 use Rattle.anb_protocol.specs.Texts.{known_texts}
-use Rattle.anb_draws.specs.Draws.{value_in}
 use Rattle.anb_draws.specs.declared.draws.Drawn.{Drawn}
+
+-- ---- names with their values
+
+-- the value of a name among these: the first one
+abbrev pub value_among : List Drawn → (name : ℕ) → Option (List ℕ)
+value_among [] name = None
+value_among (d ∷ draws) name = if d.name == name then Some d.value else value_among draws name
+
+-- a value, or else another
+abbrev pub first_of : (value other : Option (List ℕ)) → Option (List ℕ)
+first_of None other = other
+first_of (Some value) other = Some value
 
 -- ---- what is known
 
@@ -55,7 +66,7 @@ module _ (p : ProtocolValue) (frame : List Tree) where
   pub record AreOpen (known : List Drawn) (count : ℕ) (names : List ℕ) : Type 0 where
     pub within : AllByRecursion (λ name. name < count) names
     pub had : AllByRecursion IsHad names
-    pub others : (name : ℕ) → name < count → value_in known name ≡ None → is_among names name ≡ false → IsHad name → ⊥
+    pub others : (name : ℕ) → name < count → value_among known name ≡ None → is_among names name ≡ false → IsHad name → ⊥
 
 module _ (p : ProtocolValue) (role n : ℕ) where
   -- what is had behind the first n messages

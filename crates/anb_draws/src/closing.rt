@@ -7,10 +7,9 @@ ghost use Rattle.anb_algebra.specs.ByteMeaning.{has_operator};
 ghost use Rattle.anb_close.specs.Entries as entries;
 ghost use Rattle.anb_compile.specs.Unsent.{label_of, labels_of};
 ghost use Rattle.anb_protocol.specs.Views.{plan_event};
-ghost use Rattle.anb_draws.specs.Draws.{value_in};
-ghost use Rattle.anb_draws.specs.Telling.{AreOpen, IsHad};
+ghost use Rattle.anb_draws.specs.Telling.{AreOpen, IsHad, value_among};
 
-use crate::draws::{Drawn, value_in};
+use crate::draws::{Drawn, value_among};
 use anb_base::NoMemory;
 use anb_close::Closure;
 use anb_protocol::{Event, Protocol};
@@ -96,11 +95,11 @@ fn is_open(
     requires { AreFormed (has_operator p.now.formats) (trees_of (entries.labels_of closure.now)) }
     ensures had { IfOk result (λ is. is ≡ true
         → IsHad p.now (entries.labels_of closure.now) name) }
-    ensures hidden { IfOk result (λ is. is ≡ false → value_in known.now name ≡ None
+    ensures hidden { IfOk result (λ is. is ≡ false → value_among known.now name ≡ None
         → IsHad p.now (entries.labels_of closure.now) name → ⊥) }
 {
     let _ = p;
-    if value_in(known, name).is_some() {
+    if value_among(known, name).is_some() {
         return Ok(false);
     }
     match closure.compose(alloc, &Term::Atom(name)) {

@@ -13,7 +13,7 @@ ghost use Rattle.anb_compile.specs.Emitting.{known_in};
 ghost use Rattle.anb_protocol.specs.Views.{plan_event};
 ghost use Rattle.anb_draws.specs.Telling.{name_of, named, value_of};
 
-use crate::draws::{Drawn, Draws};
+use crate::draws::{Drawn, Draws, by_name};
 use crate::names::names_by;
 use crate::telling::{Teller, teller_of};
 use anb_algebra::ByteAlgebra;
@@ -95,7 +95,7 @@ fn drawn_by(
     let plan = p.plan(alloc, role)?;
     let names = names_by(alloc, plan.events(), n)?;
     if names.is_empty() {
-        return Ok(Draws::new(Vec::new(alloc)));
+        return by_name(alloc, Vec::new(alloc));
     }
     let mut draws = known_names(alloc, plan.events(), initial)?;
     let Teller { code, names } = teller_of(alloc, p, role, n, &draws)?;
@@ -104,7 +104,7 @@ fn drawn_by(
     hear(alloc, &mut machine, arrivals)?;
     let mut others = said(alloc, &mut machine, names)?;
     draws.append(&mut others)?;
-    Ok(Draws::new(draws))
+    by_name(alloc, draws)
 }
 
 /// The names that are known by these events, with their values.

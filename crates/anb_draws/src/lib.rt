@@ -15,6 +15,6 @@ mod names;
 mod telling;
 
 pub use drawing::drawn;
-pub use draws::{Drawn, Draws, value_in};
+pub use draws::{Draws, value_in};
 pub use laws::one_drawing;
 pub use names::names_made;

@@ -2,13 +2,13 @@
 use Rattle.std.proofs.Common.{◌≡◌, ◌≢◌, ◌≤◌, ◌⊎◌, ℕ, cond, List, [], ◌++◌, length, map, Bool, true, false, Option, Result, Ok, Err, IfOk, refl, ap, sym, ◌∙◌, subst, inl, inr, arith}
 use Rattle.std.specs.Prelude.{◌==◌, count_by}
 use Rattle.std.proofs.lemmas.List.{append-nil}
+use Rattle.anb_draws.specs.Draws.{Values}
 use Rattle.anb_attempts.specs.declared.attempts.TheConstants.{MOST}
 use Rattle.anb_base.specs.Moves.{Put, PutPrefix, Rose}
 use Rattle.anb_base.specs.Wires.{WireState}
 use Rattle.anb_base.specs.declared.place.Place.TheVariants.{Stdio}
 use Rattle.anb_base.proofs.Joined.{Put-joined}
 use Rattle.anb_base.proofs.Moving.{put_further, put_nothing, put_within}
-use Rattle.anb_draws.specs.declared.draws.Drawn.{Drawn}
 use Rattle.anb_partner.specs.Trials.{Trial}
 use Rattle.anb_protocol.specs.Protocols.{ProtocolValue}
 use Rattle.anb_partner.specs.declared.planning.PartnerNo.{PartnerNo}
@@ -141,7 +141,7 @@ module _ (q : Probing) (x : Prepared) (program : List (List ℕ)) where
     pub broke_found : Broke S U NoMemory
     broke_found = record { only = both.only; cause = λ never. absurd (cc); quiet = λ _. both.quiet }
 
-    module _ (V : WireState) (told : List (List Drawn)) (vs : List Verdict) (are_told : AreTold q (map end_in outcomes) told) (are : vs ≡ verdicts_of (map end_in outcomes)) where
+    module _ (V : WireState) (told : List Values) (vs : List Verdict) (are_told : AreTold q (map end_in outcomes) told) (are : vs ≡ verdicts_of (map end_in outcomes)) where
       verdicts_are : verdicts_of cases.ends ≡ vs
       verdicts_are = ap verdicts_of cases.ends_are ∙ sym are
 

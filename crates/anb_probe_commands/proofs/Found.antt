@@ -1,6 +1,6 @@
 -- What is told of the cases that were played.
-use Rattle.std.proofs.Common.{◌≡◌, ℕ, zero, suc, ◌+◌, ◌<◌, ◌≤◌, ◌^◌, List, [], ◌∷◌, ◌++◌, length, map, take, drop, All, Option, Some, refl, sym, ap, ◌∙◌, subst, arith}
-use Rattle.std.specs.Prelude.{slice_get}
+use Rattle.std.proofs.Common.{◌≡◌, ℕ, zero, suc, ◌+◌, ◌-◌, ◌<◌, ◌≤◌, ◌^◌, List, [], ◌∷◌, ◌++◌, length, map, take, drop, All, cond, false, Option, Some, refl, sym, ap, ◌∙◌, subst, arith}
+use Rattle.std.specs.Prelude.{◌&&◌, not, slice_get}
 use Rattle.std.specs.List.{AllByRecursion}
 use Rattle.std.specs.Option.{option_map_or}
 use Rattle.std.proofs.lemmas.List.{length-take-le}
@@ -9,8 +9,8 @@ use Rattle.anb_lemmas.proofs.Each.{each_from_got}
 use Rattle.anb_lemmas.proofs.Lists.{drop_at_got, got_within, take_got}
 use Rattle.anb_base.specs.Wires.{WireState}
 use Rattle.anb_base.specs.declared.TheConstants.{ARRIVAL}
-use Rattle.anb_draws.specs.Draws.{IsDrawn}
-use Rattle.anb_draws.specs.declared.draws.Drawn.{Drawn}
+use Rattle.anb_code.specs.Uses.{is_among}
+use Rattle.anb_draws.specs.Draws.{IsDrawn, Values, value_in}
 use Rattle.anb_judge.specs.Verdicts.{line_bytes}
 use Rattle.anb_partner.specs.Talks.{IsShort}
 use Rattle.anb_partner.specs.Trials.{Trial}
@@ -19,7 +19,7 @@ use Rattle.anb_transcript.specs.declared.transcript.TranscriptLine.TheVariants.{
 use Rattle.anb_probe_commands.specs.Plays.{AreTold, CaseEnd, IsTried, judged_over, reached_in}
 use Rattle.anb_probe_commands.specs.Playing.{CanJudge, IsPlayedOut, end_in}
 use Rattle.anb_probe_commands.specs.Probings.{Probing}
-use Rattle.anb_probe_commands.specs.Reports.{case_with, same_from}
+use Rattle.anb_probe_commands.specs.Reports.{case_with, is_value, same_from, twin_in}
 use Rattle.anb_probe_commands.specs.declared.cases.Prepared.{Prepared}
 use Rattle.anb_probe_commands.specs.declared.playing.Outcome.{Outcome}
 use Rattle.anb_probe_commands.proofs.Tried.{got_some}
@@ -48,14 +48,14 @@ can_judge q x order old new S T outcomes cases = subst (AllByRecursion CanJudge)
       }
 
 -- one case more
-pub told_more : (q : Probing) (ends : List CaseEnd) (told : List (List Drawn)) (end : CaseEnd) (draws : List Drawn) → AreTold q ends told → IsDrawn (judged_over q end.lines) draws
+pub told_more : (q : Probing) (ends : List CaseEnd) (told : List Values) (end : CaseEnd) (draws : Values) → AreTold q ends told → IsDrawn (judged_over q end.lines) draws
     → AreTold q (ends ++ end ∷ []) (told ++ draws ∷ [])
 told_more q [] [] end draws are is = (is, tt)
 told_more q [] (d ∷ told) end draws are is = absurd are
 told_more q (e ∷ ends) [] end draws are is = absurd are
 told_more q (e ∷ ends) (d ∷ told) end draws are is = (are.0, told_more q ends told end draws are.1 is)
 
-pub told_long : (q : Probing) (ends : List CaseEnd) (told : List (List Drawn)) → AreTold q ends told → length told ≡ length ends
+pub told_long : (q : Probing) (ends : List CaseEnd) (told : List Values) → AreTold q ends told → length told ≡ length ends
 told_long q [] [] are = refl
 told_long q [] (d ∷ told) are = absurd are
 told_long q (e ∷ ends) [] are = absurd are
@@ -81,3 +81,13 @@ pub judge_at : (outcomes : List Outcome) (i : ℕ) (o : Outcome) → slice_get o
 judge_at [] i o at all = absurd (let never = at in cc)
 judge_at (x ∷ xs) zero o at all = let same : x ≡ o = cc in subst (λ (y : Outcome). CanJudge (end_in y)) same all.0
 judge_at (x ∷ xs) (suc i) o at all = judge_at xs i o at all.1
+
+-- ---- the first name with a value
+
+-- where this name isn't it, the first is behind it
+pub twin_next : (apart value : List ℕ) (values : Values) (name all : ℕ) → name < all → (is_value value (value_in values name) && not (is_among apart name)) ≡ false
+    → twin_in apart value values name (all - name) ≡ twin_in apart value values (name + 1) (all - (name + 1))
+twin_next apart value values name all within not_here =
+    let left : all - name ≡ suc (all - (name + 1)) = omega (arith, within) in
+    ap (twin_in apart value values name) left
+    ∙ ap (λ b. cond b (Some name) (twin_in apart value values (name + 1) (all - (name + 1)))) not_here

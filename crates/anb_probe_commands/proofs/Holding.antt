@@ -1,5 +1,5 @@
 -- The files of a record, and what stands in them.
-use Rattle.std.proofs.Common.{◌≡◌, ◌≢◌, ◌⊎◌, ◌<◌, ◌≤◌, ◌+◌, ◌^◌, ℕ, zero, suc, List, [], ◌∷◌, ◌++◌, length, Option, Some, refl, ap, sym, ◌∙◌, subst, inl, inr, arith, length-append}
+use Rattle.std.proofs.Common.{◌≡◌, ◌≢◌, ◌<◌, ◌≤◌, ◌+◌, ◌^◌, ℕ, zero, suc, List, [], ◌∷◌, ◌++◌, length, Option, Some, refl, ap, sym, ◌∙◌, subst, inl, inr, arith, length-append}
 use Rattle.std.specs.Prelude.{codes, decimal, slice_get}
 use Rattle.std.specs.Option.{option_map}
 use Rattle.std.proofs.lemmas.Fmt.{decimal_injective}
@@ -11,7 +11,7 @@ use Rattle.anb_recorded.specs.Names.{values_in}
 use Rattle.anb_recorded.specs.Outcomes.{AreAbsent}
 use Rattle.anb_recorded.proofs.Holding.{with_other, with_same}
 use Rattle.anb_store.specs.Stores.{StoreState, replaced, with_file}
-use Rattle.anb_probe_commands.specs.Keeping.{Told, all_told, put_told, told, told_from}
+use Rattle.anb_probe_commands.specs.Keeping.{all_told, put_told, told, told_from}
 use Rattle.anb_probe_commands.specs.Plays.{CaseEnd}
 use Rattle.anb_probe_commands.specs.Records.{HoldsCases, IsOfRecord, IsTranscriptOf, errors_of, transcript_of}
 

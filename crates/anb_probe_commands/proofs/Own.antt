@@ -3,7 +3,7 @@ use Rattle.std.proofs.Common.{◌≡◌, ℕ, List, Option, Result, Ok, Err, IfO
 use Rattle.anb_command.specs.Fetches.{Files, IfTold}
 use Rattle.anb_command.specs.Files.{ProtocolInFile, ValuesInFile}
 use Rattle.anb_command.specs.Roles.{Part, PartInFile, RoleIs}
-use Rattle.anb_command.specs.Steps.{given, refused}
+use Rattle.anb_command.specs.Steps.{given}
 use Rattle.anb_command.proofs.Ones.{same_given}
 use Rattle.anb_command.proofs.Preparing.{told_both}
 use Rattle.anb_protocol.specs.Texts.{known_names}

@@ -1,10 +1,9 @@
 -- The status that is told of a test, from how it ended and from what is missing of its record.
-use Rattle.std.proofs.Common.{◌≡◌, ◌≢◌, ◌⊎◌, ◌≤◌, ◌+◌, ℕ, List, [], ◌∷◌, length, Bool, true, false, Option, Some, None, refl, ap, sym, ◌∙◌, subst, inl, inr, arith}
+use Rattle.std.proofs.Common.{◌≡◌, ◌≢◌, ◌⊎◌, ◌≤◌, ℕ, List, [], ◌∷◌, length, true, false, Option, Some, None, refl, ap, sym, ◌∙◌, subst, inl, inr, arith}
 use Rattle.anb_attempts.specs.declared.attempts.TheConstants.{MOST}
 use Rattle.anb_attempts.specs.declared.attempts.Attempt.{Attempt}
 use Rattle.anb_attempts.specs.declared.attempts.Scene.{Scene}
-use Rattle.anb_base.specs.Moves.{Put, Rose}
-use Rattle.anb_base.specs.Places.{line_of}
+use Rattle.anb_base.specs.Moves.{Rose}
 use Rattle.anb_base.specs.Wires.{WireState}
 use Rattle.anb_base.specs.declared.place.Place.TheVariants.{Stdio}
 use Rattle.anb_command.specs.Causes.{DidNotRise}
@@ -12,7 +11,6 @@ use Rattle.anb_command.specs.Fetches.{Files, IfTold}
 use Rattle.anb_command.specs.Reaches.{Reaches}
 use Rattle.anb_command.specs.Steps.{given}
 use Rattle.anb_command.specs.Touches.{Touches}
-use Rattle.anb_command.proofs.Chains.{told_map}
 use Rattle.anb_command.proofs.OverWire.{untouched}
 use Rattle.anb_command.proofs.Preparing.{told_both}
 use Rattle.anb_partner.specs.Trials.{Trial}
@@ -20,24 +18,23 @@ use Rattle.anb_partner.specs.declared.planning.PartnerNo.{PartnerNo}
 use Rattle.anb_partner.specs.declared.planning.PartnerNo.TheVariants as no
 use Rattle.anb_protocol.specs.Protocols.{ProtocolValue}
 use Rattle.anb_recorded.specs.Names.{values_in}
-use Rattle.anb_recorded.specs.Outcomes.{IsMissing, IsTaken, told_as}
+use Rattle.anb_recorded.specs.Outcomes.{IsMissing, told_as}
 use Rattle.anb_recorded.specs.declared.ended.Missing.{Missing}
 use Rattle.anb_recorded.specs.declared.ended.Missing.TheVariants as missing
 use Rattle.anb_recorded.proofs.Completing.{by_what_is_missing}
 use Rattle.anb_recorded.proofs.Telling.{any_time, calm_place, told_by, touches_any}
 use Rattle.anb_recording.specs.Joining.{others_joined, others_still}
-use Rattle.anb_recording.specs.Journals.{IsThere, OthersStay}
-use Rattle.anb_status.specs.Statuses.{IsEarly, after_reach, at_any_time, at_reach, before_reach, is_fault, phase_of}
+use Rattle.anb_recording.specs.Journals.{OthersStay}
+use Rattle.anb_status.specs.Statuses.{IsEarly, after_reach, at_any_time, at_reach, before_reach, is_fault}
 use Rattle.anb_status.specs.declared.status.Status.{Status}
-use Rattle.anb_status.specs.declared.status.Status.TheVariants.{ChildFault, NoMemory, Unreached, Unwritten}
-use Rattle.anb_status.specs.declared.status.Status.TheVariants as status
+use Rattle.anb_status.specs.declared.status.Status.TheVariants.{ChildFault, NoMemory, Unwritten}
 use Rattle.anb_store.specs.Stores.{StoreState, replaced}
 use Rattle.anb_values.specs.declared.fitted.Fitted.{Fitted}
 use Rattle.anb_values_commands.specs.RoleValuesCommand.{OwnIs, RoleValuesText}
-use Rattle.anb_probe_commands.specs.Keeping.{Goes, IsOpened, Keeps, KeepsBy, RecordsCases, RecordsTask, Told, all_told, told_from}
+use Rattle.anb_probe_commands.specs.Keeping.{Goes, KeepsBy, RecordsCases, RecordsTask, Told, all_told}
 use Rattle.anb_probe_commands.specs.Playing.{IsPrepared, TaskComesTo}
-use Rattle.anb_probe_commands.specs.ProbeCommand.{Agenda, Asks, ComesTo, CompletesProbe, HasProbeCause, IsHonestNo, RefusesHonest, agenda_of, probe_phase}
-use Rattle.anb_probe_commands.specs.ProbeInto.{CompletesProbeInto, HasProbeIntoCause, HasRecord, IsNext, IsRecorded, into_phase}
+use Rattle.anb_probe_commands.specs.ProbeCommand.{Agenda, ComesTo, CompletesProbe, HasProbeCause, IsHonestNo, RefusesHonest, probe_phase}
+use Rattle.anb_probe_commands.specs.ProbeInto.{CompletesProbeInto, HasProbeIntoCause, IsRecorded, into_phase}
 use Rattle.anb_probe_commands.specs.Probings.{Probing, ProbingIs}
 use Rattle.anb_probe_commands.specs.Records.{IsOfRecord}
 use Rattle.anb_probe_commands.specs.Tasks.{agenda_by}

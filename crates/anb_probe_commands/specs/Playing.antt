@@ -6,10 +6,10 @@ use Rattle.anb_base.specs.Moves.{Put, PutPrefix, Rose}
 use Rattle.anb_base.specs.Wires.{WireState}
 use Rattle.anb_base.specs.declared.TheConstants.{ARRIVAL}
 use Rattle.anb_base.specs.declared.place.Place.TheVariants.{Stdio}
+use Rattle.anb_draws.specs.Draws.{Values}
 use Rattle.anb_attempts.specs.declared.attempts.TheConstants.{MOST}
 use Rattle.anb_attempts.specs.declared.attempts.Attempt.{Attempt}
 use Rattle.anb_command.specs.Causes.{HasWireCause}
-use Rattle.anb_draws.specs.declared.draws.Drawn.{Drawn}
 use Rattle.anb_partner.specs.Talks.{IsShort}
 use Rattle.anb_command.specs.OverWire.{OnlyWrites}
 use Rattle.anb_command.specs.Reaches.{Reaches}
@@ -143,7 +143,7 @@ module _ (q : Probing) (x : Prepared) (order : List (List ℕ)) where
 -- ---- all of them, and the report
 
 -- the report on these, and up to the last of them
-abbrev pub report_in : Probing → Agenda → List (List Drawn) → List CaseEnd → List ℕ
+abbrev pub report_in : Probing → Agenda → List Values → List CaseEnd → List ℕ
 report_in q g told ends = report q.protocol q.role g.scenes g.is_shown g.cases g.untried told ends
 
 abbrev pub part_in : Probing → Agenda → List CaseEnd → List ℕ
@@ -156,7 +156,7 @@ module _ (q : Probing) (g : Agenda) (order : List (List ℕ)) (old new : ℕ →
     pub verdicts_are : verdicts_of ends ≡ verdicts
     pub all : length ends ≡ length g.cases
     pub played : ArePlayed q g.scenes order g.cases reached ends (length ends) old new
-    pub told : List (List Drawn)
+    pub told : List Values
     pub are_told : AreTold q ends told
     pub wrote : Wrote S T (report_in q g told ends)
 
@@ -172,7 +172,7 @@ module _ (q : Probing) (g : Agenda) (order : List (List ℕ)) (old new : ℕ →
     PlaysLess why = (ends : List CaseEnd) × PlaysPart ends
         × (PutPrefix w now (part_in q g ends)
         ⊎ ((length ends ≡ length g.cases)
-        × ((told : List (List Drawn)) × AreTold q ends told × PutPrefix w now (report_in q g told ends))))
+        × ((told : List Values) × AreTold q ends told × PutPrefix w now (report_in q g told ends))))
 
 -- ---- behind the reach
 

@@ -4,8 +4,7 @@ use Rattle.std.specs.List.{AllByRecursion}
 use Rattle.anb_base.specs.Bytes.{IsBytes}
 use Rattle.anb_base.specs.Moves.{Rose}
 use Rattle.anb_code.specs.CodeValue.{CodeValue}
-use Rattle.anb_draws.specs.Draws.{IsDrawn}
-use Rattle.anb_draws.specs.declared.draws.Drawn.{Drawn}
+use Rattle.anb_draws.specs.Draws.{IsDrawn, Values}
 use Rattle.anb_judge.specs.Verdicts.{Judged, line_bytes}
 use Rattle.anb_machine.specs.ByteRuns.{run_bytes}
 use Rattle.anb_partner.specs.Plans.{IsPartner, hook_at}
@@ -48,7 +47,7 @@ abbrev pub verdicts_of : List CaseEnd → List Verdict
 verdicts_of ends = map verdict_in ends
 
 -- of each case, in order, this is told of what its child drew
-abbrev pub AreTold : Probing → List CaseEnd → List (List Drawn) → Type 0
+abbrev pub AreTold : Probing → List CaseEnd → List Values → Type 0
 AreTold q [] [] = Unit {0}
 AreTold q [] (draws ∷ told) = ⊥
 AreTold q (end ∷ ends) [] = ⊥

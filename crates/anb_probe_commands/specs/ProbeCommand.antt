@@ -7,7 +7,6 @@ use Rattle.anb_base.specs.declared.place.Place.TheVariants.{Stdio}
 use Rattle.anb_code.specs.CodeValue.{CodeValue}
 use Rattle.anb_code.specs.Verified.{IsVerifiedCode}
 use Rattle.anb_compile.specs.Fitting.{FitsRole}
-use Rattle.anb_draws.specs.declared.draws.Drawn.{Drawn}
 use Rattle.anb_partner.specs.Plans.{RefusesPartner}
 use Rattle.anb_partner.specs.Trials.{Trial}
 use Rattle.anb_partner.specs.declared.planning.Partner.{Partner}
@@ -20,6 +19,7 @@ use Rattle.anb_status.specs.declared.status.NarrationNo.TheVariants.{Resolve}
 use Rattle.anb_status.specs.declared.status.Status.{Status}
 use Rattle.anb_status.specs.declared.status.Status.TheVariants.{BadNarration, CannotSend, ChildFault, Done, NoMemory, Unreached, WriteFault}
 use Rattle.anb_status.specs.Statuses.{Phase, after_reach, at_reach, before_reach, phase_of}
+use Rattle.anb_draws.specs.Draws.{Values}
 use Rattle.anb_verdict.specs.Places.{is_own}
 use Rattle.anb_verdict.specs.Texts.{no_such_case}
 use Rattle.anb_attempts.specs.Attempts.{IsSuite, script_in}
@@ -112,7 +112,7 @@ module _ (q : Probing) (trying : Trying) (g : Agenda) (name : List ℕ) (old new
   abbrev pub so_far : List CaseEnd → List ℕ
   so_far ends = report_so_far q.protocol q.role g.scenes g.is_shown g.cases ends
 
-  abbrev pub whole : List (List Drawn) → List CaseEnd → List ℕ
+  abbrev pub whole : List Values → List CaseEnd → List ℕ
   whole told ends = report q.protocol q.role g.scenes g.is_shown g.cases g.untried told ends
 
   -- all cases are over, and the report is written
@@ -122,7 +122,7 @@ module _ (q : Probing) (trying : Trying) (g : Agenda) (name : List ℕ) (old new
     pub ends : List CaseEnd
     pub all : length ends ≡ length g.cases
     pub played : Plays (length ends) reached ends
-    pub told : List (List Drawn)
+    pub told : List Values
     pub are_told : AreTold q ends told
     pub put : Put written written_now (whole told ends)
     pub is : status ≡ status_for (verdicts_of ends)
@@ -140,7 +140,7 @@ module _ (q : Probing) (trying : Trying) (g : Agenda) (name : List ℕ) (old new
   WritesPart ends =
       PutPrefix written written_now (so_far ends)
       ⊎ ((length ends ≡ length g.cases)
-      × ((told : List (List Drawn)) × AreTold q ends told × PutPrefix written written_now (whole told ends)))
+      × ((told : List Values) × AreTold q ends told × PutPrefix written written_now (whole told ends)))
       ⊎ PutPrefix written written_now (no_such_case g.count)
 
   -- writing failed, or memory was wanting; nothing was started where there is no such case

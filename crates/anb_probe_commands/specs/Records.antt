@@ -1,5 +1,5 @@
 -- The record of a test, in its folder.
-use Rattle.std.specs.Prelude.{◌≡◌, ◌≢◌, ◌⊎◌, ◌<◌, ℕ, ◌+◌, List, [], ◌∷◌, ◌++◌, length, slice_get, codes, decimal, Some}
+use Rattle.std.specs.Prelude.{◌≡◌, ◌≢◌, ◌⊎◌, ◌<◌, ℕ, ◌+◌, List, ◌∷◌, ◌++◌, length, slice_get, codes, decimal, Some}
 use Rattle.anb_attempts.specs.declared.attempts.TheConstants.{MOST}
 use Rattle.anb_recording.specs.Journals.{Files}
 use Rattle.anb_recording.specs.Lines.{lines_text}

@@ -1,13 +1,12 @@
 -- The report on a program, by the verdicts on the cases that were tried.
-use Rattle.std.specs.Prelude.{ℕ, ◌+◌, ◌==◌, ◌&&◌, not, List, [], ◌∷◌, ◌++◌, length, map, count_by, Bool, true, false, Option, Some, None, option_and_then, if◌then◌else◌}
+use Rattle.std.specs.Prelude.{ℕ, zero, suc, ◌+◌, ◌==◌, ◌&&◌, not, List, [], ◌∷◌, ◌++◌, length, map, count_by, Bool, true, false, Option, Some, None, option_and_then, if◌then◌else◌}
 use Rattle.std.specs.List.{concat}
 use Rattle.std.specs.Option.{option_map_or}
 use Rattle.std.specs.Str.{bytes_eq}
 use Rattle.anb_code.specs.Uses.{is_among}
 use Rattle.anb_protocol.specs.Plays.{events_of}
 use Rattle.anb_protocol.specs.Protocols.{ProtocolValue}
-use Rattle.anb_draws.specs.Draws.{names_made, value_in}
-use Rattle.anb_draws.specs.declared.draws.Drawn.{Drawn}
+use Rattle.anb_draws.specs.Draws.{Values, names_made, value_in}
 use Rattle.anb_verdict.specs.declared.verdict.Verdict.{Verdict}
 use Rattle.anb_verdict.specs.declared.verdict.Verdict.TheVariants as says
 use Rattle.anb_verdict.specs.Texts.{case_lines, first_lines, last_line, missing_line, same_line, twin_line}
@@ -58,8 +57,8 @@ is_value value None = false
 is_value value (Some other) = bytes_eq value other
 
 -- what a name is told as in the cases
-abbrev pub values_of : (name : ℕ) → List (List Drawn) → List (Option (List ℕ))
-values_of name told = map (λ (draws : List Drawn). value_in draws name) told
+abbrev pub values_of : (name : ℕ) → List Values → List (Option (List ℕ))
+values_of name told = map (λ values. value_in values name) told
 
 -- the number of the first of these cases, from here, in which it is told as this value, where there is one
 abbrev pub case_with : Option (List ℕ) → (number : ℕ) → List (Option (List ℕ)) → Option ℕ
@@ -74,32 +73,33 @@ same_from before [] = None
 same_from before (value ∷ values) =
     option_map_or (λ one. Some (one, length before + 1)) (case_with value 1 before) (same_from (before ++ value ∷ []) values)
 
--- the first name, but these, that is told as a value
-abbrev pub twin_in : (apart : List ℕ) → (value : List ℕ) → List Drawn → Option ℕ
-twin_in apart value [] = None
-twin_in apart value (d ∷ draws) =
-    if bytes_eq value d.value && not (is_among apart d.name) then Some d.name else twin_in apart value draws
+-- the first of so many names from this one, but these, that is told as a value
+abbrev pub twin_in : (apart : List ℕ) → (value : List ℕ) → Values → (first count : ℕ) → Option ℕ
+twin_in apart value values first zero = None
+twin_in apart value values first (suc count) =
+    if is_value value (value_in values first) && not (is_among apart first) then Some first
+    else twin_in apart value values (first + 1) count
 
--- that which is told as the value of a name
-abbrev pub twin_of : (apart : List ℕ) → (name : ℕ) → List Drawn → Option ℕ
-twin_of apart name draws = option_and_then (λ value. twin_in apart value draws) (value_in draws name)
+-- the first of the narration's names that is told as the value of this one
+abbrev pub twin_of : (names : ℕ) → (apart : List ℕ) → (name : ℕ) → Values → Option ℕ
+twin_of names apart name values = option_and_then (λ value. twin_in apart value values 0 names) (value_in values name)
 
 -- and the first of these cases, from here, in which there is one
-abbrev pub twin_from : (apart : List ℕ) → (name number : ℕ) → List (List Drawn) → Option (ℕ × ℕ)
-twin_from apart name number [] = None
-twin_from apart name number (draws ∷ told) =
-    option_map_or (λ other. Some (other, number)) (twin_of apart name draws) (twin_from apart name (number + 1) told)
+abbrev pub twin_from : (names : ℕ) → (apart : List ℕ) → (name number : ℕ) → List Values → Option (ℕ × ℕ)
+twin_from names apart name number [] = None
+twin_from names apart name number (values ∷ told) =
+    option_map_or (λ other. Some (other, number)) (twin_of names apart name values) (twin_from names apart name (number + 1) told)
 
 -- ---- lines
 
-module _ (p : ProtocolValue) (told : List (List Drawn)) where
+module _ (p : ProtocolValue) (told : List Values) where
   -- that a name is told as the same value in two of the cases, where it is
   abbrev pub same_in : (name : ℕ) → List (List ℕ)
   same_in name = option_map_or (λ (cases : ℕ × ℕ). same_line p name cases.0 cases.1 ∷ []) (same_from [] (values_of name told)) []
 
   -- that it is told as the value of another name, but of these, in one of them
   abbrev pub twin_lines : (apart : List ℕ) → (name : ℕ) → List (List ℕ)
-  twin_lines apart name = option_map_or (λ (twin : ℕ × ℕ). twin_line p name twin.0 twin.1 ∷ []) (twin_from apart name 1 told) []
+  twin_lines apart name = option_map_or (λ (twin : ℕ × ℕ). twin_line p name twin.0 twin.1 ∷ []) (twin_from (length p.atoms) apart name 1 told) []
 
   -- of each of these names, which the role makes in this order: whether it is one that was there before it, and whether
   -- it is the same twice
@@ -118,12 +118,12 @@ module _ (p : ProtocolValue) (role : ℕ) where
   all_lacking (a ∷ rest) (v ∷ vs) = lacking_lines a v ++ all_lacking rest vs
 
   -- of each name that the role makes
-  abbrev pub same_lines : List (List Drawn) → List (List ℕ)
+  abbrev pub same_lines : List Values → List (List ℕ)
   same_lines told = equal_lines p told (names_made (events_of p role))
 
   -- behind the cases: which names come out equal; what the program lacks, each once, in the order of the first case that
   -- shows it; what wasn't tried; and the counts
-  abbrev pub notes : List Attempt → (untried : List (List ℕ)) → List (List Drawn) → List Verdict → List ℕ
+  abbrev pub notes : List Attempt → (untried : List (List ℕ)) → List Values → List Verdict → List ℕ
   notes cases untried told verdicts =
       concat (same_lines told) ++ concat (joined_once [] (all_lacking cases verdicts)) ++ concat untried
       ++ last_line (count_by is_passed verdicts) (length verdicts) (count_by is_skipped verdicts)
@@ -147,5 +147,5 @@ module _ (p : ProtocolValue) (role : ℕ) where
     report_so_far cases ends = first_lines (length cases) ++ played_lines 1 cases ends
 
     -- and the whole, where this is told of what the program drew in each
-    abbrev pub report : List Attempt → (untried : List (List ℕ)) → List (List Drawn) → List CaseEnd → List ℕ
+    abbrev pub report : List Attempt → (untried : List (List ℕ)) → List Values → List CaseEnd → List ℕ
     report cases untried told ends = report_so_far cases ends ++ notes cases untried told (verdicts_of ends)

@@ -3,11 +3,10 @@ ghost use Rattle.std.specs.Prelude.{◌≡◌, ◌≤◌, ◌<◌, ◌++◌, ◌
 ghost use Rattle.anb_attempts.specs.declared.attempts.TheConstants.{MOST};
 ghost use Rattle.anb_code.specs.Uses.{is_among};
 ghost use Rattle.anb_draws.specs.Draws.{value_in};
-ghost use Rattle.anb_draws.specs.declared.draws.Drawn.{Drawn};
 ghost use Rattle.anb_probe_commands.specs.Reports.{case_with, equal_lines, is_value, same_from, same_in, same_lines, twin_from, twin_in, twin_lines, twin_of, values_of};
 
 use anb_base::{Bytes, NoMemory};
-use anb_draws::{Drawn, Draws, names_made, value_in};
+use anb_draws::{Draws, names_made, value_in};
 use anb_protocol::Protocol;
 use anb_verdict::{same_line, twin_line};
 use std::alloc::Global;
@@ -38,9 +37,12 @@ fn lines_on(
     requires { length told.now ≤ MOST }
     ensures { IfOk result (λ lines. lines.items ≡ equal_lines p.now told.now names.now) }
 {
+    let Ok(all) = u32::try_from(p.declared().len()) else {
+        return Err(NoMemory);
+    };
     let mut lines = Vec::new(alloc);
     for i in 0..names.len() {
-        put_twin(alloc, &mut lines, p, told, &names[i..], names[i])?;
+        put_twin(alloc, &mut lines, p, all, told, &names[i..], names[i])?;
         put_same(alloc, &mut lines, p, told, names[i])?;
     }
     Ok(lines)
@@ -51,15 +53,17 @@ fn put_twin(
     alloc: Global,
     lines: &mut Vec<Bytes>,
     p: &Protocol,
+    all: u32,
     told: &[Draws],
     apart: &[u32],
     name: u32,
 ) -> Result<(), NoMemory>
-    requires { length told.now ≤ MOST }
+    requires all { all ≡ length p.now.atoms }
+    requires most { length told.now ≤ MOST }
     ensures { OnOk result (lines.new.items
         ≡ lines.old.items ++ twin_lines p.now told.now apart.now name) }
 {
-    match twin_case(told, apart, name) {
+    match twin_case(told, all, apart, name) {
         Some(Twin { other, case }) => {
             let line = twin_line(alloc, p, name, other, case)?;
             lines.push(Bytes::new(line))?;
@@ -76,14 +80,14 @@ struct Twin {
 }
 
 /// The first case in which the name has the value of another one, but of these.
-fn twin_case(told: &[Draws], apart: &[u32], name: u32) -> Option<Twin>
+fn twin_case(told: &[Draws], all: u32, apart: &[u32], name: u32) -> Option<Twin>
     requires { length told.now ≤ MOST }
     ensures some { IfSome result (λ twin.
-        twin_from apart.now name 1 told.now ≡ Some (twin.other, twin.case)) }
-    ensures none { IfNone result (twin_from apart.now name 1 told.now ≡ None) }
+        twin_from all apart.now name 1 told.now ≡ Some (twin.other, twin.case)) }
+    ensures none { IfNone result (twin_from all apart.now name 1 told.now ≡ None) }
 {
     for i in 0..told.len() {
-        if let Some(other) = twin_of(told[i].items(), apart, name) {
+        if let Some(other) = twin_of(told[i].values(), all, apart, name) {
             return Some(Twin {
                 other,
                 case: i as u32 + 1,
@@ -94,25 +98,35 @@ fn twin_case(told: &[Draws], apart: &[u32], name: u32) -> Option<Twin>
 }
 
 /// The first name that has the value of a name, but these.
-fn twin_of(draws: &[Drawn], apart: &[u32], name: u32) -> Option<u32>
-    ensures { result ≡ twin_of apart.now name draws.now }
+fn twin_of(values: &[Option<Bytes>], all: u32, apart: &[u32], name: u32) -> Option<u32>
+    ensures { result ≡ twin_of all apart.now name values.now }
 {
-    match value_in(draws, name) {
-        Some(value) => twin_in(draws, apart, value),
+    match value_in(values, name) {
+        Some(value) => twin_in(values, all, apart, value),
         None => None,
     }
 }
 
 /// The first that has this value.
-fn twin_in(draws: &[Drawn], apart: &[u32], value: &[u8]) -> Option<u32>
-    ensures { result ≡ twin_in apart.now value.now draws.now }
+fn twin_in(values: &[Option<Bytes>], all: u32, apart: &[u32], value: &[u8]) -> Option<u32>
+    ensures { result ≡ twin_in apart.now value.now values.now 0 all }
 {
-    for drawn in draws {
-        if value == drawn.value.as_slice() && !is_among(apart, drawn.name) {
-            return Some(drawn.name);
+    for name in 0..all {
+        if has_value(values, name, value) && !is_among(apart, name) {
+            return Some(name);
         }
     }
     None
+}
+
+/// Whether a name is told as this value.
+fn has_value(values: &[Option<Bytes>], name: u32, value: &[u8]) -> bool
+    ensures { result ≡ is_value value.now (value_in values.now name) }
+{
+    match value_in(values, name) {
+        Some(other) => value == other,
+        None => false,
+    }
 }
 
 fn is_among(names: &[u32], name: u32) -> bool
@@ -149,7 +163,7 @@ fn values_of(alloc: Global, told: &[Draws], name: u32) -> Result<Vec<Option<Byte
 {
     let mut values = Vec::new(alloc);
     for draws in told {
-        values.push(copy_of(alloc, value_in(draws.items(), name))?)?;
+        values.push(copy_of(alloc, value_in(draws.values(), name))?)?;
     }
     Ok(values)
 }

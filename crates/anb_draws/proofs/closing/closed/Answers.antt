@@ -1,4 +1,4 @@
-use Rattle.std.proofs.Common.{◌≡◌, ◌++◌, true, sym, ap, ◌∙◌}
+use Rattle.std.proofs.Common.{◌++◌, true, sym, ap, ◌∙◌}
 use Rattle.anb_term.specs.Tree.{IsFormed}
 use Rattle.anb_close.specs.Entries as entries
 use Rattle.anb_compile.specs.Unsent.{label_of}

@@ -3,6 +3,7 @@ use Rattle.std.specs.Prelude.{◌==◌}
 use Rattle.std.specs.List.{AllByRecursion}
 use Rattle.std.specs.Vec.{vec_len}
 use Rattle.std.proofs.lemmas.List.{take-append-drop}
+use Rattle.std.proofs.lemmas.Result.{IfOk-weaker}
 use Rattle.std.proofs.lemmas.List.Elements.{All-from_recursion, recursion_from_All}
 use Rattle.anb_lemmas.proofs.Each.{each_in_front, each_of_map}
 use Rattle.anb_base.specs.declared.TheConstants.{ARRIVAL}
@@ -16,9 +17,9 @@ use Rattle.anb_protocol.specs.Plans.{plan_of}
 use Rattle.anb_protocol.specs.Plays.{event_of, events_of, meaning_of}
 use Rattle.anb_transcript.specs.declared.transcript.TranscriptLine.{TranscriptLine}
 use Rattle.anb_judge.specs.Verdicts.{line_bytes}
-use Rattle.anb_draws.specs.Draws.{Tells, names_by, value_in}
-use Rattle.anb_draws.specs.Telling.{named, value_of}
-use Rattle.anb_draws.proofs.Told.{asked, both_told, both_within, gives_each, none_has, saying, tells, tells_none}
+use Rattle.anb_draws.specs.Draws.{Tells, names_by}
+use Rattle.anb_draws.specs.Telling.{named, value_among, value_of}
+use Rattle.anb_draws.proofs.Told.{asked, both_told, both_within, gives_each, none_has, saying, tells}
 use Rattle.anb_draws.proofs.drawing.drawn_by.Goals as goal
 
 pub hear-requires : goal.hear-requires
@@ -58,5 +59,8 @@ returns c =
     let long : length c.in_ok-names.names.items ≡ 0 = ap length empty in
     let some : (vec_len c.in_ok-names.names == 0) ≡ false = sym c.is_empty.ensures ∙ c.if-is_empty.false in
     grind (arith, long, some, c.in_ok-names.names.ok.0) in
-    λ name. subst (λ ds. Tells (asked p role initial lines n) n name (value_in ds name)) (sym (c.new-2.ensures ∙ c.in_ok-append.ensures.items ∙ ap (λ l. l ++ others) (sym c.deref.ensures.value)))
-    (tells p role initial lines n (known ++ others) some within given (none_has p role n known others names holds teller.left c.in_ok-others.ensures.names) name)
+    let all = c.in_ok-append.ensures.items ∙ ap (λ l. l ++ others) (sym c.deref.ensures.value) in
+    IfOk-weaker c.by_name-2.result _ _
+    (λ values told name. subst (Tells (asked p role initial lines n) n name) (sym (told name ∙ ap (λ ds. value_among ds name) all))
+    (tells p role initial lines n (known ++ others) some within given (none_has p role n known others names holds teller.left c.in_ok-others.ensures.names) name))
+    c.by_name-2.ensures

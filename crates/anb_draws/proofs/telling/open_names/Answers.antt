@@ -7,7 +7,7 @@ use Rattle.anb_compile.specs.Unsent.{labels_of}
 use Rattle.anb_compile.proofs.Events.{formed_any}
 use Rattle.anb_protocol.specs.Plans.{PlanEvent, plan_of}
 use Rattle.anb_protocol.specs.Views.{plan_event}
-use Rattle.anb_draws.specs.Telling.{AreOpen, frame_by, seen_by}
+use Rattle.anb_draws.specs.Telling.{frame_by, seen_by}
 use Rattle.anb_draws.proofs.Plans.{all_formed, few_by, heard_formed}
 use Rattle.anb_draws.proofs.telling.open_names.Goals as goal
 

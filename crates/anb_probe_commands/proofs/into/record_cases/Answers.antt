@@ -1,5 +1,4 @@
 use Rattle.std.proofs.Common.{List, refl, inl, inr}
-use Rattle.anb_status.specs.declared.status.Status.{Status}
 use Rattle.anb_probe_commands.specs.Asking.{trying_by}
 use Rattle.anb_probe_commands.specs.Keeping.{Goes, Told}
 use Rattle.anb_probe_commands.specs.Tasks.{fitted_by, probing_by}

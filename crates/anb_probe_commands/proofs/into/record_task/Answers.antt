@@ -1,5 +1,4 @@
-use Rattle.std.proofs.Common.{◌≡◌, ◌⊎◌, ℕ, List, refl, inl, inr, subst}
-use Rattle.anb_base.specs.Wires.{WireState}
+use Rattle.std.proofs.Common.{ℕ, List, refl, inl, inr, subst}
 use Rattle.anb_recording.specs.Joining.{others_still}
 use Rattle.anb_probe_commands.specs.Asking.{trying_by}
 use Rattle.anb_probe_commands.specs.Playing.{TaskComesTo}

@@ -1,4 +1,4 @@
-use Rattle.std.proofs.Common.{List, [], ◌≢◌, sym, subst, ◌∙◌}
+use Rattle.std.proofs.Common.{List, sym, subst, ◌∙◌}
 use Rattle.anb_status.specs.declared.status.Status.{Status}
 use Rattle.anb_probe_commands.specs.Asking.{trying_by}
 use Rattle.anb_probe_commands.specs.ProbeCommand.{ComesTo}
