@@ -1,8 +1,9 @@
 pub mod Along
 mod Next
-mod Framed
+pub mod Framed
 pub mod Placed
-mod Passing
+pub mod Stopping
+pub mod Passing
 mod Telling
 mod Short
 pub mod Refusing

@@ -30,7 +30,7 @@ use Rattle.anb_verdict.specs.Verdicts.{is_good}
 use Rattle.anb_tries.specs.Laws.{Attempt, DueIsKnown, HearsRight, IsAttempt, IsNarrated, IsRead, PlaysRole, judged}
 use Rattle.anb_tries.proofs.Along.{Fits, either}
 use Rattle.anb_tries.proofs.Next.{first_arrive}
-use Rattle.anb_tries.proofs.Passing.{first_lines, right_passes}
+use Rattle.anb_tries.proofs.Passing.{first_lines, known_passes}
 use Rattle.anb_tries.proofs.Placed.{R, arrive, own, own_fit, partner_plays, placed, plan_apart}
 use Rattle.anb_tries.proofs.Refusing.{AreDraws, draws_all, draws_now, draws_on, grows, known_formed, none_drawn, one_formed, partner_known, partner_made, play_never_stops, refuses_none}
 
@@ -352,5 +352,5 @@ narrated_passes a law exact agrees is read plays n =
       hears = λ event is_due. absurd (no_due a is law agrees plays n event is_due);
       stops = λ event is_due begun. no_due a is law agrees plays n event is_due;
     } in
-    right_passes a law exact is due read (refuses_none a is law agrees (hears_right a is law agrees plays n)) plays
+    known_passes a law exact is due read (refuses_none a is law agrees (hears_right a is law agrees plays n)) plays
     (λ event at end. absurd (never_stopped a is law agrees plays n event at end))

@@ -1,6 +1,8 @@
 -- A program that plays its role passes.
-use Rattle.std.proofs.Common.{◌≡◌, ◌≢◌, ℕ, ◌+◌, ◌≤◌, ◌||◌, List, [], ◌∷◌, ◌++◌, length, Bool, true, false, Option, Some, None, IfSome, Result, Ok, refl, sym, ap, ◌∙◌, subst, inl, inr, append_assoc, append-nil}
-use Rattle.std.specs.Prelude.{if◌then◌else◌}
+use Rattle.std.proofs.Common.{◌≡◌, ◌≢◌, ℕ, zero, suc, ◌+◌, ◌≤◌, ◌<◌, ◌&&◌, ◌||◌, ◌⊎◌, List, [], ◌∷◌, ◌++◌, length, map, take, Bool, true, false, Option, Some, None, IfSome, Result, Ok, refl, sym, ap, ◌∙◌, subst, inl, inr, append_assoc, append-nil, arith}
+use Rattle.std.specs.Prelude.{if◌then◌else◌, nat_le}
+use Rattle.std.proofs.lemmas.Bool.Decides.{nat_tests}
+use Rattle.std.proofs.lemmas.List.{take-map}
 use Rattle.std.specs.List.{AllByRecursion}
 use Rattle.anb_base.specs.Bytes.{is_bytes-IsBytes}
 use Rattle.anb_base.specs.Moves.{AtEnd, Took}
@@ -8,19 +10,27 @@ use Rattle.anb_base.specs.Wires.{WireState}
 use Rattle.anb_base.specs.declared.TheConstants.{ARRIVAL}
 use Rattle.anb_frame.specs.Frames.{frames, length_bytes}
 use Rattle.anb_frame.specs.Cuts.{Cut, End}
+use Rattle.anb_algebra.proofs.Picks.{tests}
 use Rattle.anb_lemmas.proofs.Bools.{never_both}
+use Rattle.anb_lemmas.proofs.Numbers.{below_or_not}
 use Rattle.anb_machine.specs.declared.turn.Halt.{Halt}
-use Rattle.anb_plays.specs.Plans.{Event, know, fresh, send, recv, known}
-use Rattle.anb_plays.specs.Plays.{Played, Walk, Play}
+use Rattle.anb_plays.specs.Plans.{Event, know, fresh, send, recv, known, FreshIsNew}
+use Rattle.anb_plays.specs.Plays.{End as PlayEnd, stopped, waiting, done, Played, Walk, Play}
+use Rattle.anb_protocol.specs.Laws.{KnowsFirst}
 use Rattle.anb_protocol.specs.Plays.{meaning_of}
+use Rattle.anb_term.specs.Agree.{Agree}
+use Rattle.anb_term.specs.Statements.{NewAtomAgrees}
 use Rattle.anb_term.specs.Tree.{Tree}
 use Rattle.anb_term.specs.Value.{Meaning}
 use Rattle.anb_transcript.specs.declared.following.Due.{Due}
 use Rattle.anb_transcript.specs.declared.following.Due.TheVariants.{Send}
+use Rattle.anb_transcript.specs.declared.following.ReplayEnd.TheVariants.{Differs, Stopped}
 use Rattle.anb_transcript.specs.declared.transcript.TranscriptLine.{TranscriptLine}
 use Rattle.anb_transcript.specs.declared.transcript.TranscriptLine.TheVariants.{In, Out}
 use Rattle.anb_transcript.specs.Replays.{arrivals_of, due_after, messages_of}
-use Rattle.anb_judge.specs.Verdicts.{own_plan, sides}
+use Rattle.anb_judge.specs.Observed.{hears, observed, over, says_in}
+use Rattle.anb_judge.specs.Verdicts.{IsBegun, due_at, is_said, line_bytes, own_plan, refused_at, sides, up_to, verdict}
+use Rattle.anb_judge.proofs.Begun.{cut_known}
 use Rattle.anb_partner.specs.Laws.{PartnersPlay}
 use Rattle.anb_partner.specs.Talks.{Ends, IsLoose, IsShort}
 use Rattle.anb_partner.specs.declared.conversation.Conversation.{Conversation}
@@ -28,14 +38,16 @@ use Rattle.anb_partner.specs.declared.conversation.TalkEnd.{TalkEnd}
 use Rattle.anb_partner.specs.declared.conversation.TalkEnd.TheVariants.{Done, Refused, Missing, Cut as WasCut, Long, ReadFault, WriteFault, TooLong, Unchanged}
 use Rattle.anb_partner.specs.declared.trials.ChildEnd.{ChildEnd}
 use Rattle.anb_verdict.specs.declared.seen.Ended.TheVariants.{Silent, Lost}
-use Rattle.anb_verdict.specs.Laws.{LinesAreExact}
-use Rattle.anb_verdict.specs.Verdicts.{IsKnown, IsRoles, IsVerdict, MayEnd, is_good}
+use Rattle.anb_verdict.specs.declared.seen.Seen.{Seen}
+use Rattle.anb_verdict.specs.Laws.{CanBeTold, LinesAreExact}
+use Rattle.anb_verdict.specs.Verdicts.{IsKnown, IsRoles, IsVerdict, MayEnd, at_stop, is_good, stops_when_due, verdict_at, verdict_of}
 use Rattle.anb_tries.specs.Seen.{ended_by, ended_of, is_no_message, is_refused, is_unread}
 use Rattle.anb_tries.specs.Tries.{IsTriedVerdict}
-use Rattle.anb_tries.specs.Laws.{Attempt, DueIsKnown, IsAttempt, IsRead, KnowsStops, PlaysRole, judged, seen}
+use Rattle.anb_tries.specs.Laws.{Attempt, DueIsKnown, IsAttempt, IsRead, PlaysRole, StopsAreSeen, judged, seen}
 use Rattle.anb_tries.proofs.Along.{Fits, next}
 use Rattle.anb_tries.proofs.Framed.{LeftOf, cut_behind, frames_no_length, frames_no_part, left_of, no_length, no_part, none_framed, none_left, whole_cut}
 use Rattle.anb_tries.proofs.Placed.{R, hears_next, over_next, own, placed, ss}
+use Rattle.anb_tries.proofs.Stopping.{StopsThere, begun_from, stops_at_start, stops_over}
 
 abbrev Text : Type 0
 Text = List ℕ
@@ -74,7 +86,7 @@ module _ (m : Meaning Text) (draw : ℕ → Text) (x : Text) (rest : List Text) 
   play_says_next es init ls p fits (inl h) more = says_next es (known es) init 0 0 ls p fits h.1 more
   play_says_next es init ls p fits (inr h) more = absurd (sends_none p (messages_of ls) rest x (ap (λ (q : Played Text). q.sent) h.1) more)
 
-short_messages : (ls : List TranscriptLine) → AllByRecursion IsShort ls → AllByRecursion (λ b. length b ≤ ARRIVAL) (messages_of ls)
+pub short_messages : (ls : List TranscriptLine) → AllByRecursion IsShort ls → AllByRecursion (λ b. length b ≤ ARRIVAL) (messages_of ls)
 short_messages [] all = tt
 short_messages (In b ∷ ls) all = short_messages ls all.1
 short_messages (Out b ∷ ls) all = (all.0, short_messages ls all.1)
@@ -103,12 +115,12 @@ was_refused WriteFault is = absurd (cc)
 was_refused TooLong is = absurd (cc)
 was_refused Unchanged is = absurd (cc)
 
-same_end : (o told : Option ChildEnd) (e f : ChildEnd) → IfSome o (λ end. IfSome told (λ t. end ≡ t)) → o ≡ Some e → told ≡ Some f → e ≡ f
+pub same_end : (o told : Option ChildEnd) (e f : ChildEnd) → IfSome o (λ end. IfSome told (λ t. end ≡ t)) → o ≡ Some e → told ≡ Some f → e ≡ f
 same_end None told e f is had was = absurd (cc)
 same_end (Some x) None e f is had was = absurd (cc)
 same_end (Some x) (Some y) e f is had was = cc
 
-ended_is : (silent unread : Bool) (o : Option ChildEnd) (end : ChildEnd) → silent ≡ false → unread ≡ false → o ≡ Some end
+pub ended_is : (silent unread : Bool) (o : Option ChildEnd) (end : ChildEnd) → silent ≡ false → unread ≡ false → o ≡ Some end
     → (if silent then Silent else if unread then Lost else ended_by o) ≡ ended_by (Some end)
 ended_is true unread o end loud read is = absurd (never_both true refl loud)
 ended_is false true o end loud read is = absurd (never_both true refl read)
@@ -288,7 +300,152 @@ good_of a (Long len) is good = good is
 good_of a ReadFault is good = good is
 good_of a WriteFault is good = good is
 
-pub right_passes : (a : Attempt) → PartnersPlay a.script.protocol → LinesAreExact a.script.protocol → IsAttempt a → DueIsKnown a → IsRead a → a.conversation.end ≢ Refused → (plays : PlaysRole a) → KnowsStops a plays → is_good a.verdict ≡ true
-right_passes a law exact is due read unrefused plays stops =
+-- where it doesn't stop, or this was known beforehand
+pub known_passes : (a : Attempt) → PartnersPlay a.script.protocol → LinesAreExact a.script.protocol → IsAttempt a → DueIsKnown a → IsRead a → a.conversation.end ≢ Refused → (plays : PlaysRole a)
+    → ((event at : ℕ) → plays.played.end ≡ stopped event at → a.due ≡ Some event) → is_good a.verdict ≡ true
+known_passes a law exact is due read unrefused plays stops =
     good_of a a.conversation.end is.verdict (λ v. (exact (judged a) (seen a) a.verdict refl (known_of a is law read unrefused plays due) v).0
     (roles a is law read unrefused plays) stops)
+
+-- ---- where who sees it stops there too
+
+same_event : (e at f by : ℕ) → stopped e at ≡ stopped f by → e ≡ f
+same_event e at f by is = cc
+
+some_event : (e f : ℕ) → ◌≡◌ {A = Option ℕ} (Some e) (Some f) → e ≡ f
+some_event e f is = cc
+
+-- a stop is told as it is by whatever is known of stops that aren't earlier
+told_at : (ss : List Bool) (lines : List TranscriptLine) (s : Seen) (o : Option ℕ) (f : ℕ) → ((e : ℕ) → o ≡ Some e → e ≤ length lines → f ≤ e)
+    → verdict_at ss lines s (stops_when_due o (length lines) (Stopped (record { event = f; at = 0 }) f)) ≡ at_stop ss lines s f
+told_at ss lines s None f late = refl
+told_at ss lines s (Some e) f late = by (nat_le e (length lines)) (nat_le e f) refl refl where
+  by : (b c : Bool) → nat_le e (length lines) ≡ b → nat_le e f ≡ c
+      → verdict_at ss lines s (if b && c then Stopped (record { event = e; at = 0 }) e else Stopped (record { event = f; at = 0 }) f) ≡ at_stop ss lines s f
+  by false c few before = refl
+  by true false few before = refl
+  by true true few before =
+      let within : e ≤ length lines = grind (arith, nat_tests, few) in
+      let most : e ≤ f = grind (arith, nat_tests, before) in
+      let same : e ≡ f = omega (arith, most, late e refl within) in ap (at_stop ss lines s) same
+
+module _ (a : Attempt) (is : IsAttempt a) (law : PartnersPlay a.script.protocol) (read : IsRead a) (unrefused : a.conversation.end ≢ Refused) (plays : PlaysRole a) (first : KnowsFirst (own_plan (judged a))) (due : DueIsKnown a) where
+  abbrev lines : List TranscriptLine
+  lines = a.conversation.lines
+
+  abbrev plan : List Event
+  plan = own_plan (judged a)
+
+  abbrev mine : IsRoles (judged a) (seen a)
+  mine = roles a is law read unrefused plays
+
+  -- before it stops its lines are begun
+  begun : (f at n : ℕ) → plays.played.end ≡ stopped f at → n < f → n ≤ length lines → IsBegun (judged a) n
+  begun f at n end before few = record {
+    count = few;
+    placed = ap (take n) (placed a is law) ∙ take-map line_bytes n lines;
+    conversation = record { draw = mine.draw; drawn = mine.drawn; play = by plays.play };
+  } where
+    m : Meaning Text
+    m = meaning_of a.script.protocol
+
+    by : Play m plays.draw plan a.initial (arrivals_of lines) plays.played → Play m plays.draw (up_to n plan) a.initial (hears (up_to n plan) (map line_bytes (take n lines))) (over (says_in (up_to n plan) (map line_bytes (take n lines))))
+    by (inr h) = let none = same_event 0 0 f at (sym (ap (λ (q : Played Text). q.end) h.1) ∙ end) in absurd (omega (arith, none, before))
+    by (inl h) =
+        let walk = begun_from m plays.draw plan (known plan) a.initial 0 0 n lines plays.played f at (placed a is law) few end (omega (arith, before)) mine.says h.1 in
+        inl (subst (λ F. Agree m F a.initial × Walk m plays.draw (up_to n plan) F a.initial 0 0 (hears (up_to n plan) (map line_bytes (take n lines))) (over (says_in (up_to n plan) (map line_bytes (take n lines)))))
+        (sym (cut_known n plan first)) (h.0, walk))
+
+  module _ (exact : LinesAreExact a.script.protocol) (v : IsVerdict (judged a) (seen a) a.verdict) (f at : ℕ) (end : plays.played.end ≡ stopped f at) (there : StopsThere (sides plan) f f v.judges.played) where
+    -- as if the stop had been known beforehand
+    abbrev with_due : Seen
+    with_due = record (seen a) { due = Some f }
+
+    judged_so : v.end ≡ Stopped (record { event = f; at = 0 }) f
+    judged_so =
+        v.judges.is ∙ ap (verdict (sides plan) (length lines)) there.end
+        ∙ ap (λ b. if b then Differs f (due_at (sides plan) f) else Stopped (record { event = f; at = 0 }) f) there.heard
+
+    known_so : IsKnown (judged a) with_due
+    known_so =
+        let k = known_of a is law read unrefused plays due in record {
+          values = k.values;
+          bytes = k.bytes;
+          placed = k.placed;
+          hears = λ event at_event. subst (λ e. is_said (sides plan) e ≡ false) (some_event f event at_event) there.heard;
+          stops = λ event at_event b. v.judges.none event (ap refused_at judged_so ∙ at_event) b;
+          refuses = k.refuses;
+        }
+
+    abbrev roles_so : IsRoles (judged a) with_due
+    roles_so = record {
+      draw = mine.draw;
+      drawn = mine.drawn;
+      played = mine.played;
+      play = mine.play;
+      says = mine.says;
+      no_more = mine.no_more;
+      whole = mine.whole;
+      ends = mine.ends;
+    }
+
+    -- no stop is known before
+    late : (e : ℕ) → a.due ≡ Some e → e ≤ length lines → f ≤ e
+    late e is_due few = by (below_or_not e f) where
+      by : (e < f) ⊎ (f ≤ e) → f ≤ e
+      by (inr most) = most
+      by (inl less) = absurd (due.stops e is_due (begun f at e end less few))
+
+    never_before : (e : ℕ) → Some f ≡ Some e → e ≤ length lines → f ≤ e
+    never_before e same few = let is = some_event f e same in omega (arith, is)
+
+    pub seen_passes : is_good a.verdict ≡ true
+    seen_passes =
+        let ss = sides plan in
+        let good = (exact (judged a) with_due (verdict_of ss v.end lines with_due) refl known_so (record { end = v.end; judges = v.judges; is = refl })).0 roles_so
+        (λ event by stops. ap Some (same_event f at event by (sym end ∙ stops))) in
+        let told : verdict_of ss v.end lines with_due ≡ at_stop ss lines (seen a) f =
+        ap (λ x. verdict_at ss lines with_due (stops_when_due (Some f) (length lines) x)) judged_so ∙ told_at ss lines with_due (Some f) f never_before in
+        let here : a.verdict ≡ at_stop ss lines (seen a) f =
+        v.is ∙ ap (λ x. verdict_at ss lines (seen a) (stops_when_due a.due (length lines) x)) judged_so ∙ told_at ss lines (seen a) a.due f late in
+        ap is_good (here ∙ sym told) ∙ good
+
+-- where it stops, this was known beforehand, or who sees it stops there too
+pub right_passes : (a : Attempt) → PartnersPlay a.script.protocol → LinesAreExact a.script.protocol → NewAtomAgrees (meaning_of a.script.protocol) → FreshIsNew (own_plan (judged a)) → KnowsFirst (own_plan (judged a))
+    → IsAttempt a → DueIsKnown a → IsRead a → a.conversation.end ≢ Refused → (plays : PlaysRole a) → StopsAreSeen a plays → is_good a.verdict ≡ true
+right_passes a law exact new_atom new first is due read unrefused plays stops = by plays.played.end refl where
+  m : Meaning Text
+  m = meaning_of a.script.protocol
+
+  plan : List Event
+  plan = own_plan (judged a)
+
+  lines : List TranscriptLine
+  lines = a.conversation.lines
+
+  mine : IsRoles (judged a) (seen a)
+  mine = roles a is law read unrefused plays
+
+  goes : ((event at : ℕ) → plays.played.end ≡ stopped event at → a.due ≡ Some event) → is_good a.verdict ≡ true
+  goes known = known_passes a law exact is due read unrefused plays known
+
+  watched : (v : IsVerdict (judged a) (seen a) a.verdict) → Play m plays.draw (observed plan) a.initial (map line_bytes lines) v.judges.played
+  watched v = subst (λ xs. Play m plays.draw (observed plan) a.initial xs v.judges.played) (placed a is law) (v.judges.seen plays.draw)
+
+  stops_too : (f at : ℕ) → plays.played.end ≡ stopped f at → ((v : IsVerdict (judged a) (seen a) a.verdict) → StopsThere (sides plan) f f v.judges.played) → is_good a.verdict ≡ true
+  stops_too f at end there = good_of a a.conversation.end is.verdict (λ v. seen_passes a is law read unrefused plays first due exact v f at end (there v))
+
+  over_message : (n at : ℕ) → plays.played.end ≡ stopped (suc n) at → (a.due ≡ Some (suc n)) ⊎ CanBeTold (judged a) n → is_good a.verdict ≡ true
+  over_message n at end (inl known) = goes (λ event by stop. known ∙ ap Some (same_event (suc n) at event by (sym end ∙ stop)))
+  over_message n at end (inr told) = stops_too (suc n) at end (λ v.
+      stops_over m plays.draw plays.draw plan a.initial lines plays.played v.judges.played plays.play (watched v) new_atom mine.drawn new first (tests a.initial is.values) (tests (map line_bytes lines) is.lines)
+      (placed a is law) [] (mine.says ∙ sym (append-nil plays.played.sent)) n at told.made end)
+
+  at_start : (at : ℕ) → plays.played.end ≡ stopped 0 at → is_good a.verdict ≡ true
+  at_start at end = stops_too 0 at end (λ v. record { end = stops_at_start m plays.draw plays.draw plan a.initial lines plays.played v.judges.played plays.play (watched v) at end; heard = refl })
+
+  by : (x : PlayEnd) → plays.played.end ≡ x → is_good a.verdict ≡ true
+  by done end = goes (λ event at stop. absurd (let never = sym end ∙ stop in cc))
+  by (waiting e) end = goes (λ event at stop. absurd (let never = sym end ∙ stop in cc))
+  by (stopped zero at) end = at_start at end
+  by (stopped (suc n) at) end = over_message n at end (stops n at end)

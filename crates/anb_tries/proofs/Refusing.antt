@@ -162,7 +162,7 @@ partner_made s =
 
 -- ---- so it doesn't refuse
 
-stops_there : (l : List Text) (end : End) (halt : Halt) → due_of l end ≡ Err halt → end ≡ stopped halt.event halt.at
+pub stops_there : (l : List Text) (end : End) (halt : Halt) → due_of l end ≡ Err halt → end ≡ stopped halt.event halt.at
 stops_there (b ∷ l) end halt is = absurd (cc)
 stops_there [] (waiting e) halt is = absurd (cc)
 stops_there [] done halt is = absurd (cc)

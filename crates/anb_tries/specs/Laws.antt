@@ -1,5 +1,5 @@
 -- Verdicts on attempts are right.
-use Rattle.std.specs.Prelude.{◌≡◌, ◌≢◌, ◌<◌, ◌≤◌, ◌^◌, ℕ, List, length, map, replicate, take, true, false, Option, Some, None, slice_get}
+use Rattle.std.specs.Prelude.{◌≡◌, ◌≢◌, ◌<◌, ◌≤◌, ◌^◌, ◌⊎◌, ℕ, suc, List, length, map, replicate, take, true, false, Option, Some, None, slice_get}
 use Rattle.std.specs.List.{AllByRecursion}
 use Rattle.anb_base.specs.Bytes.{IsBytes}
 use Rattle.anb_base.specs.declared.TheConstants.{ARRIVAL}
@@ -23,7 +23,7 @@ use Rattle.anb_partner.specs.declared.conversation.TalkEnd.TheVariants.{Long, Re
 use Rattle.anb_partner.specs.declared.trials.ChildEnd.{ChildEnd}
 use Rattle.anb_verdict.specs.declared.seen.Seen.{Seen}
 use Rattle.anb_verdict.specs.declared.verdict.Verdict.{Verdict}
-use Rattle.anb_verdict.specs.Laws.{NamesAreTold}
+use Rattle.anb_verdict.specs.Laws.{CanBeTold, NamesAreTold}
 use Rattle.anb_verdict.specs.Verdicts.{IsRoles, MayEnd, is_good}
 use Rattle.anb_tries.specs.Seen.{ended_by, seen_of}
 use Rattle.anb_tries.specs.Tries.{IsTriedVerdict}
@@ -111,9 +111,9 @@ module _ (a : Attempt) where
     pub ends : a.old.ends ≡ Some end
     pub may : MayEnd (sides (own_plan judged)) played.end (ended_by (Some end))
 
-  -- where it stops, this was known beforehand
-  abbrev pub KnowsStops : PlaysRole → Type 0
-  KnowsStops plays = (event at : ℕ) → plays.played.end ≡ stopped event at → a.due ≡ Some event
+  -- where it stops, this was known beforehand, or what it had made before can be told
+  abbrev pub StopsAreSeen : PlaysRole → Type 0
+  StopsAreSeen plays = (n at : ℕ) → plays.played.end ≡ stopped (suc n) at → (a.due ≡ Some (suc n)) ⊎ CanBeTold judged n
 
   -- All is as narrated: what the partner is to say and to hear, and what the role and all others begin with and make,
   -- which are the bytes of names.
@@ -145,7 +145,7 @@ module _ (a : Attempt) where
 -- No right program is called wrong: the child plays the role, and the partner refused none of its messages.
 abbrev pub RightProgramsPass : ProtocolValue → Type 0
 RightProgramsPass p = (a : Attempt) → a.script.protocol ≡ p → IsAttempt a → DueIsKnown a → IsRead a
-    → a.conversation.end ≢ Refused → (plays : PlaysRole a) → KnowsStops a plays → is_good a.verdict ≡ true
+    → a.conversation.end ≢ Refused → (plays : PlaysRole a) → StopsAreSeen a plays → is_good a.verdict ≡ true
 
 -- And where all is as narrated, the partner refuses none of its messages, and the role doesn't stop.
 abbrev pub RightProgramsPassAsNarrated : ProtocolValue → Type 0
