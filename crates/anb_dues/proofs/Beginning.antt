@@ -18,7 +18,7 @@ use Rattle.anb_dues.proofs.Firsts.{Text}
 
 -- ---- where a play ends
 
-ended : {X : Type 0} (p : Played Text) (x y : End) (arrivals : List Text) → (x ≡ y → X) → p.end ≡ x → p ≡ ends y arrivals → X
+pub ended : {X : Type 0} (p : Played Text) (x y : End) (arrivals : List Text) → (x ≡ y → X) → p.end ≡ x → p ≡ ends y arrivals → X
 ended p x y arrivals f end is = f (sym end ∙ ap (λ (q : Played Text). q.end) is)
 
 same_stop : (e f at : ℕ) → stopped f at ≡ stopped e 0 → f ≡ e
@@ -40,7 +40,7 @@ over_stops sent e at xs is = (let never : done ≡ stopped e at = ap (λ (q : Pl
 
 module _ (m : Meaning Text) (d : ℕ → Text) where
   -- a play stops behind what went before
-  stops_later : (es : List Event) (F : List Tree) (vs : List Text) (e i : ℕ) (xs : List Text) (p : Played Text) (f at : ℕ) → p.end ≡ stopped f at → Walk m d es F vs e i xs p → e < f
+  pub stops_later : (es : List Event) (F : List Tree) (vs : List Text) (e i : ℕ) (xs : List Text) (p : Played Text) (f at : ℕ) → p.end ≡ stopped f at → Walk m d es F vs e i xs p → e < f
   stops_later [] F vs e i xs p f at end walk = ended p (stopped f at) done xs (λ never. absurd (cc)) end walk
   stops_later (know t ∷ es) F vs e i xs p f at end walk = stops_later es F vs e i xs p f at end walk
   stops_later (fresh t ∷ es) F vs e i xs p f at end walk = stops_later es (F ++ t ∷ []) (vs ++ d i ∷ []) e (i + 1) xs p f at end walk

@@ -33,6 +33,18 @@ module _ (of : Tree → Text) where
   are_all (x ∷ xs) [] h = absurd h
   are_all (x ∷ xs) (t ∷ ts) h = ap (λ y. y ∷ (xs ++ map of (drop (length xs) ts))) h.0 ∙ ap (λ l. of t ∷ l) (are_all xs ts h.1)
 
+  -- they are those of so many of the first
+  pub are_taken : (xs : List Text) (ts : List Tree) → Are xs ts → xs ≡ map of (take (length xs) ts)
+  are_taken [] [] h = refl
+  are_taken [] (t ∷ ts) h = refl
+  are_taken (x ∷ xs) [] h = absurd h
+  are_taken (x ∷ xs) (t ∷ ts) h = ap (λ y. y ∷ xs) h.0 ∙ ap (λ l. of t ∷ l) (are_taken xs ts h.1)
+
+  -- and behind the bytes of others they are those of all
+  pub are_behind : (us : List Tree) (xs : List Text) (ts : List Tree) → Are xs ts → Are (map of us ++ xs) (us ++ ts)
+  are_behind [] xs ts h = h
+  are_behind (u ∷ us) xs ts h = (refl, are_behind us xs ts h)
+
 -- by another meaning that they have alike
 pub are_as : (of by : Tree → Text) (xs : List Text) (ts : List Tree) → AllByRecursion (λ t. of t ≡ by t) (take (length xs) ts) → Are of xs ts → Are by xs ts
 are_as of by [] ts same h = tt

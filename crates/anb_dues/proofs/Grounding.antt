@@ -1,14 +1,16 @@
 -- What is known of a role's code, and so of the attempts of its suite.
-use Rattle.std.proofs.Common.{◌≡◌, ℕ, List, [], ◌∷◌, length, map, Option, Some, sym, ◌∙◌, subst}
+use Rattle.std.proofs.Common.{◌≡◌, ℕ, List, [], ◌∷◌, length, map, Option, Some, None, sym, ◌∙◌, subst}
 use Rattle.std.specs.List.{AllByRecursion}
 use Rattle.anb_lemmas.proofs.Each.{each_in_parts}
 use Rattle.anb_base.specs.declared.TheConstants.{ARRIVAL, WIDE}
-use Rattle.anb_algebra.specs.ByteMeaning.{has_operator}
+use Rattle.anb_base.specs.declared.content.Suite.{Suite}
+use Rattle.anb_format.specs.Formats.{FormatValue}
+use Rattle.anb_algebra.specs.ByteMeaning.{byte_meaning, has_operator}
 use Rattle.anb_code.specs.CodeValue.{CodeValue}
 use Rattle.anb_code.specs.Meaning.{acts_of}
 use Rattle.anb_machine.proofs.Verified.{has_takes}
 use Rattle.anb_plays.specs.Exec.{HasTakes}
-use Rattle.anb_plays.specs.Honest.{LabelsAreFormed}
+use Rattle.anb_plays.specs.Honest.{heard, LabelsAreFormed}
 use Rattle.anb_plays.specs.Plans.{known}
 use Rattle.anb_plays.specs.Statements.{RunsAsPlayed}
 use Rattle.anb_protocol.specs.Laws.{HoldsOf, MadeIsNew, PlansKnowFirst}
@@ -20,14 +22,14 @@ use Rattle.anb_protocol.proofs.KnowLemmas.{formed}
 use Rattle.anb_openings.proofs.Found.{taken}
 use Rattle.anb_openings.proofs.Spared.{heard_terms, made_terms}
 use Rattle.anb_partner.specs.Laws.{PartnersPlay}
-use Rattle.anb_partner.specs.Plans.{Script}
-use Rattle.anb_tries.specs.Laws.{Attempt, DueIsKnown, IsAttempt}
+use Rattle.anb_partner.specs.Plans.{Script, said}
+use Rattle.anb_tries.specs.Laws.{Attempt, IsAttempt}
 use Rattle.anb_attempts.specs.Attempts.{script_in}
 use Rattle.anb_dues.specs.Laws.{AreOfNames, IsCodeOf, IsTriedOf}
 use Rattle.anb_dues.proofs.Firsts.{Text}
-use Rattle.anb_dues.proofs.Knowing.{known_in}
+use Rattle.anb_dues.proofs.Lines.{IsStopping}
 use Rattle.anb_dues.proofs.Stopping.{Grounds, Stops}
-use Rattle.anb_dues.proofs.Suites.{suite_stops}
+use Rattle.anb_dues.proofs.Suites.{suite_good}
 
 labels_formed : (p : ProtocolValue) (es : List PlanEvent) → AllByRecursion (λ e. IsTermOf p (term_in e)) es → LabelsAreFormed (has_operator p.formats) (map event_of es)
 labels_formed p [] all = tt
@@ -35,6 +37,14 @@ labels_formed p (to_know t ∷ es) all = (formed p t all.0, labels_formed p es a
 labels_formed p (to_make t ∷ es) all = (formed p t all.0, labels_formed p es all.1)
 labels_formed p (to_send i t ∷ es) all = labels_formed p es all.1
 labels_formed p (to_receive i t ∷ es) all = (formed p t all.0, labels_formed p es all.1)
+
+-- what is said along a plan of terms of a protocol
+said_terms : (p : ProtocolValue) (es : List PlanEvent) → AllByRecursion (λ e. IsTermOf p (term_in e)) es → AllByRecursion (IsTermOf p) (said (map event_of es))
+said_terms p [] all = tt
+said_terms p (to_know t ∷ es) all = said_terms p es all.1
+said_terms p (to_make t ∷ es) all = said_terms p es all.1
+said_terms p (to_send i t ∷ es) all = (all.0, said_terms p es all.1)
+said_terms p (to_receive i t ∷ es) all = said_terms p es all.1
 
 pub grounds : (p : ProtocolValue) (role : ℕ) (code : CodeValue) → HoldsOf p → ((other : ℕ) → AllByRecursion (λ e. IsTermOf p (term_in e)) (plan_of p other)) → PlansKnowFirst → MadeIsNew → RunsAsPlayed (meaning_of p) → IsCodeOf p role code → Grounds p role (acts_of code)
 grounds p role code holds of_plans first new plays is = record {
@@ -44,6 +54,7 @@ grounds p role code holds of_plans first new plays is = record {
   ours = record {
     knows = (each_in_parts (IsTermOf p) (known_terms p) (messages p.actions) holds.terms).0;
     makes = λ other. made_terms p (plan_of p other) (of_plans other);
+    says = λ other. said_terms p (plan_of p other) (of_plans other);
     hears = λ other. heard_terms p (plan_of p other) (of_plans other);
   };
   first = first p role;
@@ -51,19 +62,35 @@ grounds p role code holds of_plans first new plays is = record {
   plays = plays;
 }
 
--- what is known of a script and of how its right value is made wrong
-record Told (code : CodeValue) (s : Script) (a : Attempt) : Type 0 where
-  plays : PartnersPlay s.protocol
-  base : Grounds s.protocol s.role (acts_of code)
-  names : AreOfNames s.protocol s.role a.initial a.handed
-  stops : (event : ℕ) → a.due ≡ Some event → Stops s (acts_of code) a.wrong event
+-- the same of runs by a protocol's formats and suite
+pub plays_by : (p : ProtocolValue) (formats : List FormatValue) (suite : Suite) → formats ≡ p.formats → suite ≡ p.suite → RunsAsPlayed (byte_meaning formats suite) → RunsAsPlayed (meaning_of p)
+plays_by p formats suite of_formats of_suite plays = subst (λ s. RunsAsPlayed (byte_meaning p.formats s)) of_suite (subst (λ f. RunsAsPlayed (byte_meaning f suite)) of_formats plays)
 
-pub attempt_known : (p : ProtocolValue) → PartnersPlay p → (a : Attempt) → IsAttempt a → (of : IsTriedOf p a) → Grounds p of.role (acts_of of.code) → DueIsKnown a
-attempt_known p law a is of g =
+-- in a script of the honest scene all is as narrated, and no stop is known
+pub record IsHonest (s : Script) (a : Attempt) : Type 0 where
+  pub arrivals : s.arrivals ≡ heard (events_of s.protocol s.role)
+  pub messages : s.messages ≡ said (events_of s.protocol s.role)
+  pub due : a.due ≡ None
+
+-- what is known of the script of an attempt and of how its right value is made wrong
+pub record Told (code : CodeValue) (s : Script) (a : Attempt) : Type 0 where
+  pub law : PartnersPlay s.protocol
+  pub base : Grounds s.protocol s.role (acts_of code)
+  pub names : AreOfNames s.protocol s.role a.initial a.handed
+  pub stops : (event : ℕ) → a.due ≡ Some event → Stops s (acts_of code) a.wrong event
+  pub honest : s.right ≡ None → IsHonest s a
+
+pub told : (p : ProtocolValue) → PartnersPlay p → (a : Attempt) (of : IsTriedOf p a) → Grounds p of.role (acts_of of.code) → Told of.code a.script a
+told p law a of g =
     let i = of.is in
-    let good = suite_stops p of.role of.code g of.all of.suite of.is_suite i.place i.attempt i.scene i.attempt_is i.scene_is in
+    let good = suite_good p of.role of.code g of.all of.suite of.is_suite i.place i.attempt i.scene i.attempt_is i.scene_is in
     let stops : (event : ℕ) → a.due ≡ Some event → Stops (script_in p of.role i.scene) (acts_of of.code) a.wrong event =
-    λ event due. subst (λ (w : Text → Option Text). Stops (script_in p of.role i.scene) (acts_of of.code) w event) (sym i.wrong) (good event (sym i.due ∙ due)) in
-    let there : Told of.code (script_in p of.role i.scene) a = record { plays = law; base = g; names = i.names; stops = stops } in
-    let here : Told of.code a.script a = subst (λ (s : Script). Told of.code s a) (sym i.script) there in
-    known_in a is here.plays (acts_of of.code) here.base here.names.atoms here.names.bytes here.names.begins here.names.hands here.stops
+    λ event due. subst (λ (w : Text → Option Text). Stops (script_in p of.role i.scene) (acts_of of.code) w event) (sym i.wrong) (good.stops event (sym i.due ∙ due)) in
+    let honest : (script_in p of.role i.scene).right ≡ None → IsHonest (script_in p of.role i.scene) a =
+    λ none. (let n = good.honest none in record { arrivals = n.arrivals; messages = n.messages; due = i.due ∙ n.due }) in
+    let there : Told of.code (script_in p of.role i.scene) a = record { law = law; base = g; names = i.names; stops = stops; honest = honest } in
+    subst (λ (s : Script). Told of.code s a) (sym i.script) there
+
+-- where it is known that the role stops
+pub stopping_in : (a : Attempt) → IsAttempt a → (code : CodeValue) → Told code a.script a → (event : ℕ) → a.due ≡ Some event → IsStopping a (acts_of code) event
+stopping_in a is code t event due = record { is = is; law = t.law; base = t.base; names = t.names; stops = t.stops event due }

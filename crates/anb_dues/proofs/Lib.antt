@@ -1,16 +1,21 @@
-mod Firsts
-mod Beginning
-mod Saying
+pub mod Firsts
+pub mod Beginning
+pub mod Saying
 mod Sending
 mod Counting
-mod Speaking
-mod Naming
+pub mod Speaking
+pub mod Naming
+mod Alike
+mod Labels
+pub mod Lines
 mod Knowing
-mod Stopping
+mod Unrefused
+pub mod Stopping
 pub mod Comparing
-mod Checks
+pub mod Checks
 mod Opening
 mod Within
-mod Suites
-mod Grounding
+pub mod Suites
+pub mod Grounding
+mod Narrating
 mod Values

@@ -17,7 +17,7 @@ use Rattle.anb_protocol.specs.Protocols.{ProtocolValue}
 use Rattle.anb_protocol.specs.Texts.{IsTermOf, AreTermsOf, atoms_in, atoms_in_all, atoms_in_each, known_by, known_terms}
 use Rattle.anb_protocol.proofs.Afters.{any-append}
 use Rattle.anb_honest.proofs.Existing.{found, is_leaf, leaf_is, new_at, not_found, one_maker}
-use Rattle.anb_partner.specs.Plans.{begins, handed_by, handed_terms, has_atom}
+use Rattle.anb_partner.specs.Plans.{begins, handed_by, handed_terms, has_atom, said}
 use Rattle.anb_tries.proofs.Narrated.{role_known}
 use Rattle.anb_dues.proofs.Firsts.{Text}
 
@@ -104,10 +104,11 @@ handed_each P p role each (other ∷ others) = each_in_both P (handed_by p role 
   one true e = tt
   one false e = each other e
 
--- what roles know, make and hear are terms of the protocol
+-- what roles know, make, say and hear are terms of the protocol
 pub record AreOurs (p : ProtocolValue) : Type 0 where
   pub knows : AllByRecursion (IsTermOf p) (known_terms p)
   pub makes : (role : ℕ) → AllByRecursion (IsTermOf p) (made (events_of p role))
+  pub says : (role : ℕ) → AllByRecursion (IsTermOf p) (said (events_of p role))
   pub hears : (role : ℕ) → AllByRecursion (IsTermOf p) (heard (events_of p role))
 
 -- and so is all that a partner is handed

@@ -1,11 +1,12 @@
--- A partner that heard the bytes of its terms says the bytes of the next ones, also behind a value that was changed.
+-- A partner that heard the bytes of its terms says the bytes of the next ones, also behind a value that was changed; and what it
+-- hears then are the bytes of its terms.
 use Rattle.std.proofs.Common.{◌≡◌, ℕ, zero, suc, ◌+◌, ◌≤◌, List, [], ◌∷◌, ◌++◌, length, map, take, Bool, true, false, Option, Some, None, IfSome, IsTrue, refl, sym, ap, ◌∙◌, subst, inl, inr, ◌⊎◌, arith}
 use Rattle.std.specs.Prelude.{if◌then◌else◌}
 use Rattle.std.specs.List.{AllByRecursion}
 use Rattle.anb_term.specs.Agree.{Agree}
 use Rattle.anb_term.specs.Tree.{Tree, leaf, trees_of, IsFormed, AreFormed}
 use Rattle.anb_term.specs.Value.{Meaning, value}
-use Rattle.anb_plays.specs.Honest.{honest}
+use Rattle.anb_plays.specs.Honest.{honest, heard}
 use Rattle.anb_plays.specs.Plans.{Event, send, recv, known}
 use Rattle.anb_plays.specs.Plays.{Played, Walk, Play}
 use Rattle.anb_plays.specs.Statements.{HonestAgree}
@@ -34,11 +35,11 @@ IsAt None (Some k) before n lines = ⊥
 IsAt (Some r) None before n lines = IfSome before (λ at. n + lines ≤ at)
 IsAt (Some r) (Some k) before n lines = (before ≡ Some (n + k)) × (k ≤ lines)
 
-by_test : (P : Bool → Type 0) (x : Bool) → (x ≡ true → P true) → (x ≡ false → P false) → P x
+pub by_test : (P : Bool → Type 0) (x : Bool) → (x ≡ true → P true) → (x ≡ false → P false) → P x
 by_test P true p q = p refl
 by_test P false p q = q refl
 
-same_some : (x y : ℕ) → Some x ≡ Some y → x ≡ y
+pub same_some : (x y : ℕ) → Some x ≡ Some y → x ≡ y
 same_some x y e = cc
 
 -- ---- what a play says and hears
@@ -60,7 +61,7 @@ module _ (m : Meaning Text) (agrees : HonestAgree m) (draw atoms : ℕ → Text)
       let rest : walk.1.sent ≡ more = cc in
       (sym first ∙ same, walk.1, walk.3, rest)
 
-  heard_right : (t : Tree) (es : List Event) (G : List Tree) (e i : ℕ) (x : Text) (xs : List Text) (q : Played Text) → AreFormed m.has (trees_of G) → IsFormed m.has t → x ≡ of t
+  pub heard_right : (t : Tree) (es : List Event) (G : List Tree) (e i : ℕ) (x : Text) (xs : List Text) (q : Played Text) → AreFormed m.has (trees_of G) → IsFormed m.has t → x ≡ of t
       → Walk m draw (recv t ∷ es) G (map of G) e i (x ∷ xs) q → Walk m draw es (G ++ t ∷ []) (map of (G ++ t ∷ [])) (e + 1) i xs q
   heard_right t es G e i x xs q formed f right (inl h) = subst (λ vs. Walk m draw es (G ++ t ∷ []) vs (e + 1) i xs q) (grows of G (map of G) t x refl right) h.1
   heard_right t es G e i x xs q formed f right (inr h) =
@@ -96,13 +97,13 @@ module _ (m : Meaning Text) (agrees : HonestAgree m) (draw atoms : ℕ → Text)
     and_without (Some r) (Some k) a ts lacks (inl h) = inl h
     and_without (Some r) (Some k) a ts lacks (inr h) = inr (lacks, h)
 
-    record Next (r : Option Tree) (o before : Option ℕ) (n : ℕ) (l : TranscriptLine) (ls : List TranscriptLine) : Type 0 where
-      left : Option ℕ
-      lines : talked right wrong o (l ∷ ls) ≡ flipped l ∷ talked right wrong left ls
-      at : IsAt r left before (n + 1) (length ls)
-      back : (ts : List Tree) → Outcome r left ts → Outcome r o ts
+    pub record Next (r : Option Tree) (o before : Option ℕ) (n : ℕ) (l : TranscriptLine) (ls : List TranscriptLine) : Type 0 where
+      pub left : Option ℕ
+      pub lines : talked right wrong o (l ∷ ls) ≡ flipped l ∷ talked right wrong left ls
+      pub at : IsAt r left before (n + 1) (length ls)
+      pub back : (ts : List Tree) → Outcome r left ts → Outcome r o ts
 
-    next : (r : Option Tree) (o before : Option ℕ) (n : ℕ) (l : TranscriptLine) (ls : List TranscriptLine) → ((at : ℕ) → before ≡ Some at → n + 1 ≤ at) → IsAt r o before n (suc (length ls)) → Next r o before n l ls
+    pub next : (r : Option Tree) (o before : Option ℕ) (n : ℕ) (l : TranscriptLine) (ls : List TranscriptLine) → ((at : ℕ) → before ≡ Some at → n + 1 ≤ at) → IsAt r o before n (suc (length ls)) → Next r o before n l ls
     next None None before n l ls least is = record { left = None; lines = refl; at = tt; back = λ ts h. h }
     next None (Some k) before n l ls least is = absurd is
     next (Some r) None before n l ls least is = record { left = None; lines = refl; at = one_less before n (length ls) is; back = λ ts h. h }
@@ -183,6 +184,74 @@ module _ (m : Meaning Text) (agrees : HonestAgree m) (draw atoms : ℕ → Text)
         (onward r x.left ins ms c ls j are
         (λ k are2. speaks_right (line + 1) (n + 1) r x.left es ins ms ls k G (e + 1) i s.1 rest (omega (arith, hs)) ss formed all x.at fit are2 s.3 s.2)))
         at walk
+
+    -- ---- what it hears
+
+    abbrev Hears : Option ℕ → List PlanEvent → List TranscriptLine → Type 0
+    Hears o es ls = Are of (arrivals_of (talked right wrong o ls)) (heard (map event_of es))
+
+    none_talked : (r : Option Tree) (o before : Option ℕ) (n : ℕ) → ((at : ℕ) → before ≡ Some at → n + 1 ≤ at) → IsAt r o before n 0 → talked right wrong o [] ≡ []
+    none_talked None None before n least is = refl
+    none_talked None (Some k) before n least is = absurd is
+    none_talked (Some r) None before n least is = refl
+    none_talked (Some r) (Some k) before n least is = absurd (let late = least (n + k) is.0 in let few = is.1 in omega (arith, late, few))
+
+    hears_none : (r : Option Tree) (o before : Option ℕ) (n : ℕ) (es : List PlanEvent) → ((at : ℕ) → before ≡ Some at → n + 1 ≤ at) → IsAt r o before n 0 → Hears o es []
+    hears_none r o before n es least is = subst (λ l. Are of (arrivals_of l) (heard (map event_of es))) (sym (none_talked r o before n least is)) tt
+
+    -- where the spare name comes
+    module _ (line n : ℕ) (es : List PlanEvent) (a : Tree) (ins ms : List Tree) where
+      hook_last : (r : Option Tree) (o : Option ℕ) → IsAt r o (Some n) n 0 → Hears o (hook spare line r ++ to_send line a ∷ mirrored spare None (line + 1) es ins ms) []
+      hook_last None None is = tt
+      hook_last None (Some k) is = absurd is
+      hook_last (Some r) None is = tt
+      hook_last (Some r) (Some zero) is = (wrong_is, tt)
+      hook_last (Some r) (Some (suc k)) is = absurd (let few = is.1 in omega (arith, few))
+
+      hook_heard : (c : Text) (ls : List TranscriptLine) → Hears None (mirrored spare None (line + 1) es ins ms) ls → (r : Option Tree) (o : Option ℕ) → IsAt r o (Some n) n (suc (length ls))
+          → Hears o (hook spare line r ++ to_send line a ∷ mirrored spare None (line + 1) es ins ms) (In c ∷ ls)
+      hook_heard c ls rest None None is = rest
+      hook_heard c ls rest None (Some k) is = absurd is
+      hook_heard c ls rest (Some r) None is = absurd (omega (arith, is))
+      hook_heard c ls rest (Some r) (Some zero) is = (wrong_is, rest)
+      hook_heard c ls rest (Some r) (Some (suc k)) is = absurd (let same = same_some n (n + suc k) is.0 in omega (arith, same))
+
+    -- where the role says the bytes of what it should, the partner hears those of its terms
+    pub hears_right : (line n : ℕ) (r : Option Tree) (o : Option ℕ) (es : List PlanEvent) (ins ms : List Tree) (ls : List TranscriptLine) → heard_in es ≤ length ins → said_in es ≤ length ms
+        → IsAt r o (lines_before spare n es ins) n (length ls) → Fits (sides_of es) ls → Are of (messages_of ls) ms
+        → Are of (arrivals_of (talked right wrong o ls)) (heard (map event_of (mirrored spare r line es ins ms)))
+    hears_right line n r o [] ins ms [] hs ss at fits are = hears_none r o None n [] (λ k never. absurd (cc)) at
+    hears_right line n r o [] ins ms (l ∷ ls) hs ss at fits are = absurd (cc)
+    hears_right line n r o (to_know t ∷ es) ins ms ls hs ss at fits are = hears_right line n r o es ins ms ls hs ss at fits are
+    hears_right line n r o (to_make t ∷ es) ins ms ls hs ss at fits are = hears_right line n r o es ins ms ls hs ss at fits are
+    hears_right line n r o (to_send a t ∷ es) ins [] ls hs ss at fits are = absurd (omega (arith, ss))
+    hears_right line n r o (to_send a t ∷ es) ins (u ∷ ms) [] hs ss at fits are =
+        hears_none r o (lines_before spare (n + 1) es ins) n (mirrored spare r line (to_send a t ∷ es) ins (u ∷ ms)) (before_least spare (n + 1) es ins) at
+    hears_right line n r o (to_send a t ∷ es) ins (u ∷ ms) (In b ∷ ls) hs ss at fits are = absurd (cc)
+    hears_right line n r o (to_send a t ∷ es) ins (u ∷ ms) (Out b ∷ ls) hs ss at fits are =
+        let x = next r o (lines_before spare (n + 1) es ins) n (Out b) ls (before_least spare (n + 1) es ins) at in
+        subst (λ l. Are of (arrivals_of l) (u ∷ heard (map event_of (mirrored spare r (line + 1) es ins ms)))) (sym x.lines)
+        (are.0, hears_right (line + 1) (n + 1) r x.left es ins ms ls hs (omega (arith, ss)) x.at (cc) are.1)
+    hears_right line n r o (to_receive a t ∷ es) [] ms ls hs ss at fits are = absurd (omega (arith, hs))
+    hears_right line n r o (to_receive a t ∷ es) (u ∷ ins) ms [] hs ss at fits are =
+        let on_plan = to_send line u ∷ mirrored spare r (line + 1) es ins ms in
+        let last = hook spare line r ++ to_send line u ∷ mirrored spare None (line + 1) es ins ms in
+        let before = lines_before spare (n + 1) es ins in
+        let P : Bool → Type 0 = λ x. IsAt r o (if x then Some n else before) n 0 → Hears o (if x then last else on_plan) [] in
+        by_test P (has_atom spare u) (λ yes there. hook_last line n es u ins ms r o there) (λ lacks there. hears_none r o before n on_plan (before_least spare (n + 1) es ins) there) at
+    hears_right line n r o (to_receive a t ∷ es) (u ∷ ins) ms (Out b ∷ ls) hs ss at fits are = absurd (cc)
+    hears_right line n r o (to_receive a t ∷ es) (u ∷ ins) ms (In c ∷ ls) hs ss at fits are =
+        let on_plan = mirrored spare r (line + 1) es ins ms in
+        let last = hook spare line r ++ to_send line u ∷ mirrored spare None (line + 1) es ins ms in
+        let before = lines_before spare (n + 1) es ins in
+        let fit : Fits (sides_of es) ls = cc in
+        let P : Bool → Type 0 = λ x. IsAt r o (if x then Some n else before) n (suc (length ls)) → Hears o (if x then last else to_send line u ∷ on_plan) (In c ∷ ls) in
+        by_test P (has_atom spare u)
+        (λ yes there. hook_heard line n es u ins ms c ls (hears_right (line + 1) (n + 1) None None es ins ms ls (omega (arith, hs)) ss tt fit are) r o there)
+        (λ lacks there.
+        let x = next r o before n (In c) ls (before_least spare (n + 1) es ins) there in
+        subst (λ l. Are of (arrivals_of l) (heard (map event_of on_plan))) (sym x.lines) (hears_right (line + 1) (n + 1) r x.left es ins ms ls (omega (arith, hs)) ss x.at fit are))
+        at
 
   -- ---- what comes first in the partner's plan
 

@@ -1,9 +1,10 @@
--- Each attempt of a suite is in a scene in which the role stops where that is known.
+-- Each attempt of a suite is in a scene in which the role stops where that is known, and which is the honest one where nothing is made wrong.
 use Rattle.std.proofs.Common.{◌≡◌, ℕ, suc, ◌+◌, List, [], ◌∷◌, ◌++◌, length, map, Bool, true, false, Option, Some, None, refl, sym, ap, ◌∙◌, subst, inl, inr, ◌⊎◌, arith}
 use Rattle.std.specs.Prelude.{filter, slice_get}
 use Rattle.std.specs.List.{AllByRecursion, AllZip}
-use Rattle.std.specs.Option.{option_map_or}
+use Rattle.std.specs.Option.{option_map, option_map_or}
 use Rattle.anb_lemmas.proofs.Each.{each_as, each_got, each_in_both}
+use Rattle.anb_term.specs.Tree.{Tree}
 use Rattle.anb_term.specs.View.{tree_of}
 use Rattle.anb_term.proofs.Lists.{slice_get-append}
 use Rattle.anb_code.specs.CodeValue.{CodeValue}
@@ -27,7 +28,7 @@ use Rattle.anb_suite.specs.declared.reading.Reading.TheVariants.{Both, First, Se
 use Rattle.anb_suite.specs.declared.cases.Case.{Case}
 use Rattle.anb_suite.specs.declared.cases.Finding.{Finding}
 use Rattle.anb_suite.specs.declared.cases.Finding.TheVariants as finding
-use Rattle.anb_attempts.specs.Attempts.{AreParts, CaseMayStand, ComesOf, HasAdded, IsAttempt, IsBegun, IsJoined, IsOpeningAttempt, IsPartOf, IsPartOfCase, IsPartOfCheck, IsPartOfFound, IsPartOfNew, IsPartOfOther, IsPartOfPoint, IsPartOfTried, IsSceneOf, IsSceneOfOpening, IsSuite, OpeningMayStand, PartValue, Place, changes_tried, format_ways, is_heard, is_tried, ways_of, script_in}
+use Rattle.anb_attempts.specs.Attempts.{AreParts, CaseMayStand, ComesOf, HasAdded, IsAttempt, IsBegun, IsJoined, IsNarrated, IsOpeningAttempt, IsPartOf, IsPartOfCase, IsPartOfCheck, IsPartOfFound, IsPartOfNew, IsPartOfOther, IsPartOfPoint, IsPartOfTried, IsSceneOf, IsSceneOfOpening, IsSuite, OpeningMayStand, PartValue, Place, changes_tried, format_ways, is_heard, is_tried, ways_of, script_in}
 use Rattle.anb_attempts.specs.Inner.{AreWithin, InnerValue, IsWithin, few_within}
 use Rattle.anb_attempts.specs.Retagging.{RetaggingValue, retagging_at}
 use Rattle.anb_attempts.specs.declared.attempts.Attempt.{Attempt}
@@ -41,14 +42,19 @@ use Rattle.anb_dues.proofs.Opening.{parsed_known, tag_known}
 use Rattle.anb_dues.proofs.Stopping.{Grounds, Stops}
 use Rattle.anb_dues.proofs.Within.{IsFine, few_fine, may_or_not, within_known}
 
-get_behind : {X : Type 0} (xs ys : List X) (k : ℕ) (x : X) → slice_get ys k ≡ Some x → slice_get (xs ++ ys) (length xs + k) ≡ Some x
+pub get_behind : {X : Type 0} (xs ys : List X) (k : ℕ) (x : X) → slice_get ys k ≡ Some x → slice_get (xs ++ ys) (length xs + k) ≡ Some x
 get_behind [] ys k x e = (let z : k ≡ 0 + k = omega arith in subst (λ j. slice_get ys j ≡ Some x) z e)
 get_behind (y ∷ xs) ys k x e = (let z : suc (length xs + k) ≡ suc (length xs) + k = omega arith in subst (λ j. slice_get (y ∷ (xs ++ ys)) j ≡ Some x) z (get_behind xs ys k x e))
 
 module _ (p : ProtocolValue) (role : ℕ) (code : CodeValue) (g : Grounds p role (acts_of code)) where
-  -- where it is known that the role stops, it does
-  abbrev pub IsGood : Scene → Wrong → Type 0
-  IsGood scene wrong = (event : ℕ) → scene.due ≡ Some event → Stops (script_in p role scene) (acts_of code) (wrong_by p.formats wrong) event
+  -- where it is known that the role stops, it does; and where nothing is made wrong, all is as narrated
+  pub record IsGood (scene : Scene) (wrong : Wrong) : Type 0 where
+    pub stops : (event : ℕ) → scene.due ≡ Some event → Stops (script_in p role scene) (acts_of code) (wrong_by p.formats wrong) event
+    pub honest : option_map tree_of scene.right ≡ None → IsNarrated p role scene
+
+  -- a scene in which something is made wrong isn't the honest one
+  never_honest : (scene : Scene) (t : Tree) → option_map tree_of scene.right ≡ Some t → option_map tree_of scene.right ≡ None → IsNarrated p role scene
+  never_honest scene t right none = absurd (let both : None ≡ Some t = sym none ∙ right in cc)
 
   -- so it is in the scene of an attempt, which is one of these, of which the first has the number n
   pub record IsIn (n : ℕ) (scenes : List Scene) (attempt : Attempt) : Type 0 where
@@ -135,14 +141,22 @@ module _ (p : ProtocolValue) (role : ℕ) (code : CodeValue) (g : Grounds p role
   case_in reading changes n case part fine (inr t) = part_is n part [] [] t.1.scenes t.1.attempts tt
 
   found_fine : (reading : Reading) (check : ℕ) (case : Case) → IsCaseOf p role code reading check case → CaseFine case
-  found_fine reading check case is scene change stands of event due = check_known p role code g reading check case is scene stands of change event due
+  found_fine reading check case is scene change stands of = record {
+    stops = λ event due. check_known p role code g reading check case is scene stands of change event due;
+    honest = never_honest scene (tree_of case.wrong) (ap (option_map tree_of) of.right);
+  }
 
   zip_fine : (check : ℕ) (case : Case) → IsCaseOf p role code Both check case → (inners : List InnerValue) (cases : List Case) → AllByRecursion (IsFine p) inners → AllZip (IsWithin (length p.atoms) case) inners cases → AllByRecursion CaseFine cases
   zip_fine check case is [] [] fine all = tt
   zip_fine check case is [] (c ∷ cs) fine all = absurd all
   zip_fine check case is (i ∷ inners) [] fine all = absurd all
-  zip_fine check case is (i ∷ inners) (c ∷ cs) fine all =
-      ((λ scene change stands of event due. within_known p role code g check case is i fine.0 c all.0 scene stands of change event due), zip_fine check case is inners cs fine.1 all.1)
+  zip_fine check case is (i ∷ inners) (c ∷ cs) fine all = (
+    (λ scene change stands of. record {
+      stops = λ event due. within_known p role code g check case is i fine.0 c all.0 scene stands of change event due;
+      honest = never_honest scene (tree_of c.wrong) (ap (option_map tree_of) of.right);
+    }),
+    zip_fine check case is inners cs fine.1 all.1,
+  )
 
   within_fine : (check : ℕ) (case : Case) → IsCaseOf p role code Both check case → (cases : List Case) → AreWithin p (length p.atoms) case cases → AllByRecursion CaseFine cases
   within_fine check case is cases are = by (may_or_not p (tree_of case.wrong) (wrong_ours p role code g Both check case is)) where
@@ -173,8 +187,8 @@ module _ (p : ProtocolValue) (role : ℕ) (code : CodeValue) (g : Grounds p role
 
   -- ---- openings
 
-  none_due : (scene : Scene) (wrong : Wrong) → scene.due ≡ None → IsGood scene wrong
-  none_due scene wrong none event due = absurd (let both : None ≡ Some event = sym none ∙ due in cc)
+  none_due : (scene : Scene) (wrong : Wrong) → scene.due ≡ None → (option_map tree_of scene.right ≡ None → IsNarrated p role scene) → IsGood scene wrong
+  none_due scene wrong none honest = record { stops = λ event due. absurd (let both : None ≡ Some event = sym none ∙ due in cc); honest = honest }
 
   ways_in : (n : ℕ) (at : Place) (scene : Scene) (ways : List Wrong) (attempts : List Attempt) → AllByRecursion (IsGood scene) ways → AllZip (IsOpeningAttempt p role n at) ways attempts → AllIn n (scene ∷ []) attempts
   ways_in n at scene [] [] good all = tt
@@ -192,11 +206,17 @@ module _ (p : ProtocolValue) (role : ℕ) (code : CodeValue) (g : Grounds p role
 
   ways_good : (all : Bool) (instruction : ℕ) (case : OpeningCase) → IsOpeningCaseOf p role code instruction case → OpeningMayStand p case → (scene : Scene) (parsed : Option ℕ) → parsed_at code instruction ≡ parsed → IsSceneOfOpening parsed case scene
       → AllByRecursion (IsGood scene) (ways_of p all parsed)
-  ways_good all instruction case is stands scene None e of = each_any (IsGood scene) (λ w. none_due scene w of.due) (ways_of p all None)
+  ways_good all instruction case is stands scene None e of = each_any (IsGood scene) (λ w. none_due scene w of.due (never_honest scene (tree_of case.opened) (ap (option_map tree_of) of.right))) (ways_of p all None)
   ways_good all instruction case is stands scene (Some f) e of = by (slice_get p.formats f) where
     by : (o : Option FormatValue) → AllByRecursion (IsGood scene) (option_map_or (λ (x : FormatValue). format_ways all f x.pieces) o [])
     by None = tt
-    by (Some x) = mapped_any (IsGood scene) (Spoilt f) (λ row event due. parsed_known p role code g instruction f case is e stands scene of row event due) (filter (is_tried all x.pieces) (rows_of x.pieces))
+    by (Some x) =
+        mapped_any (IsGood scene) (Spoilt f)
+        (λ row. record {
+          stops = λ event due. parsed_known p role code g instruction f case is e stands scene of row event due;
+          honest = never_honest scene (tree_of case.opened) (ap (option_map tree_of) of.right);
+        })
+        (filter (is_tried all x.pieces) (rows_of x.pieces))
 
   tried_in : (all : Bool) (instruction n : ℕ) (case : OpeningCase) (parsed : Option ℕ) → parsed_at code instruction ≡ parsed → IsOpeningCaseOf p role code instruction case → (tag : Option RetaggingValue) → retagging_at p parsed (tree_of case.opened) ≡ tag
       → (part : PartValue) → IsPartOfTried p role all parsed tag n case part → PartIn n part
@@ -204,8 +224,13 @@ module _ (p : ProtocolValue) (role : ℕ) (code : CodeValue) (g : Grounds p role
       part_is n part (t.scene ∷ []) part.attempts t.scenes refl (ways_in n _ t.scene (ways_of p all parsed) part.attempts (ways_good all instruction case is t.stands t.scene parsed e t.is) t.attempts)
   tried_in all instruction n case parsed e is None tag_is part (inr t) = part_is n part [] [] t.1.scenes t.1.attempts tt
   tried_in all instruction n case parsed e is (Some tag) tag_is part (inl t) =
-      part_is n part (t.scene ∷ []) (t.attempt ∷ []) t.scenes t.attempts
-      (one_in n t.scene t.attempt t.falsely.scene_is (good_as t.scene tag.way t.attempt.wrong t.falsely.wrong_is (λ event due. tag_known p role code g instruction case is parsed tag tag_is t.stands t.scene t.is event due)), tt)
+      part_is n part (t.scene ∷ []) (t.attempt ∷ []) t.scenes t.attempts (
+        one_in n t.scene t.attempt t.falsely.scene_is (good_as t.scene tag.way t.attempt.wrong t.falsely.wrong_is (record {
+          stops = λ event due. tag_known p role code g instruction case is parsed tag tag_is t.stands t.scene t.is event due;
+          honest = never_honest t.scene tag.pair t.is.right;
+        })),
+        tt,
+      )
   tried_in all instruction n case parsed e is (Some tag) tag_is part (inr t) = part_is n part [] [] t.1.scenes t.1.attempts tt
 
   opening_in : (all : Bool) (n instruction : ℕ) (found : OpeningFinding) (part : PartValue) → IsOpeningFinding p role code instruction found → IsPartOfFound p role all (parsed_at code instruction) n found part → PartIn n part
@@ -225,7 +250,7 @@ module _ (p : ProtocolValue) (role : ℕ) (code : CodeValue) (g : Grounds p role
 
   begun_in : (suite : Suite) → IsBegun p role suite → AllIn 0 suite.scenes.items suite.attempts.items
   begun_in suite b =
-      let one : AllIn 0 (b.scene ∷ []) (b.attempt ∷ []) = (one_in 0 b.scene b.attempt b.honest.scene (none_due b.scene b.attempt.wrong b.narrated.due), tt) in
+      let one : AllIn 0 (b.scene ∷ []) (b.attempt ∷ []) = (one_in 0 b.scene b.attempt b.honest.scene (none_due b.scene b.attempt.wrong b.narrated.due (λ none. b.narrated)), tt) in
       subst (λ l. AllIn 0 l suite.attempts.items) (sym b.scenes) (subst (AllIn 0 (b.scene ∷ [])) (sym b.attempts) one)
 
   suite_in : (all : Bool) (suite : Suite) → IsSuite p role code all suite → AllIn 0 suite.scenes.items suite.attempts.items
@@ -233,8 +258,8 @@ module _ (p : ProtocolValue) (role : ℕ) (code : CodeValue) (g : Grounds p role
       added_in (IsPartOfPoint p role code all) (λ (x : Point). Unit {0}) (λ n point part fine t. point_in all n point part t) s.covers.tried s.begun suite (any_points s.covers.tried) s.covers.added (begun_in s.begun s.begins)
 
   -- of each attempt of the suite
-  pub suite_stops : (all : Bool) (suite : Suite) → IsSuite p role code all suite → (i : ℕ) (a : Attempt) (scene : Scene) → slice_get suite.attempts.items i ≡ Some a → slice_get suite.scenes.items a.scene ≡ Some scene → IsGood scene a.wrong
-  suite_stops all suite s i a scene at there =
+  pub suite_good : (all : Bool) (suite : Suite) → IsSuite p role code all suite → (i : ℕ) (a : Attempt) (scene : Scene) → slice_get suite.attempts.items i ≡ Some a → slice_get suite.scenes.items a.scene ≡ Some scene → IsGood scene a.wrong
+  suite_good all suite s i a scene at there =
       let is = each_got (IsIn 0 suite.scenes.items) suite.attempts.items i a (suite_in all suite s) at in
       let place : is.place ≡ a.scene = (let c = is.counts in omega (arith, c)) in
       let both : Some is.scene ≡ Some scene = sym is.there ∙ ap (slice_get suite.scenes.items) place ∙ there in

@@ -1,5 +1,5 @@
 -- Where the suite of a role says that the role stops, it does, in every attempt on a program.
-use Rattle.std.specs.Prelude.{◌≡◌, ◌≢◌, ℕ, List, length, map, Bool, true, Some, slice_get}
+use Rattle.std.specs.Prelude.{◌≡◌, ◌≢◌, ℕ, List, length, map, Bool, true, Some, None, slice_get}
 use Rattle.std.specs.List.{AllByRecursion}
 use Rattle.anb_base.specs.Bytes.{IsBytes}
 use Rattle.anb_base.specs.declared.TheConstants.{ARRIVAL, WIDE}
@@ -20,7 +20,7 @@ use Rattle.anb_attempts.specs.Attempts.{IsSuite, script_in}
 use Rattle.anb_attempts.specs.declared.attempts.Attempt as asked
 use Rattle.anb_attempts.specs.declared.attempts.Scene.{Scene}
 use Rattle.anb_attempts.specs.declared.attempts.Suite.{Suite}
-use Rattle.anb_tries.specs.Laws.{Attempt, DueIsKnown, IsAttempt, IsRead, IsTried, KnowsStops, PlaysRole, judged, seen}
+use Rattle.anb_tries.specs.Laws.{Attempt, DueIsKnown, IsAttempt, IsRead, IsTried, PlaysRole, StopsAreSeen, judged, seen}
 
 -- a verified code that fits the role's plan, as compiling gives it
 pub record IsCodeOf (p : ProtocolValue) (role : ℕ) (code : CodeValue) : Type 0 where
@@ -57,6 +57,11 @@ pub record IsTriedOf (p : ProtocolValue) (a : Attempt) : Type 0 where
   pub is_suite : IsSuite p role code all suite
   pub is : IsOfSuite p role suite a
 
+-- The partner refused none of its messages, and where it stops, this was known, or what it had made before can be told.
+pub record IsUnrefused (a : Attempt) (plays : PlaysRole a) : Type 0 where
+  pub unrefused : a.conversation.end ≢ Refused
+  pub stops : StopsAreSeen a plays
+
 -- ---- the laws
 
 -- Where the suite says that the role stops at an event, it hears something there, and no draws go on over it.
@@ -69,10 +74,11 @@ abbrev pub ValuesAreOfNames : ProtocolValue → Type 0
 ValuesAreOfNames p = (values : List (List ℕ)) (seed : List ℕ) (role : ℕ) → length values ≡ length (known_atoms p) → AllByRecursion IsBytes values
     → AreOfNames p role (initial_values p values seed role) (handed_values p values seed role)
 
--- So no right program is called wrong: the child plays the role, and the partner refused none of its messages.
+-- So no right program is called wrong: the child plays the role. Only where something is made wrong and it isn't known that
+-- the role stops then, this is asked of it beside.
 abbrev pub RightProgramsPass : ProtocolValue → Type 0
-RightProgramsPass p = (a : Attempt) → IsAttempt a → IsTriedOf p a → IsRead a → a.conversation.end ≢ Refused
-    → (plays : PlaysRole a) → KnowsStops a plays → is_good a.verdict ≡ true
+RightProgramsPass p = (a : Attempt) → IsAttempt a → IsTriedOf p a → IsRead a → (plays : PlaysRole a)
+    → (a.script.right ≢ None → a.due ≡ None → IsUnrefused a plays) → is_good a.verdict ≡ true
 
 -- And a lax program is told: where something was tried and nothing is said against the program, then for some draws what
 -- was seen is what the role does, if the names that it makes can be told.

@@ -28,12 +28,22 @@ pub fn values_are_of_names(p: &Protocol)
     plans_know_first();
 }
 
-/// A law: so no right program is called wrong in an attempt of a suite.
+/// A law: so no right program is called wrong in an attempt of a suite. Only where something is made
+/// wrong and it isn't known that the role stops then, it is asked beside that its partner refuses none
+/// of its messages, and that where it stops this is known.
 pub fn right_programs_pass(p: &Protocol)
     ensures { RightProgramsPass p.now }
 {
+    let _ = p.name();
+    protocols_hold();
+    terms_of_plans();
+    plans_know_first();
+    made_is_new();
+    partners_play(p);
+    runs_as_played(&ByteAlgebra::new(p.formats(), p.suite()));
     dues_are_known(p);
     anb_tries::right_programs_pass(p);
+    anb_tries::right_programs_pass_as_narrated(p);
 }
 
 /// A law: and a lax program is told there.
