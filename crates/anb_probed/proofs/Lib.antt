@@ -5,3 +5,5 @@ mod Sent
 mod Full
 mod Played
 mod Reported
+mod Mutants
+mod Whole

@@ -55,7 +55,7 @@ are_bytes p atoms bytes ts values is all = record {
 }
 
 module _ (q : Probing) (of_protocol : Known q.protocol) (are : AreGiven q.protocol q.values) where
-  names : AreOfNames q.protocol q.role (initial q) (handed q)
+  pub names : AreOfNames q.protocol q.role (initial q) (handed q)
   names = of_protocol.names q.values q.seed q.role are.count are.bytes
 
   begins_so : AreBytes q.protocol (known_by q.protocol q.role) (initial q)
@@ -66,7 +66,7 @@ module _ (q : Probing) (of_protocol : Known q.protocol) (are : AreGiven q.protoc
 
   module _ (trying : Trying) (suit : Suit q trying) (attempt : asked.Attempt) (place : ℕ) (here : slice_get (agenda_of suit).cases place ≡ Some attempt)
       (order : List (List ℕ)) (reached : ℕ) (old new : Trial) (end : CaseEnd) (got : ℕ) (t : IsTried q (agenda_of suit).scenes order attempt reached old new end got) where
-    pub of_suite : IsTriedOf q.protocol (attempt_of t)
+    abbrev pub of_suite : IsTriedOf q.protocol (attempt_of t)
     of_suite =
         let found = among (map lack_of suit.partners) trying.case 1 suit.suite.attempts.items place attempt here in
         record {

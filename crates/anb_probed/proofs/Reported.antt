@@ -18,7 +18,7 @@ use Rattle.anb_probe_commands.specs.Reports.{is_failed, status_for}
 use Rattle.anb_probed.specs.Laws.{DoneIsAsTheRole, IsCase, LaxProgramsAreTold, RightProgramsAreDone, RightProgramsPass, attempt_of, cases_of}
 
 -- nothing is said against the program
-abbrev IsGood : CaseEnd → Type 0
+abbrev pub IsGood : CaseEnd → Type 0
 IsGood end = is_good end.verdict ≡ true
 
 -- how many failed
@@ -57,7 +57,7 @@ none_if_done : (n cases : ℕ) (b : Bool) → (n == 0) ≡ b → status_by n cas
 none_if_done n cases true e is = eqb-true n 0 e
 none_if_done n cases false e is = absurd (cc)
 
-done_all_good : (ends : List CaseEnd) → status_for (verdicts_of ends) ≡ Done → AllByRecursion IsGood ends
+pub done_all_good : (ends : List CaseEnd) → status_for (verdicts_of ends) ≡ Done → AllByRecursion IsGood ends
 done_all_good ends is = all_good ends (none_if_done (failed ends) (length (verdicts_of ends)) (failed ends == 0) refl is)
 
 good_is_done : (ends : List CaseEnd) → AllByRecursion IsGood ends → status_for (verdicts_of ends) ≡ Done

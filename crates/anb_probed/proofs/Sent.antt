@@ -11,7 +11,7 @@ use Rattle.anb_term.proofs.Steps.{bound}
 use Rattle.anb_plays.specs.Plans.{Event, know, fresh, send, recv, known}
 use Rattle.anb_plays.specs.Plays.{Played, stopped, done, ends}
 use Rattle.anb_plays.specs.Codes.{Act, takes, draws, receives, sends, works, Work, make, undo, equal}
-use Rattle.anb_plays.specs.Exec.{exec, on_written, worked, count_written, IsReady, IsVerified, HasTakes}
+use Rattle.anb_plays.specs.Exec.{exec, on_written, worked, count_written, IsVerified, HasTakes}
 use Rattle.anb_plays.specs.Fits.{Place, Along, AnySend, AnyWork, AnyBorder, after_take, after_label, after_work}
 use Rattle.anb_plays.specs.Runs.{says_if}
 use Rattle.anb_plays.proofs.Exec.{exec_is_run, takes_ready}

@@ -1,23 +1,28 @@
 -- Each case that `probe` plays is an attempt of its suite, so what is proved of attempts holds of the cases.
-use Rattle.std.specs.Prelude.{◌≡◌, ◌≢◌, ℕ, List, length, true, Option, Some, slice_get}
+use Rattle.std.specs.Prelude.{◌≡◌, ◌≢◌, ◌⊎◌, ℕ, List, length, Bool, true, Option, Some, None, slice_get}
+use Rattle.anb_base.specs.Wires.{WireState}
 use Rattle.anb_protocol.specs.Protocols.{ProtocolValue}
 use Rattle.anb_partner.specs.Plans.{hook_at}
 use Rattle.anb_partner.specs.Trials.{Trial}
-use Rattle.anb_partner.specs.declared.conversation.TalkEnd.TheVariants.{Refused}
 use Rattle.anb_spoil.specs.Wrongs.{wrong_by}
 use Rattle.anb_verdict.specs.Laws.{NamesAreTold}
 use Rattle.anb_verdict.specs.Verdicts.{IsRoles, is_good}
-use Rattle.anb_status.specs.declared.status.Status.TheVariants.{Done}
+use Rattle.anb_status.specs.declared.status.Status.{Status}
+use Rattle.anb_status.specs.declared.status.Status.TheVariants.{CasesNotOk, Done}
 use Rattle.anb_command.specs.Fetches.{Files}
 use Rattle.anb_command.specs.Steps.{given}
-use Rattle.anb_attempts.specs.Attempts.{script_in}
+use Rattle.anb_suite.specs.Suites.{IsCaseOf}
+use Rattle.anb_suite.specs.declared.cases.Case.{Case}
+use Rattle.anb_suite.specs.declared.reading.Reading.TheVariants.{Both}
+use Rattle.anb_attempts.specs.Attempts.{IsSceneOf, script_in}
 use Rattle.anb_attempts.specs.declared.attempts.Attempt as asked
 use Rattle.anb_attempts.specs.declared.attempts.Scene.{Scene}
-use Rattle.anb_tries.specs.Laws.{Attempt, IsAttempt, IsRead, IsTried as IsTriedOut, KnowsStops, PlaysRole, judged, seen}
-use Rattle.anb_dues.specs.Laws.{IsTriedOf}
+use Rattle.anb_tries.specs.Laws.{Attempt, IsAttempt, IsRead, IsTried as IsTriedOut, PlaysRole, judged, seen}
+use Rattle.anb_dues.specs.Laws.{IsTriedOf, IsUnrefused}
+use Rattle.anb_mutants.specs.Laws.{IsHeardOut, RunsLess}
 use Rattle.anb_probe_commands.specs.Plays.{ArePlayed, CaseEnd, IsTried, handed, initial, verdicts_of}
 use Rattle.anb_probe_commands.specs.Probings.{Probing, ProbingIs}
-use Rattle.anb_probe_commands.specs.ProbeCommand.{Suit, agenda_of}
+use Rattle.anb_probe_commands.specs.ProbeCommand.{DoesProbe, Suit, agenda_of}
 use Rattle.anb_probe_commands.specs.Reports.{status_for}
 use Rattle.anb_probe_commands.specs.Words.{Probed, order_of}
 
@@ -68,12 +73,29 @@ module _ {p : ProtocolValue} {ends : List CaseEnd} {old new : ℕ → Trial} (pl
     pub ended : slice_get ends place ≡ Some end
     pub is : a ≡ attempt_of (played.played.each place attempt end here ended).1
 
--- The child plays the role and is known to stop where it does, nothing failed, and the partner refused none of its messages.
+  -- one of them is tried in the scene of the case of a check of the role's code, where it is known that the role stops
+  pub record IsChecked (check : ℕ) : Type 0 where
+    pub place : ℕ
+    pub attempt : asked.Attempt
+    pub here : slice_get cases_of place ≡ Some attempt
+    pub scene : Scene
+    pub scene_is : slice_get (agenda_of played.suit).scenes attempt.scene ≡ Some scene
+    pub case : Case
+    pub is_case : IsCaseOf played.q.protocol played.q.role played.suit.code Both check case
+    pub is : IsSceneOf (length played.q.protocol.atoms) case scene
+    pub event : ℕ
+    pub due : scene.due ≡ Some event
+
+  -- the child of each case runs the role's code less some checks, and nothing failed but what it does
+  abbrev pub AreMutants : (drops : ℕ → Bool) → Type 0
+  AreMutants drops = (a : Attempt) → IsCase a → IsHeardOut a × RunsLess a played.suit.code drops
+
+-- The child plays the role, and nothing failed. Only where something is made wrong and it isn't known that the role stops
+-- then, the partner refused none of its messages, and what it had made before it stops can be told.
 pub record IsRight (a : Attempt) : Type 0 where
   pub read : IsRead a
-  pub unrefused : a.conversation.end ≢ Refused
   pub plays : PlaysRole a
-  pub stops : KnowsStops a plays
+  pub elsewhere : a.script.right ≢ None → a.due ≡ None → IsUnrefused a plays
 
 -- Where something was tried, what was seen is what the role does for some draws, if the names that it makes can be told.
 abbrev pub IsAsTheRole : Attempt → Type 0
@@ -107,3 +129,36 @@ module _ (p : ProtocolValue) where
   abbrev pub DoneIsAsTheRole : Type 0
   DoneIsAsTheRole = (ends : List CaseEnd) (old new : ℕ → Trial) (played : IsPlayed p ends old new) → status_for (verdicts_of ends) ≡ Done
       → (a : Attempt) → IsCase played a → IsAsTheRole a
+
+  -- A program that lacks a check isn't called right: where all cases are played, something failed.
+  abbrev pub MutantsAreTold : Type 0
+  MutantsAreTold = (ends : List CaseEnd) (old new : ℕ → Trial) (played : IsPlayed p ends old new) → length ends ≡ length (cases_of played)
+      → (check : ℕ) → IsChecked played check → (drops : ℕ → Bool) → drops check ≡ true → AreMutants played drops → status_for (verdicts_of ends) ≢ Done
+
+-- ---- the command
+
+-- the status of a report
+abbrev pub IsReport : Status → Type 0
+IsReport status = (status ≡ Done) ⊎ ((failed : ℕ) × (cases : ℕ) × (status ≡ CasesNotOk failed cases))
+
+-- `probe` was asked for this and found these files; all cases were played, and the status is that of their ends
+pub record IsPlayedWhole (asked : Probed) (files : Files) (old new : ℕ → Trial) (status : Status) : Type 0 where
+  pub protocol : ProtocolValue
+  pub ends : List CaseEnd
+  pub played : IsPlayed protocol ends old new
+  pub asked_is : played.asked ≡ asked
+  pub files_are : played.files ≡ files
+  pub all : length ends ≡ length (cases_of played)
+  pub is : status ≡ status_for (verdicts_of ends)
+
+-- a case was asked for that isn't there, and nothing was started
+pub record IsNoCase (asked : Probed) (old new : ℕ → Trial) : Type 0 where
+  pub number : ℕ
+  pub asked_for : asked.trying.case ≡ Some number
+  pub unstarted : new ≡ old
+
+-- What the command's clause says of a status of a report, where its files are told.
+abbrev pub ReportsArePlayed : Type 0
+ReportsArePlayed = (asked : Probed) (files : Files) (host_seed : Option (List ℕ)) (old new : ℕ → Trial) (S T : WireState) (status : Status)
+    → DoesProbe asked (Some files) host_seed old new S T status → IsReport status
+    → IsPlayedWhole asked files old new status ⊎ IsNoCase asked old new

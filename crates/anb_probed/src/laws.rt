@@ -1,5 +1,5 @@
 //! Laws of the cases that `probe` plays, each a function that does nothing.
-ghost use Rattle.anb_probed.specs.Laws.{CasesAreAttempts, DoneIsAsTheRole, LaxProgramsAreTold, RightProgramsAreDone, RightProgramsPass};
+ghost use Rattle.anb_probed.specs.Laws.{CasesAreAttempts, DoneIsAsTheRole, LaxProgramsAreTold, MutantsAreTold, ReportsArePlayed, RightProgramsAreDone, RightProgramsPass};
 
 use anb_dues::values_are_of_names;
 use anb_protocol::{Protocol, protocols_hold, terms_of_plans};
@@ -43,3 +43,21 @@ pub fn done_is_as_the_role(p: &Protocol)
 {
     lax_programs_are_told(p);
 }
+
+/// A law: and where the child of each case runs the role's code less some checks, one of which is tried
+/// where the role is known to stop, something failed.
+pub fn mutants_are_told(p: &Protocol)
+    ensures { MutantsAreTold p.now }
+{
+    let _ = p.name();
+    protocols_hold();
+    terms_of_plans();
+    values_are_of_names(p);
+    anb_mutants::mutants_are_told(p);
+}
+
+/// A law: where `probe` ends with a report, by its clause, all cases were played and the status is that of
+/// their ends; or a case was asked for that isn't there.
+pub fn reports_are_played()
+    ensures { ReportsArePlayed }
+{}
