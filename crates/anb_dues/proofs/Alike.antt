@@ -9,7 +9,8 @@ use Rattle.anb_transcript.specs.declared.transcript.TranscriptLine.TheVariants.{
 use Rattle.anb_transcript.specs.Replays.{arrivals_of, messages_of}
 use Rattle.anb_judge.specs.Verdicts.{sides}
 use Rattle.anb_tries.proofs.Along.{Fits}
-use Rattle.anb_dues.proofs.Beginning.{ended, stops_later}
+use Rattle.anb_tries.proofs.Stopping.{stops_later}
+use Rattle.anb_dues.proofs.Beginning.{ended}
 use Rattle.anb_dues.proofs.Counting.{said_in}
 use Rattle.anb_dues.proofs.Firsts.{Text}
 use Rattle.anb_dues.proofs.Saying.{SaysFirst}

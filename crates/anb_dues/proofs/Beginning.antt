@@ -14,15 +14,13 @@ use Rattle.anb_judge.specs.Observed.{hears, over, says_in}
 use Rattle.anb_judge.specs.Verdicts.{is_said, line_bytes, sides, up_to}
 use Rattle.anb_judge.proofs.Begun.{cut_known}
 use Rattle.anb_tries.proofs.Along.{Fits}
+use Rattle.anb_tries.proofs.Stopping.{same_event, stops_later}
 use Rattle.anb_dues.proofs.Firsts.{Text}
 
 -- ---- where a play ends
 
 pub ended : {X : Type 0} (p : Played Text) (x y : End) (arrivals : List Text) → (x ≡ y → X) → p.end ≡ x → p ≡ ends y arrivals → X
 ended p x y arrivals f end is = f (sym end ∙ ap (λ (q : Played Text). q.end) is)
-
-same_stop : (e f at : ℕ) → stopped f at ≡ stopped e 0 → f ≡ e
-same_stop e f at is = cc
 
 -- what is behind the first message
 abbrev others : List Text → List Text
@@ -39,19 +37,7 @@ over_stops : (sent : List Text) (e at : ℕ) (xs : List Text) → over sent ≡ 
 over_stops sent e at xs is = (let never : done ≡ stopped e at = ap (λ (q : Played Text). q.end) is in cc)
 
 module _ (m : Meaning Text) (d : ℕ → Text) where
-  -- a play stops behind what went before
-  pub stops_later : (es : List Event) (F : List Tree) (vs : List Text) (e i : ℕ) (xs : List Text) (p : Played Text) (f at : ℕ) → p.end ≡ stopped f at → Walk m d es F vs e i xs p → e < f
-  stops_later [] F vs e i xs p f at end walk = ended p (stopped f at) done xs (λ never. absurd (cc)) end walk
-  stops_later (know t ∷ es) F vs e i xs p f at end walk = stops_later es F vs e i xs p f at end walk
-  stops_later (fresh t ∷ es) F vs e i xs p f at end walk = stops_later es (F ++ t ∷ []) (vs ++ d i ∷ []) e (i + 1) xs p f at end walk
-  stops_later (send t ∷ es) F vs e i xs p f at end walk =
-      (let later = stops_later es F vs (e + 1) i xs walk.1 f at (sym (ap (λ (q : Played Text). q.end) walk.4) ∙ end) walk.3 in omega (arith, later))
-  stops_later (recv t ∷ es) F vs e i [] p f at end walk = ended p (stopped f at) (waiting (e + 1)) [] (λ never. absurd (cc)) end walk
-  stops_later (recv t ∷ es) F vs e i (x ∷ xs) p f at end (inl h) =
-      (let later = stops_later es (F ++ t ∷ []) (vs ++ x ∷ []) (e + 1) i xs p f at end h.1 in omega (arith, later))
-  stops_later (recv t ∷ es) F vs e i (x ∷ xs) p f at end (inr h) = ended p (stopped f at) (stopped (e + 1) 0) xs (λ is. omega (arith, same_stop (e + 1) f at is)) end h.1
-
-  -- and where it hears something
+  -- a play stops where it hears something
   abbrev Hears : List Event → (e f : ℕ) → Type 0
   Hears es e f = (k : ℕ) × (f ≡ e + suc k) × (slice_get (sides es) k ≡ Some false)
 
@@ -67,7 +53,7 @@ module _ (m : Meaning Text) (d : ℕ → Text) where
       let g = stops_hearing es (F ++ t ∷ []) (vs ++ x ∷ []) (e + 1) i xs p f at end h.1 in
       (suc g.0, omega (arith, g.1), g.2)
   stops_hearing (recv t ∷ es) F vs e i (x ∷ xs) p f at end (inr h) =
-      ended p (stopped f at) (stopped (e + 1) 0) xs (λ is. (0, (let s = same_stop (e + 1) f at is in omega (arith, s)), refl)) end h.1
+      ended p (stopped f at) (stopped (e + 1) 0) xs (λ is. (0, (let s = same_event f at (e + 1) 0 is in omega (arith, s)), refl)) end h.1
 
   heard_there : (es : List Event) (f : ℕ) → Hears es 0 f → is_said (sides es) f ≡ false
   heard_there es zero h = refl
@@ -79,7 +65,7 @@ module _ (m : Meaning Text) (d : ℕ → Text) where
   pub play_hears : (plan : List Event) (init xs : List Text) (p : Played Text) (f at : ℕ) → p.end ≡ stopped f at → Play m d plan init xs p → is_said (sides plan) f ≡ false
   play_hears plan init xs p f at end (inl h) = heard_there plan f (stops_hearing plan (known plan) init 0 0 xs p f at end h.1)
   play_hears plan init xs p zero at end (inr h) = refl
-  play_hears plan init xs p (suc f) at end (inr h) = ended p (stopped (suc f) at) (stopped 0 0) xs (λ is. absurd (let s = same_stop 0 (suc f) at is in omega (arith, s))) end h.1
+  play_hears plan init xs p (suc f) at end (inr h) = ended p (stopped (suc f) at) (stopped 0 0) xs (λ is. absurd (let s = same_event (suc f) at 0 0 is in omega (arith, s))) end h.1
 
   -- ---- the first lines
 
@@ -93,7 +79,7 @@ module _ (m : Meaning Text) (d : ℕ → Text) where
   begins es F vs e i xs p walk = record {
     rest = p.sent;
     sent = refl;
-    later = λ f at end. (let l = stops_later es F vs e i xs p f at end walk in omega (arith, l));
+    later = λ f at end. (let l = stops_later m d es F vs e i xs p f at end walk in omega (arith, l));
   }
 
   goes_said : (n e : ℕ) (b c : Text) (messages : List Text) (p q : Played Text) → p ≡ says b q → b ≡ c → Goes n (e + 1) messages q → Goes (suc n) e (c ∷ messages) p

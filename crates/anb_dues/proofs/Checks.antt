@@ -1,11 +1,10 @@
 -- The case of a check: the role stops there, whatever the wrong value is, if it isn't the right one.
-use Rattle.std.proofs.Common.{◌≡◌, ◌≢◌, ℕ, suc, ◌+◌, ◌<◌, List, [], ◌∷◌, ◌++◌, length, map, take, Bool, true, false, cond, Option, Some, None, refl, sym, ap, ◌∙◌, subst, arith}
+use Rattle.std.proofs.Common.{◌≡◌, ◌≢◌, ℕ, ◌+◌, List, [], ◌∷◌, ◌++◌, length, map, take, Bool, true, false, cond, Option, Some, refl, sym, ap, ◌∙◌, subst, arith}
 use Rattle.std.specs.Prelude.{slice_get, count_by, ◌==◌, ◌||◌}
 use Rattle.std.specs.List.{AllByRecursion, list_any}
 use Rattle.std.specs.Option.{option_map}
 use Rattle.std.proofs.lemmas.Bool.{eqb-true}
 use Rattle.anb_lemmas.proofs.Items.{bytes_differ}
-use Rattle.anb_lemmas.proofs.Numbers.{nat_eq-differs}
 use Rattle.anb_base.specs.Bytes.{IsBytes, IsBytes-pass}
 use Rattle.anb_term.specs.FreeAlgebra.{terms, terms_over}
 use Rattle.anb_term.specs.Lawful.{Lawful}
@@ -21,8 +20,8 @@ use Rattle.anb_plays.specs.Codes.{Act, takes, draws, receives, sends, works, at_
 use Rattle.anb_plays.specs.Fits.{Place, Along, AnySend, AnyBorder, IsSound, after_take, after_label, after_work, start}
 use Rattle.anb_plays.specs.Honest.{honest, honest_all, heard, made}
 use Rattle.anb_plays.specs.Plans.{Event, know, fresh, send, recv, known}
-use Rattle.anb_plays.specs.Plays.{Played, stopped, done, ends}
-use Rattle.anb_plays.specs.Runs.{run, run_from, says_if}
+use Rattle.anb_plays.specs.Plays.{stopped, done, ends}
+use Rattle.anb_plays.specs.Runs.{run, run_from}
 use Rattle.anb_plays.specs.Statements.{HonestAgree}
 use Rattle.anb_plays.proofs.Honest.{honest_agree}
 use Rattle.anb_protocol.specs.Plans.{occurs}
@@ -32,6 +31,7 @@ use Rattle.anb_protocol.specs.Texts.{IsTermOf, AreTermsOf, atoms_in, atoms_in_al
 use Rattle.anb_protocol.proofs.Afters.{any-append}
 use Rattle.anb_probe.specs.Cases.{drawn, for_spare, run_in_terms}
 use Rattle.anb_probe.specs.Laws.{AreValuesOf, StopsThere, run_over}
+use Rattle.anb_probe.proofs.Dropping.{end_said}
 use Rattle.anb_probe.proofs.Following.{stops_there}
 use Rattle.anb_probe.proofs.InPlace.{differs_in_place}
 use Rattle.anb_spoil.specs.Wrongs.{wrong_by}
@@ -48,7 +48,8 @@ use Rattle.anb_unify.proofs.Putting.{put_itself}
 use Rattle.anb_partner.specs.Plans.{MayStand, has_atom, script_of}
 use Rattle.anb_attempts.specs.Attempts.{CaseMayStand, IsSceneOf, SidesDiffer, script_in}
 use Rattle.anb_attempts.specs.declared.attempts.Scene.{Scene}
-use Rattle.anb_dues.proofs.Comparing.{Reaches, less_sends, run_reaches}
+use Rattle.anb_tries.proofs.Refusing.{EachFrom, from_all, from_first, from_rest}
+use Rattle.anb_dues.proofs.Comparing.{Reaches, below, less_sends, run_reaches}
 use Rattle.anb_dues.proofs.Firsts.{Text}
 use Rattle.anb_dues.proofs.Naming.{both_ways, or_either, same_in, term_atoms}
 use Rattle.anb_dues.proofs.Stopping.{Grounds, Stops}
@@ -62,21 +63,14 @@ stand_formed p (t ∷ ts) all = (all.0.formed, stand_formed p ts all.1)
 -- ---- a code never stops over the narrated arrivals
 
 module _ (m : Meaning Text) (draw : ℕ → Tree) where
-  end_said : (o : Option Tree) (p : Played Tree) → (says_if o p).end ≡ p.end
-  end_said None p = refl
-  end_said (Some x) p = refl
-
   abbrev Sound : List Act → List Event → Place → Type 0
   Sound acts es s = Along AnySend (IsSound m) AnyBorder acts es s
 
+  abbrev Drawn : ℕ → Tree → Type 0
+  Drawn i t = draw i ≡ t
+
   abbrev AreDrawn : ℕ → List Event → Type 0
-  AreDrawn i es = (k : ℕ) (t : Tree) → slice_get (made es) k ≡ Some t → draw (i + k) ≡ t
-
-  drawn_now : (i : ℕ) (t : Tree) (es : List Event) → AreDrawn i (fresh t ∷ es) → draw i ≡ t
-  drawn_now i t es h = let n : i + 0 ≡ i = omega arith in subst (λ j. draw j ≡ t) n (h 0 t refl)
-
-  drawn_on : (i : ℕ) (t : Tree) (es : List Event) → AreDrawn i (fresh t ∷ es) → AreDrawn (i + 1) es
-  drawn_on i t es h k u e = let n : i + suc k ≡ i + 1 + k = omega arith in subst (λ j. draw j ≡ u) n (h (suc k) u e)
+  AreDrawn i es = EachFrom Drawn i (made es)
 
   narrated_ends : (acts : List Act) (es : List Event) (s : Place) (e at i : ℕ) → Sound acts es s → AreDrawn i es → (run_from (terms_over m.has) draw acts s.regs s.frame e at i (heard es)).end ≡ done
   narrated_ends [] [] s e at i sound are = refl
@@ -86,8 +80,8 @@ module _ (m : Meaning Text) (draw : ℕ → Tree) where
       ∙ narrated_ends acts es (after_work s w) e (at + 1) i sound.1 are
   narrated_ends (takes ∷ acts) (know t ∷ es) s e at i sound are = narrated_ends acts es (after_take s) e (at + 1) i sound are
   narrated_ends (draws ∷ acts) (fresh t ∷ es) s e at i sound are =
-      ap (λ x. (run_from (terms_over m.has) draw acts (s.regs ++ label (length s.frame) ∷ []) (s.frame ++ x ∷ []) e (at + 1) (i + 1) (heard es)).end) (drawn_now i t es are)
-      ∙ narrated_ends acts es (after_label s t) e (at + 1) (i + 1) sound (drawn_on i t es are)
+      ap (λ x. (run_from (terms_over m.has) draw acts (s.regs ++ label (length s.frame) ∷ []) (s.frame ++ x ∷ []) e (at + 1) (i + 1) (heard es)).end) (from_first Drawn i t (made es) are)
+      ∙ narrated_ends acts es (after_label s t) e (at + 1) (i + 1) sound (from_rest Drawn i t (made es) are)
   narrated_ends (receives ∷ acts) (recv t ∷ es) s e at i sound are = narrated_ends acts es (after_label s t) (e + 1) (at + 1) i sound.1 are
   narrated_ends (sends r ∷ acts) (send t ∷ es) s e at i sound are =
       end_said (value (terms_over m.has) s.frame (at_register s.regs r)) (run_from (terms_over m.has) draw acts s.regs s.frame (e + 1) (at + 1) i (heard es))
@@ -174,9 +168,6 @@ pub other_differs : (x : Text) → other_than x ≢ x
 other_differs [] = λ e. cc
 other_differs (x ∷ xs) = λ e. cc
 
-pub below : (n names : ℕ) → n < names → (n == names) ≡ false
-below n names less = nat_eq-differs n names (λ same. (let never : ⊥ = omega (arith, same, less) in never))
-
 module _ (p : ProtocolValue) (role : ℕ) (code : CodeValue) (g : Grounds p role (acts_of code)) where
   abbrev m : Meaning Text
   m = meaning_of p
@@ -237,8 +228,7 @@ module _ (p : ProtocolValue) (role : ℕ) (code : CodeValue) (g : Grounds p role
       by true e = each_ours p w came e (subst (AllByRecursion (IsTermOf p)) (sym is.is.narrated) (g.ours.hears role))
       by false e =
           let same : came ≡ heard plan = sym (each_kept p w came e) ∙ is.is.narrated in
-          let are : (k : ℕ) (t : Tree) → slice_get (made plan) k ≡ Some t → drawn plan (0 + k) ≡ t =
-          λ k t at. (let z : k ≡ 0 + k = omega arith in subst (λ j. drawn plan j ≡ t) z (drawn_at k t at)) in
+          let are = from_all (λ i t. drawn plan i ≡ t) (made plan) drawn_at in
           let over = narrated_ends m (drawn plan) acts plan (start plan) 0 0 0 g.fits.sound are in
           let stop : (run_in_terms (has_operator p.formats) plan acts (heard plan)).end ≡ stopped case.event check = subst (λ l. (run_in_terms (has_operator p.formats) plan acts l).end ≡ stopped case.event check) same is.event in
           absurd (let never : done ≡ stopped case.event check = sym over ∙ stop in cc) where

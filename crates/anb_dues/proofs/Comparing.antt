@@ -2,7 +2,7 @@
 use Rattle.std.proofs.Common.{◌≡◌, ℕ, zero, suc, ◌+◌, ◌<◌, ◌≤◌, List, [], ◌∷◌, ◌++◌, length, take, drop, Bool, true, false, Option, Some, None, refl, sym, ap, ◌∙◌, subst, arith, length-append}
 use Rattle.std.specs.Prelude.{slice_get, unwrap_or, ◌==◌}
 use Rattle.std.specs.Option.{option_map, option_and_then}
-use Rattle.std.proofs.lemmas.Bool.{eqb-true}
+use Rattle.anb_lemmas.proofs.Numbers.{nat_eq-differs}
 use Rattle.anb_term.specs.declared.term.Op.{Op}
 use Rattle.anb_term.specs.FreeAlgebra.{terms, terms_over}
 use Rattle.anb_term.specs.FreeLawful.{free_lawful}
@@ -14,9 +14,9 @@ use Rattle.anb_plays.specs.Codes.{Act, takes, draws, receives, sends, works, Wor
 use Rattle.anb_plays.specs.Exec.{exec, on_written, worked, count_written, IsReady, IsVerified, HasTakes}
 use Rattle.anb_plays.specs.Fits.{Place, Along, AnySend, AnyWork, AnyBorder, Follows, after_take, after_label, after_work, start}
 use Rattle.anb_plays.specs.Honest.{made}
-use Rattle.anb_plays.specs.Runs.{says_if}
 use Rattle.anb_plays.proofs.Exec.{exec_is_run, takes_ready}
 use Rattle.anb_probe.specs.Cases.{drawn, less, run_in_terms, without}
+use Rattle.anb_probe.proofs.Dropping.{end_said}
 use Rattle.anb_distinguish.specs.Finding.{IsCheck}
 use Rattle.anb_distinguish.proofs.Dropped.{taking_less}
 use Rattle.anb_openings.specs.Steps.{Progress, begun, writing, drawing, saying, after, after_all}
@@ -26,6 +26,7 @@ use Rattle.anb_suite.specs.declared.reading.Reading.{Reading}
 use Rattle.anb_suite.specs.declared.reading.Reading.TheVariants.{Both, First, Second}
 use Rattle.anb_suite.proofs.Replaced.{taking_by}
 use Rattle.anb_suite.proofs.Stepping.{kept}
+use Rattle.anb_tries.proofs.Refusing.{EachFrom, from_all, from_first, from_rest}
 use Rattle.anb_dues.proofs.Sending.{sends_first}
 
 -- ---- a run that stops goes on up to there
@@ -56,19 +57,13 @@ module _ (has : Op → Bool) (made_terms : List Tree) (draw : ℕ → Tree) wher
     event = g.event;
   }
 
+  -- a name that is drawn
+  abbrev Drawn : ℕ → Tree → Type 0
+  Drawn i t = (slice_get made_terms i ≡ Some t) × (draw i ≡ t)
+
   -- the names of the plan from the i-th on are those that are drawn
   abbrev AreDrawn : ℕ → List Event → Type 0
-  AreDrawn i es = (k : ℕ) (t : Tree) → slice_get (made es) k ≡ Some t → (slice_get made_terms (i + k) ≡ Some t) × (draw (i + k) ≡ t)
-
-  drawn_now : (i : ℕ) (t : Tree) (es : List Event) → AreDrawn i (fresh t ∷ es) → (slice_get made_terms i ≡ Some t) × (draw i ≡ t)
-  drawn_now i t es h = let n : i + 0 ≡ i = omega arith in subst (λ j. (slice_get made_terms j ≡ Some t) × (draw j ≡ t)) n (h 0 t refl)
-
-  drawn_on : (i : ℕ) (t : Tree) (es : List Event) → AreDrawn i (fresh t ∷ es) → AreDrawn (i + 1) es
-  drawn_on i t es h k u e = let n : i + suc k ≡ i + 1 + k = omega arith in subst (λ j. (slice_get made_terms j ≡ Some u) × (draw j ≡ u)) n (h (suc k) u e)
-
-  end_said : (o : Option Tree) (p : Played Tree) → (says_if o p).end ≡ p.end
-  end_said None p = refl
-  end_said (Some x) p = refl
+  AreDrawn i es = EachFrom Drawn i (made es)
 
   by_written : (w : Work) (acts : List Act) (table sent : List Tree) (event i : ℕ) (left : List Tree) (at stop place : ℕ) (o : Option (List Tree)) → worked (terms_over has) table w ≡ o
       → ((ws : List Tree) → worked (terms_over has) table w ≡ Some ws → (exec (terms_over has) draw acts (table ++ ws) event (at + 1) i left).end ≡ stopped stop place → GoesTo acts (at_progress (table ++ ws) sent event i left) (at + 1) stop place)
@@ -97,11 +92,11 @@ module _ (has : Op → Bool) (made_terms : List Tree) (draw : ℕ → Tree) wher
       one_more takes acts (at_progress table sent event i left) (at_progress table sent event i left) at stop place refl
       (goes_to acts es (after_take pl) table sent event i left (at + 1) stop place order are ready s)
   goes_to (draws ∷ acts) (fresh t ∷ es) pl table sent event i left at stop place order are ready s =
-      let now = drawn_now i t es are in
+      let now = from_first Drawn i t (made es) are in
       let here = subst (λ x. (exec (terms_over has) draw acts (table ++ x ∷ []) event (at + 1) (i + 1) left).end ≡ stopped stop place) now.1 s in
       one_more draws acts (at_progress table sent event i left) (at_progress (table ++ t ∷ []) sent event (i + 1) left) at stop place
       (ap (option_map (λ x. drawing x (at_progress table sent event i left))) now.0)
-      (goes_to acts es (after_label pl t) (table ++ t ∷ []) sent event (i + 1) left (at + 1) stop place order (drawn_on i t es are) (subst (IsVerified has acts) (sym (length-append table (t ∷ []))) ready) here)
+      (goes_to acts es (after_label pl t) (table ++ t ∷ []) sent event (i + 1) left (at + 1) stop place order (from_rest Drawn i t (made es) are) (subst (IsVerified has acts) (sym (length-append table (t ∷ []))) ready) here)
   goes_to (receives ∷ acts) (recv t ∷ es) pl table sent event i [] at stop place order are ready s = absurd (cc)
   goes_to (receives ∷ acts) (recv t ∷ es) pl table sent event i (x ∷ left) at stop place order are ready s =
       one_more receives acts (at_progress table sent event i (x ∷ left)) (at_progress (table ++ x ∷ []) sent (event + 1) i left) at stop place refl
@@ -142,8 +137,7 @@ pub run_reaches : (has : Op → Bool) (plan : List Event) (acts : List Act) (arr
 run_reaches has plan acts arrivals stop place taking order stops =
     let same = exec_is_run (terms_over has) (free_lawful has) (drawn plan) acts (known plan) arrivals taking in
     let here = ap (λ (q : Played Tree). q.end) same ∙ stops in
-    let are : AreDrawn has (made plan) (drawn plan) 0 plan =
-    λ k t e. (let z : k ≡ 0 + k = omega arith in subst (λ j. (slice_get (made plan) j ≡ Some t) × (drawn plan j ≡ t)) z (e, ap (λ o. unwrap_or o (leaf 0)) e)) in
+    let are = from_all (Drawn has (made plan) (drawn plan)) (made plan) (λ k t e. (e, ap (λ o. unwrap_or o (leaf 0)) e)) in
     let g = goes_to has (made plan) (drawn plan) acts plan (start plan) (known plan) [] 0 0 arrivals 0 stop place order are (takes_ready has acts 0 (length (known plan)) taking) here in
     record { count = g.count; counts = (let c = g.counts in omega (arith, c)); before = g.reached; comes = g.goes; event = g.event }
 
@@ -167,17 +161,15 @@ read_begins Both n check a b acts few = (drop n acts, all n acts) where
 read_begins First n check a b acts few = read_front n check b a acts few
 read_begins Second n check a b acts few = read_front n check a b acts few
 
-not_there : (i check : ℕ) → i < check → (i == check) ≡ false
-not_there i check less = by (i == check) refl where
-  by : (b : Bool) → (i == check) ≡ b → b ≡ false
-  by true e = (let same = eqb-true i check e in absurd (omega (arith, same, less)))
-  by false e = refl
+-- a number below another isn't it
+pub below : (i n : ℕ) → i < n → (i == n) ≡ false
+below i n less = nat_eq-differs i n (λ same. (let never : ⊥ = omega (arith, same, less) in never))
 
 less_front : (check : ℕ) (front rest : List Act) (k : ℕ) → k + length front < check → Begins front (without (λ n. n == check) k (front ++ rest))
 less_front check [] rest k few = (without (λ n. n == check) k rest, refl)
 less_front check (act ∷ front) rest k few =
     let f = less_front check front rest (k + 1) (omega (arith, few)) in
-    (f.0, kept check act (front ++ rest) k (not_there (k + 1) check (omega (arith, few))) ∙ ap (λ l. act ∷ l) f.1)
+    (f.0, kept check act (front ++ rest) k (below (k + 1) check (omega (arith, few))) ∙ ap (λ l. act ∷ l) f.1)
 
 take_few : {A : Type 0} (n : ℕ) (xs : List A) → length (take n xs) ≤ n
 take_few zero xs = omega arith

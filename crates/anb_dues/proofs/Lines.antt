@@ -42,7 +42,7 @@ use Rattle.anb_openings.specs.Steps.{Progress, begun, after_all}
 use Rattle.anb_openings.proofs.Readying.{ready_before}
 use Rattle.anb_openings.proofs.Valued.{all_went, mapped_back, seen}
 use Rattle.anb_partner.specs.Laws.{PartnersPlay}
-use Rattle.anb_partner.specs.Plans.{handed_terms, has_atom, lines_before, mirrored, partner_plan}
+use Rattle.anb_partner.specs.Plans.{Script, handed_terms, has_atom, lines_before, mirrored, partner_plan}
 use Rattle.anb_partner.specs.Talks.{Corruption, Hooked, IsHooked, flipped, own_lines}
 use Rattle.anb_tries.specs.Laws.{Attempt, IsAttempt}
 use Rattle.anb_tries.proofs.Placed.{R, arrive, from_none, own, partner_plays, placed, plan_apart}
@@ -76,7 +76,7 @@ pub own_talked : (hs : List Text) (o : Option Hooked) (ls : List TranscriptLine)
 own_talked hs None ls = refl
 own_talked hs (Some h) ls = append_assoc (map In hs) (map flipped (take h.at ls)) (Out h.right ∷ In h.wrong ∷ map flipped (drop h.at ls))
 
-pub is_at : (r : Tree) (before at : Option ℕ) (corrupt : Corruption) (ls : List TranscriptLine) (o : Option Hooked) → at ≡ before → IsHooked at corrupt ls o → IsAt (Some r) (hook_of o) before 0 (length ls)
+is_at : (r : Tree) (before at : Option ℕ) (corrupt : Corruption) (ls : List TranscriptLine) (o : Option Hooked) → at ≡ before → IsHooked at corrupt ls o → IsAt (Some r) (hook_of o) before 0 (length ls)
 is_at r before at corrupt ls None same is = from_none before (length ls) (subst (λ x. IfSome x (λ n. length ls ≤ n)) same is)
 is_at r before at corrupt ls (Some h) same is = (sym same ∙ is.0 ∙ ap Some (let e : h.at ≡ 0 + h.at = omega arith in e), is.1)
 
@@ -84,11 +84,11 @@ pub wrong_bytes : (at : Option ℕ) (corrupt : Corruption) (ls : List Transcript
 wrong_bytes at corrupt ls None is = IsBytes-pass [] refl
 wrong_bytes at corrupt ls (Some h) is = is.3
 
-pub arrivals_handed : (hs : List Text) (ls : List TranscriptLine) → arrivals_of (map In hs ++ ls) ≡ hs ++ arrivals_of ls
+arrivals_handed : (hs : List Text) (ls : List TranscriptLine) → arrivals_of (map In hs ++ ls) ≡ hs ++ arrivals_of ls
 arrivals_handed [] ls = refl
 arrivals_handed (h ∷ hs) ls = ap (λ l. h ∷ l) (arrivals_handed hs ls)
 
-pub messages_handed : (hs : List Text) (ls : List TranscriptLine) → messages_of (map In hs ++ ls) ≡ messages_of ls
+messages_handed : (hs : List Text) (ls : List TranscriptLine) → messages_of (map In hs ++ ls) ≡ messages_of ls
 messages_handed [] ls = refl
 messages_handed (h ∷ hs) ls = messages_handed hs ls
 
@@ -107,7 +107,7 @@ module _ (p : ProtocolValue) (role : ℕ) (acts : List Act) (g : Grounds p role 
   pub agrees : HonestAgree m
   agrees = honest_agree m lawful
 
-  known_formed : AreFormed m.has (trees_of (known plan))
+  pub known_formed : AreFormed m.has (trees_of (known plan))
   known_formed = formed_list p (known plan) (subst (AllByRecursion (IsTermOf p)) (sym (role_known p role)) (all_known (IsTermOf p) p.knows role g.ours.knows))
 
   made_formed : AreFormed m.has (trees_of (made plan))
@@ -152,6 +152,43 @@ heard_known (t ∷ ts) es = heard_known ts es
 heard_handed : (ts : List Tree) (es : List PlanEvent) → heard (map event_of (map (to_receive 0) ts ++ es)) ≡ ts ++ heard (map event_of es)
 heard_handed [] es = refl
 heard_handed (t ∷ ts) es = ap (λ l. t ∷ l) (heard_handed ts es)
+
+-- ---- the partner of an attempt
+
+-- where a value is made wrong, its plan is what it knows, what it is handed, and the mirrored plan of the role with that value
+pub partner_mirrors : (s : Script) (right : Tree) → s.right ≡ Some right → map event_of (partner_plan s) ≡ map event_of (map to_know (known_by s.protocol s.role) ++ (map (to_receive 0) (handed_terms s.protocol s.role)
+    ++ mirrored (length s.protocol.atoms) (Some right) 1 (plan_of s.protocol s.role) s.arrivals s.messages))
+partner_mirrors s right is =
+    ap (map event_of) (plan_apart s)
+    ∙ ap (λ r. map event_of (map to_know (known_by s.protocol s.role) ++ (map (to_receive 0) (handed_terms s.protocol s.role) ++ mirrored (length s.protocol.atoms) r 1 (plan_of s.protocol s.role) s.arrivals s.messages))) is
+
+-- and it is made wrong where the plan says
+pub hooked_at : (a : Attempt) (is : IsAttempt a) (right : Tree) → a.script.right ≡ Some right
+    → IsAt (Some right) (hook_of is.converses.talks.hooked) (lines_before (length a.script.protocol.atoms) 0 (plan_of a.script.protocol a.script.role) a.script.arrivals) 0 (length a.conversation.lines)
+hooked_at a is right right_is =
+    let before = lines_before (length a.script.protocol.atoms) 0 (plan_of a.script.protocol a.script.role) a.script.arrivals in
+    is_at right before a.at a.wrong a.conversation.lines is.converses.talks.hooked (is.hook ∙ ap (option_and_then (λ (t : Tree). before)) right_is) is.converses.talks.is_hooked
+
+-- its lines are what it is handed, and then this talk
+module _ (a : Attempt) (is : IsAttempt a) (law : PartnersPlay a.script.protocol) (talk : List TranscriptLine) (own_is : own a is law ≡ map In a.handed ++ talk) where
+  pub own_arrivals : (xs : List Text) → a.handed ≡ xs → arrivals_of (own a is law) ≡ xs ++ arrivals_of talk
+  own_arrivals xs hands = ap arrivals_of own_is ∙ arrivals_handed a.handed talk ∙ ap (λ l. l ++ arrivals_of talk) hands
+
+  pub own_messages : messages_of (own a is law) ≡ messages_of talk
+  own_messages = ap messages_of own_is ∙ messages_handed a.handed talk
+
+  -- its run over them is a play of its plan
+  pub partner_plays_them : (xs : List Text) → a.handed ≡ xs
+      → Play (meaning_of a.script.protocol) (draw_of (replicate 32 0) 0) (map event_of (partner_plan a.script)) a.initial (xs ++ arrivals_of talk) (without_place (R a is law (arrivals_of (own a is law))))
+  partner_plays_them xs hands =
+      subst (λ l. Play (meaning_of a.script.protocol) (draw_of (replicate 32 0) 0) (map event_of (partner_plan a.script)) a.initial l (without_place (R a is law (arrivals_of (own a is law))))) (own_arrivals xs hands)
+      (partner_plays a is law (arrivals_of (own a is law)) (arrive a is law))
+
+  -- that says first what they say
+  pub partner_says_them : SaysFirst (without_place (R a is law (arrivals_of (own a is law)))) (messages_of talk)
+  partner_says_them =
+      let says = says_all (R a is law) (λ xs more. run_grows (byte_meaning a.code.formats a.code.suite) (draw_of (replicate 32 0) 0) (acts_of a.code) a.initial xs more) (own a is law) is.converses.talks.due in
+      (says.0, says.1 ∙ ap (λ l. l ++ says.0) own_messages)
 
 -- ---- an attempt
 
@@ -295,9 +332,7 @@ module _ (a : Attempt) (acts : List Act) (event : ℕ) (s : IsStopping a acts ev
   talk = talked (right_of o) wrong (hook_of o) lines
 
   partner_is : partner ≡ map event_of (map to_know ks ++ (map (to_receive 0) hs ++ mirror))
-  partner_is =
-      ap (map event_of) (plan_apart a.script)
-      ∙ ap (λ r. map event_of (map to_know ks ++ (map (to_receive 0) hs ++ mirrored spare r 1 own_es a.script.arrivals a.script.messages))) st.right_is
+  partner_is = partner_mirrors a.script st.right st.right_is
 
   pub partner_begins : a.initial ≡ map of (known_by a.script.protocol a.script.role)
   partner_begins = s.names.begins ∙ sym (knows_named p role g.ours d atoms wrong)
@@ -312,15 +347,13 @@ module _ (a : Attempt) (acts : List Act) (event : ℕ) (s : IsStopping a acts ev
   q = without_place (R a is law (arrivals_of (own a is law)))
 
   came : arrivals_of (own a is law) ≡ map of hs ++ arrivals_of talk
-  came = ap arrivals_of own_is ∙ arrivals_handed a.handed talk ∙ ap (λ l. l ++ arrivals_of talk) partner_hands
+  came = own_arrivals a is law talk own_is (map of hs) partner_hands
 
   partner_plays_it : Play by_bytes (draw_of (replicate 32 0) 0) partner a.initial (map of hs ++ arrivals_of talk) q
-  partner_plays_it = subst (λ xs. Play by_bytes (draw_of (replicate 32 0) 0) partner a.initial xs q) came (partner_plays a is law (arrivals_of (own a is law)) (arrive a is law))
+  partner_plays_it = partner_plays_them a is law talk own_is (map of hs) partner_hands
 
   partner_says : SaysFirst q (messages_of talk)
-  partner_says =
-      let says = says_all (R a is law) (λ xs more. run_grows (byte_meaning a.code.formats a.code.suite) (draw_of (replicate 32 0) 0) (acts_of a.code) a.initial xs more) (own a is law) is.converses.talks.due in
-      (says.0, says.1 ∙ ap (λ l. l ++ says.0) (ap messages_of own_is ∙ messages_handed a.handed talk))
+  partner_says = partner_says_them a is law talk own_is
 
   pub own_agrees : HonestAgree by_bytes
   own_agrees = agrees p role acts g
@@ -331,11 +364,8 @@ module _ (a : Attempt) (acts : List Act) (event : ℕ) (s : IsStopping a acts ev
   pub hands_formed : AreFormed (has_operator a.script.protocol.formats) (trees_of (handed_terms a.script.protocol a.script.role))
   hands_formed = formed_list p hs (handed_ours p role g.ours)
 
-  hook_is : a.at ≡ lines_before spare 0 own_es a.script.arrivals
-  hook_is = is.hook ∙ ap (option_and_then (λ (t : Tree). lines_before spare 0 own_es a.script.arrivals)) st.right_is
-
   at_hook : IsAt (Some st.right) (hook_of o) (lines_before spare 0 own_es a.script.arrivals) 0 (length lines)
-  at_hook = is_at st.right (lines_before spare 0 own_es a.script.arrivals) a.at a.wrong lines o hook_is is.converses.talks.is_hooked
+  at_hook = hooked_at a is st.right st.right_is
 
   -- ---- line by line
 

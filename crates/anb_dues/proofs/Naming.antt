@@ -97,7 +97,8 @@ begins_each P (to_make t ∷ es) knows makes = (makes.0, begins_each P es knows 
 begins_each P (to_send i t ∷ es) knows makes = begins_each P es knows makes
 begins_each P (to_receive i t ∷ es) knows makes = begins_each P es knows makes
 
-handed_each : (P : Tree → Type 0) (p : ProtocolValue) (role : ℕ) → ((other : ℕ) → (other == role) ≡ false → AllByRecursion P (begins (plan_of p other))) → (others : List ℕ) → AllByRecursion P (flat_map (handed_by p role) others)
+-- what holds of all that each of the others begins with holds of all that a partner is handed
+pub handed_each : (P : Tree → Type 0) (p : ProtocolValue) (role : ℕ) → ((other : ℕ) → (other == role) ≡ false → AllByRecursion P (begins (plan_of p other))) → (others : List ℕ) → AllByRecursion P (flat_map (handed_by p role) others)
 handed_each P p role each [] = tt
 handed_each P p role each (other ∷ others) = each_in_both P (handed_by p role other) (flat_map (handed_by p role) others) (one (other == role) refl) (handed_each P p role each others) where
   one : (b : Bool) → (other == role) ≡ b → AllByRecursion P (if b then [] else begins (plan_of p other))

@@ -1,5 +1,5 @@
 -- Each attempt of a suite is in a scene in which the role stops where that is known, and which is the honest one where nothing is made wrong.
-use Rattle.std.proofs.Common.{◌≡◌, ℕ, suc, ◌+◌, List, [], ◌∷◌, ◌++◌, length, map, Bool, true, false, Option, Some, None, refl, sym, ap, ◌∙◌, subst, inl, inr, ◌⊎◌, arith}
+use Rattle.std.proofs.Common.{◌≡◌, ℕ, ◌+◌, List, [], ◌∷◌, ◌++◌, length, map, Bool, true, false, Option, Some, None, refl, sym, ap, ◌∙◌, subst, inl, inr, ◌⊎◌, arith}
 use Rattle.std.specs.Prelude.{filter, slice_get}
 use Rattle.std.specs.List.{AllByRecursion, AllZip}
 use Rattle.std.specs.Option.{option_map, option_map_or}
@@ -9,6 +9,7 @@ use Rattle.anb_term.specs.View.{tree_of}
 use Rattle.anb_term.proofs.Lists.{slice_get-append}
 use Rattle.anb_code.specs.CodeValue.{CodeValue}
 use Rattle.anb_code.specs.Meaning.{acts_of}
+use Rattle.anb_compile.proofs.Lists.{later_part}
 use Rattle.anb_format.specs.Formats.{FormatValue}
 use Rattle.anb_protocol.specs.Protocols.{ProtocolValue}
 use Rattle.anb_openings.specs.Openings.{IsOpeningCaseOf, IsOpeningFinding, parsed_at}
@@ -42,10 +43,6 @@ use Rattle.anb_dues.proofs.Opening.{parsed_known, tag_known}
 use Rattle.anb_dues.proofs.Stopping.{Grounds, Stops}
 use Rattle.anb_dues.proofs.Within.{IsFine, few_fine, may_or_not, within_known}
 
-pub get_behind : {X : Type 0} (xs ys : List X) (k : ℕ) (x : X) → slice_get ys k ≡ Some x → slice_get (xs ++ ys) (length xs + k) ≡ Some x
-get_behind [] ys k x e = (let z : k ≡ 0 + k = omega arith in subst (λ j. slice_get ys j ≡ Some x) z e)
-get_behind (y ∷ xs) ys k x e = (let z : suc (length xs + k) ≡ suc (length xs) + k = omega arith in subst (λ j. slice_get (y ∷ (xs ++ ys)) j ≡ Some x) z (get_behind xs ys k x e))
-
 module _ (p : ProtocolValue) (role : ℕ) (code : CodeValue) (g : Grounds p role (acts_of code)) where
   -- where it is known that the role stops, it does; and where nothing is made wrong, all is as narrated
   pub record IsGood (scene : Scene) (wrong : Wrong) : Type 0 where
@@ -75,7 +72,7 @@ module _ (p : ProtocolValue) (role : ℕ) (code : CodeValue) (g : Grounds p role
     place = length xs + i.place;
     scene = i.scene;
     counts = (let c = i.counts in omega (arith, c));
-    there = get_behind xs ys i.place i.scene i.there;
+    there = later_part xs ys i.place i.scene i.there;
     good = i.good;
   }
 

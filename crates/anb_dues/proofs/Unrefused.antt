@@ -19,6 +19,7 @@ use Rattle.anb_tries.proofs.Narrated.{arrivals_both, fits_first, messages_both}
 use Rattle.anb_tries.proofs.Placed.{own, placed}
 use Rattle.anb_tries.proofs.Refusing.{refuses_none}
 use Rattle.anb_tries.proofs.Passing.{first_lines}
+use Rattle.anb_tries.proofs.Stopping.{same_event}
 use Rattle.anb_dues.specs.Laws.{IsUnrefused}
 use Rattle.anb_dues.proofs.Alike.{play_said_few, play_says_alike, play_stops_alike}
 use Rattle.anb_dues.proofs.Counting.{said_in}
@@ -44,7 +45,7 @@ module _ (a : Attempt) (acts : List Act) (event : ℕ) (s : IsStopping a acts ev
       let back = drop k lines in
       let r = run_with a acts event s plays.draw plays.drawn v in
       let whole : lines ≡ front ++ back = sym (take-append-drop k lines) in
-      let first = first_lines a s.is plays in
+      let first = first_lines a s.is plays.played.sent plays.short plays.output in
       let said : plays.played.sent ≡ messages_of front ++ (messages_of back ++ first.0) =
       first.1 ∙ ap (λ l. l ++ first.0) (ap messages_of whole ∙ messages_both front back) ∙ append_assoc (messages_of front) (messages_of back) first.0 in
       let fits = fits_first (sides plan) front back (subst (Fits (sides plan)) whole (placed a s.is s.law)) in
@@ -92,9 +93,6 @@ module _ (a : Attempt) (acts : List Act) (event : ℕ) (s : IsStopping a acts ev
   unrefused : a.conversation.end ≡ Refused → ⊥
   unrefused refused = refuses_none a s.is s.law (agrees a.script.protocol a.script.role acts s.base) hears refused
 
-  same_event : (e f i j : ℕ) → stopped e i ≡ stopped f j → e ≡ f
-  same_event e f i j same = cc
-
   -- it stops there, if it does
   stops_there : (e at : ℕ) → plays.played.end ≡ stopped e at → e ≡ event
   stops_there e at end =
@@ -105,7 +103,7 @@ module _ (a : Attempt) (acts : List Act) (event : ℕ) (s : IsStopping a acts ev
       let more = map by (drop (length (arrivals_of lines)) a.script.arrivals) in
       let there = play_stops_alike (meaning_of a.script.protocol) plays.draw plan a.initial (arrivals_of lines) more plays.played r e at end plays.play
       (subst (λ xs. Play (meaning_of a.script.protocol) plays.draw plan a.initial xs r) (sym (are_all by (arrivals_of lines) a.script.arrivals are)) (play a acts event s plays.draw plays.drawn c.v c.strings)) in
-      same_event e event at 0 (sym there ∙ run_stops a acts event s plays.draw plays.drawn c.v c.stops)
+      same_event e at event 0 (sym there ∙ run_stops a acts event s plays.draw plays.drawn c.v c.stops)
 
   -- In an attempt in a scene in which the role is known to stop, the partner refuses none of the child's messages, and where the child
   -- stops, this is known.

@@ -58,8 +58,8 @@ use Rattle.anb_attempts.specs.Attempts.{CaseMayStand, IsSceneOf, SidesDiffer, sc
 use Rattle.anb_attempts.specs.Inner.{InnerOperandsValue, InnerValue, IsWithin, few_within, in_place_of, inner_before, inner_behind, inner_from, inner_node, inner_of, inner_within}
 use Rattle.anb_attempts.specs.declared.attempts.Scene.{Scene}
 use Rattle.anb_tries.proofs.Narrated.{role_known}
-use Rattle.anb_dues.proofs.Checks.{below, in_scene, one_event, other_bytes, other_differs, other_than, reaches, says, sides_law, stand_formed}
-use Rattle.anb_dues.proofs.Comparing.{any_ready}
+use Rattle.anb_dues.proofs.Checks.{in_scene, one_event, other_bytes, other_differs, other_than, reaches, says, sides_law, stand_formed}
+use Rattle.anb_dues.proofs.Comparing.{any_ready, below}
 use Rattle.anb_dues.proofs.Firsts.{Text}
 use Rattle.anb_dues.proofs.Naming.{same_in, term_atoms}
 use Rattle.anb_dues.proofs.Stopping.{Grounds, Stops}

@@ -15,7 +15,7 @@ use Rattle.anb_transcript.specs.Replays.{arrivals_of, messages_of}
 use Rattle.anb_partner.specs.Plans.{has_atom, hook, lines_before, mirrored}
 use Rattle.anb_partner.specs.Talks.{flipped}
 use Rattle.anb_tries.proofs.Along.{Fits, before_least, fits_none, heard_in, next, said_in, sides_of}
-use Rattle.anb_tries.proofs.Refusing.{one_formed}
+use Rattle.anb_tries.proofs.Refusing.{done_goes, one_formed, waiting_goes}
 use Rattle.anb_dues.proofs.Firsts.{Are, Text}
 use Rattle.anb_dues.proofs.Speaking as speaking
 use Rattle.anb_dues.proofs.Speaking.{IsAt, by_test, heard_right, same_some, talked}
@@ -28,20 +28,15 @@ pub record Goes (ss : List Bool) (ls : List TranscriptLine) (sent : List Text) (
   pub waits : (w : ℕ) → q.end ≡ waiting w → q.sent ≡ sent → next ss ls ≡ Some true
 
 ends_over : (ss : List Bool) (ls : List TranscriptLine) (sent xs : List Text) (q : Played Text) → q ≡ ends done xs → Goes ss ls sent q
-ends_over ss ls sent xs q is = record { stops = λ f at end. never f at (here ∙ end); waits = λ w end said. absurd (waits w (here ∙ end)) } where
+ends_over ss ls sent xs q is = record { stops = λ f at end. done_goes f at (here ∙ end); waits = λ w end said. absurd (waits w (here ∙ end)) } where
   here : done ≡ q.end
   here = sym (ap (λ (p : Played Text). p.end) is)
-
-  never : (f at : ℕ) → done ≡ stopped f at → ⊥
-  never f at e = cc
 
   waits : (w : ℕ) → done ≡ waiting w → ⊥
   waits w e = cc
 
 not_stopped : (q : Played Text) (w : ℕ) (xs : List Text) → q ≡ ends (waiting w) xs → (f at : ℕ) → q.end ≡ stopped f at → ⊥
-not_stopped q w xs is f at end = never (sym (ap (λ (p : Played Text). p.end) is) ∙ end) where
-  never : waiting w ≡ stopped f at → ⊥
-  never e = cc
+not_stopped q w xs is f at end = waiting_goes w f at (sym (ap (λ (p : Played Text). p.end) is) ∙ end)
 
 -- one message more
 and_said : (ss : List Bool) (ls : List TranscriptLine) (sent : List Text) (b c : Text) (p q : Played Text) → p ≡ says b q → Goes ss ls sent q → Goes ss ls (c ∷ sent) p

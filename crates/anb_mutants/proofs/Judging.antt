@@ -13,7 +13,8 @@ use Rattle.anb_plays.specs.Fits.{Place, Along, AnySend, AnyWork, AnyBorder, afte
 use Rattle.anb_plays.specs.Honest.{heard}
 use Rattle.anb_plays.specs.Plans.{Event, know, fresh, send, recv}
 use Rattle.anb_plays.specs.Plays.{Played, stopped, ends}
-use Rattle.anb_plays.specs.Runs.{run_from, says_if}
+use Rattle.anb_plays.specs.Runs.{run_from}
+use Rattle.anb_probe.proofs.Dropping.{end_said}
 use Rattle.anb_transcript.specs.declared.following.Due.{Due}
 use Rattle.anb_transcript.specs.declared.following.Due.TheVariants.{Send, Receive, End as Over}
 use Rattle.anb_transcript.specs.declared.following.ReplayEnd.{ReplayEnd}
@@ -31,10 +32,6 @@ use Rattle.anb_tries.proofs.Along.{Fits}
 -- ---- where a code stops
 
 module _ {A : Type 0} (m : Meaning A) (draw : ℕ → A) where
-  end_said : (o : Option A) (p : Played A) → (says_if o p).end ≡ p.end
-  end_said None p = refl
-  end_said (Some x) p = refl
-
   by_demand : (b : Bool) (p : Played A) (e at f place n : ℕ) (left : List A) → (p.end ≡ stopped f place → f ≤ e + n) → (cond b p (ends (stopped e at) left)).end ≡ stopped f place → f ≤ e + n
   by_demand true p e at f place n left ih s = ih s
   by_demand false p e at f place n left ih s = let same : e ≡ f = cc in omega (arith, same)

@@ -1,5 +1,5 @@
 -- What a code says that lacks checks, where the values of the terms of a case come: the values of the case's messages, in time.
-use Rattle.std.proofs.Common.{◌≡◌, ℕ, suc, ◌+◌, List, [], ◌∷◌, ◌++◌, length, map, Bool, true, false, cond, IsTrue, Option, Some, None, refl, sym, ap, ◌∙◌, subst, arith, append-nil, length-append}
+use Rattle.std.proofs.Common.{◌≡◌, ℕ, ◌+◌, List, [], ◌∷◌, ◌++◌, length, map, Bool, true, false, cond, IsTrue, Option, Some, None, refl, sym, ap, ◌∙◌, subst, arith, append-nil, length-append}
 use Rattle.std.specs.Prelude.{slice_get}
 use Rattle.std.specs.Option.{option_map, option_and_then}
 use Rattle.anb_term.specs.Demand.{alike}
@@ -14,10 +14,10 @@ use Rattle.anb_plays.specs.Fits.{Place, Along, AnySend, AnyWork, AnyBorder, afte
 use Rattle.anb_plays.specs.Honest.{honest, made}
 use Rattle.anb_plays.specs.Plans.{Event, know, fresh, send, recv}
 use Rattle.anb_plays.specs.Plays.{Played, stopped, done, ends}
-use Rattle.anb_plays.specs.Runs.{says_if}
 use Rattle.anb_plays.specs.Statements.{HonestAgree}
 use Rattle.anb_probe.specs.Cases.{IsOver, without}
 use Rattle.anb_probe.proofs.Dropping.{over_said}
+use Rattle.anb_suite.proofs.Messages.{sent_if}
 use Rattle.anb_openings.specs.Steps.{Progress, writing, after_all}
 use Rattle.anb_openings.proofs.Stepping.{worked_same}
 use Rattle.anb_openings.proofs.Valued.{all_went, seen}
@@ -26,7 +26,7 @@ use Rattle.anb_transcript.specs.declared.transcript.TranscriptLine.TheVariants.{
 use Rattle.anb_transcript.specs.Replays.{arrivals_of, messages_of}
 use Rattle.anb_judge.specs.Verdicts.{sides}
 use Rattle.anb_tries.proofs.Along.{Fits, next}
-use Rattle.anb_tries.proofs.Refusing.{grows, one_formed}
+use Rattle.anb_tries.proofs.Refusing.{EachFrom, from_first, from_rest, grows, one_formed}
 use Rattle.anb_dues.proofs.Firsts.{Are, Text}
 
 -- what is written where a run that is over goes on
@@ -88,17 +88,13 @@ module _ (m : Meaning Text) (lawful : Lawful m) (agrees : HonestAgree m) (atoms 
 
   -- ---- the draws
 
+  -- a name that is drawn, and the draw is its value
+  abbrev pub Drawn : ℕ → Tree → Type 0
+  Drawn i t = (term_draw i ≡ t) × (draw i ≡ of t) × IsFormed m.has t
+
   -- the names of the plan from the i-th on are those that are drawn, and the draws are their values
   abbrev pub AreDrawn : ℕ → List Event → Type 0
-  AreDrawn i es = (k : ℕ) (t : Tree) → slice_get (made es) k ≡ Some t → (term_draw (i + k) ≡ t) × (draw (i + k) ≡ of t) × IsFormed m.has t
-
-  drawn_now : (i : ℕ) (t : Tree) (es : List Event) → AreDrawn i (fresh t ∷ es) → (term_draw i ≡ t) × (draw i ≡ of t) × IsFormed m.has t
-  drawn_now i t es h = let n : i + 0 ≡ i = omega arith in subst (λ j. (term_draw j ≡ t) × (draw j ≡ of t) × IsFormed m.has t) n (h 0 t refl)
-
-  drawn_on : (i : ℕ) (t : Tree) (es : List Event) → AreDrawn i (fresh t ∷ es) → AreDrawn (i + 1) es
-  drawn_on i t es h k u e = let n : i + suc k ≡ i + 1 + k = omega arith in subst (λ j. (term_draw j ≡ u) × (draw j ≡ of u) × IsFormed m.has u) n (h (suc k) u e)
-
-  -- ---- along the plan
+  AreDrawn i es = EachFrom Drawn i (made es)
 
   abbrev Ordered : List Act → List Event → Place → Type 0
   Ordered acts es pl = Along AnySend AnyWork AnyBorder acts es pl
@@ -139,9 +135,6 @@ module _ (m : Meaning Text) (lawful : Lawful m) (agrees : HonestAgree m) (atoms 
         let in_values = on_work m draw (equal x y) Q (map of table) k.values (map of table) e' at' i xs k.valued (k.joined ∙ ap (map of) same) in
         subst (Sends ss ls rest) (sym in_terms) (ih (at + 1) (at' + 1) (subst (λ p. IsOver p) in_terms over) (sym (ap (λ (p : Played Text). p.sent) in_values) ∙ sent))
 
-  said_if : {A : Type 0} (o : Option A) (x : A) (p : Played A) → o ≡ Some x → (says_if o p).sent ≡ x ∷ p.sent
-  said_if o x p is = ap (λ y. (says_if y p).sent) is
-
   module _ (p q : ℕ → Bool) where
     -- Where a code less some checks is over in terms, the code less these and maybe more says the values of the messages, each once the arrivals before it came.
     pub says_right : (acts : List Act) (es : List Event) (pl : Place) (k : ℕ) (table : List Tree) (e at e' at' i : ℕ) (ps : List Tree) (ls : List TranscriptLine) (ys rest : List Text) → ((n : ℕ) → p n ≡ true → q n ≡ true)
@@ -165,12 +158,12 @@ module _ (m : Meaning Text) (lawful : Lawful m) (agrees : HonestAgree m) (atoms 
     says_right (takes ∷ acts) (know t ∷ es) pl k table e at e' at' i ps ls ys rest more order drawn formed fine ready over fits are sent =
         says_right acts es (after_take pl) (k + 1) table e (at + 1) e' (at' + 1) i ps ls ys rest more order drawn formed fine ready over fits are sent
     says_right (draws ∷ acts) (fresh t ∷ es) pl k table e at e' at' i ps ls ys rest more order drawn formed fine ready over fits are sent =
-        let now = drawn_now i t es drawn in
+        let now = from_first Drawn i t (made es) drawn in
         let P = without p (k + 1) acts in
         let Q = without q (k + 1) acts in
         let values = grows of table (map of table) t (draw i) refl now.1 in
         subst (λ z. Sends (sides es) ls rest (exec over_terms term_draw P (table ++ z ∷ []) e (at + 1) (i + 1) ps)) (sym now.0)
-        (says_right acts es (after_label pl t) (k + 1) (table ++ t ∷ []) e (at + 1) e' (at' + 1) (i + 1) ps ls ys rest more order (drawn_on i t es drawn) (one_formed m table t formed now.2) fine
+        (says_right acts es (after_label pl t) (k + 1) (table ++ t ∷ []) e (at + 1) e' (at' + 1) (i + 1) ps ls ys rest more order (from_rest Drawn i t (made es) drawn) (one_formed m table t formed now.2) fine
         (subst (IsVerified m.has acts) (sym (length-append table (t ∷ []))) ready)
         (subst (λ z. IsOver (exec over_terms term_draw P (table ++ z ∷ []) e (at + 1) (i + 1) ps)) now.0 over) fits are
         (subst (λ l. (exec m draw Q l e' (at' + 1) (i + 1) (arrivals_of ls ++ ys)).sent ≡ messages_of ls ++ rest) values sent))
@@ -187,18 +180,18 @@ module _ (m : Meaning Text) (lawful : Lawful m) (agrees : HonestAgree m) (atoms 
     says_right (sends r ∷ acts) (send t ∷ es) pl k table e at e' at' i ps [] ys rest more order drawn formed fine ready over fits are sent =
         let x = slice_get-there table r ready.0 in
         let later = exec m draw (without q (k + 1) acts) (map of table) (e' + 1) (at' + 1) i ys in
-        record { are = tt; more = λ n. (of x.0, later.sent, sym sent ∙ said_if (slice_get (map of table) r) (of x.0) later (slice_get-map of table r x.0 x.1)); none = λ n. absurd (cc) }
+        record { are = tt; more = λ n. (of x.0, later.sent, sym sent ∙ sent_if (slice_get (map of table) r) (of x.0) later (slice_get-map of table r x.0 x.1)); none = λ n. absurd (cc) }
     says_right (sends r ∷ acts) (send t ∷ es) pl k table e at e' at' i ps (In b ∷ ls) ys rest more order drawn formed fine ready over fits are sent = absurd (cc)
     says_right (sends r ∷ acts) (send t ∷ es) pl k table e at e' at' i ps (Out b ∷ ls) ys rest more order drawn formed fine ready over fits are sent =
         let x = slice_get-there table r ready.0 in
         let first = exec over_terms term_draw (without p (k + 1) acts) table (e + 1) (at + 1) i ps in
         let later = exec m draw (without q (k + 1) acts) (map of table) (e' + 1) (at' + 1) i (arrivals_of ls ++ ys) in
-        let whole : of x.0 ∷ later.sent ≡ b ∷ (messages_of ls ++ rest) = sym (said_if (slice_get (map of table) r) (of x.0) later (slice_get-map of table r x.0 x.1)) ∙ sent in
+        let whole : of x.0 ∷ later.sent ≡ b ∷ (messages_of ls ++ rest) = sym (sent_if (slice_get (map of table) r) (of x.0) later (slice_get-map of table r x.0 x.1)) ∙ sent in
         let same : b ≡ of x.0 = cc in
         let behind : later.sent ≡ messages_of ls ++ rest = cc in
         let on = says_right acts es pl (k + 1) table (e + 1) (at + 1) (e' + 1) (at' + 1) i ps ls ys rest more order.2 drawn formed fine ready.1 (over_said (slice_get table r) first over) (cc) are behind in
         let both : Are of (b ∷ messages_of ls) (x.0 ∷ first.sent) = (same, on.are) in
-        record { are = subst (Are of (b ∷ messages_of ls)) (sym (said_if (slice_get table r) x.0 first x.1)) both; more = on.more; none = on.none }
+        record { are = subst (Are of (b ∷ messages_of ls)) (sym (sent_if (slice_get table r) x.0 first x.1)) both; more = on.more; none = on.none }
     says_right (takes ∷ acts) [] pl k table e at e' at' i ps ls ys rest more order drawn formed fine ready over fits are sent = absurd order
     says_right (takes ∷ acts) (fresh t ∷ es) pl k table e at e' at' i ps ls ys rest more order drawn formed fine ready over fits are sent = absurd order
     says_right (takes ∷ acts) (send t ∷ es) pl k table e at e' at' i ps ls ys rest more order drawn formed fine ready over fits are sent = absurd order

@@ -1,26 +1,24 @@
 -- A child that runs the role's code less some checks, one of which has a case, is told in an attempt in the scene of that case.
-use Rattle.std.proofs.Common.{◌≡◌, ◌≢◌, ℕ, zero, suc, ◌+◌, ◌≤◌, List, [], ◌∷◌, ◌++◌, length, map, take, drop, replicate, Bool, true, false, Option, Some, None, IfSome, IsTrue, Result, Ok, Err, refl, sym, ap, ◌∙◌, subst, arith, append_assoc, append-nil, take-append-drop}
+use Rattle.std.proofs.Common.{◌≡◌, ◌≢◌, ℕ, zero, suc, ◌≤◌, List, [], ◌∷◌, ◌++◌, length, map, take, drop, replicate, Bool, true, false, Option, Some, None, IfSome, IsTrue, Result, Ok, Err, refl, sym, ap, ◌∙◌, subst, arith, append_assoc, append-nil, take-append-drop}
 use Rattle.std.specs.Prelude.{slice_get, unwrap_or, ◌==◌}
-use Rattle.std.specs.Option.{option_and_then}
-use Rattle.std.specs.List.{AllByRecursion}
+use Rattle.std.proofs.Math.Seq.{take-length}
 use Rattle.std.proofs.lemmas.Bool.{eqb-true}
 use Rattle.std.proofs.lemmas.List.{length-map}
 use Rattle.anb_lemmas.proofs.Each.{each_got}
 use Rattle.anb_lemmas.proofs.Items.{bytes_differ}
 use Rattle.anb_base.specs.Bytes.{IsBytes, is_bytes-IsBytes}
-use Rattle.anb_base.specs.Moves.{AtEnd, Took}
+use Rattle.anb_base.specs.Moves.{AtEnd}
 use Rattle.anb_base.specs.declared.TheConstants.{ARRIVAL}
 use Rattle.anb_frame.specs.Frames.{frames, length_bytes}
 use Rattle.anb_frame.specs.Cuts.{Cut, End}
 use Rattle.anb_term.specs.Lawful.{Lawful}
 use Rattle.anb_term.specs.FreeAlgebra.{terms_over}
 use Rattle.anb_term.specs.FreeLawful.{free_lawful}
-use Rattle.anb_term.specs.Tree.{Tree, leaf, trees_of, IsFormed, AreFormed}
+use Rattle.anb_term.specs.Tree.{Tree, leaf, trees_of, AreFormed}
 use Rattle.anb_term.specs.Value.{Meaning}
 use Rattle.anb_term.specs.View.{tree_of}
 use Rattle.anb_term.specs.Statements.{NewAtomAgrees}
 use Rattle.anb_term.proofs.Demands.{agree_holds_all}
-use Rattle.anb_algebra.specs.ByteMeaning.{byte_meaning}
 use Rattle.anb_algebra.proofs.Picks.{tests}
 use Rattle.anb_algebra.specs.ByteLawful.{bytes_are_lawful}
 use Rattle.anb_code.specs.CodeValue.{CodeValue}
@@ -36,7 +34,6 @@ use Rattle.anb_plays.specs.Plays.{stopped, waiting, Played, Play}
 use Rattle.anb_plays.specs.Runs.{no_place, run, without_place}
 use Rattle.anb_plays.specs.Statements.{HonestAgree}
 use Rattle.anb_plays.proofs.Exec.{exec_is_run, takes_ready}
-use Rattle.anb_plays.proofs.Grows.{run_grows}
 use Rattle.anb_plays.proofs.Honest.{honest_agree}
 use Rattle.anb_protocol.specs.Plans.{PlanEvent, to_know, to_receive, plan_of}
 use Rattle.anb_protocol.specs.Plays.{event_of, events_of, meaning_of}
@@ -71,19 +68,19 @@ use Rattle.anb_tries.specs.Laws.{Attempt, IsAttempt, judged, seen}
 use Rattle.anb_tries.specs.Seen.{ended_of, is_unread}
 use Rattle.anb_tries.specs.Tries.{IsTriedVerdict}
 use Rattle.anb_tries.proofs.Along.{Fits}
-use Rattle.anb_tries.proofs.Framed.{LeftOf, cut_behind, frames_no_length, frames_no_part, left_of, none_framed, whole_cut}
+use Rattle.anb_tries.proofs.Framed.{frames_no_length, frames_no_part, none_framed}
 use Rattle.anb_tries.proofs.Narrated.{arrivals_both, drop_first, fits_first, messages_both, role_known}
-use Rattle.anb_tries.proofs.Passing.{after, behind, ended_is, same_end, short_messages}
-use Rattle.anb_tries.proofs.Placed.{R, arrive, over_next, own, partner_plays, placed, plan_apart}
+use Rattle.anb_tries.proofs.Passing.{after, behind, ended_at, ended_is, first_lines, left_behind, same_end, taken_last}
+use Rattle.anb_tries.proofs.Placed.{R, over_next, own, placed}
 use Rattle.anb_tries.proofs.Refusing as refusing
-use Rattle.anb_tries.proofs.Refusing.{partner_known}
+use Rattle.anb_tries.proofs.Refusing.{from_all, partner_known}
 use Rattle.anb_tries.proofs.Stopping.{stops_at_start, stops_over}
 use Rattle.anb_dues.specs.Laws.{AreOfNames}
 use Rattle.anb_dues.proofs.Firsts.{Are, Text}
 use Rattle.anb_dues.proofs.Checks.{one_event}
-use Rattle.anb_dues.proofs.Lines.{arrivals_handed, hook_of, is_at, messages_handed, own_talked, played, right_of, wrong_bytes, wrong_of}
+use Rattle.anb_dues.proofs.Lines.{hook_of, hooked_at, known_formed, own_messages, own_talked, partner_mirrors, partner_plays_them, partner_says_them, played, right_of, wrong_bytes, wrong_of}
 use Rattle.anb_dues.proofs.Naming.{draws_named, handed_ours, hands_named, knows_named, named, named_bytes, named_spare}
-use Rattle.anb_dues.proofs.Saying.{SaysFirst, says_all}
+use Rattle.anb_dues.proofs.Saying.{SaysFirst}
 use Rattle.anb_dues.proofs.Speaking.{IsAt, Right, none_first, play_reaches, speaks_right, talked}
 use Rattle.anb_dues.proofs.Stopping.{Grounds}
 use Rattle.anb_mutants.specs.Laws.{AreNamesOf, IsHeardOut, RunsLess}
@@ -91,7 +88,7 @@ use Rattle.anb_mutants.proofs.Dropped.{taking_without}
 use Rattle.anb_mutants.proofs.Going.{Goes, goes}
 use Rattle.anb_mutants.proofs.Before.{less_begins}
 use Rattle.anb_mutants.proofs.Judging.{heard_all, stopped_bad, stops_within, verdict_bad}
-use Rattle.anb_mutants.proofs.Lacking.{AreDrawn, Says, says_right}
+use Rattle.anb_mutants.proofs.Lacking.{AreDrawn, Drawn, Says, says_right}
 
 -- ---- what was made of the right value, or this where nothing was
 
@@ -108,10 +105,6 @@ own_made x hs None ls = refl
 own_made x hs (Some h) ls = own_talked hs (Some h) ls
 
 -- ---- lists
-
-take_all : {A : Type 0} (xs : List A) → take (length xs) xs ≡ xs
-take_all [] = refl
-take_all (x ∷ xs) = ap (λ l. x ∷ l) (take_all xs)
 
 none_got : {A : Type 0} (xs : List A) (i : ℕ) → slice_get xs i ≡ None → length xs ≤ i
 none_got [] i e = omega arith
@@ -131,23 +124,6 @@ wait_due (b ∷ l) end is = absurd (cc)
 wait_due [] (waiting e) is = (refl, e, refl)
 wait_due [] plays.done is = absurd (cc)
 wait_due [] (stopped e at) is = absurd (cc)
-
--- ---- what is left of the child's output
-
-module _ (a : Attempt) (is : IsAttempt a) (sent : List Text) (short : AllByRecursion (λ message. length message ≤ ARRIVAL) sent) (output : a.old.pipes.left ≡ Some (frames sent)) where
-  left_behind : LeftOf (frames sent) (behind a is).left (frames (messages_of a.conversation.lines))
-  left_behind =
-      let said = messages_of a.conversation.lines in
-      left_of (frames sent) (behind a is).left (frames said) (subst (λ o. Took o (behind a is).left (frames said)) output is.converses.talks.passed.took)
-
-  -- the lines have the first messages of it, and all else is left
-  first_lines : (rest : List Text) × (sent ≡ messages_of a.conversation.lines ++ rest) × Cut ARRIVAL left_behind.left rest End
-  first_lines =
-      cut_behind (messages_of a.conversation.lines) left_behind.left sent End (short_messages a.conversation.lines is.converses.talks.short)
-      (subst (λ x. Cut ARRIVAL x sent End) left_behind.all (whole_cut sent short))
-
-ended_at : (o : Option Text) (xs : Text) → o ≡ Some xs → AtEnd o → xs ≡ []
-ended_at o xs is at = subst AtEnd is at
 
 -- ---- an attempt
 
@@ -242,15 +218,10 @@ module _ (a : Attempt) (is : IsAttempt a) (law : PartnersPlay a.script.protocol)
       exec_is_run by_bytes lawful d (less_all drops acts) (map of (known events)) xs (subst (HasTakes by_bytes.has (less_all drops acts) 0) (sym long) (taking_without by_bytes.has drops acts 0 0 (length (known events)) g.taking))
       ∙ ap (λ l. run by_bytes d (less_all drops acts) l xs) (sym knows)
 
-  known_formed : AreFormed by_bytes.has (trees_of (known events))
-  known_formed = formed_list p (known events) (subst (AllByRecursion (IsTermOf p)) (sym (role_known p role)) (all_known (IsTermOf p) p.knows role g.ours.knows))
-
   drawn_right : AreDrawn by_bytes lawful agrees atoms name_values (drawn events) d 0 events
-  drawn_right k t at =
-      let z : k ≡ 0 + k = omega arith in
-      let now : (drawn events k ≡ t) × (d k ≡ of t) × IsFormed by_bytes.has t =
-      (ap (λ x. unwrap_or x (leaf 0)) at, names.draws k t at, formed p t (each_got (IsTermOf p) (made events) k t (g.ours.makes role) at)) in
-      subst (λ j. (drawn events j ≡ t) × (d j ≡ of t) × IsFormed by_bytes.has t) z now
+  drawn_right =
+      from_all (Drawn by_bytes lawful agrees atoms name_values (drawn events) d) (made events)
+      (λ k t at. (ap (λ x. unwrap_or x (leaf 0)) at, names.draws k t at, formed p t (each_got (IsTermOf p) (made events) k t (g.ours.makes role) at)))
 
   -- over the first lines it said what the lines have, and more where that is due
   says_at : (before after : List TranscriptLine) (rest : List Text) → lines ≡ before ++ after → Are of (arrivals_of before) came → mutant.played.sent ≡ messages_of before ++ rest → Says of (sides events) before said_then rest
@@ -261,7 +232,7 @@ module _ (a : Attempt) (is : IsAttempt a) (law : PartnersPlay a.script.protocol)
       ap (λ (q : Played Text). q.sent) (less_run xs) ∙ ap (λ l. (R_less l).sent) (sym all) ∙ sym (ap (λ (q : Played Text). q.sent) mutant.runs) ∙ sent in
       let fits : Fits (sides events) before = fits_first (sides events) before after (subst (Fits (sides events)) cut (placed a is law)) in
       let says = says_right by_bytes lawful agrees atoms name_values (drawn events) d (λ n. n == check) drops acts events (start events) 0 (known events) 0 0 0 0 0 came before (arrivals_of after) rest
-      (λ n t. ap drops (eqb-true n check t) ∙ dropped) g.fits.order drawn_right known_formed is_case.is.formed.1.1 (takes_ready by_bytes.has acts 0 (length (known events)) g.taking) terms_done fits are here in
+      (λ n t. ap drops (eqb-true n check t) ∙ dropped) g.fits.order drawn_right (known_formed p role acts g) is_case.is.formed.1.1 (takes_ready by_bytes.has acts 0 (length (known events)) g.taking) terms_done fits are here in
       subst (λ l. Says of (sides events) before l rest) terms_sent says
 
   first : (rest : List Text) × (mutant.played.sent ≡ messages_of lines ++ rest) × Cut ARRIVAL (left_behind a is mutant.played.sent mutant.short mutant.output).left rest End
@@ -302,9 +273,7 @@ module _ (a : Attempt) (is : IsAttempt a) (law : PartnersPlay a.script.protocol)
   talk = talked (right_of o) wrong (hook_of o) lines
 
   partner_is : partner ≡ map event_of (map to_know ks ++ (map (to_receive 0) hs ++ mirror))
-  partner_is =
-      ap (map event_of) (plan_apart a.script)
-      ∙ ap (λ x. map event_of (map to_know ks ++ (map (to_receive 0) hs ++ mirrored spare x 1 own_es a.script.arrivals a.script.messages))) right_is
+  partner_is = partner_mirrors a.script r right_is
 
   partner_begins : a.initial ≡ map of (known partner)
   partner_begins = names.begins ∙ ap (map of) (sym (partner_known a.script))
@@ -321,19 +290,14 @@ module _ (a : Attempt) (is : IsAttempt a) (law : PartnersPlay a.script.protocol)
   abbrev q : Played Text
   q = without_place (R a is law (arrivals_of (own a is law)))
 
-  arrives : arrivals_of (own a is law) ≡ map of hs ++ arrivals_of talk
-  arrives = ap arrivals_of own_is ∙ arrivals_handed a.handed talk ∙ ap (λ l. l ++ arrivals_of talk) partner_hands
-
   partner_plays_it : Play by_bytes (draw_of (replicate 32 0) 0) partner a.initial (map of hs ++ arrivals_of talk) q
-  partner_plays_it = subst (λ xs. Play by_bytes (draw_of (replicate 32 0) 0) partner a.initial xs q) arrives (partner_plays a is law (arrivals_of (own a is law)) (arrive a is law))
+  partner_plays_it = partner_plays_them a is law talk own_is (map of hs) partner_hands
 
   partner_messages : messages_of (own a is law) ≡ messages_of talk
-  partner_messages = ap messages_of own_is ∙ messages_handed a.handed talk
+  partner_messages = own_messages a is law talk own_is
 
   partner_says : SaysFirst q (messages_of talk)
-  partner_says =
-      let says = says_all (R a is law) (λ xs more. run_grows (byte_meaning a.code.formats a.code.suite) (draw_of (replicate 32 0) 0) (acts_of a.code) a.initial xs more) (own a is law) is.converses.talks.due in
-      (says.0, says.1 ∙ ap (λ l. l ++ says.0) partner_messages)
+  partner_says = partner_says_them a is law talk own_is
 
   partner_formed : AreFormed by_bytes.has (trees_of (known partner))
   partner_formed = subst (λ ts. AreFormed by_bytes.has (trees_of ts)) (sym (partner_known a.script)) (formed_list p ks (all_known (IsTermOf p) p.knows role g.ours.knows))
@@ -341,11 +305,8 @@ module _ (a : Attempt) (is : IsAttempt a) (law : PartnersPlay a.script.protocol)
   messages_formed : AreFormed by_bytes.has (trees_of a.script.messages)
   messages_formed = subst (λ ts. AreFormed by_bytes.has (trees_of ts)) (sym messages_are) is_case.formed
 
-  hook_is : a.at ≡ lines_before spare 0 own_es a.script.arrivals
-  hook_is = is.hook ∙ ap (option_and_then (λ (t : Tree). lines_before spare 0 own_es a.script.arrivals)) right_is
-
   at_is : IsAt (Some r) (hook_of o) (lines_before spare 0 own_es a.script.arrivals) 0 (length lines)
-  at_is = is_at r (lines_before spare 0 own_es a.script.arrivals) a.at a.wrong lines o hook_is is.converses.talks.is_hooked
+  at_is = hooked_at a is r right_is
 
   -- ---- line by line
 
@@ -363,10 +324,10 @@ module _ (a : Attempt) (is : IsAttempt a) (law : PartnersPlay a.script.protocol)
       1 0 (Some r) (hook_of o) own_es a.script.arrivals a.script.messages lines k reached.0 reached.1 0 q partner_says.0 is.whole.heard_all is.whole.said_all reached.2 messages_formed at_is (placed a is law) (said k (claims k).0) partner_says.1 reached.3
 
   all_came : Are of (arrivals_of lines) a.script.arrivals
-  all_came = subst (λ ls. Are of (arrivals_of ls) a.script.arrivals) (take_all lines) (claims (length lines)).0
+  all_came = subst (λ ls. Are of (arrivals_of ls) a.script.arrivals) (take-length lines) (claims (length lines)).0
 
   all_said : Are of (messages_of lines) a.script.messages
-  all_said = subst (λ ls. Are of (messages_of ls) a.script.messages) (take_all lines) (said (length lines) (claims (length lines)).0)
+  all_said = subst (λ ls. Are of (messages_of ls) a.script.messages) (take-length lines) (said (length lines) (claims (length lines)).0)
 
   -- ---- the talk's end
 
@@ -398,9 +359,6 @@ module _ (a : Attempt) (is : IsAttempt a) (law : PartnersPlay a.script.protocol)
   behind_has : (behind a is).left ≡ Some left
   behind_has = (left_behind a is mutant.played.sent mutant.short mutant.output).is
 
-  taken_last : (part : Text) → Took (behind a is).left (after a is).left part → LeftOf left (after a is).left part
-  taken_last part took = left_of left (after a is).left part (subst (λ x. Took x (after a is).left part) behind_has took)
-
   not_missing : (x : Text) (later : List Text) → first.0 ≡ x ∷ later → AtEnd (behind a is).left → ⊥
   not_missing x later more at =
       let none = ended_at (behind a is).left left behind_has at in
@@ -415,9 +373,9 @@ module _ (a : Attempt) (is : IsAttempt a) (law : PartnersPlay a.script.protocol)
   is_done Refused here e = absurd (refuses_none e.0.0 e.0.1)
   is_done Missing here e = (let m = more_said e.0 in absurd (not_missing m.0 m.1 m.2 e.2))
   is_done (WasCut have need) here e =
-      let l = taken_last e.1.0 e.1.1.took in
+      let l = taken_last a is mutant.played.sent mutant.short mutant.output e.1.0 e.1.1.took in
       absurd (frames_no_part left e.1.0 l.left first.0 have need first.2 l.all (ended_at (after a is).left l.left l.is e.2) e.1.2)
-  is_done (Long len) here e = (let l = taken_last (length_bytes len) e.1.took in absurd (frames_no_length left l.left first.0 len first.2 l.all e.2 (is.long len here)))
+  is_done (Long len) here e = (let l = taken_last a is mutant.played.sent mutant.short mutant.output (length_bytes len) e.1.took in absurd (frames_no_length left l.left first.0 len first.2 l.all e.2 (is.long len here)))
   is_done ReadFault here e = absurd (out.read.read here)
   is_done WriteFault here e = absurd (out.written here)
   is_done TooLong here e = absurd (out.tried.sent here)

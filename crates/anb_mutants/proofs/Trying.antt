@@ -5,6 +5,7 @@ use Rattle.std.specs.List.{AllZip}
 use Rattle.anb_term.proofs.Lists.{slice_get-append, slice_get-map}
 use Rattle.anb_code.specs.CodeValue.{CodeValue}
 use Rattle.anb_code.specs.Meaning.{acts_of}
+use Rattle.anb_compile.proofs.Lists.{later_part}
 use Rattle.anb_protocol.specs.Protocols.{ProtocolValue}
 use Rattle.anb_openings.specs.Openings.{openings_of}
 use Rattle.anb_spoil.specs.declared.changes.Change.{Change}
@@ -20,7 +21,6 @@ use Rattle.anb_attempts.specs.declared.attempts.Suite.{Suite}
 use Rattle.anb_attempts.specs.declared.points.Point.{Point}
 use Rattle.anb_attempts.specs.declared.points.Point.TheVariants.{Check, Opening}
 use Rattle.anb_attempts.proofs.Adding.{attempts_in, scenes_in}
-use Rattle.anb_dues.proofs.Suites.{get_behind}
 use Rattle.anb_mutants.specs.Laws.{HasAttempt, HasAttemptAt, IsCheckTried}
 
 module _ (p : ProtocolValue) (role : ℕ) (code : CodeValue) where
@@ -51,11 +51,11 @@ module _ (p : ProtocolValue) (role : ℕ) (code : CodeValue) where
   in_later case n xs ys some others h = record {
     place = length some + h.place;
     attempt = h.attempt;
-    at = get_behind some others h.place h.attempt h.at;
+    at = later_part some others h.place h.attempt h.at;
     spot = length xs + h.spot;
     scene = h.scene;
     counts = (let c = h.counts in omega (arith, c));
-    there = get_behind xs ys h.spot h.scene h.there;
+    there = later_part xs ys h.spot h.scene h.there;
     is = h.is;
   }
 

@@ -16,18 +16,14 @@ use Rattle.anb_term.proofs.Lists.{picked_length}
 use Rattle.anb_term.proofs.Steps.{bound}
 use Rattle.anb_plays.specs.Plays.{Played, End, stopped, ends}
 use Rattle.anb_plays.specs.Codes.{Act, takes, draws, receives, sends, works, Work, make, undo, equal}
-use Rattle.anb_plays.specs.Runs.{says_if}
 use Rattle.anb_plays.specs.Exec.{on_written, worked, exec, count_written, IsReady}
+use Rattle.anb_probe.proofs.Dropping.{end_said}
 use Rattle.anb_openings.specs.Steps.{Progress, begun, writing, drawing, saying, hearing, after, after_all}
 
 module _ {A : Type 0} (m : Meaning A) (made : List A) (draw : ℕ → A) (drawn : (i : ℕ) (x : A) → slice_get made i ≡ Some x → draw i ≡ x) where
   -- how a run from here ends
   abbrev ending : List Act → ℕ → Progress A → End
   ending acts at s = (exec m draw acts s.table s.event at s.drawn s.left).end
-
-  said : (o : Option A) (p : Played A) → (says_if o p).end ≡ p.end
-  said None p = refl
-  said (Some x) p = refl
 
   wrote : (o : Option (List A)) (ws : List A) (next : List A → Played A) (stop : Played A) → o ≡ Some ws → on_written o next stop ≡ next ws
   wrote o ws next stop e = ap (λ x. on_written x next stop) e
@@ -47,7 +43,7 @@ module _ {A : Type 0} (m : Meaning A) (made : List A) (draw : ℕ → A) (drawn 
   one receives acts s t at e = hears acts s t at s.left e
   one (sends r) acts s t at e =
       let f = mapped_from (λ x. saying x s) (slice_get s.table r) t e in
-      subst (λ u. ending (sends r ∷ acts) at s ≡ ending acts (at + 1) u) f.2 (said (slice_get s.table r) _)
+      subst (λ u. ending (sends r ∷ acts) at s ≡ ending acts (at + 1) u) f.2 (end_said (slice_get s.table r) _)
   one (works w) acts s t at e =
       let f = mapped_from (λ ws. writing ws s) (worked m s.table w) t e in
       subst (λ u. ending (works w ∷ acts) at s ≡ ending acts (at + 1) u) f.2

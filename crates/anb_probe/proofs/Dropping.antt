@@ -19,7 +19,8 @@ module _ {A : Type 0} where
   over_said None p h = h
   over_said (Some b) p h = record { end = h.end; used = h.used }
 
-  end_said : (o : Option A) (p : Played A) → (says_if o p).end ≡ p.end
+  -- a run that says something more ends as it did
+  pub end_said : (o : Option A) (p : Played A) → (says_if o p).end ≡ p.end
   end_said None p = refl
   end_said (Some b) p = refl
 

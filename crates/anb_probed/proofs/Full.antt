@@ -1,10 +1,10 @@
 -- In each scene of a suite as many terms arrive, and are said, as the role's plan hears and says.
 use Rattle.std.proofs.Common.{◌≡◌, ◌≢◌, ℕ, ◌+◌, ◌-◌, List, [], ◌∷◌, ◌++◌, length, map, take, drop, Bool, true, false, Option, Some, None, refl, sym, ap, ◌∙◌, subst, inl, inr, ◌⊎◌, arith}
-use Rattle.std.specs.Prelude.{slice_get, ◌==◌}
+use Rattle.std.specs.Prelude.{slice_get}
 use Rattle.std.specs.List.{AllByRecursion, AllZip}
-use Rattle.std.proofs.lemmas.Bool.{eqb-true, eqb-false}
 use Rattle.std.proofs.lemmas.List.{length-map}
 use Rattle.anb_lemmas.proofs.Each.{each_got, each_in_both}
+use Rattle.anb_lemmas.proofs.Numbers.{same_or_not}
 use Rattle.anb_term.specs.declared.term.Term.{Term}
 use Rattle.anb_term.specs.FreeAlgebra.{terms}
 use Rattle.anb_term.specs.Tree.{Tree}
@@ -46,13 +46,6 @@ use Rattle.anb_attempts.specs.declared.points.Point.TheVariants.{Check, Opening}
 use Rattle.anb_attempts.proofs.Adding.{scenes_in}
 use Rattle.anb_attempts.proofs.Standing.{all_stand}
 use Rattle.anb_probed.proofs.Sent.{goes_sending, less_sending, sends_as_said, sends_both, sends_of}
-
--- what isn't refuted of numbers is so
-same_or_not : (m n : ℕ) → (m ≡ n) ⊎ (m ≢ n)
-same_or_not m n = by (m == n) refl where
-  by : (b : Bool) → (m == n) ≡ b → (m ≡ n) ⊎ (m ≢ n)
-  by true e = inl (eqb-true m n e)
-  by false e = inr (eqb-false m n e)
 
 module _ (p : ProtocolValue) (role : ℕ) where
   abbrev plan : List Event

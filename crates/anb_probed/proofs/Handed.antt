@@ -1,8 +1,6 @@
 -- What a role begins with, and what its partner is handed, are bytes where those of all names are.
-use Rattle.std.proofs.Common.{ℕ, List, [], ◌∷◌, length, map, Bool, true, false, cond}
-use Rattle.std.specs.Prelude.{◌==◌}
-use Rattle.std.specs.List.{AllByRecursion, flat_map, range_with_len}
-use Rattle.anb_lemmas.proofs.Each.{each_in_both}
+use Rattle.std.proofs.Common.{ℕ, List, [], ◌∷◌, length, map}
+use Rattle.std.specs.List.{AllByRecursion, range_with_len}
 use Rattle.anb_base.specs.Bytes.{IsBytes, IsBytes-pass, is_bytes-IsBytes}
 use Rattle.anb_term.specs.Tree.{Tree}
 use Rattle.anb_algebra.specs.ByteLawful.{bytes_are_lawful}
@@ -13,7 +11,8 @@ use Rattle.anb_protocol.specs.Plays.{honest_bytes, meaning_of}
 use Rattle.anb_protocol.specs.Protocols.{ProtocolValue}
 use Rattle.anb_protocol.specs.Texts.{IsTermOf, known_by, known_terms}
 use Rattle.anb_protocol.proofs.KnowLemmas.{formed}
-use Rattle.anb_partner.specs.Plans.{begins, handed_by, handed_terms}
+use Rattle.anb_partner.specs.Plans.{begins, handed_terms}
+use Rattle.anb_dues.proofs.Naming.{handed_each}
 
 module _ (p : ProtocolValue) where
   abbrev AllOurs : List Tree → Type 0
@@ -27,15 +26,8 @@ module _ (p : ProtocolValue) where
   begins_ours (to_receive i t ∷ es) all = begins_ours es all.1
 
   module _ (plans : (role : ℕ) → AllByRecursion (λ e. IsTermOf p (term_in e)) (plan_of p role)) (role : ℕ) where
-    handed_by_each : (others : List ℕ) → AllOurs (flat_map (handed_by p role) others)
-    handed_by_each [] = tt
-    handed_by_each (other ∷ others) = each_in_both (IsTermOf p) (handed_by p role other) (flat_map (handed_by p role) others) (one (other == role)) (handed_by_each others) where
-      one : (b : Bool) → AllOurs (cond b [] (begins (plan_of p other)))
-      one true = tt
-      one false = begins_ours (plan_of p other) (plans other)
-
     pub handed_ours : AllOurs (handed_terms p role)
-    handed_ours = handed_by_each (range_with_len 0 (length p.roles))
+    handed_ours = handed_each (IsTermOf p) p role (λ other apart. begins_ours (plan_of p other) (plans other)) (range_with_len 0 (length p.roles))
 
   pub known_ours : AllOurs (known_terms p) → (role : ℕ) → AllOurs (known_by p role)
   known_ours all role = all_known (IsTermOf p) p.knows role all

@@ -16,6 +16,7 @@ use Rattle.anb_plays.specs.Fits.{Place, Along, AnySend, AnyWork, AnyBorder, afte
 use Rattle.anb_plays.specs.Runs.{says_if}
 use Rattle.anb_plays.proofs.Exec.{exec_is_run, takes_ready}
 use Rattle.anb_probe.specs.Cases.{drawn, less, run_in_terms, without}
+use Rattle.anb_probe.proofs.Dropping.{end_said}
 use Rattle.anb_distinguish.specs.Finding.{IsCheck}
 use Rattle.anb_distinguish.proofs.Dropped.{taking_less}
 use Rattle.anb_openings.specs.Steps.{Progress, writing, drawing, saying, hearing, after, after_all}
@@ -145,10 +146,6 @@ module _ (made : List Tree) where
 module _ (has : Op → Bool) (draw : ℕ → Tree) where
   abbrev runs : List Act → List Tree → (e at i : ℕ) → List Tree → Played Tree
   runs acts table e at i left = exec (terms_over has) draw acts table e at i left
-
-  end_said : (o : Option Tree) (p : Played Tree) → (says_if o p).end ≡ p.end
-  end_said None p = refl
-  end_said (Some x) p = refl
 
   by_written : (w : Work) (acts : List Act) (table : List Tree) (e at i : ℕ) (left : List Tree) (o : Option (List Tree)) → worked (terms_over has) table w ≡ o
       → ((ws : List Tree) → worked (terms_over has) table w ≡ Some ws → (runs acts (table ++ ws) e (at + 1) i left).end ≡ done → length (runs acts (table ++ ws) e (at + 1) i left).sent ≡ sends_of acts)

@@ -1,14 +1,15 @@
 -- A code that reads one register for another behind a check: it follows the plan, and stops at the check as the code does.
-use Rattle.std.proofs.Common.{◌≡◌, ℕ, zero, suc, ◌+◌, ◌<◌, ◌≤◌, List, [], ◌∷◌, ◌++◌, map, Bool, true, false, cond, Option, Some, None, refl, sym, ◌∙◌, arith}
+use Rattle.std.proofs.Common.{◌≡◌, ℕ, zero, suc, ◌+◌, ◌<◌, ◌≤◌, List, [], ◌∷◌, ◌++◌, map, Bool, true, false, cond, sym, ◌∙◌, arith}
 use Rattle.anb_term.specs.Value.{Meaning, RecipeTree, label, value}
 use Rattle.anb_term.specs.Demand.{all_hold}
 use Rattle.anb_plays.specs.Plans.{Event, know, fresh, send, recv, known}
 use Rattle.anb_plays.specs.Plays.{Played, stopped, ends}
 use Rattle.anb_plays.specs.Codes.{Act, takes, draws, receives, sends, works, at_register, writes, demands}
 use Rattle.anb_plays.specs.Fits.{Along, AnySend, AnyWork, AnyBorder, Follows, Place, after_take, after_label, after_work, start}
-use Rattle.anb_plays.specs.Runs.{run_from, says_if}
+use Rattle.anb_plays.specs.Runs.{run_from}
 use Rattle.anb_plays.specs.Honest.{honest}
 use Rattle.anb_probe.specs.Laws.{DiffersInPlace, LessGoesOn, StopsThere}
+use Rattle.anb_probe.proofs.Dropping.{end_said}
 use Rattle.anb_suite.specs.declared.reading.Reading.{Reading}
 use Rattle.anb_suite.specs.declared.reading.Reading.TheVariants.{Both, First, Second}
 use Rattle.anb_suite.specs.Reading.{OneForOtherDiffers, OneForOtherGoesOn, OneForOtherStops, act_for, read_behind, read_by, work_for}
@@ -77,10 +78,6 @@ follows_by Second check a b acts plan h = order_behind a b check acts plan (star
 -- ---- where a run stops up to there, the other stops
 
 module _ {A : Type 0} (m : Meaning A) (draw : ℕ → A) where
-  end_said : (o : Option A) (p : Played A) → (says_if o p).end ≡ p.end
-  end_said None p = refl
-  end_said (Some b) p = refl
-
   by_hold : (b : Bool) (p : Played A) (e at stop place : ℕ) (left : List A) → (p.end ≡ stopped stop place → at + 1 < place) → (cond b p (ends (stopped e (at + 1)) left)).end ≡ stopped stop place → at < place
   by_hold true p e at stop place left f s = (let l = f s in omega arith)
   by_hold false p e at stop place left f s = (let q : at + 1 ≡ place = cc in omega arith)

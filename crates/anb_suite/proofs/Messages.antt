@@ -1,5 +1,5 @@
 -- What a code sends over a solution of its equations, and where it stops.
-use Rattle.std.proofs.Common.{◌≡◌, ℕ, suc, ◌+◌, List, [], ◌∷◌, ◌++◌, length, map, take, Bool, true, false, cond, Option, Some, None, refl, sym, ap, ◌∙◌, arith, length-append}
+use Rattle.std.proofs.Common.{◌≡◌, ℕ, suc, ◌+◌, List, [], ◌∷◌, ◌++◌, length, map, take, Bool, true, false, cond, Option, Some, refl, sym, ap, ◌∙◌, arith, length-append}
 use Rattle.std.specs.Prelude.{slice_get, count_by}
 use Rattle.std.specs.List.{AllByRecursion}
 use Rattle.std.proofs.lemmas.List.Sums.{sum_by-cons}
@@ -16,6 +16,7 @@ use Rattle.anb_plays.specs.Codes.{Act, takes, draws, receives, sends, works, Wor
 use Rattle.anb_plays.specs.Runs.{run, run_from, says_if}
 use Rattle.anb_plays.specs.Exec.{exec, on_written, worked, count_written, IsVerified, HasTakes}
 use Rattle.anb_plays.proofs.Exec.{exec_is_run, takes_ready}
+use Rattle.anb_probe.proofs.Dropping.{end_said}
 use Rattle.anb_unify.specs.Substitutions.{IsNamed, AreNamed}
 use Rattle.anb_unify.specs.Equations.{Solves, atoms_of}
 use Rattle.anb_unify.proofs.Putting.{named_stays}
@@ -31,8 +32,9 @@ use Rattle.anb_suite.specs.Walks.{sent_in}
 sent_with : (o : Option (List Tree)) (ws : List Tree) (next : List Tree → Played Tree) (stop : Played Tree) → o ≡ Some ws → (on_written o next stop).sent ≡ (next ws).sent
 sent_with o ws next stop e = rw e refl
 
-sent_if : (o : Option Tree) (t : Tree) (p : Played Tree) → o ≡ Some t → (says_if o p).sent ≡ t ∷ p.sent
-sent_if o t p e = rw e refl
+-- where there is something to say, a run sends it first
+pub sent_if : {A : Type 0} (o : Option A) (x : A) (p : Played A) → o ≡ Some x → (says_if o p).sent ≡ x ∷ p.sent
+sent_if o x p e = rw e refl
 
 module _ (has : Op → Bool) (N : ℕ) (put : ℕ → Tree) (keeps : KeepsNames N put) (draw : ℕ → Tree) (named : (i : ℕ) → IsNamed N (draw i)) where
   abbrev m : Meaning Tree
@@ -86,10 +88,6 @@ module _ {A : Type 0} (m : Meaning A) (draw : ℕ → A) where
     pub before : ℕ
     pub counts : place ≡ at + suc before
     pub done : stop ≡ e + count_by exchanges (take before acts)
-
-  end_said : (o : Option A) (p : Played A) → (says_if o p).end ≡ p.end
-  end_said None p = refl
-  end_said (Some b) p = refl
 
   -- one act more before it
   behind_one : (act : Act) (acts : List Act) (e e' at stop place : ℕ) → e' ≡ e + cond {A = ℕ} (exchanges act) 1 0 → StopsBehind acts e' (at + 1) stop place → StopsBehind (act ∷ acts) e at stop place

@@ -32,7 +32,7 @@ use Rattle.anb_tries.proofs.Along.{Fits, either}
 use Rattle.anb_tries.proofs.Next.{first_arrive}
 use Rattle.anb_tries.proofs.Passing.{first_lines, known_passes}
 use Rattle.anb_tries.proofs.Placed.{R, arrive, own, own_fit, partner_plays, placed, plan_apart}
-use Rattle.anb_tries.proofs.Refusing.{AreDraws, draws_all, draws_now, draws_on, grows, known_formed, none_drawn, one_formed, partner_known, partner_made, play_never_stops, refuses_none}
+use Rattle.anb_tries.proofs.Refusing.{AreDraws, Draws, from_all, from_first, from_rest, grows, known_formed, none_drawn, one_formed, partner_known, partner_made, play_never_stops, refuses_none}
 
 abbrev Text : Type 0
 Text = List ℕ
@@ -85,7 +85,7 @@ module _ (m : Meaning Text) (agrees : HonestAgree m) (draw : ℕ → Text) (atom
   says_right [] F vs e i (l ∷ ls) p drawn is all formed fits walk sent each = absurd each
   says_right (know t ∷ es) F vs e i ls p drawn is all formed fits walk sent each = says_right es F vs e i ls p drawn is all formed.1 fits walk sent each
   says_right (fresh t ∷ es) F vs e i ls p drawn is all formed fits walk sent each =
-      says_right es (F ++ t ∷ []) (vs ++ draw i ∷ []) e (i + 1) ls p (draws_on draw of i t (made es) drawn) (grows of F vs t (draw i) is (draws_now draw of i t (made es) drawn)) (one_formed m F t all formed.0) formed.1 fits walk sent each
+      says_right es (F ++ t ∷ []) (vs ++ draw i ∷ []) e (i + 1) ls p (from_rest (Draws draw of) i t (made es) drawn) (grows of F vs t (draw i) is (from_first (Draws draw of) i t (made es) drawn)) (one_formed m F t all formed.0) formed.1 fits walk sent each
   says_right (send t ∷ es) F vs e i [] p drawn is all formed fits walk sent each = (right, each_none of es) where
     right : b ≡ of t
     right =
@@ -283,14 +283,14 @@ module _ (a : Attempt) (is : IsAttempt a) (law : PartnersPlay a.script.protocol)
 
   said_line : (before after : List TranscriptLine) (b : Text) → ls ≡ before ++ Out b ∷ after → EachOf by plan before → EachOf by plan (before ++ Out b ∷ [])
   said_line before after b at each =
-      let f = first_lines a is plays in
+      let f = first_lines a is plays.played.sent plays.short plays.output in
       let rest = messages_of after ++ f.0 in
       let sent : plays.played.sent ≡ messages_of before ++ b ∷ rest =
       f.1 ∙ ap (λ l. l ++ f.0) (ap messages_of at ∙ messages_both before (Out b ∷ after)) ∙ append_assoc (messages_of before) (b ∷ messages_of after) f.0 in
       let dropped : drop (length (messages_of before)) plays.played.sent ≡ b ∷ rest = ap (drop (length (messages_of before))) sent ∙ drop_first (messages_of before) (b ∷ rest) in
       let fits = fits_first (sides plan) (before ++ Out b ∷ []) after (subst (Fits (sides plan)) (at ∙ sym (append_assoc before (Out b ∷ []) after)) (placed a is law)) in
       let play = subst (λ xs. Play m plays.draw plan a.initial xs plays.played) (ap arrivals_of at ∙ arrivals_both before (Out b ∷ after)) plays.play in
-      play_says_right m agrees plays.draw n.atoms good b rest (arrivals_of after) plan a.initial before plays.played (draws_all plays.draw by (made plan) n.draws)
+      play_says_right m agrees plays.draw n.atoms good b rest (arrivals_of after) plan a.initial before plays.played (from_all (Draws plays.draw by) (made plan) n.draws)
       (n.begins ∙ ap (map by) (sym (role_known a.script.protocol a.script.role))) (known_formed m plan n.formed) n.formed fits play dropped each
 
   heard_line : (before after : List TranscriptLine) (c : Text) → ls ≡ before ++ In c ∷ after → EachOf by plan before → EachOf by plan (before ++ In c ∷ [])
@@ -340,7 +340,7 @@ module _ (a : Attempt) (is : IsAttempt a) (law : PartnersPlay a.script.protocol)
   never_stopped event at end =
       let heard_is = each_arrives by plan ls (placed a is law) all_lines in
       let play = subst (λ xs. Play m plays.draw plan a.initial xs plays.played) heard_is plays.play in
-      play_never_stops m agrees plays.draw n.atoms good plan a.initial (length (arrivals_of ls)) plays.played event at (draws_all plays.draw by (made plan) n.draws)
+      play_never_stops m agrees plays.draw n.atoms good plan a.initial (length (arrivals_of ls)) plays.played event at (from_all (Draws plays.draw by) (made plan) n.draws)
       (n.begins ∙ ap (map by) (sym (role_known a.script.protocol a.script.role))) n.formed play end
 
   no_due : (event : ℕ) → a.due ≡ Some event → ⊥

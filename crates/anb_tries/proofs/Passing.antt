@@ -47,7 +47,7 @@ use Rattle.anb_tries.specs.Laws.{Attempt, DueIsKnown, IsAttempt, IsRead, PlaysRo
 use Rattle.anb_tries.proofs.Along.{Fits, next}
 use Rattle.anb_tries.proofs.Framed.{LeftOf, cut_behind, frames_no_length, frames_no_part, left_of, no_length, no_part, none_framed, none_left, whole_cut}
 use Rattle.anb_tries.proofs.Placed.{R, hears_next, over_next, own, placed, ss}
-use Rattle.anb_tries.proofs.Stopping.{StopsThere, begun_from, stops_at_start, stops_over}
+use Rattle.anb_tries.proofs.Stopping.{StopsThere, begun_from, same_event, stops_at_start, stops_over}
 
 abbrev Text : Type 0
 Text = List ℕ
@@ -86,7 +86,7 @@ module _ (m : Meaning Text) (draw : ℕ → Text) (x : Text) (rest : List Text) 
   play_says_next es init ls p fits (inl h) more = says_next es (known es) init 0 0 ls p fits h.1 more
   play_says_next es init ls p fits (inr h) more = absurd (sends_none p (messages_of ls) rest x (ap (λ (q : Played Text). q.sent) h.1) more)
 
-pub short_messages : (ls : List TranscriptLine) → AllByRecursion IsShort ls → AllByRecursion (λ b. length b ≤ ARRIVAL) (messages_of ls)
+short_messages : (ls : List TranscriptLine) → AllByRecursion IsShort ls → AllByRecursion (λ b. length b ≤ ARRIVAL) (messages_of ls)
 short_messages [] all = tt
 short_messages (In b ∷ ls) all = short_messages ls all.1
 short_messages (Out b ∷ ls) all = (all.0, short_messages ls all.1)
@@ -147,17 +147,28 @@ behind a is = is.converses.talks.mid
 abbrev pub after : (a : Attempt) → IsAttempt a → WireState
 after a is = is.converses.mid
 
-pub left_behind : (a : Attempt) (is : IsAttempt a) (plays : PlaysRole a) → LeftOf (frames plays.played.sent) (behind a is).left (frames (messages_of a.conversation.lines))
-left_behind a is plays =
-    let said = messages_of a.conversation.lines in
-    left_of (frames plays.played.sent) (behind a is).left (frames said) (subst (λ o. Took o (behind a is).left (frames said)) plays.output is.converses.talks.passed.took)
+-- a source that is at its end has nothing left
+pub ended_at : (o : Option Text) (xs : Text) → o ≡ Some xs → AtEnd o → xs ≡ []
+ended_at o xs is at = subst AtEnd is at
 
--- the lines have the first of what the role says, and all else is left
-pub first_lines : (a : Attempt) (is : IsAttempt a) (plays : PlaysRole a) → (rest : List Text) × (plays.played.sent ≡ messages_of a.conversation.lines ++ rest) × Cut ARRIVAL (left_behind a is plays).left rest End
-first_lines a is plays =
-    let l = left_behind a is plays in
-    cut_behind (messages_of a.conversation.lines) l.left plays.played.sent End (short_messages a.conversation.lines is.converses.talks.short)
-    (subst (λ x. Cut ARRIVAL x plays.played.sent End) l.all (whole_cut plays.played.sent plays.short))
+-- ---- what is left of an output of these messages
+
+module _ (a : Attempt) (is : IsAttempt a) (sent : List Text) (short : AllByRecursion (λ message. length message ≤ ARRIVAL) sent) (output : a.old.pipes.left ≡ Some (frames sent)) where
+  -- behind the lines
+  pub left_behind : LeftOf (frames sent) (behind a is).left (frames (messages_of a.conversation.lines))
+  left_behind =
+      let said = messages_of a.conversation.lines in
+      left_of (frames sent) (behind a is).left (frames said) (subst (λ o. Took o (behind a is).left (frames said)) output is.converses.talks.passed.took)
+
+  -- the lines have the first of the messages, and all else is left
+  pub first_lines : (rest : List Text) × (sent ≡ messages_of a.conversation.lines ++ rest) × Cut ARRIVAL left_behind.left rest End
+  first_lines =
+      cut_behind (messages_of a.conversation.lines) left_behind.left sent End (short_messages a.conversation.lines is.converses.talks.short)
+      (subst (λ x. Cut ARRIVAL x sent End) left_behind.all (whole_cut sent short))
+
+  -- behind what was taken at the talk's end
+  pub taken_last : (part : Text) → Took (behind a is).left (after a is).left part → LeftOf left_behind.left (after a is).left part
+  taken_last part took = left_of left_behind.left (after a is).left part (subst (λ o. Took o (after a is).left part) left_behind.is took)
 
 module _ (a : Attempt) (is : IsAttempt a) (law : PartnersPlay a.script.protocol) (read : IsRead a) (unrefused : a.conversation.end ≢ Refused) (plays : PlaysRole a) where
   abbrev c : Conversation
@@ -173,17 +184,10 @@ module _ (a : Attempt) (is : IsAttempt a) (law : PartnersPlay a.script.protocol)
   due = due_after (R a is law) (own a is law)
 
   abbrev left : Text
-  left = (left_behind a is plays).left
+  left = (left_behind a is sent plays.short plays.output).left
 
   behind_has : (behind a is).left ≡ Some left
-  behind_has = (left_behind a is plays).is
-
-  -- what was taken at the talk's end
-  taken_last : (part : Text) → Took (behind a is).left (after a is).left part → LeftOf left (after a is).left part
-  taken_last part took = left_of left (after a is).left part (subst (λ o. Took o (after a is).left part) behind_has took)
-
-  ended_at : (o : Option Text) (xs : Text) → o ≡ Some xs → AtEnd o → xs ≡ []
-  ended_at o xs is at = subst AtEnd is at
+  behind_has = (left_behind a is sent plays.short plays.output).is
 
   -- ---- nothing is left behind the lines
 
@@ -202,9 +206,9 @@ module _ (a : Attempt) (is : IsAttempt a) (law : PartnersPlay a.script.protocol)
         let whole : [] ≡ frames (x ∷ rest) ++ here.0 = sym none ∙ here.1 in
         let empty : x ∷ rest ≡ [] = (none_framed (x ∷ rest) here.0 whole).0 in absurd (cc)
     never (WasCut have need) is_end e =
-        let l = taken_last e.1.0 e.1.1.took in
+        let l = taken_last a is sent plays.short plays.output e.1.0 e.1.1.took in
         frames_no_part left e.1.0 l.left (x ∷ rest) have need here l.all (ended_at (after a is).left l.left l.is e.2) e.1.2
-    never (Long len) is_end e = (let l = taken_last (length_bytes len) e.1.took in frames_no_length left l.left (x ∷ rest) len here l.all e.2 (is.long len is_end))
+    never (Long len) is_end e = (let l = taken_last a is sent plays.short plays.output (length_bytes len) e.1.took in frames_no_length left l.left (x ∷ rest) len here l.all e.2 (is.long len is_end))
     never ReadFault is_end e = read.read is_end
     never WriteFault is_end e = heard_next e.0.0 e.0.1
     never TooLong is_end e = heard_next e.0.0 e.0.1
@@ -215,7 +219,7 @@ module _ (a : Attempt) (is : IsAttempt a) (law : PartnersPlay a.script.protocol)
   none_more (x ∷ rest) all here = absurd (never x rest all here c.end refl is.converses.talks.ends)
 
   all_said : (sent ≡ said) × (left ≡ [])
-  all_said = (let l = first_lines a is plays in none_more l.0 l.1 l.2)
+  all_said = (let l = first_lines a is sent plays.short plays.output in none_more l.0 l.1 l.2)
 
   behind_is : (behind a is).left ≡ Some []
   behind_is = behind_has ∙ ap Some all_said.1
@@ -226,9 +230,9 @@ module _ (a : Attempt) (is : IsAttempt a) (law : PartnersPlay a.script.protocol)
   after_talk Refused is_end e = absurd (unrefused is_end)
   after_talk Missing is_end e = (e.1.took.left ∙ behind_is, refl)
   after_talk (WasCut have need) is_end e =
-      let l = taken_last e.1.0 e.1.1.took in
+      let l = taken_last a is sent plays.short plays.output e.1.0 e.1.1.took in
       absurd (no_part e.1.0 have need e.1.2 (sym (first_none e.1.0 l.left (sym all_said.1 ∙ l.all))))
-  after_talk (Long len) is_end e = (let l = taken_last (length_bytes len) e.1.took in absurd (no_length len l.left (sym all_said.1 ∙ l.all)))
+  after_talk (Long len) is_end e = (let l = taken_last a is sent plays.short plays.output (length_bytes len) e.1.took in absurd (no_length len l.left (sym all_said.1 ∙ l.all)))
   after_talk ReadFault is_end e = absurd (read.read is_end)
   after_talk WriteFault is_end e = (e.1.left ∙ behind_is, refl)
   after_talk TooLong is_end e = (e.1.took.left ∙ behind_is, refl)
@@ -308,9 +312,6 @@ known_passes a law exact is due read unrefused plays stops =
     (roles a is law read unrefused plays) stops)
 
 -- ---- where who sees it stops there too
-
-same_event : (e at f by : ℕ) → stopped e at ≡ stopped f by → e ≡ f
-same_event e at f by is = cc
 
 some_event : (e f : ℕ) → ◌≡◌ {A = Option ℕ} (Some e) (Some f) → e ≡ f
 some_event e f is = cc

@@ -43,24 +43,33 @@ known_formed m (recv t ∷ es) f = known_formed m es f.1
 end_of : (p q : Played Text) → p ≡ q → p.end ≡ q.end
 end_of p q is = ap (λ (x : Played Text). x.end) is
 
-done_goes : (f at : ℕ) → done ≡ stopped f at → ⊥
+-- what is done, or waits, doesn't stop
+pub done_goes : (f at : ℕ) → done ≡ stopped f at → ⊥
 done_goes f at e = cc
 
-waiting_goes : (k f at : ℕ) → waiting k ≡ stopped f at → ⊥
+pub waiting_goes : (k f at : ℕ) → waiting k ≡ stopped f at → ⊥
 waiting_goes k f at e = cc
+
+-- this is so of each of these terms and its number, from i on
+abbrev pub EachFrom : (ℕ → Tree → Type 0) → ℕ → List Tree → Type 0
+EachFrom P i ts = (k : ℕ) (t : Tree) → slice_get ts k ≡ Some t → P (i + k) t
+
+pub from_rest : (P : ℕ → Tree → Type 0) (i : ℕ) (t : Tree) (ts : List Tree) → EachFrom P i (t ∷ ts) → EachFrom P (i + 1) ts
+from_rest P i t ts h k u e = let n : i + suc k ≡ i + 1 + k = omega arith in subst (λ j. P j u) n (h (suc k) u e)
+
+pub from_first : (P : ℕ → Tree → Type 0) (i : ℕ) (t : Tree) (ts : List Tree) → EachFrom P i (t ∷ ts) → P i t
+from_first P i t ts h = let n : i + 0 ≡ i = omega arith in subst (λ j. P j t) n (h 0 t refl)
+
+pub from_all : (P : ℕ → Tree → Type 0) (ts : List Tree) → ((k : ℕ) (t : Tree) → slice_get ts k ≡ Some t → P k t) → EachFrom P 0 ts
+from_all P ts h k t e = let n : k ≡ 0 + k = omega arith in subst (λ j. P j t) n (h k t e)
+
+-- this draw is the bytes of a name
+abbrev pub Draws : (ℕ → Text) → (Tree → Text) → ℕ → Tree → Type 0
+Draws draw of i t = draw i ≡ of t
 
 -- the draws from number i on are the bytes of these names
 abbrev pub AreDraws : (ℕ → Text) → (Tree → Text) → ℕ → List Tree → Type 0
-AreDraws draw of i ts = (k : ℕ) (t : Tree) → slice_get ts k ≡ Some t → draw (i + k) ≡ of t
-
-pub draws_on : (draw : ℕ → Text) (of : Tree → Text) (i : ℕ) (t : Tree) (ts : List Tree) → AreDraws draw of i (t ∷ ts) → AreDraws draw of (i + 1) ts
-draws_on draw of i t ts h k u e = let n : i + suc k ≡ i + 1 + k = omega arith in subst (λ j. draw j ≡ of u) n (h (suc k) u e)
-
-pub draws_now : (draw : ℕ → Text) (of : Tree → Text) (i : ℕ) (t : Tree) (ts : List Tree) → AreDraws draw of i (t ∷ ts) → draw i ≡ of t
-draws_now draw of i t ts h = let n : i + 0 ≡ i = omega arith in subst (λ j. draw j ≡ of t) n (h 0 t refl)
-
-pub draws_all : (draw : ℕ → Text) (of : Tree → Text) (ts : List Tree) → ((k : ℕ) (t : Tree) → slice_get ts k ≡ Some t → draw k ≡ of t) → AreDraws draw of 0 ts
-draws_all draw of ts h k t e = let n : k ≡ 0 + k = omega arith in subst (λ j. draw j ≡ of t) n (h k t e)
+AreDraws draw of i ts = EachFrom (Draws draw of) i ts
 
 pub none_drawn : (draw : ℕ → Text) (of : Tree → Text) (ts : List Tree) → ts ≡ [] → AreDraws draw of 0 ts
 none_drawn draw of [] is k t e = absurd (cc)
@@ -78,7 +87,7 @@ module _ (m : Meaning Text) (agrees : HonestAgree m) (draw : ℕ → Text) (atom
   never_stops [] frame vs e i n p f at none is all formed walk end = done_goes f at (sym (ap (λ (x : Played Text). x.end) walk) ∙ end)
   never_stops (know t ∷ es) frame vs e i n p f at none is all formed walk end = never_stops es frame vs e i n p f at none is all formed.1 walk end
   never_stops (fresh t ∷ es) frame vs e i n p f at none is all formed walk end =
-      never_stops es (frame ++ t ∷ []) (vs ++ draw i ∷ []) e (i + 1) n p f at (draws_on draw of i t (made es) none) (grows of frame vs t (draw i) is (draws_now draw of i t (made es) none)) (one_formed m frame t all formed.0) formed.1 walk end
+      never_stops es (frame ++ t ∷ []) (vs ++ draw i ∷ []) e (i + 1) n p f at (from_rest (Draws draw of) i t (made es) none) (grows of frame vs t (draw i) is (from_first (Draws draw of) i t (made es) none)) (one_formed m frame t all formed.0) formed.1 walk end
   never_stops (send t ∷ es) frame vs e i n p f at none is all formed walk end =
       never_stops es frame vs (e + 1) i n walk.1 f at none is all formed walk.3 (sym (ap (λ (x : Played Text). x.end) walk.4) ∙ end)
   never_stops (recv t ∷ es) frame vs e i zero p f at none is all formed walk end = waiting_goes (e + 1) f at (sym (ap (λ (x : Played Text). x.end) walk) ∙ end)

@@ -54,12 +54,13 @@ module _ (m : Meaning Text) where
 ended : {X : Type 0} (p q : Played Text) (x : End) → p.end ≡ x → p ≡ q → (q.end ≡ x → X) → X
 ended p q x end is f = f (sym (ap (λ (r : Played Text). r.end) is) ∙ end)
 
-same_stop : (e f at : ℕ) → stopped e 0 ≡ stopped f at → e ≡ f
-same_stop e f at is = cc
+-- stops that are the same are at one event
+pub same_event : (e at f by : ℕ) → stopped e at ≡ stopped f by → e ≡ f
+same_event e at f by is = cc
 
 module _ (m : Meaning Text) (draw : ℕ → Text) where
   -- a role stops behind the events that it went on over
-  stops_later : (es : List Event) (F : List Tree) (vs : List Text) (k i : ℕ) (xs : List Text) (p : Played Text) (f at : ℕ) → p.end ≡ stopped f at → Walk m draw es F vs k i xs p → k < f
+  pub stops_later : (es : List Event) (F : List Tree) (vs : List Text) (k i : ℕ) (xs : List Text) (p : Played Text) (f at : ℕ) → p.end ≡ stopped f at → Walk m draw es F vs k i xs p → k < f
   stops_later [] F vs k i xs p f at end walk = ended p (ends done xs) (stopped f at) end walk (λ never. absurd (cc))
   stops_later (know t ∷ es) F vs k i xs p f at end walk = stops_later es F vs k i xs p f at end walk
   stops_later (fresh t ∷ es) F vs k i xs p f at end walk = stops_later es (F ++ t ∷ []) (vs ++ draw i ∷ []) k (i + 1) xs p f at end walk
@@ -67,7 +68,7 @@ module _ (m : Meaning Text) (draw : ℕ → Text) where
       ended p (says walk.0 walk.1) (stopped f at) end walk.4 (λ it. omega (arith, stops_later es F vs (k + 1) i xs walk.1 f at it walk.3))
   stops_later (recv t ∷ es) F vs k i [] p f at end walk = ended p (ends (waiting (k + 1)) []) (stopped f at) end walk (λ never. absurd (cc))
   stops_later (recv t ∷ es) F vs k i (x ∷ xs) p f at end (inl h) = omega (arith, stops_later es (F ++ t ∷ []) (vs ++ x ∷ []) (k + 1) i xs p f at end h.1)
-  stops_later (recv t ∷ es) F vs k i (x ∷ xs) p f at end (inr h) = ended p (ends (stopped (k + 1) 0) xs) (stopped f at) end h.1 (λ it. omega (arith, same_stop (k + 1) f at it))
+  stops_later (recv t ∷ es) F vs k i (x ∷ xs) p f at end (inr h) = ended p (ends (stopped (k + 1) 0) xs) (stopped f at) end h.1 (λ it. omega (arith, same_event (k + 1) 0 f at it))
 
   -- so up to a stop the first lines are what it hears and says
   pub begun_from : (es : List Event) (F : List Tree) (vs : List Text) (k i n : ℕ) (ls : List TranscriptLine) (p : Played Text) (f at : ℕ) → Fits (sides es) ls → n ≤ length ls → p.end ≡ stopped f at → k + n < f
@@ -93,7 +94,7 @@ module _ (m : Meaning Text) (draw : ℕ → Text) where
   begun_from (recv t ∷ es) F vs k i (suc n) (In b ∷ ls) p f at fits few end before said (inl h) =
       inl (h.0, begun_from es (F ++ t ∷ []) (vs ++ b ∷ []) (k + 1) i n ls p f at (cc) (omega (arith, few)) end (omega (arith, before)) said h.1)
   begun_from (recv t ∷ es) F vs k i (suc n) (In b ∷ ls) p f at fits few end before said (inr h) =
-      ended p (ends (stopped (k + 1) 0) (arrivals_of ls)) (stopped f at) end h.1 (λ it. absurd (omega (arith, before, same_stop (k + 1) f at it)))
+      ended p (ends (stopped (k + 1) 0) (arrivals_of ls)) (stopped f at) end h.1 (λ it. absurd (omega (arith, before, same_event (k + 1) 0 f at it)))
 
 -- ---- the role and who sees it, side by side
 
@@ -207,7 +208,7 @@ module _ (m : Meaning Text) (new_atom : NewAtomAgrees m) (draw : ℕ → Text) (
       let same : k + 1 ≡ f = omega (arith, here) in
       record { end = ap (λ (r : Played Text). r.end) g.1 ∙ ap (λ e. stopped e 0) same; heard = refl }
   stops_from (recv t ∷ es) F vs G ws k i j (suc n) (In b ∷ ls) p s more f at both fits valued here end said (inr h) seer =
-      ended p (ends (stopped (k + 1) 0) (arrivals_of ls)) (stopped f at) end h.1 (λ it. absurd (omega (arith, here, same_stop (k + 1) f at it)))
+      ended p (ends (stopped (k + 1) 0) (arrivals_of ls)) (stopped f at) end h.1 (λ it. absurd (omega (arith, here, same_event (k + 1) 0 f at it)))
   stops_from (recv t ∷ es) F vs G ws k i j (suc n) (In b ∷ ls) p s more f at both fits valued here end said (inl h) (inr g) =
       absurd (g.0 (sees_on n es (F ++ t ∷ []) (vs ++ b ∷ []) (G ++ t ∷ []) (ws ++ b ∷ []) (both_heard n t b es F vs G ws h.0 valued.0 both)))
   stops_from (recv t ∷ es) F vs G ws k i j (suc n) (In b ∷ ls) p s more f at both fits valued here end said (inl h) (inl g) =
