@@ -21,7 +21,7 @@ use Rattle.anb_probed.proofs.Played.{Known, is_attempt, of_suite}
 use Rattle.anb_probed.proofs.Reported.{IsGood, done_all_good}
 
 pub mutants_fail : (p : ProtocolValue) → HoldsOf p → ((role : ℕ) → AllByRecursion (λ e. IsTermOf p (term_in e)) (plan_of p role)) → ValuesAreOfNames p → AttemptsTellMutants p → MutantsAreTold p
-mutants_fail p holds plans names law ends old new i all check tried drops dropped mutants over =
+mutants_fail p holds plans names law ends old new i all check tried drops dropped is_mutant over =
     let of_p : Known p = record { knows = (each_in_parts (IsTermOf p) (known_terms p) (messages p.actions) holds.terms).0; plans = plans; names = names } in
     let at_q : Known i.q.protocol = subst Known (sym i.protocol) of_p in
     let are = are_given i.files i.asked.narration i.asked.role i.asked.values i.host_seed i.q i.asks in
@@ -31,7 +31,7 @@ mutants_fail p holds plans names law ends old new i all check tried drops droppe
     let at : IsAttempt a = is_attempt i.q at_q are i.asked.trying i.suit tried.attempt tried.place tried.here _ _ _ _ ended.0 _ t in
     let of : IsTriedOf i.q.protocol a = of_suite i.q at_q are i.asked.trying i.suit tried.attempt tried.place tried.here _ _ _ _ ended.0 _ t in
     let case : IsCase i a = record { place = tried.place; attempt = tried.attempt; here = tried.here; end = ended.0; ended = ended.1; is = refl } in
-    let mutant = mutants a case in
+    let mutant = is_mutant a case refl in
     let both : Some tried.scene ≡ Some t.scene = sym tried.scene_is ∙ t.at in
     let same : tried.scene ≡ t.scene = cc in
     let of_check : IsOfCheck i.q.protocol a of check = record {

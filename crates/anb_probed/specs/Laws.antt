@@ -86,9 +86,9 @@ module _ {p : ProtocolValue} {ends : List CaseEnd} {old new : ℕ → Trial} (pl
     pub event : ℕ
     pub due : scene.due ≡ Some event
 
-  -- the child of each case runs the role's code less some checks, and nothing failed but what it does
-  abbrev pub AreMutants : (drops : ℕ → Bool) → Type 0
-  AreMutants drops = (a : Attempt) → IsCase a → IsHeardOut a × RunsLess a played.suit.code drops
+  -- in the case at this place the child runs the role's code less some checks, and nothing failed beside
+  abbrev pub IsMutantAt : (place : ℕ) → (drops : ℕ → Bool) → Type 0
+  IsMutantAt place drops = (a : Attempt) (case : IsCase a) → case.place ≡ place → IsHeardOut a × RunsLess a played.suit.code drops
 
 -- The child plays the role, and nothing failed. Only where something is made wrong and it isn't known that the role stops
 -- then, the partner refused none of its messages, and what it had made before it stops can be told.
@@ -130,10 +130,12 @@ module _ (p : ProtocolValue) where
   DoneIsAsTheRole = (ends : List CaseEnd) (old new : ℕ → Trial) (played : IsPlayed p ends old new) → status_for (verdicts_of ends) ≡ Done
       → (a : Attempt) → IsCase played a → IsAsTheRole a
 
-  -- A program that lacks a check isn't called right: where all cases are played, something failed.
+  -- A program that lacks a check isn't called right: where all cases are played, and it is this in one where the check is
+  -- tried, something failed.
   abbrev pub MutantsAreTold : Type 0
   MutantsAreTold = (ends : List CaseEnd) (old new : ℕ → Trial) (played : IsPlayed p ends old new) → length ends ≡ length (cases_of played)
-      → (check : ℕ) → IsChecked played check → (drops : ℕ → Bool) → drops check ≡ true → AreMutants played drops → status_for (verdicts_of ends) ≢ Done
+      → (check : ℕ) (checked : IsChecked played check) (drops : ℕ → Bool) → drops check ≡ true → IsMutantAt played checked.place drops
+      → status_for (verdicts_of ends) ≢ Done
 
 -- ---- the command
 

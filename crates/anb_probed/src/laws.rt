@@ -44,8 +44,8 @@ pub fn done_is_as_the_role(p: &Protocol)
     lax_programs_are_told(p);
 }
 
-/// A law: and where the child of each case runs the role's code less some checks, one of which is tried
-/// where the role is known to stop, something failed.
+/// A law: and where the child of a case runs the role's code less some checks, one of which is tried
+/// there, and it is known that the role stops then, something failed.
 pub fn mutants_are_told(p: &Protocol)
     ensures { MutantsAreTold p.now }
 {
