@@ -3,6 +3,8 @@ mod Dropped
 mod Lacking
 mod Going
 mod Judging
+mod Talking
 mod Telling
 mod Mutants
+mod Passing
 mod Trying
