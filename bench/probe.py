@@ -5,7 +5,7 @@
 
 For each role of each example, or of these folders of examples, the program is tested as
 
-- the role file that `compile` writes, played by `enact`: all must be ok;
+- the role file that `compile` writes, played by `enact`, and the role itself, by `play`: all must be ok;
 - the role file less one `equal` behind the first arrival; and with the one value used for the other in what follows;
 - the role file in Python, by bench/lax_role.py, that compares first bytes alone, or values as far as both go; that
   compares no tags, or reads formats by their lengths alone.
@@ -161,8 +161,10 @@ def check_role(bench, folder, role):
     own = bench.file(f"{name}.values", own)
     code = bench.run("compile", narration, role)[1]
     right = bench.probe(narration, role, values, bench.program, "enact", bench.file(f"{name}.role", code), own)
-    good = right.status == 0 and right.ok == right.cases
-    yield "right", right.cases, "ok" if good else "NOT OK", f"{name}: status {right.status}\n{right.text}"
+    played = bench.probe(narration, role, values, bench.program, "play", narration, role, own)
+    for kind, found in (("right", right), ("played", played)):
+        good = found.status == 0 and found.ok == found.cases
+        yield kind, found.cases, "ok" if good else "NOT OK", f"{name}: status {found.status}\n{found.text}"
     for number, (kind, mutant) in enumerate(mutants_of(code)):
         file = bench.file(f"{name}.{number}.role", mutant)
         found = bench.probe(narration, role, values, bench.program, "enact", file, own)
@@ -247,9 +249,11 @@ def print_table(rows, roles, seconds):
     right = [row for row in rows if row[0] == "right"]
     cases = [row[1] for row in right]
     print(f"{roles} roles, {sum(cases)} cases, {max(cases, default=0)} of one role at most, {seconds:.0f} s")
-    print(f"right role files that are all ok: {sum(row[2] == 'ok' for row in right)} of {len(right)}")
+    for kind, name in (("right", "right role files"), ("played", "roles that `play` plays")):
+        all_ok = [row[2] == "ok" for row in rows if row[0] == kind]
+        print(f"{name} that are all ok: {sum(all_ok)} of {len(all_ok)}")
     print(f"{'mutants':27} {'all':>6} " + " ".join(f"{it:>17}" for it in outcomes))
-    for kind in dict.fromkeys(row[0] for row in rows if row[0] != "right"):
+    for kind in dict.fromkeys(row[0] for row in rows if row[0] not in ("right", "played")):
         found = collections.Counter(row[2] for row in rows if row[0] == kind)
         print(f"{kind:27} {sum(found.values()):6} " + " ".join(f"{found[it]:17}" for it in outcomes))
 
