@@ -53,19 +53,17 @@ pub record IsHeardOut (a : Attempt) : Type 0 where
   pub tried : IsTried a
   pub written : a.conversation.end ≢ WriteFault
 
--- The attempt is one in the scene of the case of a check, in which it is known that the role stops.
-pub record IsOfCheck (p : ProtocolValue) (a : Attempt) (is : IsTriedOf p a) (check : ℕ) : Type 0 where
-  pub case : Case
-  pub is_case : IsCaseOf p is.role is.code Both check case
-  pub scene : IsSceneOf (length p.atoms) case is.is.scene
-  pub event : ℕ
-  pub due : a.due ≡ Some event
-
 -- The attempt is one in the scene of the case of a check.
 pub record IsAtCheck (p : ProtocolValue) (a : Attempt) (is : IsTriedOf p a) (check : ℕ) : Type 0 where
   pub case : Case
   pub is_case : IsCaseOf p is.role is.code Both check case
   pub scene : IsSceneOf (length p.atoms) case is.is.scene
+
+-- And it is known there that the role stops.
+pub record IsOfCheck (p : ProtocolValue) (a : Attempt) (is : IsTriedOf p a) (check : ℕ) : Type 0 where
+  pub at : IsAtCheck p a is check
+  pub event : ℕ
+  pub due : a.due ≡ Some event
 
 -- Bytes of all names and of the spare one in an attempt: those of what the role begins with, of what its partner is handed, and of
 -- what the child draws, and what was made of the right value.
@@ -79,13 +77,11 @@ pub record AreNamesOf (a : Attempt) (at : IsAttempt a) (draw atoms : ℕ → Lis
 -- The attempt is one in the scene of the case of a check, and the bytes of the check's two sides differ in it. What the role makes
 -- before the event at which it stops then can be told.
 pub record IsApart (p : ProtocolValue) (a : Attempt) (at : IsAttempt a) (is : IsTriedOf p a) (check : ℕ) (draw : ℕ → List ℕ) : Type 0 where
-  pub case : Case
-  pub is_case : IsCaseOf p is.role is.code Both check case
-  pub scene : IsSceneOf (length p.atoms) case is.is.scene
+  pub here : IsAtCheck p a is check
   pub atoms : ℕ → List ℕ
   pub names : AreNamesOf a at draw atoms
-  pub differ : honest_bytes p atoms (tree_of case.one) ≢ honest_bytes p atoms (tree_of case.other)
-  pub told : (n : ℕ) → case.event ≡ suc n → CanBeTold (judged a) n
+  pub differ : honest_bytes p atoms (tree_of here.case.one) ≢ honest_bytes p atoms (tree_of here.case.other)
+  pub told : (n : ℕ) → here.case.event ≡ suc n → CanBeTold (judged a) n
 
 -- ---- where checks are tried
 

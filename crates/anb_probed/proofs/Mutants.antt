@@ -35,9 +35,7 @@ mutants_fail p holds plans names law ends old new i all check tried drops droppe
     let both : Some tried.scene ≡ Some t.scene = sym tried.scene_is ∙ t.at in
     let same : tried.scene ≡ t.scene = cc in
     let of_check : IsOfCheck i.q.protocol a of check = record {
-      case = tried.case;
-      is_case = tried.is_case;
-      scene = subst (IsSceneOf _ tried.case) same tried.is;
+      at = record { case = tried.case; is_case = tried.is_case; scene = subst (IsSceneOf _ tried.case) same tried.is };
       event = tried.event;
       due = ap (λ (s : Scene). s.due) (sym same) ∙ tried.due;
     } in

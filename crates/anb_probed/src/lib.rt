@@ -2,7 +2,8 @@
 //!
 //! Laws alone. The command says of each case that was played which conversation came of it, and which
 //! verdict. Here it is proved that this is an attempt on a program as the suite of the role has it, so
-//! what is proved of attempts holds of the cases: no right program is called wrong, and a lax one is told.
+//! what is proved of attempts holds of the cases: no right program is called wrong, and a lax one is told,
+//! as is one that lacks a check.
 #![tactic(auto)]
 
 mod laws;

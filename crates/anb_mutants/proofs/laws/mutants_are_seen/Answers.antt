@@ -2,10 +2,9 @@ use Rattle.std.proofs.Common.{◌≡◌, List, ◌∙◌, subst}
 use Rattle.anb_base.specs.declared.content.Suite.{Suite}
 use Rattle.anb_format.specs.Formats.{FormatValue}
 use Rattle.anb_algebra.specs.ByteMeaning.{byte_meaning}
-use Rattle.anb_plays.specs.Statements.{RunsAsPlayed}
 use Rattle.anb_term.specs.Statements.{NewAtomAgrees}
 use Rattle.anb_protocol.specs.Plays.{meaning_of}
-use Rattle.anb_dues.proofs.Grounding.{grounds}
+use Rattle.anb_dues.proofs.Grounding.{grounds, plays_by}
 use Rattle.anb_mutants.proofs.Mutants.{mutant_seen}
 use Rattle.anb_mutants.proofs.laws.mutants_are_seen.Goals as goal
 
@@ -14,9 +13,7 @@ returns c =
     let p = c.args.p.now in
     let formats : c.new-bytes.result.formats ≡ p.formats = c.new-bytes.ensures.formats ∙ c.formats.ensures in
     let suite : c.new-bytes.result.suite ≡ p.suite = c.new-bytes.ensures.suite ∙ c.suite.ensures in
-    let P : List FormatValue → Type 0 = λ f. RunsAsPlayed (byte_meaning f c.new-bytes.result.suite) in
-    let Q : Suite → Type 0 = λ s. RunsAsPlayed (byte_meaning p.formats s) in
-    let plays : RunsAsPlayed (meaning_of p) = subst Q suite (subst P formats c.runs_as_played.ensures) in
+    let plays = plays_by p c.new-bytes.result.formats c.new-bytes.result.suite formats suite c.runs_as_played.ensures in
     let S : List FormatValue → Type 0 = λ f. NewAtomAgrees (byte_meaning f c.new-bytes.result.suite) in
     let T : Suite → Type 0 = λ s. NewAtomAgrees (byte_meaning p.formats s) in
     let new_atom : NewAtomAgrees (meaning_of p) = subst T suite (subst S formats c.new_atom_agrees.ensures) in
