@@ -1,5 +1,5 @@
 -- The case of a check: the role stops there, whatever the wrong value is, if it isn't the right one.
-use Rattle.std.proofs.Common.{◌≡◌, ◌≢◌, ℕ, ◌+◌, List, [], ◌∷◌, ◌++◌, length, map, take, Bool, true, false, cond, Option, Some, refl, sym, ap, ◌∙◌, subst, arith}
+use Rattle.std.proofs.Common.{◌≡◌, ◌≢◌, ℕ, ◌+◌, List, [], ◌∷◌, ◌++◌, length, map, take, Bool, true, false, cond, Some, refl, sym, ap, ◌∙◌, subst, arith}
 use Rattle.std.specs.Prelude.{slice_get, count_by, ◌==◌, ◌||◌}
 use Rattle.std.specs.List.{AllByRecursion, list_any}
 use Rattle.std.specs.Option.{option_map}
@@ -45,14 +45,15 @@ use Rattle.anb_suite.specs.declared.reading.Reading.{Reading}
 use Rattle.anb_suite.proofs.Behind.{one_differs, one_stops}
 use Rattle.anb_suite.proofs.Messages.{exchanges, stops_behind}
 use Rattle.anb_unify.proofs.Putting.{put_itself}
-use Rattle.anb_partner.specs.Plans.{MayStand, has_atom, script_of}
+use Rattle.anb_partner.specs.Plans.{MayStand, Script, has_atom, script_of}
 use Rattle.anb_attempts.specs.Attempts.{CaseMayStand, IsSceneOf, SidesDiffer, script_in}
 use Rattle.anb_attempts.specs.declared.attempts.Scene.{Scene}
 use Rattle.anb_tries.proofs.Refusing.{EachFrom, from_all, from_first, from_rest}
 use Rattle.anb_dues.proofs.Comparing.{Reaches, below, less_sends, run_reaches}
 use Rattle.anb_dues.proofs.Firsts.{Text}
 use Rattle.anb_dues.proofs.Naming.{both_ways, or_either, same_in, term_atoms}
-use Rattle.anb_dues.proofs.Stopping.{Grounds, Stops}
+use Rattle.anb_dues.proofs.Replacing.{check_says}
+use Rattle.anb_dues.proofs.Stopping.{Changes, ComesTo, Grounds, SaysAlong, Stops}
 
 -- ---- terms that may stand in a plan are over the formats
 
@@ -235,6 +236,17 @@ module _ (p : ProtocolValue) (role : ℕ) (code : CodeValue) (g : Grounds p role
             drawn_at : (k : ℕ) (t : Tree) → slice_get (made plan) k ≡ Some t → drawn plan k ≡ t
             drawn_at k t at = rw at refl
 
+    pub check_changes : CaseMayStand p case → Changes (script_of p role (map tree_of case.arrivals.items) (map tree_of case.messages.items) (Some (tree_of case.wrong)))
+    check_changes stands = record {
+      right = w;
+      right_is = refl;
+      arrivals_formed = stand_formed p came stands.arrivals;
+      messages_formed = stand_formed p (map tree_of case.messages.items) stands.messages;
+    }
+
+    pub check_comes : ComesTo (script_of p role (map tree_of case.arrivals.items) (map tree_of case.messages.items) (Some (tree_of case.wrong))) acts case.event
+    check_comes = record { count = reaches.count; before = reaches.before; comes = reaches.comes; at = reaches.event; more = says.0; says = says.1 }
+
     module _ (differ : SidesDiffer names case) where
       -- where the wrong value isn't the right one the code stops
       stops_if : (atoms draw : ℕ → Text) → AreValuesOf m plan atoms draw → atoms names ≢ honest m atoms w → (place : ℕ) × ((run_over m atoms draw plan acts came).end ≡ stopped case.event place)
@@ -244,17 +256,10 @@ module _ (p : ProtocolValue) (role : ℕ) (code : CodeValue) (g : Grounds p role
           (check, at.1 ∙ ap (λ e. stopped e check) same)
 
       pub check_stops : (change : Change) → CaseMayStand p case → Stops (script_of p role came (map tree_of case.messages.items) (Some w)) acts (wrong_by p.formats (Changed change)) case.event
+      unfolding check_changes
       check_stops change stands = record {
-        right = w;
-        right_is = refl;
-        count = reaches.count;
-        before = reaches.before;
-        comes = reaches.comes;
-        at = reaches.event;
-        more = says.0;
-        says = says.1;
-        arrivals_formed = stand_formed p came stands.arrivals;
-        messages_formed = stand_formed p (map tree_of case.messages.items) stands.messages;
+        changes = check_changes stands;
+        comes_to = check_comes;
         wrong = λ atoms draw values made_wrong. stops_if atoms draw values (changes_differ change (honest m atoms w) (atoms names) made_wrong);
         shut = λ atoms bytes. (
           other_than (honest m atoms w),
@@ -267,20 +272,37 @@ module _ (p : ProtocolValue) (role : ℕ) (code : CodeValue) (g : Grounds p role
 
 -- ---- its scene
 
-module _ (p : ProtocolValue) (role : ℕ) (acts : List Act) (event : ℕ) where
-  -- the script of a scene with these fields
-  pub in_scene : (scene : Scene) (arrivals messages : List Tree) (right : Tree) (wrong : Text → Option Text) → map tree_of scene.arrivals.items ≡ arrivals → map tree_of scene.messages.items ≡ messages → option_map tree_of scene.right ≡ Some right
-      → Stops (script_of p role arrivals messages (Some right)) acts wrong event → Stops (script_in p role scene) acts wrong event
-  in_scene scene arrivals messages right wrong is_came is_said is_right st =
-      let one = subst (λ l. Stops (script_of p role l messages (Some right)) acts wrong event) (sym is_came) st in
-      let two = subst (λ l. Stops (script_of p role (map tree_of scene.arrivals.items) l (Some right)) acts wrong event) (sym is_said) one in
-      subst (λ o. Stops (script_of p role (map tree_of scene.arrivals.items) (map tree_of scene.messages.items) o) acts wrong event) (sym is_right) two
+module _ (p : ProtocolValue) (role : ℕ) where
+  -- what holds of the script of these holds of that of a scene that has them
+  pub in_scene : (P : Script → Type 0) (scene : Scene) (arrivals messages : List Tree) (right : Tree) → map tree_of scene.arrivals.items ≡ arrivals → map tree_of scene.messages.items ≡ messages → option_map tree_of scene.right ≡ Some right
+      → P (script_of p role arrivals messages (Some right)) → P (script_in p role scene)
+  in_scene P scene arrivals messages right is_came is_said is_right here =
+      let one = subst (λ l. P (script_of p role l messages (Some right))) (sym is_came) here in
+      let two = subst (λ l. P (script_of p role (map tree_of scene.arrivals.items) l (Some right))) (sym is_said) one in
+      subst (λ o. P (script_of p role (map tree_of scene.arrivals.items) (map tree_of scene.messages.items) o)) (sym is_right) two
 
-pub check_known : (p : ProtocolValue) (role : ℕ) (code : CodeValue) → Grounds p role (acts_of code) → (reading : Reading) (check : ℕ) (case : Case) → IsCaseOf p role code reading check case → (scene : Scene) → CaseMayStand p case
-    → IsSceneOf (length p.atoms) case scene → (change : Change) (event : ℕ) → scene.due ≡ Some event → Stops (script_in p role scene) (acts_of code) (wrong_by p.formats (Changed change)) event
-check_known p role code g reading check case is scene stands of change event due =
-    let known = of.due.known event due in
-    let st = check_stops p role code g reading check case is known.1 change stands in
-    let here = in_scene p role (acts_of code) case.event scene (map tree_of case.arrivals.items) (map tree_of case.messages.items) (tree_of case.wrong) (wrong_by p.formats (Changed change))
-    (ap (λ v. map tree_of v.items) of.arrivals) (ap (λ v. map tree_of v.items) of.messages) (ap (option_map tree_of) of.right) st in
-    subst (λ e. Stops (script_in p role scene) (acts_of code) (wrong_by p.formats (Changed change)) e) (sym known.0) here
+  -- in that of a case
+  pub in_case : (P : Script → Type 0) (names : ℕ) (case : Case) (scene : Scene) → IsSceneOf names case scene
+      → P (script_of p role (map tree_of case.arrivals.items) (map tree_of case.messages.items) (Some (tree_of case.wrong))) → P (script_in p role scene)
+  in_case P names case scene of here =
+      in_scene P scene (map tree_of case.arrivals.items) (map tree_of case.messages.items) (tree_of case.wrong)
+      (ap (λ v. map tree_of v.items) of.arrivals) (ap (λ v. map tree_of v.items) of.messages) (ap (option_map tree_of) of.right) here
+
+-- a value is made wrong in a script, and the code says no messages but the script's
+abbrev pub GoesAlong : List Act → Script → Type 0
+GoesAlong acts s = Changes s × SaysAlong s acts
+
+module _ (p : ProtocolValue) (role : ℕ) (code : CodeValue) (g : Grounds p role (acts_of code)) (reading : Reading) (check : ℕ) (case : Case) (is : IsCaseOf p role code reading check case) (scene : Scene) (stands : CaseMayStand p case)
+    (of : IsSceneOf (length p.atoms) case scene) where
+  -- there the role stops where that is known
+  pub check_known : (change : Change) (event : ℕ) → scene.due ≡ Some event → Stops (script_in p role scene) (acts_of code) (wrong_by p.formats (Changed change)) event
+  check_known change event due =
+      let known = of.due.known event due in
+      let st = check_stops p role code g reading check case is known.1 change stands in
+      subst (λ e. Stops (script_in p role scene) (acts_of code) (wrong_by p.formats (Changed change)) e) (sym known.0)
+      (in_case p role (λ s. Stops s (acts_of code) (wrong_by p.formats (Changed change)) case.event) (length p.atoms) case scene of st)
+
+  -- and says no other messages
+  pub check_along : GoesAlong (acts_of code) (script_in p role scene)
+  check_along =
+      in_case p role (GoesAlong (acts_of code)) (length p.atoms) case scene of (check_changes p role code g reading check case is stands, λ atoms draw values. check_says p role code g reading check case is atoms draw values)

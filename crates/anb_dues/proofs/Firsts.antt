@@ -33,6 +33,12 @@ module _ (of : Tree → Text) where
   are_all (x ∷ xs) [] h = absurd h
   are_all (x ∷ xs) (t ∷ ts) h = ap (λ y. y ∷ (xs ++ map of (drop (length xs) ts))) h.0 ∙ ap (λ l. of t ∷ l) (are_all xs ts h.1)
 
+  -- those in front of others are too
+  pub are_part : (xs ys : List Text) (ts : List Tree) → Are (xs ++ ys) ts → Are xs ts
+  are_part [] ys ts h = tt
+  are_part (x ∷ xs) ys [] h = absurd h
+  are_part (x ∷ xs) ys (t ∷ ts) h = (h.0, are_part xs ys ts h.1)
+
   -- they are those of so many of the first
   pub are_taken : (xs : List Text) (ts : List Tree) → Are xs ts → xs ≡ map of (take (length xs) ts)
   are_taken [] [] h = refl
@@ -50,3 +56,9 @@ pub are_as : (of by : Tree → Text) (xs : List Text) (ts : List Tree) → AllBy
 are_as of by [] ts same h = tt
 are_as of by (x ∷ xs) [] same h = absurd h
 are_as of by (x ∷ xs) (t ∷ ts) same h = (h.0 ∙ same.0, are_as of by xs ts same.1 h.1)
+
+-- they are those of other terms with the same bytes
+pub are_mapped : (of by : Tree → Text) (f : Tree → Tree) → ((t : Tree) → of t ≡ by (f t)) → (xs : List Text) (ts : List Tree) → Are of xs ts → Are by xs (map f ts)
+are_mapped of by f same [] ts h = tt
+are_mapped of by f same (x ∷ xs) [] h = absurd h
+are_mapped of by f same (x ∷ xs) (t ∷ ts) h = (h.0 ∙ same t, are_mapped of by f same xs ts h.1)

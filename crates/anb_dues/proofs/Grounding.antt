@@ -1,5 +1,5 @@
 -- What is known of a role's code, and so of the attempts of its suite.
-use Rattle.std.proofs.Common.{◌≡◌, ℕ, List, [], ◌∷◌, length, map, Option, Some, None, sym, ◌∙◌, subst}
+use Rattle.std.proofs.Common.{◌≡◌, ◌≢◌, ◌⊎◌, ℕ, List, [], ◌∷◌, length, map, Option, Some, None, sym, ◌∙◌, subst, inl, inr}
 use Rattle.std.specs.List.{AllByRecursion}
 use Rattle.anb_lemmas.proofs.Each.{each_in_parts}
 use Rattle.anb_base.specs.declared.TheConstants.{ARRIVAL, WIDE}
@@ -25,11 +25,14 @@ use Rattle.anb_partner.specs.Laws.{PartnersPlay}
 use Rattle.anb_partner.specs.Plans.{Script, said}
 use Rattle.anb_tries.specs.Laws.{Attempt, IsAttempt}
 use Rattle.anb_attempts.specs.Attempts.{script_in}
-use Rattle.anb_dues.specs.Laws.{AreOfNames, IsCodeOf, IsTriedOf}
+use Rattle.anb_dues.specs.Laws.{AreOfNames, IsCodeOf, IsOfSealed, IsTriedOf}
+use Rattle.anb_dues.proofs.Checks.{GoesAlong}
 use Rattle.anb_dues.proofs.Firsts.{Text}
-use Rattle.anb_dues.proofs.Lines.{IsStopping}
-use Rattle.anb_dues.proofs.Stopping.{Grounds, Stops}
-use Rattle.anb_dues.proofs.Suites.{suite_good}
+use Rattle.anb_dues.proofs.Lines.{IsChanged}
+use Rattle.anb_dues.proofs.Opening.{ComesAlong}
+use Rattle.anb_dues.proofs.Stopped.{IsStopping}
+use Rattle.anb_dues.proofs.Stopping.{Changes, Grounds, Stops}
+use Rattle.anb_dues.proofs.Suites.{IsSealed, suite_good}
 
 labels_formed : (p : ProtocolValue) (es : List PlanEvent) → AllByRecursion (λ e. IsTermOf p (term_in e)) es → LabelsAreFormed (has_operator p.formats) (map event_of es)
 labels_formed p [] all = tt
@@ -72,25 +75,39 @@ pub record IsHonest (s : Script) (a : Attempt) : Type 0 where
   pub messages : s.messages ≡ said (events_of s.protocol s.role)
   pub due : a.due ≡ None
 
--- what is known of the script of an attempt and of how its right value is made wrong
-pub record Told (code : CodeValue) (s : Script) (a : Attempt) : Type 0 where
-  pub law : PartnersPlay s.protocol
-  pub base : Grounds s.protocol s.role (acts_of code)
-  pub names : AreOfNames s.protocol s.role a.initial a.handed
-  pub stops : (event : ℕ) → a.due ≡ Some event → Stops s (acts_of code) a.wrong event
-  pub honest : s.right ≡ None → IsHonest s a
+-- in the script of a scene in which something is made wrong and no stop is known, the code says no messages but the script's; or
+-- something that was sealed is changed, and the code comes to its opening
+abbrev pub Untold : (p : ProtocolValue) (a : Attempt) → IsTriedOf p a → Script → Type 0
+Untold p a of s = GoesAlong (acts_of of.code) s ⊎ ((sealed : IsOfSealed p a of) × ComesAlong (acts_of of.code) sealed.case.event s)
 
-pub told : (p : ProtocolValue) → PartnersPlay p → (a : Attempt) (of : IsTriedOf p a) → Grounds p of.role (acts_of of.code) → Told of.code a.script a
+-- what is known of the script of an attempt and of how its right value is made wrong
+pub record Told (p : ProtocolValue) (a : Attempt) (of : IsTriedOf p a) (s : Script) : Type 0 where
+  pub law : PartnersPlay s.protocol
+  pub base : Grounds s.protocol s.role (acts_of of.code)
+  pub names : AreOfNames s.protocol s.role a.initial a.handed
+  pub stops : (event : ℕ) → a.due ≡ Some event → Stops s (acts_of of.code) a.wrong event
+  pub honest : s.right ≡ None → IsHonest s a
+  pub untold : s.right ≢ None → a.due ≡ None → Untold p a of s
+
+pub told : (p : ProtocolValue) → PartnersPlay p → (a : Attempt) (of : IsTriedOf p a) → Grounds p of.role (acts_of of.code) → Told p a of a.script
 told p law a of g =
     let i = of.is in
+    let s = script_in p of.role i.scene in
     let good = suite_good p of.role of.code g of.all of.suite of.is_suite i.place i.attempt i.scene i.attempt_is i.scene_is in
-    let stops : (event : ℕ) → a.due ≡ Some event → Stops (script_in p of.role i.scene) (acts_of of.code) a.wrong event =
-    λ event due. subst (λ (w : Text → Option Text). Stops (script_in p of.role i.scene) (acts_of of.code) w event) (sym i.wrong) (good.stops event (sym i.due ∙ due)) in
-    let honest : (script_in p of.role i.scene).right ≡ None → IsHonest (script_in p of.role i.scene) a =
-    λ none. (let n = good.honest none in record { arrivals = n.arrivals; messages = n.messages; due = i.due ∙ n.due }) in
-    let there : Told of.code (script_in p of.role i.scene) a = record { law = law; base = g; names = i.names; stops = stops; honest = honest } in
-    subst (λ (s : Script). Told of.code s a) (sym i.script) there
+    let stops : (event : ℕ) → a.due ≡ Some event → Stops s (acts_of of.code) a.wrong event =
+    λ event due. subst (λ (w : Text → Option Text). Stops s (acts_of of.code) w event) (sym i.wrong) (good.stops event (sym i.due ∙ due)) in
+    let honest : s.right ≡ None → IsHonest s a = λ none. (let n = good.honest none in record { arrivals = n.arrivals; messages = n.messages; due = i.due ∙ n.due }) in
+    let there : Told p a of s = record { law = law; base = g; names = i.names; stops = stops; honest = honest; untold = λ some none. untold_as (good.untold some (sym i.due ∙ none)) } in
+    subst (Told p a of) (sym i.script) there where
+      untold_as : GoesAlong (acts_of of.code) (script_in p of.role of.is.scene) ⊎ IsSealed p of.role of.code g of.is.scene → Untold p a of (script_in p of.role of.is.scene)
+      untold_as (inl along) = inl along
+      untold_as (inr x) = inr (record { instruction = x.instruction; case = x.case; is_case = x.is_case; sealed = x.sealed; scene = x.is }, x.comes)
 
--- where it is known that the role stops
-pub stopping_in : (a : Attempt) → IsAttempt a → (code : CodeValue) → Told code a.script a → (event : ℕ) → a.due ≡ Some event → IsStopping a (acts_of code) event
-stopping_in a is code t event due = record { is = is; law = t.law; base = t.base; names = t.names; stops = t.stops event due }
+module _ (p : ProtocolValue) (a : Attempt) (is : IsAttempt a) (of : IsTriedOf p a) (t : Told p a of a.script) where
+  -- where it is known that the role stops
+  pub stopping_in : (event : ℕ) → a.due ≡ Some event → IsStopping a (acts_of of.code) event
+  stopping_in event due = record { is = is; law = t.law; base = t.base; names = t.names; stops = t.stops event due }
+
+  -- and where a value is made wrong
+  pub changed_in : Changes a.script → IsChanged a (acts_of of.code)
+  changed_in changes = record { is = is; law = t.law; base = t.base; names = t.names; changes = changes }

@@ -7,10 +7,13 @@ pub mod Speaking
 pub mod Naming
 mod Alike
 mod Labels
+pub mod Stopping
+pub mod Working
 pub mod Lines
+mod Stopped
+mod Replacing
 mod Knowing
 mod Unrefused
-pub mod Stopping
 pub mod Comparing
 pub mod Checks
 mod Opening

@@ -1,12 +1,10 @@
--- In an attempt in a scene in which the role is known to stop, the partner says and hears the bytes of the scene's terms as long as the role says
--- what it should, and the role's run over them stops there.
-use Rattle.std.proofs.Common.{◌≡◌, ℕ, zero, suc, ◌+◌, ◌≤◌, List, [], ◌∷◌, ◌++◌, length, map, take, drop, replicate, Bool, true, false, Option, Some, None, IfSome, IsTrue, refl, sym, ap, ◌∙◌, subst, inl, inr, arith, append_assoc, take-append-drop}
-use Rattle.std.specs.Prelude.{slice_get, ◌==◌}
+-- In an attempt in a scene in which a value is made wrong, the partner says and hears the bytes of the scene's terms as long as the role says
+-- what it should.
+use Rattle.std.proofs.Common.{◌≡◌, ℕ, zero, suc, ◌+◌, ◌≤◌, List, [], ◌∷◌, ◌++◌, length, map, take, drop, replicate, Option, Some, None, IfSome, IsTrue, refl, sym, ap, ◌∙◌, subst, arith, append_assoc, take-append-drop}
+use Rattle.std.specs.Prelude.{slice_get}
 use Rattle.std.specs.Option.{option_and_then}
 use Rattle.std.specs.List.{AllByRecursion}
-use Rattle.std.proofs.lemmas.Bool.{eqb-true}
 use Rattle.std.proofs.lemmas.List.{length-map}
-use Rattle.anb_lemmas.proofs.Each.{each_as}
 use Rattle.anb_base.specs.Bytes.{IsBytes, IsBytes-pass, is_bytes-IsBytes}
 use Rattle.anb_term.specs.Lawful.{Lawful, AreValues}
 use Rattle.anb_term.specs.FreeAlgebra.{terms}
@@ -20,8 +18,8 @@ use Rattle.anb_plays.specs.Exec.{exec, HasTakes}
 use Rattle.anb_plays.specs.Fits.{Follows, start}
 use Rattle.anb_plays.specs.Honest.{honest, heard, made}
 use Rattle.anb_plays.specs.Plans.{Event, known}
-use Rattle.anb_plays.specs.Plays.{stopped, Played, Play}
-use Rattle.anb_plays.specs.Runs.{no_place, run, without_place}
+use Rattle.anb_plays.specs.Plays.{Played, Play}
+use Rattle.anb_plays.specs.Runs.{run, without_place}
 use Rattle.anb_plays.specs.Statements.{HonestAgree}
 use Rattle.anb_plays.proofs.Exec.{exec_is_run, takes_ready}
 use Rattle.anb_plays.proofs.Grows.{run_grows}
@@ -36,27 +34,26 @@ use Rattle.anb_seal.specs.Streams.{draw_of}
 use Rattle.anb_transcript.specs.declared.transcript.TranscriptLine.{TranscriptLine}
 use Rattle.anb_transcript.specs.declared.transcript.TranscriptLine.TheVariants.{In, Out}
 use Rattle.anb_transcript.specs.Replays.{arrivals_of, messages_of}
-use Rattle.anb_judge.specs.Verdicts.{is_said, sides}
+use Rattle.anb_judge.specs.Verdicts.{sides}
 use Rattle.anb_probe.specs.Laws.{AreValuesOf}
 use Rattle.anb_openings.specs.Steps.{Progress, begun, after_all}
 use Rattle.anb_openings.proofs.Readying.{ready_before}
 use Rattle.anb_openings.proofs.Valued.{all_went, mapped_back, seen}
 use Rattle.anb_partner.specs.Laws.{PartnersPlay}
-use Rattle.anb_partner.specs.Plans.{Script, handed_terms, has_atom, lines_before, mirrored, partner_plan}
+use Rattle.anb_partner.specs.Plans.{Script, handed_terms, lines_before, mirrored, partner_plan}
 use Rattle.anb_partner.specs.Talks.{Corruption, Hooked, IsHooked, flipped, own_lines}
 use Rattle.anb_tries.specs.Laws.{Attempt, IsAttempt}
 use Rattle.anb_tries.proofs.Placed.{R, arrive, from_none, own, partner_plays, placed, plan_apart}
 use Rattle.anb_tries.proofs.Refusing.{partner_known}
 use Rattle.anb_tries.proofs.Narrated.{role_known}
 use Rattle.anb_dues.specs.Laws.{AreOfNames}
-use Rattle.anb_dues.proofs.Beginning.{play_hears}
 use Rattle.anb_dues.proofs.Counting.{counted, said_in}
-use Rattle.anb_dues.proofs.Firsts.{Are, Text, are_as, are_behind, are_first, are_more}
-use Rattle.anb_dues.proofs.Naming.{draws_named, handed_ours, hands_named, knows_named, named, named_bytes, named_else, named_spare, same_in}
+use Rattle.anb_dues.proofs.Firsts.{Are, Text, are_behind, are_first, are_more, are_part}
+use Rattle.anb_dues.proofs.Naming.{draws_named, handed_ours, hands_named, knows_named, named, named_bytes, named_spare}
 use Rattle.anb_dues.proofs.Saying.{SaysFirst, says_all}
 use Rattle.anb_dues.proofs.Sending.{sends_first}
-use Rattle.anb_dues.proofs.Speaking.{IsAt, Outcome, Right, hears_right, none_first, play_reaches, speaks_right, talked}
-use Rattle.anb_dues.proofs.Stopping.{Grounds, Stops, StopsAt}
+use Rattle.anb_dues.proofs.Speaking.{IsAt, Right, hears_right, none_first, play_reaches, speaks_right, talked}
+use Rattle.anb_dues.proofs.Stopping.{Changes, ComesTo, Grounds, SaysAlong}
 
 -- ---- a change that was made, or none
 
@@ -192,16 +189,16 @@ module _ (a : Attempt) (is : IsAttempt a) (law : PartnersPlay a.script.protocol)
 
 -- ---- an attempt
 
--- an attempt in a scene in which the role is known to stop at an event
-pub record IsStopping (a : Attempt) (acts : List Act) (event : ℕ) : Type 0 where
+-- an attempt in a scene in which a value is made wrong
+pub record IsChanged (a : Attempt) (acts : List Act) : Type 0 where
   pub is : IsAttempt a
   pub law : PartnersPlay a.script.protocol
   pub base : Grounds a.script.protocol a.script.role acts
   pub names : AreOfNames a.script.protocol a.script.role a.initial a.handed
-  pub stops : Stops a.script acts a.wrong event
+  pub changes : Changes a.script
 
 -- where the role draws this
-module _ (a : Attempt) (acts : List Act) (event : ℕ) (s : IsStopping a acts event) (d : ℕ → Text) (drawn : (i : ℕ) → IsBytes (d i)) where
+module _ (a : Attempt) (acts : List Act) (s : IsChanged a acts) (d : ℕ → Text) (drawn : (i : ℕ) → IsBytes (d i)) where
   abbrev p : ProtocolValue
   p = a.script.protocol
 
@@ -229,8 +226,8 @@ module _ (a : Attempt) (acts : List Act) (event : ℕ) (s : IsStopping a acts ev
   abbrev g : Grounds a.script.protocol a.script.role acts
   g = s.base
 
-  abbrev st : Stops a.script acts a.wrong event
-  st = s.stops
+  abbrev ch : Changes a.script
+  ch = s.changes
 
   abbrev atoms : ℕ → Text
   atoms = s.names.atoms
@@ -242,13 +239,13 @@ module _ (a : Attempt) (acts : List Act) (event : ℕ) (s : IsStopping a acts ev
   pub names_bytes : (wrong : Text) → IsBytes wrong → (n : ℕ) → IsBytes (named a.script.protocol a.script.role d s.names.atoms wrong n)
   names_bytes wrong is_bytes = named_bytes p role g.ours d atoms wrong s.names.bytes drawn is_bytes
 
-  values : (wrong : Text) → IsBytes wrong → AreValuesOf by_bytes events (names wrong) d
+  pub values : (wrong : Text) → IsBytes wrong → AreValuesOf (meaning_of a.script.protocol) (events_of a.script.protocol a.script.role) (named a.script.protocol a.script.role d s.names.atoms wrong) d
   values wrong is_bytes = record { values = λ n. is_bytes-IsBytes (names wrong n) (names_bytes wrong is_bytes n); drawn = draws_named p role g.ours d atoms wrong }
 
   draws_are : (i : ℕ) → IsTrue (by_bytes.is_value (d i))
   draws_are i = is_bytes-IsBytes (d i) (drawn i)
 
-  knows : (wrong : Text) → a.initial ≡ map (honest by_bytes (names wrong)) (known events)
+  pub knows : (wrong : Text) → a.initial ≡ map (honest (meaning_of a.script.protocol) (named a.script.protocol a.script.role d s.names.atoms wrong)) (known (events_of a.script.protocol a.script.role))
   knows wrong = s.names.begins ∙ sym (knows_named p role g.ours d atoms wrong) ∙ ap (map (honest by_bytes (names wrong))) (sym (role_known p role))
 
   -- the bytes of a term, and the run over those of the scene's arrivals
@@ -258,28 +255,8 @@ module _ (a : Attempt) (acts : List Act) (event : ℕ) (s : IsStopping a acts ev
   abbrev pub run_with : Text → Played Text
   run_with v = without_place (run (meaning_of a.script.protocol) d acts a.initial (map (honest (meaning_of a.script.protocol) (named a.script.protocol a.script.role d s.names.atoms v)) a.script.arrivals))
 
-  -- a value with which the role stops
-  record Shut (wrong : Text) : Type 0 where
-    v : Text
-    strings : IsBytes v
-    stops : StopsAt a.script acts event (names v) d
-
-  shut : (wrong : Text) → IsBytes wrong → Shut wrong
-  shut wrong is_bytes =
-      let c = st.shut (names wrong) (names_bytes wrong is_bytes) in
-      record { v = c.0; strings = c.1; stops = c.2 (names c.0) d (values c.0 c.1) (λ n apart. named_else p role d atoms c.0 wrong n apart) (named_spare p role g.ours d atoms c.0) }
-
-  -- the run stops there
-  pub run_stops : (v : Text) → StopsAt a.script acts event (named a.script.protocol a.script.role d s.names.atoms v) d → (run_with v).end ≡ stopped event 0
-  run_stops v at = ap (λ l. no_place (run by_bytes d acts l (map (honest by_bytes (names v)) a.script.arrivals)).end) (knows v) ∙ ap no_place at.1
-
   pub play : (v : Text) → IsBytes v → Play (meaning_of a.script.protocol) d (events_of a.script.protocol a.script.role) a.initial (map (honest (meaning_of a.script.protocol) (named a.script.protocol a.script.role d s.names.atoms v)) a.script.arrivals) (run_with v)
-  play v is_bytes = played p role acts g (names v) d a.initial a.script.arrivals (values v is_bytes) draws_are (knows v) st.arrivals_formed
-
-  pub hears_there : is_said (sides (events_of a.script.protocol a.script.role)) event ≡ false
-  hears_there =
-      let n = shut [] (IsBytes-pass [] refl) in
-      play_hears by_bytes d events a.initial (map (honest by_bytes (names n.v)) a.script.arrivals) (run_with n.v) event 0 (run_stops n.v n.stops) (play n.v n.strings)
+  play v is_bytes = played p role acts g (names v) d a.initial a.script.arrivals (values v is_bytes) draws_are (knows v) ch.arrivals_formed
 
   -- ---- with the wrong value that was made
 
@@ -299,17 +276,27 @@ module _ (a : Attempt) (acts : List Act) (event : ℕ) (s : IsStopping a acts ev
   pub val : AreValuesOf by_bytes events (named a.script.protocol a.script.role d s.names.atoms (wrong_of s.is.converses.talks.hooked)) d
   val = values wrong wrong_is
 
-  -- as many messages are in the scene before the role stops as the plan has there
-  pub sent_count : length s.stops.before.sent ≡ said_in event (sides (events_of a.script.protocol a.script.role))
-  sent_count = as_many p role acts g a.script.arrivals st.count st.before event st.comes st.at
+  -- ---- where the code comes to an event
 
-  -- these of the run are the scene's
-  pub said_right : (messages : List Text) → SaysFirst (run_with wrong) messages → length messages ≤ length s.stops.before.sent → Are of messages a.script.messages
-  said_right messages says few =
-      let first = sends p role acts g (named a.script.protocol a.script.role d s.names.atoms wrong) d a.script.arrivals st.count st.before val st.arrivals_formed st.comes in
-      let same : run by_bytes d acts a.initial (map of a.script.arrivals) ≡ run by_bytes d acts (map of (known events)) (map of a.script.arrivals) = ap (λ l. run by_bytes d acts l (map of a.script.arrivals)) (knows wrong) in
-      let both : messages ++ says.0 ≡ map of st.before.sent ++ first.0 = sym says.1 ∙ ap (λ (q : Played Text). q.sent) same ∙ first.1 in
-      subst (Are of messages) (sym st.says) (are_more of messages st.before.sent st.more (are_first of messages says.0 st.before.sent first.0 both few))
+  module _ (event : ℕ) (to : ComesTo a.script acts event) where
+    -- as many messages are in the scene before it as the plan has there
+    pub sent_count : length to.before.sent ≡ said_in event (sides (events_of a.script.protocol a.script.role))
+    sent_count = as_many p role acts g a.script.arrivals to.count to.before event to.comes to.at
+
+    -- these of the run are the scene's
+    pub said_right : (messages : List Text) → SaysFirst (run_with wrong) messages → length messages ≤ length to.before.sent → Are of messages a.script.messages
+    said_right messages says few =
+        let first = sends p role acts g (named a.script.protocol a.script.role d s.names.atoms wrong) d a.script.arrivals to.count to.before val ch.arrivals_formed to.comes in
+        let same : run by_bytes d acts a.initial (map of a.script.arrivals) ≡ run by_bytes d acts (map of (known events)) (map of a.script.arrivals) = ap (λ l. run by_bytes d acts l (map of a.script.arrivals)) (knows wrong) in
+        let both : messages ++ says.0 ≡ map of to.before.sent ++ first.0 = sym says.1 ∙ ap (λ (q : Played Text). q.sent) same ∙ first.1 in
+        subst (Are of messages) (sym to.says) (are_more of messages to.before.sent to.more (are_first of messages says.0 to.before.sent first.0 both few))
+
+  -- where it says the scene's messages alone, so are these of the run
+  pub said_along : SaysAlong a.script acts → (messages : List Text) → SaysFirst (run_with wrong) messages → Are of messages a.script.messages
+  said_along along messages says =
+      let all = along (named a.script.protocol a.script.role d s.names.atoms wrong) d val in
+      let same : run by_bytes d acts (map of (known events)) (map of a.script.arrivals) ≡ run by_bytes d acts a.initial (map of a.script.arrivals) = ap (λ l. run by_bytes d acts l (map of a.script.arrivals)) (sym (knows wrong)) in
+      are_part of messages says.0 a.script.messages (subst (λ l. Are of l a.script.messages) (ap (λ (q : Played Text). q.sent) same ∙ says.1) all)
 
   -- ---- the partner
 
@@ -326,13 +313,13 @@ module _ (a : Attempt) (acts : List Act) (event : ℕ) (s : IsStopping a acts ev
   partner = map event_of (partner_plan a.script)
 
   abbrev mirror : List PlanEvent
-  mirror = mirrored spare (Some st.right) 1 own_es a.script.arrivals a.script.messages
+  mirror = mirrored spare (Some ch.right) 1 own_es a.script.arrivals a.script.messages
 
   abbrev talk : List TranscriptLine
   talk = talked (right_of o) wrong (hook_of o) lines
 
   partner_is : partner ≡ map event_of (map to_know ks ++ (map (to_receive 0) hs ++ mirror))
-  partner_is = partner_mirrors a.script st.right st.right_is
+  partner_is = partner_mirrors a.script ch.right ch.right_is
 
   pub partner_begins : a.initial ≡ map of (known_by a.script.protocol a.script.role)
   partner_begins = s.names.begins ∙ sym (knows_named p role g.ours d atoms wrong)
@@ -364,80 +351,32 @@ module _ (a : Attempt) (acts : List Act) (event : ℕ) (s : IsStopping a acts ev
   pub hands_formed : AreFormed (has_operator a.script.protocol.formats) (trees_of (handed_terms a.script.protocol a.script.role))
   hands_formed = formed_list p hs (handed_ours p role g.ours)
 
-  at_hook : IsAt (Some st.right) (hook_of o) (lines_before spare 0 own_es a.script.arrivals) 0 (length lines)
-  at_hook = hooked_at a is st.right st.right_is
+  at_hook : IsAt (Some ch.right) (hook_of o) (lines_before spare 0 own_es a.script.arrivals) 0 (length lines)
+  at_hook = hooked_at a is ch.right ch.right_is
 
   -- ---- line by line
 
   -- what came in the first lines are the bytes of what should
   abbrev pub Came : ℕ → Type 0
-  Came k = Right by_bytes own_agrees (draw_of (replicate 32 0) 0) (named a.script.protocol a.script.role d s.names.atoms wrong) val.values spare (right_of o) wrong (sym (named_spare p role g.ours d atoms wrong)) (Some st.right) (hook_of o) a.script.arrivals lines k
+  Came k = Right by_bytes own_agrees (draw_of (replicate 32 0) 0) (named a.script.protocol a.script.role d s.names.atoms wrong) val.values spare (right_of o) wrong (sym (named_spare p role g.ours d atoms wrong)) (Some ch.right) (hook_of o) a.script.arrivals lines k
 
   -- that is so of so many lines as the role says what it should
   module _ (n : ℕ) (said : (k : ℕ) → k ≤ n → Came k → Are of (messages_of (take k lines)) a.script.messages) where
     pub claims : (k : ℕ) → k ≤ n → Came k
-    claims zero few = none_first by_bytes own_agrees (draw_of (replicate 32 0) 0) (named a.script.protocol a.script.role d s.names.atoms wrong) val.values spare (right_of o) wrong (sym (named_spare p role g.ours d atoms wrong)) (Some st.right) (hook_of o) a.script.arrivals lines
+    claims zero few = none_first by_bytes own_agrees (draw_of (replicate 32 0) 0) (named a.script.protocol a.script.role d s.names.atoms wrong) val.values spare (right_of o) wrong (sym (named_spare p role g.ours d atoms wrong)) (Some ch.right) (hook_of o) a.script.arrivals lines
     claims (suc k) few =
         let less : k ≤ n = omega (arith, few) in
         let reached = play_reaches by_bytes own_agrees (draw_of (replicate 32 0) 0) (named a.script.protocol a.script.role d s.names.atoms wrong) val.values ks hs mirror a.initial (arrivals_of talk) q partner partner_is
         (subst (λ ts. AreFormed by_bytes.has (trees_of ts)) (sym (partner_known a.script)) knows_formed) hands_formed (partner_begins ∙ ap (map of) (sym (partner_known a.script))) partner_plays_it in
         speaks_right by_bytes own_agrees (draw_of (replicate 32 0) 0) (named a.script.protocol a.script.role d s.names.atoms wrong) val.values spare (right_of o) wrong (sym (named_spare p role g.ours d atoms wrong))
-        1 0 (Some st.right) (hook_of o) own_es a.script.arrivals a.script.messages lines k reached.0 reached.1 0 q partner_says.0 is.whole.heard_all is.whole.said_all reached.2 st.messages_formed
+        1 0 (Some ch.right) (hook_of o) own_es a.script.arrivals a.script.messages lines k reached.0 reached.1 0 q partner_says.0 is.whole.heard_all is.whole.said_all reached.2 ch.messages_formed
         at_hook (placed a is law) (said k less (claims k less)) partner_says.1 reached.3
 
   -- where it says all that it should, what the partner hears are the bytes of its terms
   pub partner_hears : Are of (messages_of a.conversation.lines) a.script.messages → Are of (arrivals_of (own a s.is s.law)) (heard (map event_of (partner_plan a.script)))
   partner_hears said =
       let there = hears_right by_bytes own_agrees (draw_of (replicate 32 0) 0) (named a.script.protocol a.script.role d s.names.atoms wrong) val.values spare (right_of o) wrong (sym (named_spare p role g.ours d atoms wrong))
-      1 0 (Some st.right) (hook_of o) own_es a.script.arrivals a.script.messages lines is.whole.heard_all is.whole.said_all at_hook (placed a is law) said in
+      1 0 (Some ch.right) (hook_of o) own_es a.script.arrivals a.script.messages lines is.whole.heard_all is.whole.said_all at_hook (placed a is law) said in
       let all = are_behind of hs (arrivals_of talk) (heard (map event_of mirror)) there in
       let terms_are : heard partner ≡ hs ++ heard (map event_of mirror) = ap heard partner_is ∙ heard_known ks (map (to_receive 0) hs ++ mirror) ∙ heard_handed hs mirror in
       subst (λ xs. Are of xs (heard partner)) (sym came) (subst (Are of (map of hs ++ arrivals_of talk)) (sym terms_are) all)
-
-  -- ---- where it stops
-
-  -- a value for the spare name with which the role stops there, and what came in the first lines are the bytes of what should
-  pub record Stopping (k : ℕ) : Type 0 where
-    pub v : Text
-    pub strings : IsBytes v
-    pub stops : StopsAt a.script acts event (named a.script.protocol a.script.role d s.names.atoms v) d
-    pub are : Are (λ t. honest (meaning_of a.script.protocol) (named a.script.protocol a.script.role d s.names.atoms v) t) (arrivals_of (take k a.conversation.lines)) a.script.arrivals
-
-  -- it was made wrong
-  changed : (x : Option Hooked) → IsHooked a.at a.wrong lines x → (k : ℕ) → hook_of x ≡ Some k → a.wrong (right_of x) ≡ Some (wrong_of x)
-  changed None is_hooked k e = absurd (cc)
-  changed (Some h) is_hooked k e = is_hooked.2
-
-  was_wrong : (n k : ℕ) → hook_of o ≡ Some k → right_of o ≡ of st.right → Are of (arrivals_of (take n lines)) a.script.arrivals → Stopping n
-  was_wrong n k hook right_is are =
-      let made_wrong : a.wrong (of st.right) ≡ Some (named a.script.protocol a.script.role d s.names.atoms wrong spare) =
-      ap a.wrong (sym right_is) ∙ changed o is.converses.talks.is_hooked k hook ∙ ap Some (sym (named_spare p role g.ours d atoms wrong)) in
-      record { v = wrong; strings = wrong_is; stops = st.wrong (named a.script.protocol a.script.role d s.names.atoms wrong) d val made_wrong; are = are }
-
-  other_name : (t : Tree) (n : ℕ) → has_atom spare t ≡ false → has_atom n t ≡ true → (b : Bool) → (n == spare) ≡ b → b ≡ false
-  other_name t n lacks has true e = (let same = eqb-true n spare e in let yes : has_atom spare t ≡ true = subst (λ k. has_atom k t ≡ true) same has in absurd (cc))
-  other_name t n lacks has false e = refl
-
-  no_spare : (n : ℕ) → AllByRecursion (λ t. has_atom spare t ≡ false) (take (length (arrivals_of (take n lines))) a.script.arrivals) → Are of (arrivals_of (take n lines)) a.script.arrivals → Stopping n
-  no_spare n without are =
-      let c = shut wrong wrong_is in
-      let by = λ (t : Tree). honest by_bytes (named a.script.protocol a.script.role d s.names.atoms c.v) t in
-      let same : (t : Tree) → has_atom spare t ≡ false → of t ≡ by t =
-      λ t lacks. same_in by_bytes (named a.script.protocol a.script.role d s.names.atoms wrong) (named a.script.protocol a.script.role d s.names.atoms c.v) t
-      (λ n has. named_else p role d atoms wrong c.v n (other_name t n lacks has (n == spare) refl)) in
-      record {
-        v = c.v;
-        strings = c.strings;
-        stops = c.stops;
-        are = are_as of by (arrivals_of (take n lines)) a.script.arrivals (each_as (λ t. has_atom spare t ≡ false) (λ t. of t ≡ by t) (take (length (arrivals_of (take n lines))) a.script.arrivals) same without) are;
-      }
-
-  outcome : (n : ℕ) (x : Option ℕ) → hook_of o ≡ x
-      → Outcome by_bytes own_agrees (draw_of (replicate 32 0) 0) (named a.script.protocol a.script.role d s.names.atoms wrong) val.values spare (right_of o) wrong (sym (named_spare p role g.ours d atoms wrong)) (Some st.right) x (take (length (arrivals_of (take n lines))) a.script.arrivals)
-      → Are of (arrivals_of (take n lines)) a.script.arrivals → Stopping n
-  outcome n None e without are = no_spare n without are
-  outcome n (Some k) e (inl right) are = was_wrong n k e right are
-  outcome n (Some k) e (inr without) are = no_spare n without are
-
-  pub stopping : (k : ℕ) → Came k → Stopping k
-  stopping k all = outcome k (hook_of o) refl all.1 all.0

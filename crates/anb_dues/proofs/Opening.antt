@@ -55,14 +55,14 @@ use Rattle.anb_openings.proofs.Places.{is_there}
 use Rattle.anb_openings.proofs.Retagging.{retagged_seal_stops, retagged_wrap_stops}
 use Rattle.anb_openings.proofs.Shutting.{shut_stops}
 use Rattle.anb_openings.proofs.Spoiling.{spoilt_stops}
-use Rattle.anb_partner.specs.Plans.{MayStand, script_of}
+use Rattle.anb_partner.specs.Plans.{MayStand, Script, script_of}
 use Rattle.anb_attempts.specs.Attempts.{IsSceneOfOpening, IsSceneOfTag, OpeningMayStand, TagMayStand, script_in}
 use Rattle.anb_attempts.specs.Retagging.{RetaggingValue, pair_from, pair_of, retagging_at, retagging_by, retagging_in, retagging_of}
 use Rattle.anb_attempts.specs.declared.attempts.Scene.{Scene}
 use Rattle.anb_dues.proofs.Checks.{in_scene, stand_formed}
 use Rattle.anb_dues.proofs.Firsts.{Text}
 use Rattle.anb_dues.proofs.Sending.{sent_stays}
-use Rattle.anb_dues.proofs.Stopping.{Grounds, Stops}
+use Rattle.anb_dues.proofs.Stopping.{Changes, ComesTo, Grounds, Stops}
 
 -- ---- no bytes can't be opened
 
@@ -156,32 +156,30 @@ module _ (p : ProtocolValue) (role : ℕ) (code : CodeValue) (g : Grounds p role
   abbrev StopsIt : Tree → (Text → Option Text) → Type 0
   StopsIt right corrupt = (atoms draw : ℕ → Text) → AreValuesOf m plan atoms draw → corrupt (honest_bytes p atoms right) ≡ Some (atoms names) → (run_over m atoms draw plan acts came).end ≡ stopped case.event instruction
 
-  opened_stops : (right : Tree) (corrupt : Text → Option Text) → StopsIt right corrupt → AllByRecursion (MayStand p) came → AllByRecursion (MayStand p) said → Stops (script_of p role came said (Some right)) acts corrupt case.event
-  unfolding played
-  opened_stops right corrupt stops stand_came stand_said =
+  opening_changes : (right : Tree) → AllByRecursion (MayStand p) came → AllByRecursion (MayStand p) said → Changes (script_of p role came said (Some right))
+  opening_changes right stand_came stand_said = record { right = right; right_is = refl; arrivals_formed = stand_formed p came stand_came; messages_formed = stand_formed p said stand_said }
+
+  opening_comes : (right : Tree) → ComesTo (script_of p role came said (Some right)) acts case.event
+  opening_comes right =
       let later = sent_stays terms (made plan) (drop instruction acts) (writing is.parts is.before) is.behind is.goes_on in
-      record {
-        right = right;
-        right_is = refl;
-        count = instruction - 1;
-        before = is.before;
-        comes = is.comes;
-        at = is.event;
-        more = later.0;
-        says = sym is.messages ∙ later.1;
-        arrivals_formed = stand_formed p came stand_came;
-        messages_formed = stand_formed p said stand_said;
-        wrong = λ atoms draw values e. (instruction, stops atoms draw values e);
-        shut = λ atoms bytes. (
-          [],
-          IsBytes-pass [] refl,
-          λ others draw values same is_none. (
-            instruction,
-            shut_stops m lawful (exec_is_run m lawful) agrees names plan acts instruction o ks r (opening_value case) others draw (played others draw values)
-                (ap (m.undone o (map (honest m others) is.keyed)) is_none ∙ none_undone p.formats p.suite o (map (honest m others) is.keyed) opened_formed.0),
-          ),
-        );
-      }
+      record { count = instruction - 1; before = is.before; comes = is.comes; at = is.event; more = later.0; says = sym is.messages ∙ later.1 }
+
+  opened_stops : (right : Tree) (corrupt : Text → Option Text) → StopsIt right corrupt → AllByRecursion (MayStand p) came → AllByRecursion (MayStand p) said → Stops (script_of p role came said (Some right)) acts corrupt case.event
+  unfolding played opening_changes
+  opened_stops right corrupt stops stand_came stand_said = record {
+    changes = opening_changes right stand_came stand_said;
+    comes_to = opening_comes right;
+    wrong = λ atoms draw values e. (instruction, stops atoms draw values e);
+    shut = λ atoms bytes. (
+      [],
+      IsBytes-pass [] refl,
+      λ others draw values same is_none. (
+        instruction,
+        shut_stops m lawful (exec_is_run m lawful) agrees names plan acts instruction o ks r (opening_value case) others draw (played others draw values)
+            (ap (m.undone o (map (honest m others) is.keyed)) is_none ∙ none_undone p.formats p.suite o (map (honest m others) is.keyed) opened_formed.0),
+      ),
+    );
+  }
 
   -- bytes of a format that were spoilt
   spoilt : (place fields : ℕ) (row : Row) → o ≡ Format place fields → StopsIt (tree_of case.opened) (wrong_by p.formats (Spoilt place row))
@@ -230,10 +228,21 @@ parsed_known p role code g instruction f case is parsed stands scene of row even
     let is_format = parsed_is code instruction f is.o is.ks is.r parsed is.opened.opening in
     let st = opened_stops p role code g instruction case is.o is.ks is.r is.opened.opening is.is (tree_of case.opened) (wrong_by p.formats (Spoilt f row))
     (spoilt p role code g instruction case is.o is.ks is.r is.opened.opening is.is f (field_count (pieces_at code.formats f)) row is_format) stands.arrivals stands.messages in
-    let here = in_scene p role (acts_of code) case.event scene (map tree_of case.arrivals.items) (map tree_of case.messages.items) (tree_of case.opened) (wrong_by p.formats (Spoilt f row))
+    let here = in_scene p role (λ s. Stops s (acts_of code) (wrong_by p.formats (Spoilt f row)) case.event) scene (map tree_of case.arrivals.items) (map tree_of case.messages.items) (tree_of case.opened)
     (ap (λ v. map tree_of v.items) of.arrivals) (ap (λ v. map tree_of v.items) of.messages) (ap (option_map tree_of) of.right) st in
     let same : case.event ≡ event = (let both = sym of.due ∙ due in cc) in
     subst (λ e. Stops (script_in p role scene) (acts_of code) (wrong_by p.formats (Spoilt f row)) e) same here
+
+-- sealed bytes that are changed in another way: the code comes to the opening
+abbrev pub ComesAlong : List Act → ℕ → Script → Type 0
+ComesAlong acts event s = Changes s × ComesTo s acts event
+
+pub sealed_comes : (p : ProtocolValue) (role : ℕ) (code : CodeValue) → Grounds p role (acts_of code) → (instruction : ℕ) (case : OpeningCase) → IsOpeningCaseOf p role code instruction case → (parsed : Option ℕ) → OpeningMayStand p case → (scene : Scene) → IsSceneOfOpening parsed case scene
+    → ComesAlong (acts_of code) case.event (script_in p role scene)
+sealed_comes p role code g instruction case is parsed stands scene of =
+    in_scene p role (ComesAlong (acts_of code) case.event) scene (map tree_of case.arrivals.items) (map tree_of case.messages.items) (tree_of case.opened)
+    (ap (λ v. map tree_of v.items) of.arrivals) (ap (λ v. map tree_of v.items) of.messages) (ap (option_map tree_of) of.right)
+    (opening_changes p role code g instruction case is.o is.ks is.r is.opened.opening is.is (tree_of case.opened) stands.arrivals stands.messages, opening_comes p role code g instruction case is.o is.ks is.r is.opened.opening is.is (tree_of case.opened))
 
 -- ---- false tags
 
@@ -323,7 +332,7 @@ module _ (p : ProtocolValue) (role : ℕ) (code : CodeValue) (g : Grounds p role
       → Stops (script_in p role scene) (acts_of code) (wrong_by p.formats tag.way) event
   tag_known parsed tag is_tag stands scene of event due =
       let st = by_parsed parsed tag is_tag stands in
-      let here = in_scene p role (acts_of code) case.event scene (map tree_of case.arrivals.items) (map tree_of case.messages.items) tag.pair (wrong_by p.formats tag.way)
+      let here = in_scene p role (λ s. Stops s (acts_of code) (wrong_by p.formats tag.way) case.event) scene (map tree_of case.arrivals.items) (map tree_of case.messages.items) tag.pair
       (ap (λ v. map tree_of v.items) of.arrivals) (ap (λ v. map tree_of v.items) of.messages) of.right st in
       let same : case.event ≡ event = (let both = sym of.due ∙ due in cc) in
       subst (λ e. Stops (script_in p role scene) (acts_of code) (wrong_by p.formats tag.way) e) same here

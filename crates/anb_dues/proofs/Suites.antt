@@ -1,5 +1,5 @@
 -- Each attempt of a suite is in a scene in which the role stops where that is known, and which is the honest one where nothing is made wrong.
-use Rattle.std.proofs.Common.{◌≡◌, ℕ, ◌+◌, List, [], ◌∷◌, ◌++◌, length, map, Bool, true, false, Option, Some, None, refl, sym, ap, ◌∙◌, subst, inl, inr, ◌⊎◌, arith}
+use Rattle.std.proofs.Common.{◌≡◌, ◌≢◌, ℕ, ◌+◌, List, [], ◌∷◌, ◌++◌, length, map, Bool, true, false, Option, Some, None, refl, sym, ap, ◌∙◌, subst, inl, inr, ◌⊎◌, arith}
 use Rattle.std.specs.Prelude.{filter, slice_get}
 use Rattle.std.specs.List.{AllByRecursion, AllZip}
 use Rattle.std.specs.Option.{option_map, option_map_or}
@@ -38,16 +38,31 @@ use Rattle.anb_attempts.specs.declared.attempts.Suite.{Suite}
 use Rattle.anb_attempts.specs.declared.points.Point.{Point}
 use Rattle.anb_attempts.specs.declared.points.Point.TheVariants.{Check, Opening}
 use Rattle.anb_attempts.proofs.Adding.{attempts_in, scenes_in}
-use Rattle.anb_dues.proofs.Checks.{check_known, wrong_ours}
-use Rattle.anb_dues.proofs.Opening.{parsed_known, tag_known}
+use Rattle.anb_dues.proofs.Checks.{GoesAlong, check_along, check_known, wrong_ours}
+use Rattle.anb_dues.proofs.Opening.{ComesAlong, parsed_known, sealed_comes, tag_known}
 use Rattle.anb_dues.proofs.Stopping.{Grounds, Stops}
-use Rattle.anb_dues.proofs.Within.{IsFine, few_fine, may_or_not, within_known}
+use Rattle.anb_dues.proofs.Within.{IsFine, few_fine, may_or_not, within_along, within_known}
 
 module _ (p : ProtocolValue) (role : ℕ) (code : CodeValue) (g : Grounds p role (acts_of code)) where
-  -- where it is known that the role stops, it does; and where nothing is made wrong, all is as narrated
+  -- the scene of the case of an opening that takes off a tag
+  pub record IsSealed (scene : Scene) : Type 0 where
+    pub instruction : ℕ
+    pub case : OpeningCase
+    pub is_case : IsOpeningCaseOf p role code instruction case
+    pub sealed : parsed_at code instruction ≡ None
+    pub is : IsSceneOfOpening None case scene
+    pub comes : ComesAlong (acts_of code) case.event (script_in p role scene)
+
+  -- Where it is known that the role stops, it does; where nothing is made wrong, all is as narrated; and else the code says no
+  -- messages but the scene's, or something that was sealed is changed.
   pub record IsGood (scene : Scene) (wrong : Wrong) : Type 0 where
     pub stops : (event : ℕ) → scene.due ≡ Some event → Stops (script_in p role scene) (acts_of code) (wrong_by p.formats wrong) event
     pub honest : option_map tree_of scene.right ≡ None → IsNarrated p role scene
+    pub untold : option_map tree_of scene.right ≢ None → scene.due ≡ None → GoesAlong (acts_of code) (script_in p role scene) ⊎ IsSealed scene
+
+  -- a stop that is known isn't unknown
+  told_due : {X : Type 0} (scene : Scene) (event : ℕ) → scene.due ≡ Some event → scene.due ≡ None → X
+  told_due scene event due none = absurd (let both : None ≡ Some event = sym none ∙ due in cc)
 
   -- a scene in which something is made wrong isn't the honest one
   never_honest : (scene : Scene) (t : Tree) → option_map tree_of scene.right ≡ Some t → option_map tree_of scene.right ≡ None → IsNarrated p role scene
@@ -141,6 +156,7 @@ module _ (p : ProtocolValue) (role : ℕ) (code : CodeValue) (g : Grounds p role
   found_fine reading check case is scene change stands of = record {
     stops = λ event due. check_known p role code g reading check case is scene stands of change event due;
     honest = never_honest scene (tree_of case.wrong) (ap (option_map tree_of) of.right);
+    untold = λ some none. inl (check_along p role code g reading check case is scene stands of);
   }
 
   zip_fine : (check : ℕ) (case : Case) → IsCaseOf p role code Both check case → (inners : List InnerValue) (cases : List Case) → AllByRecursion (IsFine p) inners → AllZip (IsWithin (length p.atoms) case) inners cases → AllByRecursion CaseFine cases
@@ -151,6 +167,7 @@ module _ (p : ProtocolValue) (role : ℕ) (code : CodeValue) (g : Grounds p role
     (λ scene change stands of. record {
       stops = λ event due. within_known p role code g check case is i fine.0 c all.0 scene stands of change event due;
       honest = never_honest scene (tree_of c.wrong) (ap (option_map tree_of) of.right);
+      untold = λ some none. inl (within_along p role code g check case is i fine.0 c all.0 scene stands of);
     }),
     zip_fine check case is inners cs fine.1 all.1,
   )
@@ -184,8 +201,19 @@ module _ (p : ProtocolValue) (role : ℕ) (code : CodeValue) (g : Grounds p role
 
   -- ---- openings
 
-  none_due : (scene : Scene) (wrong : Wrong) → scene.due ≡ None → (option_map tree_of scene.right ≡ None → IsNarrated p role scene) → IsGood scene wrong
-  none_due scene wrong none honest = record { stops = λ event due. absurd (let both : None ≡ Some event = sym none ∙ due in cc); honest = honest }
+  sealed_good : (instruction : ℕ) (case : OpeningCase) → IsOpeningCaseOf p role code instruction case → parsed_at code instruction ≡ None → OpeningMayStand p case → (scene : Scene) → IsSceneOfOpening None case scene → (wrong : Wrong) → IsGood scene wrong
+  sealed_good instruction case is sealed stands scene of wrong = record {
+    stops = λ event due. told_due scene event due of.due;
+    honest = never_honest scene (tree_of case.opened) (ap (option_map tree_of) of.right);
+    untold = λ some none. inr (record {
+      instruction = instruction;
+      case = case;
+      is_case = is;
+      sealed = sealed;
+      is = of;
+      comes = sealed_comes p role code g instruction case is None stands scene of;
+    });
+  }
 
   ways_in : (n : ℕ) (at : Place) (scene : Scene) (ways : List Wrong) (attempts : List Attempt) → AllByRecursion (IsGood scene) ways → AllZip (IsOpeningAttempt p role n at) ways attempts → AllIn n (scene ∷ []) attempts
   ways_in n at scene [] [] good all = tt
@@ -203,7 +231,7 @@ module _ (p : ProtocolValue) (role : ℕ) (code : CodeValue) (g : Grounds p role
 
   ways_good : (all : Bool) (instruction : ℕ) (case : OpeningCase) → IsOpeningCaseOf p role code instruction case → OpeningMayStand p case → (scene : Scene) (parsed : Option ℕ) → parsed_at code instruction ≡ parsed → IsSceneOfOpening parsed case scene
       → AllByRecursion (IsGood scene) (ways_of p all parsed)
-  ways_good all instruction case is stands scene None e of = each_any (IsGood scene) (λ w. none_due scene w of.due (never_honest scene (tree_of case.opened) (ap (option_map tree_of) of.right))) (ways_of p all None)
+  ways_good all instruction case is stands scene None e of = each_any (IsGood scene) (sealed_good instruction case is e stands scene of) (ways_of p all None)
   ways_good all instruction case is stands scene (Some f) e of = by (slice_get p.formats f) where
     by : (o : Option FormatValue) → AllByRecursion (IsGood scene) (option_map_or (λ (x : FormatValue). format_ways all f x.pieces) o [])
     by None = tt
@@ -212,6 +240,7 @@ module _ (p : ProtocolValue) (role : ℕ) (code : CodeValue) (g : Grounds p role
         (λ row. record {
           stops = λ event due. parsed_known p role code g instruction f case is e stands scene of row event due;
           honest = never_honest scene (tree_of case.opened) (ap (option_map tree_of) of.right);
+          untold = λ some none. told_due scene case.event of.due none;
         })
         (filter (is_tried all x.pieces) (rows_of x.pieces))
 
@@ -225,6 +254,7 @@ module _ (p : ProtocolValue) (role : ℕ) (code : CodeValue) (g : Grounds p role
         one_in n t.scene t.attempt t.falsely.scene_is (good_as t.scene tag.way t.attempt.wrong t.falsely.wrong_is (record {
           stops = λ event due. tag_known p role code g instruction case is parsed tag tag_is t.stands t.scene t.is event due;
           honest = never_honest t.scene tag.pair t.is.right;
+          untold = λ some none. told_due t.scene case.event t.is.due none;
         })),
         tt,
       )
@@ -247,7 +277,12 @@ module _ (p : ProtocolValue) (role : ℕ) (code : CodeValue) (g : Grounds p role
 
   begun_in : (suite : Suite) → IsBegun p role suite → AllIn 0 suite.scenes.items suite.attempts.items
   begun_in suite b =
-      let one : AllIn 0 (b.scene ∷ []) (b.attempt ∷ []) = (one_in 0 b.scene b.attempt b.honest.scene (none_due b.scene b.attempt.wrong b.narrated.due (λ none. b.narrated)), tt) in
+      let good : IsGood b.scene b.attempt.wrong = record {
+        stops = λ event due. told_due b.scene event due b.narrated.due;
+        honest = λ none. b.narrated;
+        untold = λ some none. absurd (some (ap (option_map tree_of) b.narrated.right));
+      } in
+      let one : AllIn 0 (b.scene ∷ []) (b.attempt ∷ []) = (one_in 0 b.scene b.attempt b.honest.scene good, tt) in
       subst (λ l. AllIn 0 l suite.attempts.items) (sym b.scenes) (subst (AllIn 0 (b.scene ∷ [])) (sym b.attempts) one)
 
   suite_in : (all : Bool) (suite : Suite) → IsSuite p role code all suite → AllIn 0 suite.scenes.items suite.attempts.items

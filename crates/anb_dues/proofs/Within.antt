@@ -2,7 +2,6 @@
 use Rattle.std.proofs.Common.{◌≡◌, ◌≢◌, ℕ, zero, suc, ◌+◌, ◌<◌, ◌≤◌, List, [], ◌∷◌, ◌++◌, length, map, take, Bool, true, false, cond, Some, IsTrue, refl, sym, ap, ◌∙◌, subst, inl, inr, ◌⊎◌, arith}
 use Rattle.std.specs.Prelude.{slice_get, nat_le, ◌==◌, if◌then◌else◌}
 use Rattle.std.specs.List.{AllByRecursion}
-use Rattle.std.specs.Option.{option_map}
 use Rattle.std.proofs.lemmas.List.{length-map}
 use Rattle.anb_lemmas.proofs.Each.{each_by, each_got, each_in_both, each_of_map}
 use Rattle.anb_lemmas.proofs.Items.{bytes_differ}
@@ -58,11 +57,12 @@ use Rattle.anb_attempts.specs.Attempts.{CaseMayStand, IsSceneOf, SidesDiffer, sc
 use Rattle.anb_attempts.specs.Inner.{InnerOperandsValue, InnerValue, IsWithin, few_within, in_place_of, inner_before, inner_behind, inner_from, inner_node, inner_of, inner_within}
 use Rattle.anb_attempts.specs.declared.attempts.Scene.{Scene}
 use Rattle.anb_tries.proofs.Narrated.{role_known}
-use Rattle.anb_dues.proofs.Checks.{in_scene, one_event, other_bytes, other_differs, other_than, reaches, says, sides_law, stand_formed}
+use Rattle.anb_dues.proofs.Checks.{GoesAlong, in_case, one_event, other_bytes, other_differs, other_than, reaches, says, sides_law, stand_formed}
 use Rattle.anb_dues.proofs.Comparing.{any_ready, below}
-use Rattle.anb_dues.proofs.Firsts.{Text}
+use Rattle.anb_dues.proofs.Firsts.{Are, Text, are_mapped}
 use Rattle.anb_dues.proofs.Naming.{same_in, term_atoms}
-use Rattle.anb_dues.proofs.Stopping.{Grounds, Stops}
+use Rattle.anb_dues.proofs.Replacing.{check_says}
+use Rattle.anb_dues.proofs.Stopping.{Changes, ComesTo, Grounds, SaysAlong, Stops}
 
 -- ---- terms put in the places of atoms
 
@@ -305,19 +305,38 @@ module _ (p : ProtocolValue) (role : ℕ) (code : CodeValue) (g : Grounds p role
   part_ours : IsTermOf p w
   part_ours = subst (IsTermOf p) (sym iw.wrong) fine.part
 
+  within_changes : CaseMayStand p within → Changes (script_of p role (map tree_of within.arrivals.items) (map tree_of within.messages.items) (Some (tree_of within.wrong)))
+  within_changes stands = record {
+    right = w;
+    right_is = refl;
+    arrivals_formed = stand_formed p came_within stands.arrivals;
+    messages_formed = stand_formed p said_within stands.messages;
+  }
+
+  within_comes : ComesTo (script_of p role (map tree_of within.arrivals.items) (map tree_of within.messages.items) (Some (tree_of within.wrong))) (acts_of code) within.event
+  within_comes = record {
+    count = (reaches p role code g Both check case is).count;
+    before = put_back (reaches p role code g Both check case is).before;
+    comes = comes;
+    at = (reaches p role code g Both check case is).event ∙ sym iw.event;
+    more = says_within.0;
+    says = says_within.1;
+  }
+
+  -- it says the first of the case's messages, with these values of the names
+  within_says : SaysAlong (script_of p role (map tree_of within.arrivals.items) (map tree_of within.messages.items) (Some (tree_of within.wrong))) (acts_of code)
+  within_says atoms draw values =
+      let by = λ (t : Tree). honest m atoms t in
+      let first = check_says p role code g Both check case is (inside atoms draw values) draw (values_inside atoms draw values) in
+      let mapped = are_mapped (λ t. honest m (inside atoms draw values) t) by (put_in put) (λ t. sym (honest_put m atoms put t)) _ (map tree_of case.messages.items) first in
+      subst (λ (q : Played Text). Are by q.sent said_within) (same_run atoms draw values) (subst (Are by (run_over m (inside atoms draw values) draw plan acts came).sent) (sym iw.messages) mapped)
+
   module _ (differ : SidesDiffer names within) where
     within_stops : (change : Change) → CaseMayStand p within → Stops (script_of p role came_within said_within (Some w)) acts (wrong_by p.formats (Changed change)) within.event
+    unfolding within_changes
     within_stops change stands = record {
-      right = w;
-      right_is = refl;
-      count = (reaches p role code g Both check case is).count;
-      before = put_back (reaches p role code g Both check case is).before;
-      comes = comes;
-      at = (reaches p role code g Both check case is).event ∙ sym iw.event;
-      more = says_within.0;
-      says = says_within.1;
-      arrivals_formed = stand_formed p came_within stands.arrivals;
-      messages_formed = stand_formed p said_within stands.messages;
+      changes = within_changes stands;
+      comes_to = within_comes;
       wrong = λ atoms draw values made_wrong. stops_if atoms draw values differ (changes_differ change (honest m atoms w) (atoms names) made_wrong);
       shut = λ atoms bytes. (
         other_than (honest m atoms w),
@@ -328,13 +347,15 @@ module _ (p : ProtocolValue) (role : ℕ) (code : CodeValue) (g : Grounds p role
       );
     }
 
-  pub within_known : (scene : Scene) → CaseMayStand p within → IsSceneOf (length p.atoms) within scene → (change : Change) (event : ℕ) → scene.due ≡ Some event → Stops (script_in p role scene) acts (wrong_by p.formats (Changed change)) event
-  within_known scene stands of change event due =
-      let known_so = of.due.known event due in
-      let st = within_stops known_so.1 change stands in
-      let here = in_scene p role acts within.event scene came_within said_within w (wrong_by p.formats (Changed change))
-      (ap (λ v. map tree_of v.items) of.arrivals) (ap (λ v. map tree_of v.items) of.messages) (ap (option_map tree_of) of.right) st in
-      subst (λ e. Stops (script_in p role scene) acts (wrong_by p.formats (Changed change)) e) (sym known_so.0) here
+  module _ (scene : Scene) (may : CaseMayStand p within) (of : IsSceneOf (length p.atoms) within scene) where
+    pub within_known : (change : Change) (event : ℕ) → scene.due ≡ Some event → Stops (script_in p role scene) (acts_of code) (wrong_by p.formats (Changed change)) event
+    within_known change event due =
+        let known_so = of.due.known event due in
+        subst (λ e. Stops (script_in p role scene) (acts_of code) (wrong_by p.formats (Changed change)) e) (sym known_so.0)
+        (in_case p role (λ s. Stops s (acts_of code) (wrong_by p.formats (Changed change)) within.event) (length p.atoms) within scene of (within_stops known_so.1 change may))
+
+    pub within_along : GoesAlong (acts_of code) (script_in p role scene)
+    within_along = in_case p role (GoesAlong (acts_of code)) (length p.atoms) within scene of (within_changes may, within_says)
 
 -- ---- whether a term of the narration may stand in a plan
 

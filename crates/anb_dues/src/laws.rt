@@ -28,9 +28,10 @@ pub fn values_are_of_names(p: &Protocol)
     plans_know_first();
 }
 
-/// A law: so no right program is called wrong in an attempt of a suite. Only where something is made
-/// wrong and it isn't known that the role stops then, it is asked beside that its partner refuses none
-/// of its messages, and that where it stops this is known.
+/// A law: so no right program is called wrong in an attempt of a suite. That its partner refuses none
+/// of its messages isn't asked. Only where something is made wrong and it isn't known that the role
+/// stops then, what the child had made before it stops can be told; and sealed bytes that are changed
+/// don't open, which nothing excludes, since a tag may fit by chance.
 pub fn right_programs_pass(p: &Protocol)
     ensures { RightProgramsPass p.now }
 {

@@ -3,9 +3,11 @@
 //! Laws alone. The suite of a role says of each scene at which event the role stops, where that is known.
 //! Here it is proved of every attempt that is made on a program in such a scene: whatever the role draws,
 //! and whatever bytes its names have, no run of it goes on over that event; and the role hears something
-//! there. So the laws on verdicts hold of attempts of a suite without that premise. And there the partner
-//! refuses no message of a program that plays the role, and the program stops at that event, if it
-//! stops. So of a right program this is asked only where a value is made wrong and no stop is known.
+//! there. So the laws on verdicts hold of attempts of a suite without that premise. And the partner
+//! refuses no message of a program that plays the role: where the role is known to stop, the program
+//! stops there, if it stops; and else the code says no other messages than the scene's, also where the
+//! two sides of a check have the same bytes. Only where sealed bytes are changed may the program go
+//! on, since a tag may fit by chance.
 #![tactic(auto)]
 
 mod laws;

@@ -1,26 +1,22 @@
 -- What a code says that lacks checks, where the values of the terms of a case come: the values of the case's messages, in time.
-use Rattle.std.proofs.Common.{◌≡◌, ℕ, ◌+◌, List, [], ◌∷◌, ◌++◌, length, map, Bool, true, false, cond, IsTrue, Option, Some, None, refl, sym, ap, ◌∙◌, subst, arith, append-nil, length-append}
+use Rattle.std.proofs.Common.{◌≡◌, ℕ, ◌+◌, List, [], ◌∷◌, ◌++◌, length, map, Bool, true, false, cond, IsTrue, Some, None, refl, sym, ap, ◌∙◌, subst, arith, append-nil, length-append}
 use Rattle.std.specs.Prelude.{slice_get}
-use Rattle.std.specs.Option.{option_map, option_and_then}
 use Rattle.anb_term.specs.Demand.{alike}
-use Rattle.anb_term.specs.FreeAlgebra.{terms, terms_over}
+use Rattle.anb_term.specs.FreeAlgebra.{terms_over}
 use Rattle.anb_term.specs.Lawful.{Lawful}
 use Rattle.anb_term.specs.Tree.{Tree, trees_of, IsFormed, AreFormed}
 use Rattle.anb_term.specs.Value.{Meaning}
 use Rattle.anb_term.proofs.Lists.{slice_get-map, slice_get-there}
 use Rattle.anb_plays.specs.Codes.{Act, takes, draws, receives, sends, works, Work, make, undo, equal}
-use Rattle.anb_plays.specs.Exec.{exec, on_written, worked, count_written, IsReady, IsVerified}
+use Rattle.anb_plays.specs.Exec.{exec, worked, count_written, IsReady, IsVerified}
 use Rattle.anb_plays.specs.Fits.{Place, Along, AnySend, AnyWork, AnyBorder, after_take, after_label, after_work}
 use Rattle.anb_plays.specs.Honest.{honest, made}
 use Rattle.anb_plays.specs.Plans.{Event, know, fresh, send, recv}
-use Rattle.anb_plays.specs.Plays.{Played, stopped, done, ends}
+use Rattle.anb_plays.specs.Plays.{Played}
 use Rattle.anb_plays.specs.Statements.{HonestAgree}
 use Rattle.anb_probe.specs.Cases.{IsOver, without}
 use Rattle.anb_probe.proofs.Dropping.{over_said}
 use Rattle.anb_suite.proofs.Messages.{sent_if}
-use Rattle.anb_openings.specs.Steps.{Progress, writing, after_all}
-use Rattle.anb_openings.proofs.Stepping.{worked_same}
-use Rattle.anb_openings.proofs.Valued.{all_went, seen}
 use Rattle.anb_transcript.specs.declared.transcript.TranscriptLine.{TranscriptLine}
 use Rattle.anb_transcript.specs.declared.transcript.TranscriptLine.TheVariants.{In, Out}
 use Rattle.anb_transcript.specs.Replays.{arrivals_of, messages_of}
@@ -28,16 +24,7 @@ use Rattle.anb_judge.specs.Verdicts.{sides}
 use Rattle.anb_tries.proofs.Along.{Fits, next}
 use Rattle.anb_tries.proofs.Refusing.{EachFrom, from_first, from_rest, grows, one_formed}
 use Rattle.anb_dues.proofs.Firsts.{Are, Text}
-
--- what is written where a run that is over goes on
-over_written : {A B : Type 0} (o : Option (List B)) (f : List B → Played A) (e at : ℕ) (left : List A) → IsOver (on_written o f (ends (stopped e at) left)) → (ws : List B) × (o ≡ Some ws)
-over_written None f e at left over = (let never : stopped e at ≡ done = over.end in absurd (cc))
-over_written (Some ws) f e at left over = (ws, refl)
-
--- a comparison writes nothing
-none_written : {A : Type 0} (b : Bool) (ws : List A) → cond b (Some []) None ≡ Some ws → ws ≡ []
-none_written true ws e = cc
-none_written false ws e = absurd (cc)
+use Rattle.anb_dues.proofs.Working.{none_written, on_work, works_over}
 
 -- what is said in lines are the values of the first messages; more is said where that is next, and nothing behind the last
 pub record Says (of : Tree → Text) (ss : List Bool) (ls : List TranscriptLine) (messages : List Tree) (rest : List Text) : Type 0 where
@@ -51,40 +38,6 @@ module _ (m : Meaning Text) (lawful : Lawful m) (agrees : HonestAgree m) (atoms 
 
   abbrev over_terms : Meaning Tree
   over_terms = terms_over m.has
-
-  -- ---- a work
-
-  -- in terms it writes these, and in values their values
-  record WorksOn (table : List Tree) (w : Work) : Type 0 where
-    ws : List Tree
-    written : worked over_terms table w ≡ Some ws
-    values : List Text
-    valued : worked m (map of table) w ≡ Some values
-    joined : map of table ++ values ≡ map of (table ++ ws)
-    formed : AreFormed m.has (trees_of (table ++ ws))
-    long : length table + count_written w ≡ length (table ++ ws)
-
-  works_on : (table : List Tree) (w : Work) (ws : List Tree) → AreFormed m.has (trees_of table) → IsReady m.has (length table) w → worked over_terms table w ≡ Some ws → WorksOn table w
-  works_on table w ws formed ready e =
-      let s : Progress Tree = record { table = table; sent = []; event = 0; drawn = 0; left = [] } in
-      let goes : after_all terms [] (works w ∷ []) s ≡ Some (writing ws s) = ap (λ o. option_and_then (after_all terms [] []) (option_map (λ x. writing x s) o)) (sym (worked_same m.has table w) ∙ e) in
-      let went = all_went m lawful agrees atoms good [] tt (works w ∷ []) s (writing ws s) formed tt (ready, tt) goes in
-      let o = worked m (map of table) w in
-      let known : option_and_then (after_all m [] []) (option_map (λ x. writing x (seen m lawful agrees atoms good s)) o) ≡ Some (seen m lawful agrees atoms good (writing ws s)) = went.valued in
-      let v = written_as o (seen m lawful agrees atoms good s) (seen m lawful agrees atoms good (writing ws s)) known in
-      record { ws = ws; written = e; values = v.0; valued = v.1; joined = ap (λ (t : Progress Text). t.table) v.2; formed = went.table; long = (let l = went.long in omega (arith, l)) } where
-        written_as : (o : Option (List Text)) (s t : Progress Text) → option_and_then (after_all m [] []) (option_map (λ x. writing x s) o) ≡ Some t → (values : List Text) × (o ≡ Some values) × (writing values s ≡ t)
-        written_as None s t e = absurd (cc)
-        written_as (Some values) s t e = (values, refl, cc)
-
-  works_over : (table : List Tree) (w : Work) (P : List Act) (e at i : ℕ) (ps : List Tree) → AreFormed m.has (trees_of table) → IsReady m.has (length table) w → IsOver (exec over_terms term_draw (works w ∷ P) table e at i ps) → WorksOn table w
-  works_over table w P e at i ps formed ready over =
-      let o = over_written (worked over_terms table w) (λ ws. exec over_terms term_draw P (table ++ ws) e (at + 1) i ps) e (at + 1) ps over in
-      works_on table w o.0 formed ready o.1
-
-  on_work : {A : Type 0} (k : Meaning A) (d : ℕ → A) (w : Work) (P : List Act) (table ws all : List A) (e at i : ℕ) (xs : List A) → worked k table w ≡ Some ws → table ++ ws ≡ all → exec k d (works w ∷ P) table e at i xs ≡ exec k d P all e (at + 1) i xs
-  on_work k d w P table ws all e at i xs is joined =
-      ap (λ o. on_written o (λ x. exec k d P (table ++ x) e (at + 1) i xs) (ends (stopped e (at + 1)) xs)) is ∙ ap (λ l. exec k d P l e (at + 1) i xs) joined
 
   -- ---- the draws
 
@@ -109,7 +62,7 @@ module _ (m : Meaning Text) (lawful : Lawful m) (agrees : HonestAgree m) (atoms 
         → (exec m draw Q (map of all) e' at' i xs).sent ≡ messages_of ls ++ rest → Sends ss ls rest (exec over_terms term_draw P all e at i ps))
         → IsOver (exec over_terms term_draw (works w ∷ P) table e at i ps) → (exec m draw (works w ∷ Q) (map of table) e' at' i xs).sent ≡ messages_of ls ++ rest → Sends ss ls rest (exec over_terms term_draw (works w ∷ P) table e at i ps)
     through ih over sent =
-        let k = works_over table w P e at i ps formed ready over in
+        let k = works_over m lawful agrees atoms good term_draw table w P e at i ps formed ready over in
         let in_terms = on_work over_terms term_draw w P table k.ws (table ++ k.ws) e at i ps k.written refl in
         let in_values = on_work m draw w Q (map of table) k.values (map of (table ++ k.ws)) e' at' i xs k.valued k.joined in
         subst (Sends ss ls rest) (sym in_terms) (ih (table ++ k.ws) (at + 1) (at' + 1) k.formed k.long (subst (λ p. IsOver p) in_terms over) (sym (ap (λ (p : Played Text). p.sent) in_values) ∙ sent))
@@ -125,11 +78,11 @@ module _ (m : Meaning Text) (lawful : Lawful m) (agrees : HonestAgree m) (atoms 
     at_equal true true more over sent = ih at at' over sent
     at_equal true false more over sent = absurd (let never = more refl in cc)
     at_equal false true more over sent =
-        let k = works_over table (equal x y) P e at i ps formed ready over in
+        let k = works_over m lawful agrees atoms good term_draw table (equal x y) P e at i ps formed ready over in
         let in_terms = on_work over_terms term_draw (equal x y) P table k.ws table e at i ps k.written (same_table k.ws k.written) in
         subst (Sends ss ls rest) (sym in_terms) (ih (at + 1) at' (subst (λ p. IsOver p) in_terms over) sent)
     at_equal false false more over sent =
-        let k = works_over table (equal x y) P e at i ps formed ready over in
+        let k = works_over m lawful agrees atoms good term_draw table (equal x y) P e at i ps formed ready over in
         let same = same_table k.ws k.written in
         let in_terms = on_work over_terms term_draw (equal x y) P table k.ws table e at i ps k.written same in
         let in_values = on_work m draw (equal x y) Q (map of table) k.values (map of table) e' at' i xs k.valued (k.joined ∙ ap (map of) same) in

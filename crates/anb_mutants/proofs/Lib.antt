@@ -6,5 +6,4 @@ mod Judging
 mod Talking
 mod Telling
 mod Mutants
-mod Passing
 mod Trying

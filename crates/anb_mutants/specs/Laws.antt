@@ -1,4 +1,4 @@
--- A program that lacks a check of the role's code is told, a right one passes where a check is tried, and each check of the code is tried.
+-- A program that lacks a check of the role's code is told, and each check of the code is tried.
 use Rattle.std.specs.Prelude.{◌≡◌, ◌≢◌, ◌≤◌, ℕ, suc, List, length, map, Bool, true, false, IfSome, Some, slice_get}
 use Rattle.std.specs.List.{AllByRecursion}
 use Rattle.anb_base.specs.Bytes.{IsBytes}
@@ -31,7 +31,7 @@ use Rattle.anb_attempts.specs.Attempts.{CaseMayStand, IsSceneOf, IsSuite}
 use Rattle.anb_attempts.specs.declared.attempts.Attempt as asked
 use Rattle.anb_attempts.specs.declared.attempts.Scene.{Scene}
 use Rattle.anb_attempts.specs.declared.attempts.Suite.{Suite}
-use Rattle.anb_tries.specs.Laws.{Attempt, IsAttempt, IsRead, IsTried, PlaysRole, StopsAreSeen, judged}
+use Rattle.anb_tries.specs.Laws.{Attempt, IsAttempt, IsRead, IsTried, judged}
 use Rattle.anb_dues.specs.Laws.{IsTriedOf}
 
 -- ---- a program that lacks checks
@@ -117,12 +117,6 @@ MutantsAreTold p = (a : Attempt) → IsAttempt a → (is : IsTriedOf p a) → Is
 abbrev pub MutantsAreSeen : ProtocolValue → Type 0
 MutantsAreSeen p = (a : Attempt) (at : IsAttempt a) (is : IsTriedOf p a) → IsHeardOut a → (check : ℕ) (drops : ℕ → Bool) → drops check ≡ true
     → (mutant : RunsLess a is.code drops) → IsApart p a at is check mutant.draw → is_good a.verdict ≡ false
-
--- In the scene of the case of a check nothing is asked of a right program but that its stops are seen: whether the two sides have the
--- same bytes or not, its messages are the scene's, so the partner refuses none.
-abbrev pub RightProgramsPassAtChecks : ProtocolValue → Type 0
-RightProgramsPassAtChecks p = (a : Attempt) → IsAttempt a → (is : IsTriedOf p a) → IsRead a → (check : ℕ) → IsAtCheck p a is check
-    → (plays : PlaysRole a) → StopsAreSeen a plays → is_good a.verdict ≡ true
 
 -- Each check of the code behind the first arrival has such a scene in the suite, with an attempt, but where the others imply it,
 -- a term of its case is too large, or the suite has no more room.

@@ -1,9 +1,7 @@
-//! Laws of programs that lack checks, and of right ones where checks are tried, each a function
-//! that does nothing.
-ghost use Rattle.anb_mutants.specs.Laws.{ChecksAreTried, MutantsAreSeen, MutantsAreTold, RightProgramsPassAtChecks};
+//! Laws of programs that lack checks, each a function that does nothing.
+ghost use Rattle.anb_mutants.specs.Laws.{ChecksAreTried, MutantsAreSeen, MutantsAreTold};
 
 use anb_algebra::ByteAlgebra;
-use anb_dues::right_programs_pass;
 use anb_partner::partners_play;
 use anb_plays::laws::runs_as_played;
 use anb_protocol::{Protocol, made_is_new, plans_know_first, protocols_hold, terms_of_plans};
@@ -37,22 +35,6 @@ pub fn mutants_are_seen(p: &Protocol)
     let bytes = ByteAlgebra::new(p.formats(), p.suite());
     runs_as_played(&bytes);
     new_atom_agrees(&bytes);
-}
-
-/// A law: no right program is called wrong in the scene of the case of a check, if nothing failed,
-/// and each stop was known beforehand or what the role had made by then can be told. It isn't
-/// asked that its partner refuses none of its messages: there it never does.
-pub fn right_programs_pass_at_checks(p: &Protocol)
-    ensures { RightProgramsPassAtChecks p.now }
-{
-    let _ = p.name();
-    protocols_hold();
-    terms_of_plans();
-    plans_know_first();
-    made_is_new();
-    partners_play(p);
-    runs_as_played(&ByteAlgebra::new(p.formats(), p.suite()));
-    right_programs_pass(p);
 }
 
 /// A law: a suite with room for all has an attempt in the scene of the case of each check behind

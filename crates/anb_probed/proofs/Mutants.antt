@@ -14,8 +14,8 @@ use Rattle.anb_attempts.specs.declared.attempts.Scene.{Scene}
 use Rattle.anb_tries.specs.Laws.{Attempt, IsAttempt}
 use Rattle.anb_verdict.specs.Verdicts.{is_good}
 use Rattle.anb_dues.specs.Laws.{IsTriedOf, ValuesAreOfNames}
-use Rattle.anb_mutants.specs.Laws.{IsOfCheck, MutantsAreTold as AttemptsTellMutants}
-use Rattle.anb_probed.specs.Laws.{IsCase, MutantsAreTold, attempt_of}
+use Rattle.anb_mutants.specs.Laws.{IsOfCheck, MutantsAreSeen as AttemptsSeeMutants, MutantsAreTold as AttemptsTellMutants}
+use Rattle.anb_probed.specs.Laws.{CasesAreAttempts, IsCase, MutantsAreSeen, MutantsAreTold, attempt_of, cases_of}
 use Rattle.anb_probed.proofs.Given.{are_given}
 use Rattle.anb_probed.proofs.Played.{Known, is_attempt, of_suite}
 use Rattle.anb_probed.proofs.Reported.{IsGood, done_all_good}
@@ -41,4 +41,18 @@ mutants_fail p holds plans names law ends old new i all check tried drops droppe
     } in
     let bad : is_good a.verdict ≡ false = subst AttemptsTellMutants (sym i.protocol) law a at of mutant.0 check of_check drops dropped mutant.1 in
     let good : is_good a.verdict ≡ true = each_got IsGood ends tried.place ended.0 (done_all_good ends over) ended.1 in
+    never_both (is_good a.verdict) good bad
+
+-- so does one whose sides differ in a case, where no stop is known
+pub mutants_seen : (p : ProtocolValue) → CasesAreAttempts p → AttemptsSeeMutants p → MutantsAreSeen p
+mutants_seen p attempts law ends old new i all place check within drops dropped apart over =
+    let here = slice_get-there (cases_of i) place within in
+    let ended = slice_get-there ends place (omega (arith, within, all)) in
+    let t = (i.played.each place here.0 ended.0 here.1 ended.1).1 in
+    let a : Attempt = attempt_of t in
+    let case : IsCase i a = record { place = place; attempt = here.0; here = here.1; end = ended.0; ended = ended.1; is = refl } in
+    let is = attempts ends old new i a case in
+    let got = apart a case refl is.0 is.1 in
+    let bad : is_good a.verdict ≡ false = law a is.0 is.1 got.0 check drops dropped got.1.0 got.1.1 in
+    let good : is_good a.verdict ≡ true = each_got IsGood ends place ended.0 (done_all_good ends over) ended.1 in
     never_both (is_good a.verdict) good bad

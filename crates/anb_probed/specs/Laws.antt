@@ -1,5 +1,5 @@
 -- Each case that `probe` plays is an attempt of its suite, so what is proved of attempts holds of the cases.
-use Rattle.std.specs.Prelude.{◌≡◌, ◌≢◌, ◌⊎◌, ℕ, List, length, Bool, true, Option, Some, None, slice_get}
+use Rattle.std.specs.Prelude.{◌≡◌, ◌≢◌, ◌⊎◌, ◌<◌, ℕ, List, length, Bool, true, Option, Some, None, slice_get}
 use Rattle.anb_base.specs.Wires.{WireState}
 use Rattle.anb_protocol.specs.Protocols.{ProtocolValue}
 use Rattle.anb_partner.specs.Plans.{hook_at}
@@ -18,8 +18,8 @@ use Rattle.anb_attempts.specs.Attempts.{IsSceneOf, script_in}
 use Rattle.anb_attempts.specs.declared.attempts.Attempt as asked
 use Rattle.anb_attempts.specs.declared.attempts.Scene.{Scene}
 use Rattle.anb_tries.specs.Laws.{Attempt, IsAttempt, IsRead, IsTried as IsTriedOut, PlaysRole, judged, seen}
-use Rattle.anb_dues.specs.Laws.{IsTriedOf, IsUnrefused}
-use Rattle.anb_mutants.specs.Laws.{IsHeardOut, RunsLess}
+use Rattle.anb_dues.specs.Laws.{IsClear, IsTriedOf}
+use Rattle.anb_mutants.specs.Laws.{IsApart, IsHeardOut, RunsLess}
 use Rattle.anb_probe_commands.specs.Plays.{ArePlayed, CaseEnd, IsTried, handed, initial, verdicts_of}
 use Rattle.anb_probe_commands.specs.Probings.{Probing, ProbingIs}
 use Rattle.anb_probe_commands.specs.ProbeCommand.{DoesProbe, Suit, agenda_of}
@@ -90,12 +90,18 @@ module _ {p : ProtocolValue} {ends : List CaseEnd} {old new : ℕ → Trial} (pl
   abbrev pub IsMutantAt : (place : ℕ) → (drops : ℕ → Bool) → Type 0
   IsMutantAt place drops = (a : Attempt) (case : IsCase a) → case.place ≡ place → IsHeardOut a × RunsLess a played.suit.code drops
 
--- The child plays the role, and nothing failed. Only where something is made wrong and it isn't known that the role stops
--- then, the partner refused none of its messages, and what it had made before it stops can be told.
-pub record IsRight (a : Attempt) : Type 0 where
+  -- so it does in the case at this place, which is one of a check; and the bytes of the check's two sides differ there, and what the
+  -- role makes before it stops then can be told
+  abbrev pub IsApartAt : (place check : ℕ) → (drops : ℕ → Bool) → Type 0
+  IsApartAt place check drops = (a : Attempt) (case : IsCase a) → case.place ≡ place → (at : IsAttempt a) (is : IsTriedOf p a)
+      → IsHeardOut a × ((mutant : RunsLess a is.code drops) × IsApart p a at is check mutant.draw)
+
+-- The child plays the role, and nothing failed. Only where something is made wrong and it isn't known that the role stops then,
+-- what it had made before it stops can be told, and sealed bytes that are changed don't open.
+pub record IsRight (p : ProtocolValue) (a : Attempt) : Type 0 where
   pub read : IsRead a
   pub plays : PlaysRole a
-  pub elsewhere : a.script.right ≢ None → a.due ≡ None → IsUnrefused a plays
+  pub clear : (is : IsTriedOf p a) → a.script.right ≢ None → a.due ≡ None → IsClear p a is plays
 
 -- Where something was tried, what was seen is what the role does for some draws, if the names that it makes can be told.
 abbrev pub IsAsTheRole : Attempt → Type 0
@@ -114,7 +120,7 @@ module _ (p : ProtocolValue) where
 
   -- So no right program is called wrong.
   abbrev pub RightProgramsPass : Type 0
-  RightProgramsPass = OfCases (λ a. IsRight a → is_good a.verdict ≡ true)
+  RightProgramsPass = OfCases (λ a. IsRight p a → is_good a.verdict ≡ true)
 
   -- And a lax program is told: nothing is said only where all is as with the role.
   abbrev pub LaxProgramsAreTold : Type 0
@@ -123,7 +129,7 @@ module _ (p : ProtocolValue) where
   -- Where all cases are played: if the program is right in each, the status is that nothing failed.
   abbrev pub RightProgramsAreDone : Type 0
   RightProgramsAreDone = (ends : List CaseEnd) (old new : ℕ → Trial) (played : IsPlayed p ends old new) → length ends ≡ length (cases_of played)
-      → ((a : Attempt) → IsCase played a → IsRight a) → status_for (verdicts_of ends) ≡ Done
+      → ((a : Attempt) → IsCase played a → IsRight p a) → status_for (verdicts_of ends) ≡ Done
 
   -- And where this is the status, all is as with the role in each.
   abbrev pub DoneIsAsTheRole : Type 0
@@ -135,6 +141,12 @@ module _ (p : ProtocolValue) where
   abbrev pub MutantsAreTold : Type 0
   MutantsAreTold = (ends : List CaseEnd) (old new : ℕ → Trial) (played : IsPlayed p ends old new) → length ends ≡ length (cases_of played)
       → (check : ℕ) (checked : IsChecked played check) (drops : ℕ → Bool) → drops check ≡ true → IsMutantAt played checked.place drops
+      → status_for (verdicts_of ends) ≢ Done
+
+  -- So is one where it isn't known that the role stops then, as where the sides differ under a hash alone.
+  abbrev pub MutantsAreSeen : Type 0
+  MutantsAreSeen = (ends : List CaseEnd) (old new : ℕ → Trial) (played : IsPlayed p ends old new) → length ends ≡ length (cases_of played)
+      → (place check : ℕ) → place < length (cases_of played) → (drops : ℕ → Bool) → drops check ≡ true → IsApartAt played place check drops
       → status_for (verdicts_of ends) ≢ Done
 
 -- ---- the command

@@ -1,5 +1,5 @@
 //! Laws of the cases that `probe` plays, each a function that does nothing.
-ghost use Rattle.anb_probed.specs.Laws.{CasesAreAttempts, DoneIsAsTheRole, LaxProgramsAreTold, MutantsAreTold, ReportsArePlayed, RightProgramsAreDone, RightProgramsPass};
+ghost use Rattle.anb_probed.specs.Laws.{CasesAreAttempts, DoneIsAsTheRole, LaxProgramsAreTold, MutantsAreSeen, MutantsAreTold, ReportsArePlayed, RightProgramsAreDone, RightProgramsPass};
 
 use anb_dues::values_are_of_names;
 use anb_protocol::{Protocol, protocols_hold, terms_of_plans};
@@ -54,6 +54,15 @@ pub fn mutants_are_told(p: &Protocol)
     terms_of_plans();
     values_are_of_names(p);
     anb_mutants::mutants_are_told(p);
+}
+
+/// A law: so it is where that isn't known, if the bytes of the check's two sides differ, and what the
+/// role made before it stops then can be told.
+pub fn mutants_are_seen(p: &Protocol)
+    ensures { MutantsAreSeen p.now }
+{
+    cases_are_attempts(p);
+    anb_mutants::mutants_are_seen(p);
 }
 
 /// A law: where `probe` ends with a report, by its clause, all cases were played and the status is that of

@@ -9,6 +9,6 @@
 mod laws;
 
 pub use laws::{
-    cases_are_attempts, done_is_as_the_role, lax_programs_are_told, mutants_are_told,
-    reports_are_played, right_programs_are_done, right_programs_pass,
+    cases_are_attempts, done_is_as_the_role, lax_programs_are_told, mutants_are_seen,
+    mutants_are_told, reports_are_played, right_programs_are_done, right_programs_pass,
 };
