@@ -24,7 +24,7 @@ use Rattle.anb_verdict.specs.declared.verdict.Verdict.{Verdict}
 use Rattle.anb_command.specs.OverWire.{DidNotReach, HasReached, OnlyWrites, OverWire}
 use Rattle.anb_command.proofs.OverWire.{no_memory, not_reached, text_done, text_failed, text_wanting, untouched}
 use Rattle.anb_command.proofs.Reported.{calm_told, nothing_failed}
-use Rattle.anb_probe_commands.specs.Plays.{AreTold, verdicts_of}
+use Rattle.anb_probe_commands.specs.Plays.{AreInTime, AreTold, CaseEnd, verdicts_of}
 use Rattle.anb_probe_commands.specs.Playing.{Broke, BrokeIn, EndsLate, IsCut, IsPlayedOut, IsPrepared, LateCause, OverTrials, PlaysAll, PlaysLess, PlaysPart, TaskComesTo, Wrote, end_in, no_of, part_in, report_in, status_of, texts_of}
 use Rattle.anb_probe_commands.specs.ProbeCommand.{Agenda, ComesTo, IsCutShort, IsHonestNo, IsReported, RefusesHonest}
 use Rattle.anb_probe_commands.specs.Cases.{is_beyond}
@@ -37,6 +37,7 @@ use Rattle.anb_probe_commands.specs.declared.playing.Outcome.{Outcome}
 use Rattle.anb_probe_commands.specs.declared.writing.PlayNo.{PlayNo}
 use Rattle.anb_probe_commands.specs.declared.writing.PlayNo.TheVariants.{Failed, NotStarted, NoMemory}
 use Rattle.anb_probe_commands.proofs.Played.{none_played}
+use Rattle.anb_probe_commands.proofs.Timely.{all_in_time, behind_in_time, whole_in_time}
 
 -- ---- writing
 
@@ -112,17 +113,21 @@ module _ (q : Probing) (x : Prepared) (program : List (List ℕ)) where
 
     by : (w : PlayNo) → w ≢ NotStarted → PlaysLess q g program old old S.written T.written w
     by NotStarted never = absurd (never refl)
-    by Failed other = ([], part, inl written)
-    by NoMemory other = ([], part, inl written)
+    by Failed other = ([], part, λ i. inl refl, inl written)
+    by NoMemory other = ([], part, λ i. inl refl, inl written)
+
+  -- the first lines stand in front of those of the cases
+  in_time_behind : (old new : ℕ → Trial) (a b c : Option (List ℕ)) (ends : List CaseEnd) → Put a b (first_lines (length x.cases.items)) → AreInTime (texts_of q x) ends old new b c → AreInTime (part_in q g) ends old new a c
+  in_time_behind old new a b c ends put in_time = behind_in_time q x old new a b c (first_lines (length x.cases.items)) ends put in_time
 
   -- not all cases were played
   pub cut_cases : (old new : ℕ → Trial) (S T U : WireState) (why : PlayNo) → Wrote S T (first_lines (length x.cases.items)) → IsCut q x program old new T.written U.written why → PlaysLess q g program old new S.written U.written why
   cut_cases old new S T U NotStarted first (ends, part, within, next, put) =
       (ends, record { reached = part.reached; played = part.played }, within, next, Put-joined S.written T.written U.written _ _ first.put put)
-  cut_cases old new S T U Failed first (ends, part, put) =
-      (ends, record { reached = part.reached; played = part.played }, inl (put_further S.written T.written U.written _ _ first.put put))
-  cut_cases old new S T U NoMemory first (ends, part, put) =
-      (ends, record { reached = part.reached; played = part.played }, inl (put_further S.written T.written U.written _ _ first.put put))
+  cut_cases old new S T U Failed first (ends, part, in_time, put) =
+      (ends, record { reached = part.reached; played = part.played }, in_time_behind old new S.written T.written U.written ends first.put in_time, inl (put_further S.written T.written U.written _ _ first.put put))
+  cut_cases old new S T U NoMemory first (ends, part, in_time, put) =
+      (ends, record { reached = part.reached; played = part.played }, in_time_behind old new S.written T.written U.written ends first.put in_time, inl (put_further S.written T.written U.written _ _ first.put put))
 
   module _ (old new : ℕ → Trial) (S T U : WireState) (outcomes : List Outcome) (first : Wrote S T (first_lines (length x.cases.items))) (cases : IsPlayedOut q x program old new T U outcomes) where
     both : Wrote S U (part_in q g cases.ends)
@@ -136,7 +141,7 @@ module _ (q : Probing) (x : Prepared) (program : List (List ℕ)) where
 
     -- there is no memory for what is told of them
     pub cut_found : PlaysLess q g program old new S.written U.written NoMemory
-    cut_found = (cases.ends, part_by U.written, inl (whole_prefix S.written U.written _ both.put))
+    cut_found = (cases.ends, part_by U.written, in_time_behind old new S.written T.written U.written cases.ends first.put (whole_in_time q x old new T.written U.written cases.ends cases.wrote.put), inl (whole_prefix S.written U.written _ both.put))
 
     pub broke_found : Broke S U NoMemory
     broke_found = record { only = both.only; cause = λ never. absurd (cc); quiet = λ _. both.quiet }
@@ -159,10 +164,14 @@ module _ (q : Probing) (x : Prepared) (program : List (List ℕ)) where
         written : PutPrefix S.written V.written (report_in q g told cases.ends)
         written = put_further S.written U.written V.written _ _ both.put (notes_are (PutPrefix U.written V.written) broke.part)
 
+        in_time : AreInTime (part_in q g) cases.ends old new S.written V.written
+        in_time = in_time_behind old new S.written T.written V.written cases.ends first.put
+            (all_in_time q x old new T.written U.written V.written (notes q.protocol q.role x.cases.items x.untried.items told vs) cases.ends cases.wrote.put broke.part)
+
         by : (w : PlayNo) → w ≢ NotStarted → PlaysLess q g program old new S.written V.written w
         by NotStarted never = absurd (never refl)
-        by Failed other = (cases.ends, part_by V.written, inr (cases.all, (told, told_are, written)))
-        by NoMemory other = (cases.ends, part_by V.written, inr (cases.all, (told, told_are, written)))
+        by Failed other = (cases.ends, part_by V.written, in_time, inr (cases.all, (told, told_are, written)))
+        by NoMemory other = (cases.ends, part_by V.written, in_time, inr (cases.all, (told, told_are, written)))
 
       pub broke_notes : (why : PlayNo) → BrokeIn (notes q.protocol q.role x.cases.items x.untried.items told vs) U V why → Broke S V why
       broke_notes why broke = broke_behind S U V _ why both broke.broke
@@ -211,10 +220,10 @@ module _ (q : Probing) (trying : Trying) (g : Agenda) (name : List ℕ) (old new
   pub comes_less : (why : PlayNo) → is_beyond trying.case g.count ≡ false → PlaysLess q g (order_of trying) old new S.written T.written why → ComesTo q trying g name old new S.written T.written (status_of why name)
   comes_less NotStarted there (ends, part, within, next, put) =
       record { there = there; reached = part.reached; ends = ends; within = within; played = part.played; next = next; put = put; is = refl }
-  comes_less Failed there (ends, part, inl put) = record { idle = λ e. absurd (cc); reached = part.reached; ends = ends; played = part.played; writes = inl put }
-  comes_less Failed there (ends, part, inr put) = record { idle = λ e. absurd (cc); reached = part.reached; ends = ends; played = part.played; writes = inr (inl put) }
-  comes_less NoMemory there (ends, part, inl put) = record { idle = λ e. absurd (cc); reached = part.reached; ends = ends; played = part.played; writes = inl put }
-  comes_less NoMemory there (ends, part, inr put) = record { idle = λ e. absurd (cc); reached = part.reached; ends = ends; played = part.played; writes = inr (inl put) }
+  comes_less Failed there (ends, part, in_time, inl put) = record { idle = λ e. absurd (cc); reached = part.reached; ends = ends; played = part.played; in_time = in_time; writes = inl put }
+  comes_less Failed there (ends, part, in_time, inr put) = record { idle = λ e. absurd (cc); reached = part.reached; ends = ends; played = part.played; in_time = in_time; writes = inr (inl put) }
+  comes_less NoMemory there (ends, part, in_time, inl put) = record { idle = λ e. absurd (cc); reached = part.reached; ends = ends; played = part.played; in_time = in_time; writes = inl put }
+  comes_less NoMemory there (ends, part, in_time, inr put) = record { idle = λ e. absurd (cc); reached = part.reached; ends = ends; played = part.played; in_time = in_time; writes = inr (inl put) }
 
   pub ends_less : length g.cases ≤ MOST → (why : PlayNo) → PlaysLess q g (order_of trying) old new S.written T.written why → Broke S T why → EndsLate old new S T (status_of why name)
   ends_less few NotStarted (ends, part, within, next, put) broke =
@@ -233,7 +242,7 @@ module _ (q : Probing) (trying : Trying) (g : Agenda) (name : List ℕ) (old : �
   pub comes_beyond_cut : (why : PlayNo) → ((i : ℕ) → (old i).phase ≡ 0) → BrokeIn (no_such_case g.count) S T why → ComesTo q trying g name old old S.written T.written (status_of why name)
   comes_beyond_cut why fresh broke = by why broke.started where
     short : IsCutShort q trying g name old old S.written T.written
-    short = record { idle = λ e. refl; reached = 0; ends = []; played = none_played q g.scenes (order_of trying) g.cases old 0 1 fresh; writes = inr (inr broke.part) }
+    short = record { idle = λ e. refl; reached = 0; ends = []; played = none_played q g.scenes (order_of trying) g.cases old 0 1 fresh; in_time = λ i. inl refl; writes = inr (inr broke.part) }
 
     by : (w : PlayNo) → w ≢ NotStarted → ComesTo q trying g name old old S.written T.written (status_of w name)
     by NotStarted never = absurd (never refl)

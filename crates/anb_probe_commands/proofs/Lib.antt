@@ -1,6 +1,7 @@
 mod Reading
 mod Listing
 mod Played
+mod Timely
 mod Tried
 mod Short
 mod Preparing

@@ -1,5 +1,5 @@
 -- Lines that stand once, cases, and counts.
-use Rattle.std.proofs.Common.{◌≡◌, ℕ, zero, suc, ◌+◌, List, [], ◌∷◌, ◌++◌, length, map, drop, get_or, Bool, true, false, Some, None, Result, refl, ap, sym, ◌∙◌, subst, arith, append_assoc}
+use Rattle.std.proofs.Common.{◌≡◌, ℕ, zero, suc, ◌+◌, List, [], ◌∷◌, ◌++◌, length, map, drop, get_or, take, Bool, true, false, Some, None, Result, refl, ap, sym, ◌∙◌, subst, arith, append_assoc}
 use Rattle.std.specs.Prelude.{nat_lt, slice_get}
 use Rattle.std.proofs.lemmas.Bool.Decides.{nat_tests}
 use Rattle.std.proofs.lemmas.Option.{slice_get_past, slice_get_read}
@@ -52,6 +52,17 @@ module _ (p : ProtocolValue) (role : ℕ) (scenes : List Scene) (shown : Bool) w
       let rest : played_lines p role scenes shown (n + 1) cases (ends ++ end ∷ []) ≡ played_lines p role scenes shown (n + 1) cases ends ++ case_text p role scenes shown (suc (length ends) + n) a end =
       rw m at (played_next (n + 1) cases ends a end at) in
       ap (λ l. case_text p role scenes shown n c w ++ l) rest ∙ sym (append_assoc (case_text p role scenes shown n c w) (played_lines p role scenes shown (n + 1) cases ends) _)
+
+  -- those of the first cases stand first
+  pub played_front : (n : ℕ) (cases : List Attempt) (ends : List CaseEnd) (i : ℕ)
+      → (more : List ℕ) × (played_lines p role scenes shown n cases ends ≡ played_lines p role scenes shown n cases (take i ends) ++ more)
+  played_front n [] ends i = ([], refl)
+  played_front n (c ∷ cases) ends zero = (played_lines p role scenes shown n (c ∷ cases) ends, refl)
+  played_front n (c ∷ cases) [] (suc i) = ([], refl)
+  played_front n (c ∷ cases) (end ∷ ends) (suc i) =
+      let rest = played_front (n + 1) cases ends i in
+      let line : List ℕ = case_text p role scenes shown n c end in
+      (rest.0, ap (λ (l : List ℕ). line ++ l) rest.1 ∙ sym (append_assoc line (played_lines p role scenes shown (n + 1) cases (take i ends)) rest.0))
 
 module _ (p : ProtocolValue) (role : ℕ) where
   -- what the next case lacks

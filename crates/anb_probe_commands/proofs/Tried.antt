@@ -26,7 +26,7 @@ use Rattle.anb_tries.specs.Tries.{IsTriedVerdict}
 use Rattle.anb_verdict.specs.Verdicts.{reached_by}
 use Rattle.anb_verdict.specs.declared.verdict.Verdict.{Verdict}
 use Rattle.anb_probe_commands.specs.Keeping.{Told, told_from}
-use Rattle.anb_probe_commands.specs.Plays.{ArePlayed, CaseEnd, IsNotStarted, IsTried, reached_in}
+use Rattle.anb_probe_commands.specs.Plays.{AreInTime, ArePlayed, CaseEnd, IsNotStarted, IsTried, reached_in}
 use Rattle.anb_probe_commands.specs.Playing.{BrokeIn, CanPlay, IsCaseCut, IsCut, IsPlayedOut, IsPlayedPart, Wrote, end_in, text_of, texts_of}
 use Rattle.anb_probe_commands.specs.Probings.{Probing}
 use Rattle.anb_probe_commands.specs.Reports.{played_lines}
@@ -37,6 +37,7 @@ use Rattle.anb_probe_commands.specs.declared.writing.PlayNo.TheVariants.{Failed,
 use Rattle.anb_probe_commands.proofs.Listing.{played_next}
 use Rattle.anb_probe_commands.proofs.Ending.{whole_prefix, wrote_both}
 use Rattle.anb_probe_commands.proofs.Played.{begun, one_more}
+use Rattle.anb_probe_commands.proofs.Timely.{one_in_time, whole_in_time}
 
 -- ---- one attempt
 
@@ -135,12 +136,17 @@ module _ (q : Probing) (x : Prepared) (program : List (List ℕ)) (old mid new :
 
     -- all its lines are written, and there is no memory for the verdict
     pub cut_behind : Put S.written U.written (texts_of q x (ends ++ end ∷ [])) → IsCut q x program old new S.written U.written NoMemory
-    cut_behind put = (ends ++ end ∷ [], part_with, whole_prefix S.written U.written _ put)
+    cut_behind put = (ends ++ end ∷ [], part_with, whole_in_time q x old new S.written U.written (ends ++ end ∷ []) put, whole_prefix S.written U.written _ put)
 
     -- or a part of them
     pub cut_within : PutPrefix T.written U.written (text_of q x (length ends + 1) a end) → (more : List CaseEnd) × IsPlayedPart q x program old new S.written U.written more
-        × PutPrefix S.written U.written (texts_of q x more)
-    cut_within part = (ends ++ end ∷ [], part_with, subst (PutPrefix S.written U.written) (sym text_next) (put_further S.written T.written U.written _ _ wrote.put part))
+        × AreInTime (texts_of q x) more old new S.written U.written × PutPrefix S.written U.written (texts_of q x more)
+    cut_within part = (
+      ends ++ end ∷ [],
+      part_with,
+      one_in_time q x old new S.written T.written U.written (text_of q x (length ends + 1) a end) ends end wrote.put part (λ i behind. (further_played (length ends + 1) (omega arith)).others i (omega (arith, behind))),
+      subst (PutPrefix S.written U.written) (sym text_next) (put_further S.written T.written U.written _ _ wrote.put part),
+    )
 
   part_before : IsPlayedPart q x program old new S.written U.written ends
   part_before = record {
@@ -148,6 +154,13 @@ module _ (q : Probing) (x : Prepared) (program : List (List ℕ)) (old mid new :
     played = begun q x.scenes.items program x.cases.items old mid new reached ends (length ends) played stay gone (omega arith);
     within = omega (arith, within);
   }
+
+  -- no line of it was written
+  cut_unwritten : U.written ≡ T.written → (more : List CaseEnd) × IsPlayedPart q x program old new S.written U.written more
+      × AreInTime (texts_of q x) more old new S.written U.written × PutPrefix S.written U.written (texts_of q x more)
+  cut_unwritten same =
+      let put : Put S.written U.written (texts_of q x ends) = subst (λ (w : Option (List ℕ)). Put S.written w (texts_of q x ends)) (sym same) wrote.put in
+      (ends, part_before, whole_in_time q x old new S.written U.written ends put, whole_prefix S.written U.written _ put)
 
   at_first : (n : ℕ) → (got : ℕ) → ℕ
   at_first zero got = got
@@ -168,11 +181,11 @@ module _ (q : Probing) (x : Prepared) (program : List (List ℕ)) (old mid new :
   )
   cut_next Failed cut = by cut where
     by : IsCaseCut q x program (length ends) reached (mid (length ends)) (new (length ends)) T.written U.written Failed → IsCut q x program old new S.written U.written Failed
-    by (inl same) = (ends, part_before, whole_prefix S.written U.written _ (subst (λ (w : Option (List ℕ)). Put S.written w (texts_of q x ends)) (sym same) wrote.put))
+    by (inl same) = cut_unwritten same
     by (inr (a, end, got, at, tried, part)) = let at_it = first_as (length ends) got in cut_within a end got (at_first (length ends) got) at tried at_it.0 at_it.1 part
   cut_next NoMemory cut = by cut where
     by : IsCaseCut q x program (length ends) reached (mid (length ends)) (new (length ends)) T.written U.written NoMemory → IsCut q x program old new S.written U.written NoMemory
-    by (inl same) = (ends, part_before, whole_prefix S.written U.written _ (subst (λ (w : Option (List ℕ)). Put S.written w (texts_of q x ends)) (sym same) wrote.put))
+    by (inl same) = cut_unwritten same
     by (inr (a, end, got, at, tried, part)) = let at_it = first_as (length ends) got in cut_within a end got (at_first (length ends) got) at tried at_it.0 at_it.1 part
 
 -- the same, by the number of the case
@@ -248,7 +261,7 @@ module _ (q : Probing) (x : Prepared) (program : List (List ℕ)) (old mid new :
 
     -- there is no memory for its verdict
     pub cut_pushing : IsCut q x program old new S.written U.written NoMemory
-    cut_pushing = (so.ends ++ end_in o ∷ [], next.1, whole_prefix S.written U.written _ wrote_next.put)
+    cut_pushing = (so.ends ++ end_in o ∷ [], next.1, whole_in_time q x old new S.written U.written (so.ends ++ end_in o ∷ []) wrote_next.put, whole_prefix S.written U.written _ wrote_next.put)
 
     pub so_further : (now : List Outcome) → now ≡ outcomes ++ o ∷ [] → PlayedSoFar q x program old new S U now (i + 1) r
     so_further now pushed = record {

@@ -26,7 +26,7 @@ use Rattle.anb_partner.specs.declared.planning.Partner.{Partner}
 use Rattle.anb_attempts.specs.declared.attempts.Scene.{Scene}
 use Rattle.anb_probe_commands.specs.declared.partners.Lack.{Lack}
 use Rattle.anb_probe_commands.specs.Cases.{AreMade, lack_in, lack_of}
-use Rattle.anb_probe_commands.specs.Plays.{ArePlayed, AreTold, CaseEnd, IsNotStarted, IsTried, handed, initial, verdicts_of}
+use Rattle.anb_probe_commands.specs.Plays.{AreInTime, ArePlayed, AreTold, CaseEnd, IsNotStarted, IsTried, handed, initial, verdicts_of}
 use Rattle.anb_probe_commands.specs.Probings.{Probing}
 use Rattle.anb_probe_commands.specs.ProbeCommand.{Agenda, ComesTo, RefusesHonest, StartFailed, Suit, agenda_of, probe_phase}
 use Rattle.anb_probe_commands.specs.Reports.{case_text, played_lines, report, report_so_far}
@@ -138,6 +138,7 @@ module _ (q : Probing) (x : Prepared) (order : List (List ℕ)) where
         × IsNotStarted (old (length ends)) (new (length ends))
         × Put w now (texts_of q x ends)
     IsCut why = (ends : List CaseEnd) × IsPlayedPart ends
+        × AreInTime (texts_of q x) ends old new w now
         × PutPrefix w now (texts_of q x ends)
 
 -- ---- all of them, and the report
@@ -170,6 +171,7 @@ module _ (q : Probing) (g : Agenda) (order : List (List ℕ)) (old new : ℕ →
         × IsNotStarted (old (length ends)) (new (length ends))
         × Put w now (part_in q g ends)
     PlaysLess why = (ends : List CaseEnd) × PlaysPart ends
+        × AreInTime (part_in q g) ends old new w now
         × (PutPrefix w now (part_in q g ends)
         ⊎ ((length ends ≡ length g.cases)
         × ((told : List Values) × AreTold q ends told × PutPrefix w now (report_in q g told ends))))

@@ -1,8 +1,8 @@
 -- What comes of a program in the cases.
-use Rattle.std.specs.Prelude.{◌≡◌, ◌≢◌, ◌≤◌, ◌<◌, ◌^◌, ℕ, ◌==◌, List, [], ◌∷◌, map, replicate, slice_get, Some, if◌then◌else◌}
+use Rattle.std.specs.Prelude.{◌≡◌, ◌≢◌, ◌⊎◌, ◌≤◌, ◌<◌, ◌^◌, ℕ, ◌==◌, List, [], ◌∷◌, ◌++◌, map, replicate, slice_get, take, Option, Some, if◌then◌else◌}
 use Rattle.std.specs.List.{AllByRecursion}
 use Rattle.anb_base.specs.Bytes.{IsBytes}
-use Rattle.anb_base.specs.Moves.{Rose}
+use Rattle.anb_base.specs.Moves.{Put, Rose}
 use Rattle.anb_code.specs.CodeValue.{CodeValue}
 use Rattle.anb_draws.specs.Draws.{IsDrawn, Values}
 use Rattle.anb_judge.specs.Verdicts.{Judged, line_bytes}
@@ -87,3 +87,12 @@ module _ (q : Probing) (scenes : List Scene) (order : List (List ℕ)) where
         → (got : ℕ) × IsTried a (reached_in i reached) (old i) (new i) end got × (i ≡ 0 → reached ≡ got)
     pub others : (i : ℕ) → last ≤ i → new i ≡ old i
     pub none_left : (i : ℕ) → (new i).phase ≢ 1
+
+-- these bytes, at least, were put first
+abbrev pub PutFirst : Option (List ℕ) → Option (List ℕ) → List ℕ → Type 0
+PutFirst old new bytes = (more : List ℕ) × Put old new (bytes ++ more)
+
+-- each child is as it was, or the text up to the cases before its own was written
+abbrev pub AreInTime : (text : List CaseEnd → List ℕ) → List CaseEnd → (old new : ℕ → Trial) → (written written_now : Option (List ℕ)) → Type 0
+AreInTime text ends old new written written_now =
+    (i : ℕ) → (new i ≡ old i) ⊎ PutFirst written written_now (text (take i ends))

@@ -32,7 +32,7 @@ use Rattle.anb_command.specs.Fetches.{Files, IfTold}
 use Rattle.anb_command.specs.Refusing.{IsRefusing}
 use Rattle.anb_command.specs.Steps.{given}
 use Rattle.anb_probe_commands.specs.Cases.{AreMade, all_untried, case_count, cases_from, is_beyond, lack_of}
-use Rattle.anb_probe_commands.specs.Plays.{ArePlayed, AreTold, CaseEnd, IsNotStarted, verdicts_of}
+use Rattle.anb_probe_commands.specs.Plays.{AreInTime, ArePlayed, AreTold, CaseEnd, IsNotStarted, verdicts_of}
 use Rattle.anb_probe_commands.specs.Probings.{IsReadToProbe, Probing, ProbingIs}
 use Rattle.anb_probe_commands.specs.Reports.{report, report_so_far, status_for}
 use Rattle.anb_probe_commands.specs.Words.{Probed, Trying, order_of}
@@ -143,12 +143,14 @@ module _ (q : Probing) (trying : Trying) (g : Agenda) (name : List ℕ) (old new
       × ((told : List Values) × AreTold q ends told × PutPrefix written written_now (whole told ends)))
       ⊎ PutPrefix written written_now (no_such_case g.count)
 
-  -- writing failed, or memory was wanting; nothing was started where there is no such case
+  -- Writing failed, or memory was wanting; nothing was started where there is no such case, and the lines of each case
+  -- were written before the next child was started.
   pub record IsCutShort : Type 0 where
     pub idle : is_beyond trying.case g.count ≡ true → new ≡ old
     pub reached : ℕ
     pub ends : List CaseEnd
     pub played : Plays (length ends + 1) reached ends
+    pub in_time : AreInTime so_far ends old new written written_now
     pub writes : WritesPart ends
 
   -- the program can't be started: the lines of the cases before are written

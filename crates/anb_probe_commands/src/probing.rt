@@ -27,7 +27,7 @@ use std::alloc::Global;
 
 /// Tries a program as the role that the words name: a child for each case, against everybody else, and a
 /// report on the standard streams. All cases are found before any child is started, and the line of each
-/// is written when it is over.
+/// is written when it is over, before the next child is started.
 pub fn probe<F: Shelf, T: Trials, W: Wire>(
     alloc: Global,
     shelf: &mut F,
