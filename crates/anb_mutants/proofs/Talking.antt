@@ -51,8 +51,7 @@ use Rattle.anb_suite.specs.declared.cases.Case.{Case}
 use Rattle.anb_suite.specs.declared.reading.Reading.TheVariants.{Both}
 use Rattle.anb_partner.specs.Laws.{PartnersPlay}
 use Rattle.anb_partner.specs.Plans.{Script, handed_terms, lines_before, mirrored, partner_plan}
-use Rattle.anb_partner.specs.Talks.{own_lines, Ends, Hooked}
-use Rattle.anb_partner.specs.declared.conversation.TalkEnd.TheVariants.{Refused}
+use Rattle.anb_partner.specs.Talks.{own_lines, Hooked}
 use Rattle.anb_attempts.specs.Attempts.{IsSceneOf, script_in}
 use Rattle.anb_tries.specs.Laws.{Attempt, IsAttempt}
 use Rattle.anb_tries.proofs.Along.{Fits}
@@ -391,9 +390,3 @@ module _ (a : Attempt) (is : IsAttempt a) (code : CodeValue) (check : ℕ) (case
       let sent : q.sent ≡ messages_of talk = partner_says.1 ∙ ap (λ l. messages_of talk ++ l) none ∙ append-nil (messages_of talk) in
       let side = partner_goes.waits w.1 (ap no_place w.2) sent in
       all_says.more side
-
-  -- so no talk ends with a message that was refused
-  pub unrefused : a.conversation.end ≡ Refused → ⊥
-  unrefused refused =
-      let ended : Ends a.wrong due is.converses.talks.mid is.converses.mid Refused = subst (Ends a.wrong due is.converses.talks.mid is.converses.mid) refused is.converses.talks.ends in
-      refuses_none ended.0.0 ended.0.1
