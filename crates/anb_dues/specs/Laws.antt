@@ -60,8 +60,8 @@ pub record IsTriedOf (p : ProtocolValue) (a : Attempt) : Type 0 where
   pub is_suite : IsSuite p role code all suite
   pub is : IsOfSuite p role suite a
 
--- The attempt is in the scene of the case of an opening that takes off a tag, and not a false tag was made there: what was sealed is
--- changed in another way, and may open, since a tag may fit by chance.
+-- The attempt is in the scene of the case of an opening that takes off a tag, where no false tag is made: what was sealed is changed
+-- in another way, and may open, since a tag may fit by chance.
 pub record IsOfSealed (p : ProtocolValue) (a : Attempt) (is : IsTriedOf p a) : Type 0 where
   pub instruction : ℕ
   pub case : OpeningCase
