@@ -11,7 +11,7 @@ came of it is compared with examples/expected, and the index of the examples wit
 program has `rehearse`, all roles are rehearsed too, by `schedule` and by each other file `*.schedule`, which has turns
 that are passed over; where it has `chart`, the charts are those of docs/charts.py; and where it has `certify`, each code
 that `compile` wrote is certified, and less one of its checks it is not, where it then runs otherwise on spoiled arrivals. A role's transcript stands
-beside its values. What the gate runs of each example is a copy, in crates/anb_examples.
+beside its values. What the gate runs of each example is a copy, in crates/anb_cases.
 
 Texts with a choice, `choice.anb` in a folder of their own: in each arm all roles play to their ends under `branch`, and
 the messages are those of the narration that the common actions and the arm are; and `check` says of each arm what it
@@ -60,8 +60,8 @@ EXPECTED = EXAMPLES / "expected"
 PAGES = ["README.md", "docs/TUTORIAL.md", "docs/REFERENCE.md", "docs/LIBRARY.md", "docs/EDGE.md"]
 # How many lines README has at most: the first ten minutes.
 README_LINES = 110
-# What the gate runs of the examples: the files, the commands, and what they print.
-GATE = ROOT / "crates" / "anb_examples"
+# What the gate runs of the examples: the files and the commands in data/examples, and what they print behind the cases.
+GATE = ROOT / "crates" / "anb_cases"
 # What names each command of the program.
 LISTS = ["README.md", "docs/REFERENCE.md", "anb.1", "completions/anb.bash", "completions/_anb", "completions/anb.fish"]
 # The words of commands that stand for no file.
@@ -327,27 +327,29 @@ def check_transcripts(story, folder, messages, write):
 
 
 def gate_commands(folder, roles):
-    """What the gate runs of an example, with the names of files from the examples' folder."""
-    whole = f"{folder.name}/{folder.name}.anb"
-    yield from (f"fmt {folder.name}/{path.name}" for path in sorted(folder.glob("*.anb")))
+    """What the gate runs of an example, with the names of files from the repository's folder."""
+    at = f"{EXAMPLES.name}/{folder.name}"
+    whole = f"{at}/{folder.name}.anb"
+    yield from (f"fmt {at}/{path.name}" for path in sorted(folder.glob("*.anb")))
     yield from (f"compile {whole} {role}" for role in roles)
     for role in roles:
         values = values_file(folder, role)
-        yield f"replay {whole} {role} {folder.name}/{values.name} {folder.name}/{values.stem}.transcript"
+        yield f"replay {whole} {role} {at}/{values.name} {at}/{values.stem}.transcript"
     for path in schedules(folder):
-        yield f"rehearse {whole} {folder.name}/all.values {folder.name}/{path.name}"
+        yield f"rehearse {whole} {at}/all.values {at}/{path.name}"
 
 
 def gate_files():
-    """The files that the gate wants, by their paths in crates/anb_examples."""
+    """The files that the gate wants, by their paths in crates/anb_cases."""
     commands = []
     for folder in charts.folders():
         roles = narration.Narration((folder / f"{folder.name}.anb").read_text()).roles
         commands += gate_commands(folder, roles)
-    files = {"data/commands": "".join(f"{command}\n" for command in commands)}
-    files["stdout"] = "".join(f"0 {command}\n" for command in commands)
+    cases = [line for line in (GATE / "stdout").read_text().splitlines() if not line[:1].isdigit()]
+    files = {"data/examples/commands": "".join(f"{command}\n" for command in commands)}
+    files["stdout"] = "".join(f"{line}\n" for line in cases + [f"0 {command}" for command in commands])
     for word in {word for command in commands for word in command.split() if "/" in word}:
-        files[f"data/{word}"] = (EXAMPLES / word).read_text()
+        files[f"data/{word}"] = (ROOT / word).read_text()
     return files
 
 
@@ -355,15 +357,15 @@ def check_gate(write):
     """The gate's copies are those of the examples."""
     wanted = gate_files()
     if write:
-        shutil.rmtree(GATE / "data", ignore_errors=True)
+        shutil.rmtree(GATE / "data" / "examples", ignore_errors=True)
         for path, text in wanted.items():
             (GATE / path).parent.mkdir(parents=True, exist_ok=True)
             (GATE / path).write_text(text)
-    there = {str(path.relative_to(GATE)) for path in (GATE / "data").rglob("*") if path.is_file()} | {"stdout"}
+    there = {str(path.relative_to(GATE)) for path in (GATE / "data" / "examples").rglob("*") if path.is_file()} | {"stdout"}
     faults = [path for path in sorted(there | set(wanted))
               if path not in there or path not in wanted or (GATE / path).read_text() != wanted[path]]
     for path in faults:
-        print(f"crates/anb_examples/{path}: not that of the examples")
+        print(f"crates/anb_cases/{path}: not that of the examples")
     return len(faults)
 
 

@@ -1,10 +1,11 @@
 //! Runs the cases of commands. The file `themes` lists the files of cases, a line each. For each case
 //! this prints `ok` and its name, or what came in the place of what the file expects; then it ends with
-//! the status 1.
+//! the status 1. Behind the cases come the commands over all examples.
 #![tactic(auto)]
 
 mod case;
 mod children;
+mod examples;
 mod filling;
 mod judging;
 mod parts;
@@ -14,6 +15,7 @@ mod theme;
 mod turns;
 mod unfailing;
 
+use crate::examples::run_examples;
 use crate::filling::Name;
 use crate::theme::run_theme;
 use std::process::ExitCode;
@@ -23,10 +25,17 @@ use std::{fs, io};
 const THEMES: &str = "themes";
 
 fn main(rt: HostRuntime) -> ExitCode {
-    match run_themes(rt) {
+    match run_all(rt) {
         Ok(true) => ExitCode::SUCCESS,
         Ok(false) | Err(_) => ExitCode::FAILURE,
     }
+}
+
+/// Whether each case passed, and the commands over examples were run.
+fn run_all(rt: HostRuntime) -> io::Result<bool> {
+    let passed = run_themes(rt)?;
+    run_examples(rt)?;
+    Ok(passed)
 }
 
 /// Whether each case of each file passed.

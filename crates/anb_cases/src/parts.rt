@@ -25,7 +25,7 @@ const BYTES: [&str; 13] = [
 ];
 
 /// The other keys.
-const WORDS: [&str; 22] = [
+const WORDS: [&str; 23] = [
     "words",
     "there",
     "piece",
@@ -47,6 +47,7 @@ const WORDS: [&str; 22] = [
     "children silent",
     "roles",
     "roles fail",
+    "roles silent",
     "asked",
 ];
 

@@ -6,6 +6,7 @@ ghost use Rattle.anb_stage.specs.Memory.{child_at};
 
 use crate::case::{Case, No};
 use crate::children::children;
+use crate::filling::filled;
 use crate::stages::roles;
 use crate::unfailing::run_unfailing;
 use anb_base::{Bytes, MemShelf, MemWire, NeverFails, NoMemory, Text};
@@ -117,16 +118,16 @@ fn unfailing_status(
     run_unfailing(alloc, words, shelf, wire, err, seed).number()
 }
 
-/// The words, of which `""` is the empty one.
+/// The words, of which `""` is the empty one. A space that a word has is written `\s`.
 fn words_of(alloc: Global, case: Case) -> Result<Vec<Text>, No> {
-    let Some(text) = case.text(alloc, "words")? else {
+    let Some(entry) = case.entry("words") else {
         return Err(No::Value("words"));
     };
     let mut words = Vec::new(alloc);
-    for word in text.split_whitespace() {
+    for word in entry.value.split_whitespace() {
         let word = match word {
             "\"\"" => String::new(alloc),
-            _ => String::from_str(alloc, word)?,
+            _ => filled(alloc, case.names, "words", word)?,
         };
         words.push(Text::new(word))?;
     }

@@ -14,7 +14,8 @@ use std::alloc::Global;
 const PLENTY: u32 = 65_536;
 
 /// The children that the case says under `roles`: a row each, with the status with which it ends, and then
-/// what it says, in hexadecimal digits. The calls whose numbers stand under `roles fail` are faults.
+/// what it says, in hexadecimal digits. The calls whose numbers stand under `roles fail` are faults, and where
+/// `roles silent` is set each is that the child was silent.
 pub(crate) fn roles(alloc: Global, case: Case) -> Result<MemSpawner, No>
     ensures { IfOk result (λ spawner. (role : ℕ) → (child_at spawner role).phase ≡ 0) }
 {
@@ -33,7 +34,11 @@ pub(crate) fn roles(alloc: Global, case: Case) -> Result<MemSpawner, No>
     if statuses.len() != outputs.len() || outputs.len() > ROLES as usize {
         return Err(No::Value("roles"));
     }
-    Ok(MemSpawner::new(alloc, outputs, statuses, PLENTY, fails)?)
+    let mut spawner = MemSpawner::new(alloc, outputs, statuses, PLENTY, fails)?;
+    if case.is_set("roles silent")? {
+        spawner.fall_silent();
+    }
+    Ok(spawner)
 }
 
 /// What the children heard, one after another.

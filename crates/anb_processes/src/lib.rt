@@ -22,8 +22,3 @@ pub use child::RealChild;
 pub use chosen::child_program;
 pub use spawner::{ChildProgram, RealSpawner};
 pub use trials::RealTrials;
-
-#[cfg(test)]
-mod tests;
-#[cfg(test)]
-mod trial_tests;

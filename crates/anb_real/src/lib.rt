@@ -22,6 +22,3 @@ pub use shelf::RealShelf;
 pub use standard_error::StandardError;
 pub use store::RealStore;
 pub use wire::RealWire;
-
-#[cfg(test)]
-mod tests;

@@ -3,8 +3,8 @@
 ghost use Rattle.std.specs.Prelude.{◌≡◌, ◌≢◌, ◌<◌, ℕ, get_or, IfOk, OnOk};
 ghost use Rattle.anb_stage.specs.declared.TheConstants.{ROLES};
 
-use crate::{ChildProgram, RealSpawner};
 use anb_base::{Bytes, Failed, Text};
+use anb_processes::{ChildProgram, RealSpawner};
 use anb_stage::{ChildWords, Spawner};
 use std::alloc::{AllocError, Global};
 use std::test::Fail;

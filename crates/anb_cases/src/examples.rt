@@ -1,6 +1,5 @@
-//! Runs the commands that a file lists, a line each, and prints the status of each with its line. So
-//! the gate reads, compiles, replays and rehearses every example.
-#![tactic(auto)]
+//! Commands over copies of the examples of protocols: a file lists them, a line each, and for each the number
+//! of its status is printed with its line. So the gate reads, compiles, replays and rehearses every example.
 
 use anb_base::{Bytes, MemWire, NoMemory, Text};
 use anb_real::RealShelf;
@@ -9,12 +8,13 @@ use std::alloc::AllocError;
 use std::{fs, io};
 
 /// The file that lists the commands.
-const COMMANDS: &str = "commands";
+const COMMANDS: &str = "examples/commands";
 
 /// How many bytes a command may write.
 const ROOM: u32 = 1_048_576;
 
-fn main(rt: HostRuntime) -> io::Result<()> {
+/// Runs the commands.
+pub(crate) fn run_examples(rt: HostRuntime) -> io::Result<()> {
     let commands = fs::read_to_string(&rt, COMMANDS)?;
     for line in commands.lines() {
         println!(rt; "{} {line}", status(rt, line)?)?;

@@ -3,9 +3,9 @@
 ghost use Rattle.std.specs.Prelude.{◌≡◌, ℕ, IfOk};
 ghost use Rattle.anb_processes.specs.Trials.{trial_of};
 
-use crate::{RealChild, RealTrials};
 use anb_base::{Failed, Sink, Source, Text, read_full, write_whole};
 use anb_partner::{ChildEnd, Target, Trials};
+use anb_processes::{RealChild, RealTrials};
 use std::alloc::{AllocError, Global};
 use std::net::{OpenListener, TcpListener};
 use std::test::Fail;

@@ -1,7 +1,7 @@
 //! The wire over loopback, and files.
 
-use super::*;
 use anb_base::{Failed, Place, Shelf, ShelfNo, Text, Wire, read_full, write_whole};
+use anb_real::{RealShelf, RealStore, RealWire};
 use anb_store::{Store, StoreNo};
 use std::alloc::{AllocError, Global};
 use std::io::{Read, Write};
@@ -113,7 +113,7 @@ fn started(rt: HostRuntime, at: SocketAddr) -> io::Result<Child> {
 
 fn started_as(rt: HostRuntime, program: &str, at: &str) -> io::Result<Child> {
     Command::new(rt.alloc(), program)?
-        .arg("tests::child")?
+        .arg("wires::child")?
         .arg(at)?
         .spawn(&rt)
 }
