@@ -208,9 +208,9 @@ def figures():
     return found
 
 
-def write(sums):
-    """Puts what was measured into bench/minutes.tsv, in the place of what stands there."""
-    all_sums = figures()
+def write(sums, is_whole):
+    """Puts what was measured into bench/minutes.tsv, in the place of what stands there, or of all of it."""
+    all_sums = collections.defaultdict(collections.Counter, {} if is_whole else figures())
     for crate, parts in sums.items():
         all_sums[crate] = collections.Counter({**all_sums[crate], **parts})
     with open(build.MINUTES, "w") as file:
@@ -269,7 +269,7 @@ def main(words):
         sums = sums_of(notes)
         print(*table(sums), "", *slowest(notes), "", *chain(sums), sep="\n")
         if is_written:
-            write(sums)
+            write(sums, not words and not is_kept)
             write_page()
     return status
 

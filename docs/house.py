@@ -9,6 +9,7 @@
 - A module that specs/Lib.antt lists under `-- for proofs alone` is named by no other crate.
 - What a page calls `crate/specs/File`, or `crate, src/file.rt`, is there; and in docs/THEOREMS.md each clause of a row
   is a clause of the crates that the row names, and each edit that it says refuses something is one of theirs.
+- Each edit, also those that the gate doesn't try, can still be made: what it changes stands in its file, once.
 - docs/REFERENCE.md and anb.1 have each status of the program, and the 125 of the script `./anb`.
 - What a page links to is there, down to the heading; docs/REFERENCE.md and docs/THEOREMS.md list their parts; and each
   row that docs/EDGE.md names is one of bench/edge.py.
@@ -28,6 +29,8 @@ PAGES = [ROOT / "README.md", *sorted((ROOT / "docs").glob("*.md"))]
 PROOFS_ALONE = "-- for proofs alone"
 # The calls of the C library, whose names begin as those of crates do.
 CALLS = tuple(f"anb_{it}" for it in ("version", "status_text", "compile", "open", "next", "arrive", "park", "resume", "close"))
+# The folders of a crate with edits: those that the gate tries, and those that bench/edits.py does.
+EDITS = ("must-fail", "edits")
 # Words that stand in the place of a clause's name.
 NO_CLAUSE = {"", "each"}
 
@@ -111,7 +114,7 @@ def lost_files(crates):
     """The files that pages name and that aren't there."""
     for page in PAGES:
         for number, line in enumerate(page.read_text().splitlines(), 1):
-            named = re.findall(r"\b(?:crates/)?(anb\w*)/((?:src|specs|proofs|must-fail)/[\w/.-]*\w)", line)
+            named = re.findall(r"\b(?:crates/)?(anb\w*)/((?:src|specs|proofs|must-fail|edits)/[\w/.-]*\w)", line)
             named += re.findall(r"\b(anb\w*), ((?:src|specs|proofs)/[\w/.-]*\w)", line)
             for crate, path in named:
                 if crate in crates and not is_there(crate, path):
@@ -187,6 +190,29 @@ def clauses(crate):
     return set(re.findall(r"\b(?:ensures|pub) (\w+)", said)) | set(re.findall(r"\bfn (\w+)", said))
 
 
+def edits(crates):
+    """The files of the edits of these crates."""
+    return [file for crate in crates for folder in EDITS for file in sorted((CRATES / crate / folder).glob("*.edit"))]
+
+
+def unfit_edits(crates):
+    """The edits that can't be made any more."""
+    for edit in edits(crates):
+        path, old, texts = None, "", {}
+        for line in edit.read_text().splitlines():
+            word, _, rest = line.partition(": ")
+            if word == "file":
+                path = edit.parent.parent / rest.strip()
+                texts.setdefault(path, path.read_text() if path.is_file() else "")
+            elif word == "old":
+                old = rest
+            elif word.rstrip(":") == "new":
+                if not old or texts.get(path, "").count(old) != 1:
+                    yield f"{edit.relative_to(ROOT)}: what it changes doesn't stand once in its file: {old.strip()}"
+                    break
+                texts[path] = texts[path].replace(old, rest)
+
+
 def lost_clauses(crates):
     """The clauses and edits that rows of docs/THEOREMS.md name and that aren't there."""
     page = ROOT / "docs" / "THEOREMS.md"
@@ -204,9 +230,9 @@ def lost_clauses(crates):
         for name in {part for it in spans for part in re.findall(r"\w+", it)} - NO_CLAUSE:
             if known and name not in known and name not in crates and not any(name in text for crate in named for text in sources(crate, ("src",)).values()):
                 yield f"{at}: no clause or function {name} in {' '.join(dict.fromkeys(named))}"
-        edits = {file.stem for crate in crates for file in (CRATES / crate / "must-fail").glob("*.edit")}
+        known = {file.stem for file in edits(crates)}
         for name in re.findall(r"\b\w+\b", re.sub(r"\(anb\w*\)", "", cells[-1].strip("| "))):
-            if name not in edits:
+            if name not in known:
                 yield f"{at}: there is no edit {name}"
 
 
@@ -220,6 +246,7 @@ def faults():
         *intruded(crates),
         *lost_files(crates),
         *lost_clauses(crates),
+        *unfit_edits(crates),
         *lost_statuses(),
         *lost_links(),
         *unlisted(),
