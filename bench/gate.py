@@ -11,7 +11,8 @@ With --log the notes go to this file, behind those of earlier runs, and the tabl
 part that was done again its last run counts, and an edit that is gone counts no more. With --kept it runs
 `rt ci` with the names, which takes what earlier runs on this machine passed. With --write what was measured
 stands in bench/minutes.tsv after, which build.py reads and writes too, and the table of all figures there in
-docs/PROVING.md. --table writes the page alone.
+docs/PROVING.md; a run of the whole gate in which all is well leaves no older figure there. --table writes the page
+alone.
 """
 import collections
 import glob
@@ -269,7 +270,7 @@ def main(words):
         sums = sums_of(notes)
         print(*table(sums), "", *slowest(notes), "", *chain(sums), sep="\n")
         if is_written:
-            write(sums, not words and not is_kept)
+            write(sums, not words and not is_kept and not status)
             write_page()
     return status
 

@@ -230,9 +230,9 @@ def lost_clauses(crates):
         for name in {part for it in spans for part in re.findall(r"\w+", it)} - NO_CLAUSE:
             if known and name not in known and name not in crates and not any(name in text for crate in named for text in sources(crate, ("src",)).values()):
                 yield f"{at}: no clause or function {name} in {' '.join(dict.fromkeys(named))}"
-        known = {file.stem for file in edits(crates)}
+        stems = {file.stem for file in edits(crates)}
         for name in re.findall(r"\b\w+\b", re.sub(r"\(anb\w*\)", "", cells[-1].strip("| "))):
-            if name not in known:
+            if name not in stems:
                 yield f"{at}: there is no edit {name}"
 
 
