@@ -239,7 +239,7 @@ def check_programs(bench):
 
 
 def folders_of(names):
-    folders = [pathlib.Path(name).resolve() for name in names] or sorted(path.parent for path in (ROOT / "examples").glob("*/all.values"))
+    folders = [pathlib.Path(name).resolve() for name in names] or sorted(path.parent for path in (ROOT / "examples").rglob("all.values"))
     return [folder for folder in folders if (folder / f"{folder.name}.anb").exists()]
 
 

@@ -1,7 +1,7 @@
 #!/usr/bin/env python3
 """Writes examples/README.md: python3 docs/charts.py crates/anb/out/anb. Standard library alone.
 
-An index in groups, and for each protocol its comment, its messages as a Mermaid chart, and what each role takes: what
+An index in groups, the last of which has what stands in examples/real, and for each protocol its comment, its messages as a Mermaid chart, and what each role takes: what
 `anb check` writes of it is compared with what docs/narration.py finds by the narration alone.
 """
 
@@ -29,7 +29,10 @@ STRANGER = "whoever knows only "
 IDLE = "nothing that it takes afterwards depends on: "
 NOTE = "note: "
 
-# The groups, each with a sentence and its examples in the order to read them in.
+# The folders of programs that others wrote.
+REAL = EXAMPLES / "real"
+
+# The groups but the last, each with a sentence and its examples in the order to read them in.
 GROUPS = [
     ("Two parties", "Challenges and answers under a key that both have.", """
         ping mutual chap iso9798-2-1 iso9798-2-2 iso9798-2-3 iso9798-2-4 iso9798-4-1 iso9798-4-2 iso9798-4-3 iso9798-4-4
@@ -43,15 +46,18 @@ GROUPS = [
         akep2 eap-psk wpa2 umts-aka lorawan-join snep noise-nnpsk0 tls13-psk
     """.split()),
     ("Chains and trees", "Hashes over hashes: what is shown later is checked by what was had before.", """
-        skey tesla merkle macaroons ratchet
+        skey tesla merkle ratchet
     """.split()),
 ]
 
+# The last group, and what is said of it.
+PEERS = ("Real peers", "Programs that others wrote, byte for byte. The page of each has what it takes and what not.")
+
 OPENING = """# Examples
 
-{count} narrations, most of them protocols of the literature over symmetric keys and hashes. This page is written by `docs/charts.py`; `docs/check.py` plays each example and compares each byte.
+{count} narrations, most of them protocols of the literature over symmetric keys and hashes; those in `real/` are what programs speak that others wrote. This page is written by `docs/charts.py`; `docs/check.py` plays each example and compares each byte.
 
-A folder has the narration, `ROLE.values` for each role, `all.values` with a value for each name that some role knows, and `schedule`, the roles in the order in which they take their turns; `nssk/eager.schedule` has turns that come too soon and are passed over. [expected](expected) has what comes of playing all roles against each other, with the SHA-256 of all frames in a row. Seeds are fixed, so that each run gives the same bytes.
+A folder has the narration, `ROLE.values` for each role, `all.values` with a value for each name that some role knows, and `schedule`, the roles in the order in which they take their turns; `nssk/eager.schedule` has turns that come too soon and are passed over. [expected](expected) has what comes of playing all roles against each other, with the SHA-256 of all frames in a row. Seeds are fixed, so that each run gives the same bytes. A folder in `real/` also has its page, `setup`, which installs the peer, and an `expected` of its own, with the commands that play and probe the peer and what came; `docs/check_peers.py` runs them.
 
 **Where to begin**: `ping` and `mutual` are the smallest. `nssk` and `nssk-amended` show what a server adds, and what an amendment changes for B. `wpa2` derives its keys, `skey` and `ratchet` carry something from one message to the next. Within a group the examples stand in an order to read them in.
 
@@ -184,8 +190,10 @@ def section(program, folder):
     text = path.read_text()
     story = narration.Narration(text)
     first, others = comment_of(text)
-    lines = [f"### {folder.name}", "", f"[{path.name}]({folder.name}/{path.name}): {first}"]
+    lines = [f"### {folder.name}", "", f"[{path.name}]({path.relative_to(EXAMPLES)}): {first}"]
     lines += [line for other in others for line in ("", other)]
+    if folder.parent == REAL:
+        lines += ["", f"Peer: [what it takes]({folder.relative_to(EXAMPLES)}/README.md)."]
     lines += ["", f"```mermaid\n{chart(story)}```", ""]
     report = reported(program, path)
     for role in story.roles:
@@ -195,7 +203,9 @@ def section(program, folder):
 
 
 def folders():
-    return sorted(d for d in EXAMPLES.iterdir() if (d / f"{d.name}.anb").is_file())
+    """The folders of all examples; behind the others those in examples/real."""
+    there = [path.parent for path in EXAMPLES.rglob("*.anb") if path.stem == path.parent.name]
+    return sorted(there, key=lambda folder: (folder.parent == REAL, folder))
 
 
 def row(folder):
@@ -216,10 +226,14 @@ def listed(found, words):
 
 def grouped():
     """The groups with the folders of their examples. Each example stands in one group."""
-    there, told = [folder.name for folder in folders()], [name for _, _, names in GROUPS for name in names]
-    if sorted(told) != there:
-        raise ValueError(f"in no group, in two or not there: {' '.join(sorted(set(there) ^ set(told)) or sorted(told))}")
-    return [(title, says, [EXAMPLES / name for name in names]) for title, says, names in GROUPS]
+    groups = [(title, says, [EXAMPLES / name for name in names]) for title, says, names in GROUPS]
+    groups.append((*PEERS, [folder for folder in folders() if folder.parent == REAL]))
+    there, told = folders(), [folder for _, _, members in groups for folder in members]
+    names = [folder.name for folder in told]
+    if set(told) != set(there) or len(set(names)) < len(names):
+        lost = [folder.name for folder in set(there) ^ set(told)]
+        raise ValueError(f"in no group, in two or not there: {' '.join(sorted(lost or names))}")
+    return groups
 
 
 def page(program):

@@ -21,7 +21,8 @@ Pages: in a fenced block that begins with a line `$ ...` each such line is a com
 it writes, errors too. The commands run in a folder of their own with a copy of examples/, block by block, with `anb` on
 the path. A fenced block with two words after its fence, such as ```anb mine.anb, is a file that the reader writes. A
 narration that is shown for itself is the text of an example. README has at most 110 lines. The examples of the manual
-page end with 0, and its narration is one.
+page end with 0, and its narration is one. The page of each program that others wrote, in examples/real, has a table of
+what `check` derives for each role; docs/check_peers.py plays and probes these programs.
 
 Words: what `help` lists is what REFERENCE and the manual page list, and both say what each file is; README names each
 command, pages and completions have the options of `help`, and completions are tried in their shells
@@ -328,7 +329,7 @@ def check_transcripts(story, folder, messages, write):
 
 def gate_commands(folder, roles):
     """What the gate runs of an example, with the names of files from the repository's folder."""
-    at = f"{EXAMPLES.name}/{folder.name}"
+    at = folder.relative_to(ROOT)
     whole = f"{at}/{folder.name}.anb"
     yield from (f"fmt {at}/{path.name}" for path in sorted(folder.glob("*.anb")))
     yield from (f"compile {whole} {role}" for role in roles)
@@ -666,6 +667,30 @@ def lacks(words):
     return "where" in words and not shutil.which(words[-1])
 
 
+def derived(program, path):
+    """What each role checks at each event, by what `check` writes."""
+    found = set()
+    for line in run(program, "check", path).splitlines():
+        if head := re.match(r"role (\S+): |  event (\d+), ", line):
+            role, event = (head[1], None) if head[1] else (role, head[2])
+        elif checks := re.match(r"    (?:.*; )?checks (.*?)(?:; |$)", line):
+            found |= {(role, event, term) for term in checks[1].split(", ")}
+    return found
+
+
+def check_peer_pages(program):
+    """The page of each real peer has a table whose second cells are what `check` derives, no more and no less."""
+    gaps = []
+    for folder in (folder for folder in charts.folders() if folder.parent == charts.REAL):
+        page = folder / "README.md"
+        rows = re.findall(r"^\| (\w+), event (\d+) \| (.*?) \|", page.read_text() if page.exists() else "", re.M)
+        told = {(role, event, term) for role, event, cell in rows for term in re.findall(r"`([^`]+)`", cell)}
+        due = derived(program, folder / f"{folder.name}.anb")
+        gaps += [f"{page.relative_to(ROOT)}: {role}, event {event}: {term}" for role, event, term in sorted(told ^ due)]
+    print(*gaps, sep="\n", end="\n" * bool(gaps))
+    return len(gaps)
+
+
 def check_page(name, program, write):
     """The number of commands, and how many blocks write something else."""
     lines = (ROOT / name).read_text().splitlines()
@@ -698,7 +723,7 @@ def check_shown():
     lines = (ROOT / "README.md").read_text().splitlines()
     if len(lines) > README_LINES:
         gaps.append(f"README.md: {len(lines)} lines, more than {README_LINES}")
-    there = {without_comment(path.read_text()) for path in EXAMPLES.glob("*/*.anb")}
+    there = {without_comment(path.read_text()) for path in EXAMPLES.rglob("*.anb")}
     for name in PAGES:
         for at, words, block in blocks_of((ROOT / name).read_text().splitlines()):
             if len(words) < 2 and block and block[0].startswith("Protocol: ") and "\n".join(block) + "\n" not in there:
@@ -784,6 +809,7 @@ def main():
     faults += check_lists(program) + check_words(program) + check_options(program) + check_pages_of(program)
     faults += check_completions_of(program) + check_statuses_of(program) + check_manual(program) + check_shown()
     faults += check_index(program, write) + check_gate(write) + check_house()
+    faults += check_peer_pages(program)
     commands = 0
     for name in PAGES:
         if (ROOT / name).exists():

@@ -276,7 +276,7 @@ def main(program, fresh):
         sys.path.insert(0, str(CAPI))
         import anb
         counts = [0, 0, 0]
-        for path in sorted(EXAMPLES.glob("*/*.anb")):
+        for path in sorted(EXAMPLES.rglob("*.anb")):
             if "Choice" in path.read_text():
                 continue
             messages, compared = check_narration(anb, program, path)

@@ -132,7 +132,7 @@ def anchors(text, level="#+"):
 
 def lost_links():
     """The links of pages to files and headings that aren't there."""
-    for page in [*PAGES, ROOT / "examples" / "README.md"]:
+    for page in [*PAGES, *sorted((ROOT / "examples").rglob("*.md"))]:
         for number, line in enumerate(page.read_text().splitlines(), 1):
             for path, heading in re.findall(r"\]\(([^()#:]*)(?:#([\w-]+))?\)", re.sub(r"`[^`]*`", "", line)):
                 there = page.parent / path if path else page

@@ -13,7 +13,9 @@ HEADS = ("Types", "Formats", "Knowledge", "Actions")
 
 
 def tokens_of(text):
-    text = re.split(r"\bGoals\s*:", re.sub(r"#[^\n]*", "", text))[0]
+    # a literal may have the sign in it that begins a comment
+    text = re.sub(r'("(?:\\.|[^"\\])*")|#[^\n]*', r"\1", text)
+    text = re.split(r"\bGoals\s*:", text)[0]
     return [m.group().strip() for m in TOKEN.finditer(text) if m.group().strip()]
 
 
