@@ -7,8 +7,8 @@
 
 A folder has `setup`, a script for sh that is sourced, and `expected`. As root, setup installs the peer by apt-get where it
 isn't there. It starts what the commands don't start themselves, and writes a last line, `peer: ..` with what it found;
-where the peer can't be had here it fails, and its last line says why. What it started ends with the shell, or by its own
-trap.
+where the peer can't be had here it fails, and its last line says why. What it starts it ends by a trap; what is left when
+the shell ends is killed here.
 
 In `expected` a line `$ ..` is a command for that shell, in a copy of the folder with `anb` on the path, and what follows is
 what it writes, errors too. A line `-- ..` is said of the command behind it. One that begins with `-- asked for: `,
@@ -18,6 +18,7 @@ or needs a check that the peer lacks. Each `not ok` has such a line.
 This is no part of the gate, and takes at most ten minutes.
 """
 
+import contextlib
 import difflib
 import os
 import pathlib
@@ -26,6 +27,7 @@ import shutil
 import signal
 import subprocess
 import sys
+import tempfile
 import time
 
 import check
@@ -50,20 +52,21 @@ def peers(names):
 
 
 def ran(folder, commands, seconds):
-    """What setup writes, and what each command does. One shell runs all of it, and is killed with what it left behind."""
+    """The last line of setup, and what each command writes. One shell runs all of it, and what it leaves is killed."""
     script = "exec 2>&1 < /dev/null\n. ./setup || exit\n" + "".join(f"printf '{check.MARK}'\n{it}\n" for it in commands)
     path = f"{folder.parents[2] / 'bin'}:{os.environ['PATH']}"
-    shell = subprocess.Popen(["sh", "-c", script], cwd=folder, env={**os.environ, "PATH": path, "LC_ALL": "C.UTF-8"},
-                             stdout=subprocess.PIPE, start_new_session=True)
-    try:
-        written = shell.communicate(timeout=seconds)[0]
-    finally:
+    words = {**os.environ, "PATH": path, "LC_ALL": "C.UTF-8", "DEBIAN_FRONTEND": "noninteractive"}
+    with tempfile.TemporaryFile() as output:
+        shell = subprocess.Popen(["sh", "-c", script], cwd=folder, env=words, stdout=output, start_new_session=True)
         try:
-            os.killpg(shell.pid, signal.SIGKILL)
-        except ProcessLookupError:
-            pass
-    setup, *outputs = written.decode(errors="replace").split(check.MARK)
-    return setup.strip().splitlines()[-1:], outputs
+            shell.wait(seconds)
+        finally:
+            with contextlib.suppress(ProcessLookupError):
+                os.killpg(shell.pid, signal.SIGKILL)
+            shell.wait()
+        output.seek(0)
+        setup, *outputs = output.read().decode(errors="replace").split(check.MARK)
+    return (setup.strip().splitlines() or ["setup says nothing"])[-1], outputs
 
 
 def unnumbered(line):
@@ -102,7 +105,7 @@ def unexplained(lines):
 
 
 def check_peer(program, folder, seconds, write):
-    """What is said of a peer, or None where it isn't there, and what is wrong."""
+    """Whether a peer is there, what is said of it, and what is wrong."""
     file = folder / "expected"
     lines = file.read_text().splitlines()
     commands = [line[2:] for line in lines if line.startswith("$ ")]
@@ -112,7 +115,7 @@ def check_peer(program, folder, seconds, write):
     finally:
         shutil.rmtree(place)
     if not outputs:
-        return False, told[0] if told else "not there: setup says nothing", []
+        return False, told, []
     found = [line for command, output in zip(commands, outputs) for line in (f"$ {command}", *output.splitlines())]
     if write:
         lines = written_anew(lines, found)
@@ -121,7 +124,7 @@ def check_peer(program, folder, seconds, write):
     faults = list(difflib.unified_diff(due, found, f"examples/real/{folder.name}/expected", "found", lineterm="", n=1))
     cases = sum(bool(re.match(r"(not )?ok \d+ - ", line)) for line in found)
     bad = sum(line.startswith("not ok ") for line in found)
-    return True, f"{told[0]}: {len(commands)} commands, {cases} cases, of which {bad} are not ok", faults + list(unexplained(lines))
+    return True, f"{told}: {len(commands)} commands, {cases} cases, of which {bad} are not ok", faults + list(unexplained(lines))
 
 
 def main():
